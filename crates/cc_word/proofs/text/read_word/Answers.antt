@@ -1,0 +1,23 @@
+use Rattle.std.proofs.Common.{◌≡◌, Ok, Err, refl, ◌∙◌, sym}
+use Rattle.hex.specs.Hex.{decode_sized}
+use Rattle.hex.proofs.HexLemmas.{IsOk-decode_sized}
+use Rattle.cc_word.proofs.TextLemmas.{decode_sized-value, from_be_bytes-value}
+use Rattle.cc_word.proofs.text.read_word.Goals as goal
+
+pub returns-in-Ok-clause-found : goal.returns-in-Ok-clause-found
+returns-in-Ok-clause-found c =
+    let e : Ok c.in-Ok.bytes ≡ decode_sized c.args.text.now 16 = c.in-Ok.ensures in
+    let h = (IsOk-decode_sized c.args.text.now 16).0 in
+    (λ _. h (rw (← e) refl), λ _. refl)
+
+pub returns-in-Err-clause-found : goal.returns-in-Err-clause-found
+returns-in-Err-clause-found c =
+    let e : Err c.in-Err.field-0 ≡ decode_sized c.args.text.now 16 = c.in-Err.ensures in
+    let h = (IsOk-decode_sized c.args.text.now 16).1 in
+    (λ x. cc x, λ x. rw (← e) at (h x))
+
+pub returns-in-Ok-clause-value : goal.returns-in-Ok-clause-value
+returns-in-Ok-clause-value c =
+    let e : Ok c.in-Ok.bytes ≡ decode_sized c.args.text.now 16 = c.in-Ok.ensures in
+    let v = decode_sized-value 16 c.args.text.now c.in-Ok.bytes (sym e) in
+    c.from_be_bytes.ensures ∙ from_be_bytes-value c.in-Ok.bytes v.1 ∙ sym v.0

@@ -1,0 +1,4 @@
+-- In reading order.
+pub mod Refusal
+pub mod Word
+pub mod WordText

@@ -1,0 +1,40 @@
+//! The fields of a word.
+ghost use Rattle.std.specs.Prelude.{◌<◌, ◌^◌};
+
+/// The fields of a capability word, with the exclusive-or of the null capability taken away.
+///
+/// ```text
+///  127    124 123        112 111  110 109  108        91 90 89       78 77       64 63          0
+/// +----------+--------------+--------+----+-------------+--+-----------+-----------+-------------+
+/// | user     | hardware     | re-    |flag| object type |IE| T field   | B field   | address     |
+/// | perms  4 | perms     12 | served2|  1 |          18 | 1|        12 |        14 |          64 |
+/// +----------+--------------+--------+----+-------------+--+-----------+-----------+-------------+
+/// ```
+///
+/// The type keeps each field within its width, for every value that exists. The standard: UCAM-CL-TR-987,
+/// the compressed capability encoding; Woodruff et al. 2019, section 4.
+#[derive(Clone, Copy, PartialEq, Eq, Debug)]
+pub struct Fields {
+    /// The four user permissions above the twelve hardware permissions.
+    pub perms: u16,
+    /// Two bits that are zero in every capability of this library.
+    pub reserved: u8,
+    /// The flag: for CHERI-RISC-V, whether code runs in capability mode.
+    pub flag: bool,
+    /// The object type, of 18 bits. 0x3ffff is unsealed.
+    pub otype: u32,
+    /// The internal exponent: whether the low three bits of `t` and of `b` hold the exponent.
+    pub ie: bool,
+    /// The T field as stored, of 12 bits.
+    pub t: u16,
+    /// The B field as stored, of 14 bits.
+    pub b: u16,
+    /// The capability's own address.
+    pub address: u64,
+    pub ghost perms_fit: { perms < 2 ^ 16 },
+    pub ghost reserved_fits: { reserved < 2 ^ 2 },
+    pub ghost otype_fits: { otype < 2 ^ 18 },
+    pub ghost t_fits: { t < 2 ^ 12 },
+    pub ghost b_fits: { b < 2 ^ 14 },
+    pub ghost address_fits: { address < 2 ^ 64 },
+}

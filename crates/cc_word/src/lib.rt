@@ -1,0 +1,13 @@
+//! The layout of a 128-bit CHERI Concentrate capability word, its text, and the refusals that every
+//! crate of the library answers.
+#![tactic(auto)]
+
+mod fields;
+mod layout;
+mod refusal;
+mod text;
+
+pub use fields::Fields;
+pub use layout::{pack, unpack};
+pub use refusal::Refusal;
+pub use text::{read_word, write_word};
