@@ -5,6 +5,8 @@
 mod fields;
 mod layout;
 mod refusal;
+#[cfg(test)]
+mod tests;
 mod text;
 
 pub use fields::Fields;
