@@ -1,8 +1,9 @@
 //! Words as text: 32 hexadecimal digits, the highest first.
 ghost use Rattle.std.specs.Prelude.{◌≡◌, ◌↔◌, length, IsSome, IfSome};
 ghost use Rattle.std.specs.List.{AllPass};
+ghost use Rattle.std.specs.Str.Parse.{digits_value};
 ghost use Rattle.hex.specs.Hex.{is_hex_digit};
-ghost use Rattle.cc_word.specs.WordText.{digits_value, digits_of};
+ghost use Rattle.cc_word.specs.WordText.{digits_of};
 
 use hex::FromHex;
 
@@ -10,7 +11,7 @@ use hex::FromHex;
 /// more digits, a prefix, a space, a byte that is no digit.
 pub fn read_word(text: &[u8]) -> Option<u128>
     ensures found { IsSome result ↔ ((length text.now ≡ 32) × AllPass is_hex_digit text.now) }
-    ensures value { IfSome result (λ word. word ≡ digits_value text.now) }
+    ensures value { IfSome result (λ word. word ≡ digits_value 16 text.now) }
 {
     match <[u8; 16] as FromHex>::from_hex(text) {
         Ok(bytes) => Some(u128::from_be_bytes(bytes)),
