@@ -1,0 +1,3 @@
+mod DeviceLemmas
+mod DigitLemmas
+mod PermissionLemmas

@@ -1,0 +1,47 @@
+-- What `show` writes for a text.
+use Rattle.std.specs.Prelude.{◌≡◌, ◌⊎◌, ℕ, List, ◌++◌, length, codes, decimal}
+use Rattle.std.specs.List.{AllPass}
+use Rattle.hex.specs.Hex.{is_hex_digit}
+use Rattle.cc_word.specs.Refusal.{code_of, name_of}
+use Rattle.cc_word.specs.Word.{word_of, bit_of}
+use Rattle.std.specs.Str.Parse.{digits_value}
+use Rattle.cc_word.specs.WordText.{digits_of}
+use Rattle.cc_word.specs.declared.fields.Fields.{Fields}
+use Rattle.cc_word.specs.declared.refusal.Refusal.{Refusal}
+use Rattle.cc_word.specs.declared.refusal.Refusal.TheVariants.{Syntax}
+use Rattle.cheri_cap.specs.Permissions.{permissions_text}
+use Rattle.cheri_cap.specs.Text.{hexadecimal, line_of}
+
+-- a text that spells a word: 32 hexadecimal digits of either case
+abbrev pub IsWordText : List ℕ → Type 0
+IsWordText text = (length text ≡ 32) × AllPass is_hex_digit text
+
+-- the lines of a word and of its fields
+abbrev pub listing_of : (word : ℕ) (fields : Fields) → List ℕ
+listing_of word fields =
+    line_of (codes "word") (digits_of 32 word)
+    ++ line_of (codes "perms") (digits_of 4 fields.perms ++ codes " " ++ permissions_text fields.perms)
+    ++ line_of (codes "reserved") (decimal fields.reserved)
+    ++ line_of (codes "flag") (decimal (bit_of fields.flag))
+    ++ line_of (codes "type") (digits_of 5 fields.otype)
+    ++ line_of (codes "ie") (decimal (bit_of fields.ie))
+    ++ line_of (codes "t") (digits_of 3 fields.t)
+    ++ line_of (codes "b") (digits_of 4 fields.b)
+    ++ line_of (codes "address") (hexadecimal fields.address)
+
+-- the line of a refusal: `error`, its code and its name
+abbrev pub refusal_line_of : Refusal → List ℕ
+refusal_line_of refusal = line_of (codes "error") (decimal (code_of refusal) ++ codes " " ++ name_of refusal)
+
+-- the listing of a word: its lines with the fields whose word it is, and there are no other such fields
+pub record IsWordListing (word : ℕ) (listing : List ℕ) : Type 0 where
+  pub fields : Fields
+  pub of_word : word_of fields ≡ word
+  pub only : (other : Fields) → word_of other ≡ word → other ≡ fields
+  pub lines : listing ≡ listing_of word fields
+
+-- the listing of a text: of a word that of the word, and of any other text the line of a refusal
+abbrev pub IsListing : (text listing : List ℕ) → Type 0
+IsListing text listing =
+    (IsWordText text × IsWordListing (digits_value 16 text) listing)
+    ⊎ ((¬ IsWordText text) × (listing ≡ refusal_line_of Syntax))

@@ -1,0 +1,143 @@
+//! The listing of a word: one line for each of its fields.
+ghost use Rattle.std.specs.Prelude.{◌≡◌, ◌+◌, ◌≤◌, ◌++◌, ◌↔◌, [], codes, decimal, false, true, length, IfOk, IsErr, IsTrue, OnOk, OnErr};
+ghost use Rattle.std.specs.Io.KnownBytes.{Appends};
+ghost use Rattle.cc_word.specs.Word.{bit_of, word_of};
+ghost use Rattle.cc_word.specs.WordText.{digits_of};
+ghost use Rattle.cheri_cap.specs.Devices.{TakesBeginning};
+ghost use Rattle.cheri_cap.specs.Listing.{IsListing, IsWordText, listing_of, refusal_line_of};
+ghost use Rattle.cheri_cap.specs.Permissions.{permissions_text};
+ghost use Rattle.cheri_cap.specs.Show.{ShowsText};
+ghost use Rattle.cheri_cap.specs.Text.{hexadecimal, line_of};
+
+use crate::devices::{Sink, write_all};
+use crate::permissions::push_permissions;
+use crate::summary::{ScriptFault, Summary};
+use crate::text::{ROOM, Text};
+use cc_word::{Fields, Refusal, read_word, unpack};
+
+/// Writes the listing of the word that a text spells, or the line `error 1 syntax` for a text that is
+/// no word, and flushes the sink once after the last line.
+///
+/// A word is 32 hexadecimal digits of either case. Where the sink fails, a beginning of the listing was
+/// written.
+pub fn show_word<W: Sink>(text: &[u8], sink: &mut W) -> Result<Summary, ScriptFault>
+    requires { W.has_failed sink.old ≡ false }
+    ensures shown { ShowsText text.now (W.taken_bytes sink.old) (W.taken_bytes sink.new) result }
+    ensures any_error { IfOk result (λ summary. IsTrue summary.any_error ↔ (¬ IsWordText text.now)) }
+    ensures fails { IsErr result ↔ (W.has_failed sink.new ≡ true) }
+    ensures write { OnErr result (result ≡ Err ScriptFault.Write) }
+{
+    let mut answer = Text::new();
+    let summary = push_answer(&mut answer, text);
+    write_answer(&answer, sink)?;
+    Ok(summary)
+}
+
+/// Writes an answer and flushes the sink.
+fn write_answer<W: Sink>(answer: &Text, sink: &mut W) -> Result<(), ScriptFault>
+    requires { W.has_failed sink.old ≡ false }
+    ensures ok { OnOk result (Appends (W.taken_bytes sink.old) (W.taken_bytes sink.new) answer.now) }
+    ensures err { OnErr result (TakesBeginning (W.taken_bytes sink.old) (W.taken_bytes sink.new) answer.now) }
+    ensures fails { IsErr result ↔ (W.has_failed sink.new ≡ true) }
+    ensures write { OnErr result (result ≡ Err ScriptFault.Write) }
+{
+    write_all(sink, answer.bytes()).map_err(|_| ScriptFault::Write)?;
+    sink.flush().map_err(|_| ScriptFault::Write)
+}
+
+/// Appends the listing of a text.
+fn push_answer(answer: &mut Text, text: &[u8]) -> Summary
+    requires { answer.old ≡ [] }
+    ensures listing { IsListing text.now answer.new }
+    ensures any_error { IsTrue result.any_error ↔ (¬ IsWordText text.now) }
+{
+    match read_word(text) {
+        Some(word) => {
+            push_listing(answer, word, &unpack(word));
+            Summary { any_error: false }
+        }
+        None => {
+            push_refusal_line(answer, Refusal::Syntax);
+            Summary { any_error: true }
+        }
+    }
+}
+
+/// Appends the lines of a word with these fields.
+fn push_listing(text: &mut Text, word: u128, fields: &Fields)
+    requires { text.old ≡ [] }
+    ensures { text.new ≡ listing_of word fields.now }
+{
+    push_digits_line(text, b"word", word, 32);
+    push_permissions_line(text, fields.perms);
+    push_decimal_line(text, b"reserved", u128::from(fields.reserved));
+    push_decimal_line(text, b"flag", u128::from(fields.flag));
+    push_digits_line(text, b"type", u128::from(fields.otype), 5);
+    push_decimal_line(text, b"ie", u128::from(fields.ie));
+    push_digits_line(text, b"t", u128::from(fields.t), 3);
+    push_digits_line(text, b"b", u128::from(fields.b), 4);
+    push_hexadecimal_line(text, b"address", u128::from(fields.address));
+}
+
+/// Appends the line of a refusal: `error`, its code and its name.
+fn push_refusal_line(text: &mut Text, refusal: Refusal)
+    requires { length text.old + 80 ≤ ROOM }
+    ensures value { text.new ≡ text.old ++ refusal_line_of refusal }
+    ensures fits { length text.new ≤ length text.old + 80 }
+{
+    text.push(b"error ");
+    text.push_decimal(u128::from(refusal.code()));
+    text.push(b" ");
+    text.push(refusal.name().as_bytes());
+    text.push(b"\n");
+}
+
+/// Appends a line whose value is the last `count` hexadecimal digits of a number.
+fn push_digits_line(text: &mut Text, name: &[u8], number: u128, count: usize)
+    requires digits { count ≤ 32 }
+    requires room { length text.old + length name.now + count + 2 ≤ ROOM }
+    ensures value { text.new ≡ text.old ++ line_of name.now (digits_of count number) }
+    ensures fits { length text.new ≤ length text.old + length name.now + count + 2 }
+{
+    text.push(name);
+    text.push(b" ");
+    text.push_digits(number, count);
+    text.push(b"\n");
+}
+
+/// Appends a line whose value is a number in decimal.
+fn push_decimal_line(text: &mut Text, name: &[u8], number: u128)
+    requires { length text.old + length name.now + 42 ≤ ROOM }
+    ensures value { text.new ≡ text.old ++ line_of name.now (decimal number) }
+    ensures fits { length text.new ≤ length text.old + length name.now + 42 }
+{
+    text.push(name);
+    text.push(b" ");
+    text.push_decimal(number);
+    text.push(b"\n");
+}
+
+/// Appends a line whose value is a number in hexadecimal, without leading zeros.
+fn push_hexadecimal_line(text: &mut Text, name: &[u8], number: u128)
+    requires { length text.old + length name.now + 36 ≤ ROOM }
+    ensures value { text.new ≡ text.old ++ line_of name.now (hexadecimal number) }
+    ensures fits { length text.new ≤ length text.old + length name.now + 36 }
+{
+    text.push(name);
+    text.push(b" ");
+    text.push_hexadecimal(number);
+    text.push(b"\n");
+}
+
+/// Appends the line of the permissions, as digits and by name.
+fn push_permissions_line(text: &mut Text, perms: u16)
+    requires { length text.old + 137 ≤ ROOM }
+    ensures value { text.new ≡ text.old ++ line_of (codes "perms") (digits_of 4 perms ++ codes " " ++ permissions_text perms) }
+    ensures fits { length text.new ≤ length text.old + 137 }
+{
+    text.push(b"perms ");
+    text.push_digits(u128::from(perms), 4);
+    text.push(b" ");
+    push_permissions(text, perms);
+    text.push(b"\n");
+}

@@ -1,0 +1,88 @@
+//! The program `cheri-cap`: shows what CHERI Concentrate capability words hold.
+#![tactic(auto)]
+
+mod devices;
+mod invocation;
+mod listing;
+mod outcome;
+mod permissions;
+mod slice_devices;
+mod std_devices;
+mod summary;
+mod text;
+
+use clap::error::ErrorKind;
+use invocation::{Invocation, read_words};
+use listing::show_word;
+use outcome::{Fault, status};
+use std::alloc::AllocError;
+use std::env::{self, Env};
+use std::io;
+use std::process::ExitCode;
+use std_devices::FromWriter;
+use summary::Summary;
+
+/// The exit status of a command line that is not understood.
+const REFUSED: u8 = 2;
+
+fn main(rt: HostRuntime) -> ExitCode {
+    ExitCode::from(run(&rt))
+}
+
+/// Runs the program on its arguments, and answers the exit status.
+fn run<R: Env + AllocGlobal + Print + Eprint>(rt: &R) -> u8 {
+    let arguments = match env::args(rt) {
+        Ok(arguments) => arguments.collect::<Vec<String>>(rt.alloc()),
+        Err(error) if error.kind() == io::ErrorKind::OutOfMemory => Err(AllocError),
+        Err(_) => {
+            let _ = eprintln!(rt; "cheri-cap: an argument is not text");
+            return REFUSED;
+        }
+    };
+    match arguments {
+        Ok(arguments) => run_arguments(rt, arguments.as_slice()),
+        Err(_) => finish(rt, &Err(Fault::Memory)),
+    }
+}
+
+/// Does what the arguments ask for. A command line that is not understood gets clap's text.
+fn run_arguments<R: AllocGlobal + Print + Eprint>(rt: &R, arguments: &[String]) -> u8 {
+    let words: Result<Vec<&str>, AllocError> = arguments
+        .iter()
+        .map(|argument| argument.as_str())
+        .collect(rt.alloc());
+    let Ok(words) = words else {
+        return finish(rt, &Err(Fault::Memory));
+    };
+    match read_words(rt.alloc(), words.as_slice()) {
+        Ok(invocation) => finish(rt, &answer(rt, invocation)),
+        Err(error) if error.kind() == ErrorKind::OutOfMemory => finish(rt, &Err(Fault::Memory)),
+        Err(error) if error.use_stderr() => {
+            let _ = error.print(rt);
+            REFUSED
+        }
+        Err(help) => match help.print(rt) {
+            Ok(()) => 0,
+            Err(_) => finish(rt, &Err(Fault::Write)),
+        },
+    }
+}
+
+/// Writes the answer to standard output.
+fn answer<R: Print>(rt: &R, invocation: Invocation<'_>) -> Result<Summary, Fault> {
+    let mut output = FromWriter::new(io::writer(rt));
+    match invocation {
+        Invocation::Show { word } => Ok(show_word(word.as_bytes(), &mut output)?),
+    }
+}
+
+/// Tells a fault on standard error, and answers the exit status.
+fn finish<R: Eprint>(rt: &R, outcome: &Result<Summary, Fault>) -> u8 {
+    if let Err(fault) = outcome {
+        let _ = eprintln!(rt; "{fault}");
+    }
+    status(outcome)
+}
+
+#[cfg(test)]
+mod tests;

@@ -1,0 +1,44 @@
+//! How the program ends.
+ghost use Rattle.std.specs.Prelude.{◌≡◌};
+ghost use Rattle.cheri_cap.specs.Outcome.{fault_of, status_of};
+
+use crate::summary::{ScriptFault, Summary};
+use thiserror::Error;
+
+/// Why the program stopped before its end. Its text is the one line that stands on standard error.
+#[derive(Clone, Copy, Debug, PartialEq, Eq, Error)]
+pub enum Fault {
+    /// Memory was refused.
+    #[error("cheri-cap: out of memory")]
+    Memory,
+    /// A file can't be opened.
+    #[error("cheri-cap: cannot open")]
+    Open,
+    /// A read failed.
+    #[error("cheri-cap: read failed")]
+    Read,
+    /// A write failed.
+    #[error("cheri-cap: write failed")]
+    Write,
+}
+
+/// The exit status: 0 where no reply was an error, 1 where one was, 3 for a fault.
+pub fn status(outcome: &Result<Summary, Fault>) -> u8
+    ensures { result ≡ status_of outcome.now }
+{
+    match outcome {
+        Ok(summary) => u8::from(summary.any_error),
+        Err(_) => 3,
+    }
+}
+
+impl From<ScriptFault> for Fault {
+    ghost from_gives = { λ fault result. result ≡ fault_of fault };
+
+    fn from(fault: ScriptFault) -> Fault {
+        match fault {
+            ScriptFault::Read => Fault::Read,
+            ScriptFault::Write => Fault::Write,
+        }
+    }
+}

@@ -1,0 +1,6 @@
+//! The tests of the program, by topic.
+
+mod command_line;
+mod devices;
+mod endings;
+mod rows;

@@ -1,0 +1,139 @@
+//! Sinks that fail, and sinks over writers.
+use super::rows::{NULL_LISTING, NULL_WORD};
+use crate::devices::{Failed, Sink, write_all};
+use crate::listing::show_word;
+use crate::slice_devices::SliceSink;
+use crate::std_devices::FromWriter;
+use crate::summary::{ScriptFault, Summary};
+use std::io::{self, Write};
+use std::test::Fail;
+
+/// Each call of the sink fails in turn, the flush too, and then no call does.
+#[test]
+fn each_call_fails_in_turn(rt: HostRuntime) {
+    let listing = NULL_LISTING.as_bytes();
+    for piece in [1usize, 5, 200] {
+        let writes = listing.len().div_ceil(piece);
+        for fail_at in 0..200u32 {
+            let mut room = [0; 512];
+            let mut sink = SliceSink::new(&mut room, piece, Some(fail_at));
+            let outcome = show_word(NULL_WORD.as_bytes(), &mut sink);
+            let taken = sink.taken();
+            let calls = fail_at as usize;
+            let (wanted_outcome, wanted_taken) = if calls == 0 || calls > writes + 1 {
+                (Ok(Summary { any_error: false }), listing.len())
+            } else {
+                let before = (calls - 1).saturating_mul(piece);
+                (Err(ScriptFault::Write), before.min(listing.len()))
+            };
+            assert_eq!(rt;
+                outcome,
+                wanted_outcome,
+                "call {fail_at}, pieces of {piece}"
+            );
+            assert_eq!(rt; taken, wanted_taken, "call {fail_at}, pieces of {piece}");
+            assert_eq!(rt;
+                room.get(..taken),
+                listing.get(..taken),
+                "call {fail_at}, pieces of {piece}"
+            );
+        }
+    }
+}
+
+#[test]
+fn failure_stays(rt: HostRuntime) {
+    let mut room = [0; 8];
+    let mut sink = SliceSink::new(&mut room, 3, Some(2));
+    assert_eq!(rt; sink.write(b"abcdef"), Ok(3));
+    assert_eq!(rt; sink.flush(), Err(Failed));
+    assert_eq!(rt; sink.write(b"d"), Err(Failed));
+    assert_eq!(rt; sink.flush(), Err(Failed));
+    assert_eq!(rt; sink.taken(), 3);
+}
+
+#[test]
+fn full_sink_fails(rt: HostRuntime) {
+    let mut room = [0; 2];
+    let mut sink = SliceSink::new(&mut room, 200, None);
+    assert_eq!(rt; sink.write(b"abc"), Ok(2));
+    assert_eq!(rt; sink.write(b""), Ok(0));
+    assert_eq!(rt; sink.flush(), Ok(()));
+    assert_eq!(rt; sink.write(b"c"), Err(Failed));
+    assert_eq!(rt; sink.flush(), Err(Failed));
+}
+
+#[test]
+fn all_bytes_in_small_pieces(rt: HostRuntime) {
+    let mut room = [0; 8];
+    let mut sink = SliceSink::new(&mut room, 3, None);
+    assert_eq!(rt; write_all(&mut sink, b"abcdefg"), Ok(()));
+    assert_eq!(rt; sink.taken(), 7);
+    assert_eq!(rt; room.get(..7), Some(b"abcdefg".as_slice()));
+}
+
+#[test]
+fn vec_as_writer(rt: HostRuntime) {
+    let mut bytes = Vec::new(rt.alloc());
+    let mut sink = FromWriter::new(&mut bytes);
+    let outcome = show_word(NULL_WORD.as_bytes(), &mut sink);
+    assert_eq!(rt; outcome, Ok(Summary { any_error: false }));
+    assert_eq!(rt; bytes.as_slice(), NULL_LISTING.as_bytes());
+}
+
+/// A writer that answers its calls by a plan.
+#[derive(Drop)]
+struct Faulty {
+    write: Answer,
+    flush: Answer,
+}
+
+#[derive(Clone, Copy)]
+enum Answer {
+    All,
+    Nothing,
+    Interrupted,
+    Broken,
+}
+
+impl Write for Faulty {
+    fn write(&mut self, buf: &[u8]) -> io::Result<usize> {
+        match self.write {
+            Answer::All => Ok(buf.len()),
+            Answer::Nothing => Ok(0),
+            Answer::Interrupted => Err(io::Error::from(io::ErrorKind::Interrupted)),
+            Answer::Broken => Err(io::Error::from(io::ErrorKind::BrokenPipe)),
+        }
+    }
+
+    fn flush(&mut self) -> io::Result<()> {
+        match self.flush {
+            Answer::All | Answer::Nothing => Ok(()),
+            Answer::Interrupted => Err(io::Error::from(io::ErrorKind::Interrupted)),
+            Answer::Broken => Err(io::Error::from(io::ErrorKind::BrokenPipe)),
+        }
+    }
+}
+
+#[test]
+fn errors_of_writers_are_failures(rt: HostRuntime) {
+    let table = [
+        (Answer::All, Answer::All, true),
+        (Answer::Nothing, Answer::All, false),
+        (Answer::Interrupted, Answer::All, false),
+        (Answer::Broken, Answer::All, false),
+        (Answer::All, Answer::Interrupted, false),
+        (Answer::All, Answer::Broken, false),
+    ];
+    for (write, flush, is_ok) in table {
+        let mut sink = FromWriter::new(Faulty { write, flush });
+        let outcome = show_word(NULL_WORD.as_bytes(), &mut sink);
+        let wanted = if is_ok {
+            Ok(Summary { any_error: false })
+        } else {
+            Err(ScriptFault::Write)
+        };
+        assert_eq!(rt; outcome, wanted);
+        assert_eq!(rt; sink.flush().is_ok(), is_ok);
+    }
+}
