@@ -1,0 +1,144 @@
+-- What a `Set` stores: the exponent and the fields of a sound span.
+use Rattle.std.proofs.Common.{subst, ◌≡◌, ℕ, zero, suc, ◌+◌, ◌-◌, ◌*◌, ◌<◌, ◌≤◌, ◌/◌, ◌%◌, ◌^◌, Bool, true, false, refl, sym, ◌∙◌, ap, arith, inl, inr, nat_le, nat_lt, bit_and}
+use Rattle.std.specs.Prelude.{IsTrue, ◌↔◌}
+use Rattle.std.proofs.Math.Nat.{mul-le-mul_right}
+use Rattle.std.proofs.lemmas.Nat.{pow_pos, pow-add, shl-shr, and_mask}
+use Rattle.std.proofs.lemmas.Bool.{cases_lt}
+use Rattle.cc_bounds.specs.declared.span.Span.{Span}
+use Rattle.cc_bounds.specs.Span.{IsSpan, length_of}
+use Rattle.cc_bounds.specs.Granule.{IsGranule, IsExponent, rounded_to, IsGranted, IsSound, exponent_of}
+use Rattle.cc_bounds.specs.Encoding.{ie_of, t_of, b_of, IsEncoding}
+use Rattle.cc_bounds.proofs.GranuleLemmas.{IsLeastExponent, least_same, exponent-least, power-exponent}
+use Rattle.cc_bounds.proofs.SoundLemmas.{IsLongGranted, granted-long, granted-sound}
+use Rattle.cc_bounds.proofs.ComputingLemmas.{exponent_of-is, exponent-exponent_of, exponent_of-short}
+
+-- a granule is eight units of its exponent
+pub granule-units : (n e : ℕ) → n * 2 ^ (e + 3) ≡ 8 * n * 2 ^ e
+granule-units n e = let k = ap (λ (n' : ℕ). n * n') (pow-add 2 e 3) in omega (arith, k)
+
+-- a sound span in whole granules of its exponent
+pub record IsLongSpan (span : Span) (first last : ℕ) : Type 0 where
+  pub exponent_fits : exponent_of span ≤ 52
+  pub few : last ≤ first + 1023
+  pub many : first + 512 ≤ last
+  pub base_is : span.base ≡ first * 2 ^ (exponent_of span + 3)
+  pub top_is : span.top ≡ last * 2 ^ (exponent_of span + 3)
+  pub base_units : span.base / 2 ^ exponent_of span ≡ 8 * first
+  pub top_units : span.top / 2 ^ exponent_of span ≡ 8 * last
+
+pub record IsLong (span : Span) : Type 0 where
+  pub first : ℕ
+  pub last : ℕ
+  pub facts : IsLongSpan span first last
+
+pub sound-long : (span : Span) → IsSpan span → IsSound span → 4096 ≤ length_of span → IsLong span
+sound-long span is_span sound long =
+    let h = granted-long span span is_span long sound in
+    let e : ℕ = exponent_of span in
+    let same : h.exponent ≡ e = least_same span h.exponent e h.least (exponent-least span e long (exponent_of-is span is_span)) in
+    let base : span.base ≡ h.first * 2 ^ (e + 3) = h.base_is ∙ ap (λ (n : ℕ). h.first * 2 ^ (n + 3)) same in
+    let top : span.top ≡ h.last * 2 ^ (e + 3) = h.top_is ∙ ap (λ (n : ℕ). h.last * 2 ^ (n + 3)) same in
+    let fits = h.exponent_fits in
+    record {
+      first = h.first;
+      last = h.last;
+      facts = record {
+        exponent_fits = omega (arith, fits, same);
+        few = h.few;
+        many = h.many;
+        base_is = base;
+        top_is = top;
+        base_units = ap (λ (n : ℕ). n / 2 ^ e) (base ∙ granule-units h.first e) ∙ shl-shr (8 * h.first) e;
+        top_units = ap (λ (n : ℕ). n / 2 ^ e) (top ∙ granule-units h.last e) ∙ shl-shr (8 * h.last) e;
+      };
+    }
+
+-- the exponent and the fields fit where they are stored
+pub record Fit (span : Span) : Type 0 where
+  pub exponent_fits : exponent_of span ≤ 52
+  pub t_fits : t_of span < 2 ^ 12
+  pub b_fits : b_of span < 2 ^ 14
+  pub close : span.top < span.base + 2 ^ (exponent_of span + 13)
+
+pub sound-fit : (span : Span) → IsSpan span → IsSound span → Fit span
+sound-fit span is_span sound =
+    elim (cases_lt (length_of span) 4096) [
+      | inl short ↦
+          let e = exponent_of-short span short in
+          let t : t_of span ≡ span.top / 2 ^ 0 % 2 ^ 12 + 0 / 8 = ap (λ (n : ℕ). span.top / 2 ^ n % 2 ^ 12 + n / 8) e in
+          let b : b_of span ≡ span.base / 2 ^ 0 % 2 ^ 14 + 0 % 8 = ap (λ (n : ℕ). span.base / 2 ^ n % 2 ^ 14 + n % 8) e in
+          let size : 2 ^ (exponent_of span + 13) ≡ 2 ^ 13 = ap (λ (n : ℕ). 2 ^ (n + 13)) e in
+          record {
+            exponent_fits = omega (arith, e);
+            t_fits = omega (arith, t);
+            b_fits = omega (arith, b);
+            close = omega (arith, size, short);
+          }
+      | inr long ↦
+          let has = sound-long span is_span sound long in
+          let h = has.facts in
+          let e : ℕ = exponent_of span in
+          let fits = h.exponent_fits in
+          let few = h.few in
+          let units = mul-le-mul_right (2 ^ (e + 3)) few in
+          let turn : 2 ^ (e + 13) ≡ 2 ^ (e + 3) * 2 ^ 10 =
+          let i : e + 13 ≡ e + 3 + 10 = omega arith in ap (λ (n : ℕ). 2 ^ n) i ∙ pow-add 2 (e + 3) 10 in
+          let pos = pow_pos (e + 3) in
+          let t : t_of span ≡ 8 * has.last % 2 ^ 12 + e / 8 = ap (λ (n : ℕ). n % 2 ^ 12 + e / 8) h.top_units in
+          let b : b_of span ≡ 8 * has.first % 2 ^ 14 + e % 8 = ap (λ (n : ℕ). n % 2 ^ 14 + e % 8) h.base_units in
+          let base = h.base_is in
+          let top = h.top_is in
+          record {
+            exponent_fits = fits;
+            t_fits = omega (arith, t, fits);
+            b_fits = omega (arith, b, fits);
+            close = omega (arith, base, top, units, turn, pos);
+          }
+    ]
+
+-- ---- what a `Set` stores
+
+-- what is stored of a granted span, as it is computed
+pub encoded : (request granted : Span) (power e : ℕ) → IsSpan request → granted ≡ rounded_to (2 ^ power) request
+    → IsGranule request (2 ^ power) → (length_of request < 4096 → power ≡ 0) → (4096 ≤ length_of request → 3 ≤ power)
+    → e ≡ power - 3
+    → IsEncoding granted e (nat_lt 0 power)
+    (bit_and (granted.top / 2 ^ e) 4095 + e / 8) (bit_and (granted.base / 2 ^ e) 16383 + bit_and e 7)
+encoded request granted power e is_span is_rounded is_granule small large is =
+    let grant = granted-sound request granted is_span is_granted in
+    let exponent : IsExponent request e = subst (λ (n : ℕ). IsExponent request n) (sym is) (power-exponent request power is_granule small large) in
+    let e_is : e ≡ exponent_of granted = exponent-exponent_of granted e grant.is_span (grant.exponent e exponent) in
+    record {
+      is_span = grant.is_span;
+      sound = grant.sound;
+      is_e = e_is;
+      is_ie = flag;
+      is_t = ap (λ (n : ℕ). n + e / 8) (and_mask (granted.top / 2 ^ e) 12) ∙ ap (λ (n : ℕ). granted.top / 2 ^ n % 2 ^ 12 + n / 8) e_is;
+      is_b =
+          ap (λ (n : ℕ). n + bit_and e 7) (and_mask (granted.base / 2 ^ e) 14) ∙ ap (λ (n : ℕ). granted.base / 2 ^ e % 2 ^ 14 + n) (and_mask e 3)
+          ∙ ap (λ (n : ℕ). granted.base / 2 ^ n % 2 ^ 14 + n % 8) e_is;
+    }
+  where
+    is_granted : IsGranted request granted
+    is_granted = record { granule = 2 ^ power; is_granule = is_granule; is_rounded = is_rounded }
+
+    flag : nat_lt 0 power ≡ ie_of granted
+    flag =
+        let grant = granted-sound request granted is_span is_granted in
+        elim (cases_lt (length_of request) 4096) [
+          | inl short ↦ let z = small short in let s = grant.as_short short in grind (arith, z, s)
+          | inr long ↦ let z = large long in let s = grant.as_long long in grind (arith, z, s)
+        ]
+
+module _ (span : Span) (e : ℕ) (ie : Bool) (t b : ℕ) (h : IsEncoding span e ie t b) where
+  pub encoding_exponent : IsExponent span e
+  encoding_exponent = subst (λ (n : ℕ). IsExponent span n) (sym h.is_e) (exponent_of-is span h.is_span)
+
+  pub encoding_e_fits : e ≤ 52
+  encoding_e_fits = let fit = sound-fit span h.is_span h.sound in omega (arith, h.is_e, fit.exponent_fits)
+
+  pub encoding_t_fits : t < 2 ^ 12
+  encoding_t_fits = let fit = sound-fit span h.is_span h.sound in omega (arith, h.is_t, fit.t_fits)
+
+  pub encoding_b_fits : b < 2 ^ 14
+  encoding_b_fits = let fit = sound-fit span h.is_span h.sound in omega (arith, h.is_b, fit.b_fits)

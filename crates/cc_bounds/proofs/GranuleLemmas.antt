@@ -1,0 +1,235 @@
+-- Granules: how many a request touches, the least that is coarse enough, and rounding to them.
+use Rattle.std.proofs.Common.{subst, ◌≡◌, ℕ, zero, suc, ◌+◌, ◌-◌, ◌*◌, ◌<◌, ◌≤◌, ◌/◌, ◌^◌, refl, sym, ◌∙◌, ap, arith, inl, inr}
+use Rattle.std.specs.Int.{div_ceil, IsPowerOfTwo}
+use Rattle.std.proofs.Math.Nat.{mul-le-mul_right, div-mul-le_self, lt-div-mul-add, le_of_mul-le-mul_right, lt_of_mul-lt-mul_right, pow-suc}
+use Rattle.std.proofs.Math.Pow.{pow_mono}
+use Rattle.std.proofs.lemmas.Nat.{pow_pos, pow-add, le-div, shl-shr}
+use Rattle.std.proofs.lemmas.Bool.{cases_lt}
+use Rattle.std.proofs.lemmas.Grind.{div_ceil_times}
+use Rattle.cc_bounds.specs.declared.span.Span.{Span}
+use Rattle.cc_bounds.specs.Span.{IsSpan, IsWithin, length_of}
+use Rattle.cc_bounds.specs.Granule.{granule_count, IsCoarseEnough, IsGranule, IsExponent, rounded_to, IsGranted}
+
+-- ---- division rounded up
+
+pub le-div_ceil : (n g : ℕ) → 0 < g → n ≤ div_ceil n g * g
+le-div_ceil n g pos = (div_ceil_times n g pos).0
+
+pub div_ceil-lt : (n g : ℕ) → 0 < g → div_ceil n g * g < n + g
+div_ceil-lt n g pos = (div_ceil_times n g pos).1
+
+pub div_ceil-le : (n g m : ℕ) → 0 < g → n ≤ m * g → div_ceil n g ≤ m
+div_ceil-le n g m pos h =
+    let near = div_ceil-lt n g pos in
+    let less : div_ceil n g * g < (m + 1) * g = omega (arith, near, h) in
+    let k = lt_of_mul-lt-mul_right g less in
+    omega (arith, k)
+
+-- a multiple of the granule is not rounded
+pub div_ceil-multiple : (m g : ℕ) → 0 < g → div_ceil (m * g) g ≡ m
+div_ceil-multiple m g pos =
+    let most = div_ceil-le (m * g) g m pos (omega arith) in
+    let up = le-div_ceil (m * g) g pos in
+    let least = le_of_mul-le-mul_right up pos in
+    omega (arith, most, least)
+
+-- ---- counting granules
+
+-- a request within another touches at most as many granules
+pub granule_count-within : (inner outer : Span) (g : ℕ) → 0 < g → outer.base ≤ inner.base → inner.top ≤ outer.top
+    → granule_count inner g ≤ granule_count outer g
+granule_count-within inner outer g pos base top =
+    let up = le-div_ceil outer.top g pos in
+    let tops = div_ceil-le inner.top g (div_ceil outer.top g) pos (omega (arith, up, top)) in
+    let down = div-mul-le_self outer.base g in
+    let bases = le-div (outer.base / g) inner.base g pos (omega (arith, down, base)) in
+    omega (arith, tops, bases)
+
+-- how many granules a request touches that a span of whole granules covers
+pub granule_count-covered : (request : Span) (g n m : ℕ) → 0 < g → n * g ≤ request.base → request.top ≤ m * g
+    → granule_count request g ≤ m - n
+granule_count-covered request g n m pos base top =
+    let down = le-div n request.base g pos base in
+    let up = div_ceil-le request.top g m pos top in
+    omega (arith, down, up)
+
+-- of twice the granule a request touches at least half as many
+granule_count-twice : (request : Span) (g : ℕ) → 0 < g → granule_count request g ≤ 2 * granule_count request (2 * g)
+granule_count-twice request g pos =
+    let c : ℕ = div_ceil request.top (2 * g) in
+    let n : ℕ = request.base / (2 * g) in
+    let up = le-div_ceil request.top (2 * g) (omega arith) in
+    let down = div-mul-le_self request.base (2 * g) in
+    let top = div_ceil-le request.top g (2 * c) pos (omega (arith, up)) in
+    let base = le-div (2 * n) request.base g pos (omega (arith, down)) in
+    omega (arith, top, base)
+
+-- ---- the least exponent
+
+-- the exponent is the least whose granule is coarse enough
+pub record IsLeastExponent (request : Span) (exponent : ℕ) : Type 0 where
+  pub few : granule_count request (2 ^ (exponent + 3)) ≤ 1023
+  pub least : (other : ℕ) → granule_count request (2 ^ (other + 3)) ≤ 1023 → exponent ≤ other
+
+pub least_same : (request : Span) (e k : ℕ) → IsLeastExponent request e → IsLeastExponent request k → e ≡ k
+least_same request e k h l = let x = h.least k l.few in let y = l.least e h.few in omega arith
+
+-- at exponent 52 every request is coarse enough
+pub few_at_52 : (request : Span) → request.top ≤ 2 ^ 64 → granule_count request (2 ^ 55) ≤ 1023
+few_at_52 request fits = omega arith
+
+pub least-fits : (request : Span) (e : ℕ) → request.top ≤ 2 ^ 64 → IsLeastExponent request e → e ≤ 52
+least-fits request e fits h = h.least 52 (few_at_52 request fits)
+
+double : (e : ℕ) → 2 ^ (suc e + 3) ≡ 2 * 2 ^ (e + 3)
+double e = let s : suc e + 3 ≡ suc (e + 3) = omega arith in let p = pow-suc 2 (e + 3) in rw s (omega (arith, p))
+
+-- the least exponent of a request of 4096 bytes or more leaves at least 512 granules
+pub least-many : (request : Span) (e : ℕ) → 4096 ≤ length_of request → IsLeastExponent request e
+    → 512 ≤ granule_count request (2 ^ (e + 3))
+least-many request zero long h =
+    let up = le-div_ceil request.top 8 (omega arith) in
+    let down = div-mul-le_self request.base 8 in
+    omega (arith, up, down)
+least-many request (suc e) long h =
+    let half = granule_count-twice request (2 ^ (e + 3)) (pow_pos (e + 3)) in
+    let half' = rw (← double e) at half in
+    elim (cases_lt 1023 (granule_count request (2 ^ (e + 3)))) [
+      | inl more ↦ omega (arith, half', more)
+      | inr few ↦ let l = h.least e few in absurd (omega arith)
+    ]
+
+-- 511 granules of the least exponent are shorter than the request
+pub least-short : (request : Span) (e : ℕ) → 4096 ≤ length_of request → IsLeastExponent request e
+    → 511 * 2 ^ (e + 3) < length_of request
+least-short request zero long h = omega arith
+least-short request (suc e) long h =
+    let half : ℕ = 2 ^ (e + 3) in
+    let pos = pow_pos (e + 3) in
+    let two = double e in
+    elim (cases_lt 1023 (granule_count request half)) [
+      | inl many ↦
+          let down = lt-div-mul-add {a = request.base} pos in
+          elim (cases_lt (511 * (2 * half)) (length_of request)) [
+            | inl good ↦ omega (arith, two, good)
+            | inr bad ↦
+                let up = div_ceil-le request.top half (request.base / half + 1023) pos (omega (arith, bad, down)) in
+                absurd (omega (arith, up, many))
+          ]
+      | inr few ↦ let l = h.least e few in absurd (omega arith)
+    ]
+
+-- ---- the granule and the least exponent
+
+-- powers of two are in the order of their exponents
+pub pow-order : (j k : ℕ) → 2 ^ j ≤ 2 ^ k → j ≤ k
+pow-order j k h =
+    elim (cases_lt k j) [
+      | inl less ↦
+          let p : 2 ^ suc k ≤ 2 ^ j = pow_mono less in
+          let q = pow-suc 2 k in
+          let pos = pow_pos k in
+          absurd (omega (arith, p, q, h, pos))
+      | inr more ↦ more
+    ]
+
+pub coarse_enough : (request : Span) (e : ℕ) → granule_count request (2 ^ (e + 3)) ≤ 1023 → IsCoarseEnough request (2 ^ (e + 3))
+coarse_enough request e few =
+    let p = pow-add 2 e 3 in
+    let pos = pow_pos e in
+    record { power = (e + 3, refl); from_eight = omega (arith, p, pos); few = few }
+
+pub granule-least : (request : Span) (e : ℕ) → 4096 ≤ length_of request → IsGranule request (2 ^ (e + 3)) → IsLeastExponent request e
+granule-least request e long h = record {
+  few = (h.large long).few;
+  least = λ other few.
+      let le = h.least (2 ^ (other + 3)) long (coarse_enough request other few) in
+      let order = pow-order (e + 3) (other + 3) le in
+      omega (arith, order);
+}
+
+pub least-granule : (request : Span) (e : ℕ) → 4096 ≤ length_of request → IsLeastExponent request e → IsGranule request (2 ^ (e + 3))
+least-granule request e long h = record {
+  small = λ short. absurd (omega (arith, short, long));
+  large = λ _. coarse_enough request e h.few;
+  least = λ other _ coarse. by_power other coarse coarse.power.0 coarse.power.1;
+}
+  where
+    by_power : (other : ℕ) → IsCoarseEnough request other → (k : ℕ) → other ≡ 2 ^ k → 2 ^ (e + 3) ≤ other
+    by_power other coarse k is =
+        let eight : 2 ^ 3 ≤ 2 ^ k = rw is at coarse.from_eight in
+        let three : 3 ≤ k = pow-order 3 k eight in
+        let split : k ≡ k - 3 + 3 = omega arith in
+        let is' : other ≡ 2 ^ (k - 3 + 3) = is ∙ ap (λ (n : ℕ). 2 ^ n) split in
+        let few : granule_count request (2 ^ (k - 3 + 3)) ≤ 1023 = rw is' at coarse.few in
+        let order = h.least (k - 3) few in
+        let order' : e + 3 ≤ k - 3 + 3 = omega (arith, order) in
+        rw is' (pow_mono order')
+
+-- an exponent whose predecessors are not coarse enough is the least
+pub first-least : (request : Span) (e : ℕ) → granule_count request (2 ^ (e + 3)) ≤ 1023
+    → ((k : ℕ) → k < e → 1023 < granule_count request (2 ^ (k + 3))) → IsLeastExponent request e
+first-least request e few before = record {
+  few = few;
+  least = λ other few'. elim (cases_lt other e) [ inl less ↦ let m = before other less in absurd (omega (arith, m, few')) | inr more ↦ more ];
+}
+
+-- ---- one granule, one exponent, one granted span
+
+pub granule_same : (request : Span) (g h : ℕ) → IsGranule request g → IsGranule request h → g ≡ h
+granule_same request g h is_g is_h =
+    elim (cases_lt (length_of request) 4096) [
+      | inl short ↦ is_g.small short ∙ sym (is_h.small short)
+      | inr long ↦
+          let x = is_g.least h long (is_h.large long) in
+          let y = is_h.least g long (is_g.large long) in
+          omega (arith, x, y)
+    ]
+
+pub exponent-least : (request : Span) (e : ℕ) → 4096 ≤ length_of request → IsExponent request e → IsLeastExponent request e
+exponent-least request e long h = granule-least request e long (h.large long)
+
+pub least-exponent : (request : Span) (e : ℕ) → 4096 ≤ length_of request → IsLeastExponent request e → IsExponent request e
+least-exponent request e long h = record {
+  small = λ short. absurd (omega (arith, short, long));
+  large = λ _. least-granule request e long h;
+}
+
+pub exponent_same : (request : Span) (e k : ℕ) → IsExponent request e → IsExponent request k → e ≡ k
+exponent_same request e k is_e is_k =
+    elim (cases_lt (length_of request) 4096) [
+      | inl short ↦ is_e.small short ∙ sym (is_k.small short)
+      | inr long ↦ least_same request e k (exponent-least request e long is_e) (exponent-least request k long is_k)
+    ]
+
+pub granted_same : (request one other : Span) → IsGranted request one → IsGranted request other → one ≡ other
+granted_same request one other h k =
+    h.is_rounded ∙ ap (λ (g : ℕ). rounded_to g request) (granule_same request h.granule k.granule h.is_granule k.is_granule)
+    ∙ sym k.is_rounded
+
+-- ---- the granule as a power of two
+
+-- a power of two whose predecessors from 8 up are not coarse enough is the granule
+pub first_granule : (request : Span) (power : ℕ) → 4096 ≤ length_of request → 3 ≤ power → granule_count request (2 ^ power) ≤ 1023
+    → ((k : ℕ) → 3 ≤ k → k < power → 1023 < granule_count request (2 ^ k)) → IsGranule request (2 ^ power)
+first_granule request power long three few before =
+    let split : power ≡ power - 3 + 3 = omega arith in
+    let few' : granule_count request (2 ^ (power - 3 + 3)) ≤ 1023 = rw split at few in
+    let least = first-least request (power - 3) few' (λ k less. before (k + 3) (omega arith) (omega arith)) in
+    rw split (least-granule request (power - 3) long least)
+
+-- the exponent of the granule's power of two
+pub power-exponent : (request : Span) (power : ℕ) → IsGranule request (2 ^ power) → (length_of request < 4096 → power ≡ 0)
+    → (4096 ≤ length_of request → 3 ≤ power) → IsExponent request (power - 3)
+power-exponent request power h small large = record {
+  small = λ short. let z = small short in omega (arith, z);
+  large = λ long.
+      let three = large long in
+      let split : power ≡ power - 3 + 3 = omega (arith, three) in
+      subst (λ (n : ℕ). IsGranule request (2 ^ n)) split h;
+}
+
+-- the largest granule is that of a request for which no smaller one is coarse enough
+pub last_granule : (request : Span) → 4096 ≤ length_of request → request.top ≤ 2 ^ 64
+    → ((k : ℕ) → 3 ≤ k → k < 55 → 1023 < granule_count request (2 ^ k)) → IsGranule request (2 ^ 55)
+last_granule request long fits before = first_granule request 55 long (omega arith) (few_at_52 request fits) before

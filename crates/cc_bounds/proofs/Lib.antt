@@ -1,0 +1,14 @@
+pub mod PlaceLemmas
+pub mod DecodingLemmas
+pub mod StandingLemmas
+pub mod DecodedSpanLemmas
+pub mod ExactlyOneLemmas
+pub mod GranuleLemmas
+pub mod SoundLemmas
+pub mod ComputingLemmas
+pub mod EncodingLemmas
+pub mod RoundTripLemmas
+pub mod SoundDecodingLemmas
+pub mod TightestLemmas
+pub mod WindowLemmas
+pub mod LawLemmas

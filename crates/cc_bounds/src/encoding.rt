@@ -1,0 +1,146 @@
+//! The encoding of a sound span, and setting bounds.
+ghost use Rattle.std.specs.Prelude.{◌≡◌, ◌+◌, ◌^◌, ◌<◌, ◌≤◌, ◌↔◌, IsTrue};
+ghost use Rattle.cc_bounds.specs.Span.{IsSpan, span_from, length_of};
+ghost use Rattle.cc_bounds.specs.Granule.{IsExponent, IsGranted, IsSound, IsExact, exponent_of};
+ghost use Rattle.cc_bounds.specs.Encoding.{ie_of, t_of, b_of};
+ghost use Rattle.cc_bounds.specs.Tightest.{DecodesBack, IsTight, IsTightest};
+
+use crate::rounding::{granule_power, rounded};
+use crate::span::Span;
+use std::marker::Model;
+
+/// The bounds of a capability as its word stores them: a sound span with its exponent and its bounds
+/// fields, and whether the request that asked for it was exact.
+///
+/// Only [`set_bounds`] makes one. The standard: UCAM-CL-TR-987, the compressed
+/// capability encoding; Woodruff et al. 2019, section 4.
+#[derive(Clone, Copy, PartialEq, Eq, Debug)]
+pub struct Set {
+    e: u8,
+    ie: bool,
+    t: u16,
+    b: u16,
+    granted: Span,
+    exact: bool,
+}
+
+impl Model for Set {
+    ghost use Rattle.cc_bounds.specs.Encoding.{Encoding, IsEncoding, ie_of, t_of, b_of};
+    ghost use Rattle.cc_bounds.specs.Granule.{exponent_of};
+    ghost use Rattle.std.proofs.Common.{sym};
+
+    ghost Value = { Encoding };
+
+    ghost view = { λ set. record { granted = set.granted; exact = set.exact } };
+
+    ghost invariant = { λ set. IsEncoding set.granted set.e set.ie set.t set.b };
+
+    ghost inverse = { λ encoding. record {
+      e = exponent_of encoding.granted;
+      ie = ie_of encoding.granted;
+      t = t_of encoding.granted;
+      b = b_of encoding.granted;
+      granted = encoding.granted;
+      exact = encoding.exact;
+    } };
+
+    ghost inverse_ok = { λ set h i. record {
+      e = sym h.is_e i;
+      ie = sym h.is_ie i;
+      t = sym h.is_t i;
+      b = sym h.is_b i;
+      granted = set.granted;
+      exact = set.exact;
+    } };
+}
+
+impl Set {
+    /// The exponent E, from 0 to 52. The granule is 2^(E+3) bytes where [`Set::ie`] is true, else 1.
+    pub fn e(&self) -> u8
+        ensures exponent { IsExponent self.now.granted result }
+        ensures computed { result ≡ exponent_of self.now.granted }
+        ensures fits { result ≤ 52 }
+    {
+        self.e
+    }
+
+    /// The internal exponent IE: whether the exponent is stored in the low bits of the T and B fields. It
+    /// is, for spans of 4096 bytes and more.
+    pub fn ie(&self) -> bool
+        ensures internal { IsTrue result ↔ (4096 ≤ length_of self.now.granted) }
+        ensures computed { result ≡ ie_of self.now.granted }
+    {
+        self.ie
+    }
+
+    /// The T field as stored, of 12 bits, with the exponent's high digit where [`Set::ie`] is true.
+    pub fn t(&self) -> u16
+        ensures computed { result ≡ t_of self.now.granted }
+        ensures fits { result < 2 ^ 12 }
+    {
+        self.t
+    }
+
+    /// The B field as stored, of 14 bits, with the exponent's low digit where [`Set::ie`] is true.
+    pub fn b(&self) -> u16
+        ensures computed { result ≡ b_of self.now.granted }
+        ensures fits { result < 2 ^ 14 }
+    {
+        self.b
+    }
+
+    /// The span that was granted, which is sound: setting bounds to it gives it back.
+    pub fn granted(&self) -> Span
+        ensures granted { result ≡ self.now.granted }
+        ensures is_span { IsSpan self.now.granted }
+        ensures sound { IsSound self.now.granted }
+    {
+        self.granted
+    }
+
+    /// Whether the request was granted as it was, with neither end rounded.
+    pub fn exact(&self) -> bool
+        ensures { result ≡ self.now.exact }
+    {
+        self.exact
+    }
+}
+
+/// The encoding of what a request is granted.
+fn encode(request: &Span) -> Set
+    requires { IsSpan request.now }
+    ensures granted { IsGranted request.now result.granted }
+    ensures exact { IsTrue result.exact ↔ IsExact request.now }
+{
+    let power = granule_power(request);
+    let exponent = power.saturating_sub(3);
+    let granted = rounded(request, power);
+    Set {
+        e: exponent as u8,
+        ie: power > 0,
+        t: ((granted.top >> exponent) & 0xfff) as u16 + (exponent >> 3) as u16,
+        b: ((granted.base >> exponent) & 0x3fff) as u16 + (exponent & 0x7) as u16,
+        granted,
+        exact: granted == *request,
+    }
+}
+
+/// The encoding of the least bounds that cover a request.
+///
+/// The request is `[base, base + len)`; the caller has `base + len <= 2^64`. Below 4096 bytes it is
+/// granted as it is. Else its ends are rounded outwards to the granule, and no word has bounds that cover
+/// the request and lie within the granted ones. The standard: UCAM-CL-TR-987, `CSetBounds`; Woodruff et
+/// al. 2019, section 4.
+pub fn set_bounds(base: u64, len: u128) -> Set
+    requires { base + len ≤ 2 ^ 64 }
+    ensures granted { IsGranted (span_from base len) result.granted }
+    ensures exact { IsTrue result.exact ↔ IsExact (span_from base len) }
+    ensures decodes { DecodesBack result.granted }
+    ensures tight { IsTight (span_from base len) result.granted }
+    ensures tightest { IsTightest (span_from base len) result.granted }
+{
+    encode(&Span {
+        base,
+        top: u128::from(base) + len,
+    })
+}

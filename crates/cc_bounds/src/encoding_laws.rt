@@ -1,0 +1,43 @@
+//! What holds of every request and of every sound span.
+ghost use Rattle.std.specs.Prelude.{ℕ, Bool, ◌≡◌, ◌+◌, ◌%◌, ◌/◌, ◌^◌, ◌≤◌, ◌↔◌};
+ghost use Rattle.cc_bounds.specs.declared.span.Span.{Span as SpanSpec};
+ghost use Rattle.cc_bounds.specs.Span.{IsSpan, span_from, from_zero};
+ghost use Rattle.cc_bounds.specs.Granule.{IsGranule, IsExponent, IsGranted, IsSound, granule_of, exponent_of, granted_span, padded_size};
+ghost use Rattle.cc_bounds.specs.Encoding.{HasBoundsFields, ie_of, t_of, b_of};
+ghost use Rattle.cc_bounds.specs.Tightest.{IsDecoded};
+
+/// Every request has exactly one granule, one exponent and one granted span, and every span has one set of
+/// bounds fields. The computing forms are these.
+pub fn every_request_is_encoded_once()
+    ensures granule { (request : SpanSpec) (granule : ℕ) → IsSpan request
+        → (IsGranule request granule ↔ (granule ≡ granule_of request)) }
+    ensures exponent { (request : SpanSpec) (exponent : ℕ) → IsSpan request
+        → (IsExponent request exponent ↔ (exponent ≡ exponent_of request)) }
+    ensures granted { (request granted : SpanSpec) → IsSpan request
+        → (IsGranted request granted ↔ (granted ≡ granted_span request)) }
+    ensures fields { (span : SpanSpec) (ie : Bool) (t b : ℕ) → IsSpan span
+        → (HasBoundsFields span ie t b ↔ ((ie ≡ ie_of span) × (t ≡ t_of span) × (b ≡ b_of span))) }
+{}
+
+/// What a request is granted is a sound span, of the same exponent.
+pub fn granted_spans_are_sound()
+    ensures is_span { (request granted : SpanSpec) → IsSpan request → IsGranted request granted → IsSpan granted }
+    ensures sound { (request granted : SpanSpec) → IsSpan request → IsGranted request granted → IsSound granted }
+    ensures exponent { (request granted : SpanSpec) → IsSpan request → IsGranted request granted
+        → exponent_of granted ≡ exponent_of request }
+{}
+
+/// A span is sound exactly if some word decodes to it.
+pub fn sound_spans_are_those_decoded()
+    ensures { (span : SpanSpec) → IsSpan span → (IsSound span ↔ IsDecoded span) }
+{}
+
+/// A span that begins at a multiple of the granule of a length, and has its representable length, is
+/// sound. That length is at most a 512th longer.
+pub fn padded_spans_are_sound()
+    ensures sound { (start size : ℕ) → size ≤ 2 ^ 64 → start % granule_of (from_zero size) ≡ 0
+        → IsSpan (span_from start (padded_size size)) → IsSound (span_from start (padded_size size)) }
+    ensures enough { (size : ℕ) → size ≤ 2 ^ 64 → size ≤ padded_size size }
+    ensures little { (size : ℕ) → size ≤ 2 ^ 64 → padded_size size ≤ size + size / 512 }
+    ensures fits { (size : ℕ) → size ≤ 2 ^ 64 → padded_size size ≤ 2 ^ 64 }
+{}

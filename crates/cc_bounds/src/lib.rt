@@ -1,0 +1,24 @@
+//! The bounds of a 128-bit CHERI Concentrate capability word: decoding them, setting them, and the
+//! addresses at which they are representable.
+#![tactic(auto)]
+
+mod decoding;
+mod decoding_laws;
+mod encoding;
+mod encoding_laws;
+#[cfg(test)]
+mod encoding_tests;
+mod rounding;
+mod span;
+mod window;
+
+pub use decoding::{decode, exponent};
+pub use decoding_laws::every_word_decodes_once;
+pub use encoding::{Set, set_bounds};
+pub use encoding_laws::{
+    every_request_is_encoded_once, granted_spans_are_sound, padded_spans_are_sound,
+    sound_spans_are_those_decoded,
+};
+pub use rounding::{alignment_mask, granule, round_length};
+pub use span::Span;
+pub use window::represents;

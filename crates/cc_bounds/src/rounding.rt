@@ -1,0 +1,95 @@
+//! The granule of a request, and requests and lengths rounded to it.
+ghost use Rattle.std.specs.Prelude.{◌≡◌, ◌+◌, ◌-◌, ◌^◌, ◌<◌, ◌≤◌};
+ghost use Rattle.cc_bounds.specs.Span.{IsSpan, length_of, from_zero};
+ghost use Rattle.cc_bounds.specs.Granule.{granule_count, IsGranule, rounded_to, granule_of, padded_size};
+
+use crate::span::Span;
+
+/// From this length up a request has a granule of more than one byte.
+const FIRST_COARSE_LENGTH: u128 = 4096;
+
+/// The most granules that a request of that length may touch: the most that ten bits count.
+const MAX_GRANULES: u128 = 1023;
+
+/// The power of two of the largest granule.
+const MAX_POWER: u32 = 55;
+
+/// How many granules of 2^power bytes the request touches.
+fn granules_touched(request: &Span, power: u32) -> u128
+    requires is_span { IsSpan request.now }
+    requires fits { power ≤ MAX_POWER }
+    ensures { result ≡ granule_count request.now (2 ^ power) }
+{
+    request.top.div_ceil(1 << power) - (u128::from(request.base) >> power)
+}
+
+/// The granule of a request as a power of two: 0 below 4096 bytes, else from 3 to 55.
+///
+/// It tries 8, 16, 32 and so on, until the request touches few enough.
+#[tactic(auto, using(crate::proofs::GranuleLemmas::first_granule, crate::proofs::GranuleLemmas::last_granule))]
+pub(crate) fn granule_power(request: &Span) -> u32
+    requires { IsSpan request.now }
+    ensures granule { IsGranule request.now (2 ^ result) }
+    ensures fits { result ≤ MAX_POWER }
+    ensures small { length_of request.now < 4096 → result ≡ 0 }
+    ensures large { 4096 ≤ length_of request.now → 3 ≤ result }
+{
+    if request.top - u128::from(request.base) < FIRST_COARSE_LENGTH {
+        return 0;
+    }
+    for power in 3..MAX_POWER {
+        if granules_touched(request, power) <= MAX_GRANULES {
+            return power;
+        }
+    }
+    MAX_POWER
+}
+
+/// The request with its base rounded down and its top rounded up to a multiple of 2^power bytes.
+pub(crate) fn rounded(request: &Span, power: u32) -> Span
+    requires is_span { IsSpan request.now }
+    requires fits { power ≤ MAX_POWER }
+    ensures { result ≡ rounded_to (2 ^ power) request.now }
+{
+    Span {
+        base: (request.base >> power) << power,
+        top: request.top.div_ceil(1 << power) << power,
+    }
+}
+
+/// The granule of a length, in bytes: the unit in which the bounds of that many bytes from address 0 up
+/// are stored. It is 1 below 4096 bytes, else a power of two from 8 to 2^55.
+///
+/// The caller has `len <= 2^64`. The standard: UCAM-CL-TR-987, `CRRL` and `CRAM`; Woodruff et al. 2019,
+/// section 4.
+pub fn granule(len: u128) -> u64
+    requires { len ≤ 2 ^ 64 }
+    ensures granule { IsGranule (from_zero len) result }
+    ensures computed { result ≡ granule_of (from_zero len) }
+{
+    1 << granule_power(&Span { base: 0, top: len })
+}
+
+/// The representable length: the length rounded up to a multiple of its granule. That of the whole
+/// address space is 2^64, and not 0.
+///
+/// So many bytes, from a multiple of the granule up, have exact bounds. The caller has `len <= 2^64`. The
+/// standard: UCAM-CL-TR-987, `CRRL` (CRepresentableLength), which answers 0 for 2^64.
+pub fn round_length(len: u128) -> u128
+    requires { len ≤ 2 ^ 64 }
+    ensures { result ≡ padded_size len }
+{
+    let granule = u128::from(granule(len));
+    len.div_ceil(granule) * granule
+}
+
+/// The representable alignment mask: all ones, but for zeros below the granule of the length. An address
+/// "and" the mask is a multiple of the granule.
+///
+/// The caller has `len <= 2^64`. The standard: UCAM-CL-TR-987, `CRAM` (CRepresentableAlignmentMask).
+pub fn alignment_mask(len: u128) -> u64
+    requires { len ≤ 2 ^ 64 }
+    ensures { result ≡ 2 ^ 64 - granule_of (from_zero len) }
+{
+    u64::MAX - (granule(len) - 1)
+}
