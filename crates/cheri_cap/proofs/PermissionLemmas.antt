@@ -1,9 +1,14 @@
 -- Names joined one after another.
-use Rattle.std.proofs.Common.{◌≡◌, ℕ, ◌+◌, ◌<◌, ◌/◌, ◌%◌, ◌==◌, true, false, List, [], ◌∷◌, ◌++◌, length, drop, refl, sym, ◌∙◌, ap, append_assoc, get_or, Bor, ◌≤◌, arith}
+use Rattle.std.proofs.Common.{◌≡◌, ℕ, ◌+◌, ◌<◌, ◌==◌, true, false, List, [], ◌∷◌, ◌++◌, length, drop, refl, sym, ◌∙◌, ap, append_assoc, get_or, ◌≤◌, arith}
 use Rattle.std.proofs.lemmas.List.{append-nil, drop-map, drop_more, length-map, drop_all}
 use Rattle.std.proofs.lemmas.List.Sums.{sum_by-cons}
+use Rattle.std.specs.Int.RustNames.{bit_and}
 use Rattle.std.specs.List.{join_with_byte}
-use Rattle.cheri_cap.specs.Permissions.{names_of_set_bits, room_of, texts_of}
+use Rattle.bitflags.specs.Sets.{Row}
+use Rattle.bitflags.specs.declared.traits.Flag.{Flag}
+use Rattle.cc_cap.specs.Permissions.{bits_of}
+use Rattle.cc_cap.specs.declared.perms.Perms.{Perms}
+use Rattle.cheri_cap.specs.Permissions.{names_of_set, room_of, rows_of}
 
 -- the names one after another, the first behind a separator of its own and each other behind a `+`
 abbrev pub separated : List ℕ → List (List ℕ) → List ℕ
@@ -18,37 +23,45 @@ pub separated-none : (names : List (List ℕ)) → separated [] names ≡ join_w
 separated-none [] = refl
 separated-none (name ∷ names) = joined name names
 
--- the name at an index, and those after it
-pub next_name : (names : List (Bor (List ℕ))) (i : ℕ) (d : Bor (List ℕ)) → i < length names
-    → drop i (texts_of names) ≡ (get_or names i d).now ∷ drop (i + 1) (texts_of names)
-next_name names i d h =
-    drop-map (λ name. name.now) i names ∙ ap (λ (l : List (Bor (List ℕ))). texts_of l) (drop_more names i d h)
-    ∙ ap (λ (l : List (List ℕ)). (get_or names i d).now ∷ l) (sym (drop-map (λ name. name.now) (i + 1) names))
+-- the row of a flag
+abbrev pub row_of : Flag Perms → Row
+row_of flag = (flag.name.now, bits_of flag.value)
 
--- and the room that they take
-pub next_room : (names : List (Bor (List ℕ))) (i : ℕ) (d : Bor (List ℕ)) → i < length names
-    → room_of (drop i (texts_of names)) ≡ length (get_or names i d).now + 1 + room_of (drop (i + 1) (texts_of names))
-next_room names i d h =
-    ap room_of (next_name names i d h) ∙ sum_by-cons (λ (name : List ℕ). length name + 1) (get_or names i d).now (drop (i + 1) (texts_of names))
+-- a flag, where no flag is looked at
+abbrev pub nothing : Flag Perms
+nothing = record { name = record { ref_ptr = (0, 0); now = [] }; value = record { 0 = 0 } }
 
-pub name_taken : (text separator before after name whole : List ℕ) (rest : ℕ) (names later : List (List ℕ))
-    → names ≡ name ∷ later → (rest % 2 == 1) ≡ true → before ≡ text ++ separator → after ≡ before ++ name
-    → text ++ separated separator (names_of_set_bits rest names) ≡ whole
-    → after ++ separated (43 ∷ []) (names_of_set_bits (rest / 2) later) ≡ whole
-name_taken text separator before after name whole rest names later first is p q h =
-    let more = separated (43 ∷ []) (names_of_set_bits (rest / 2) later) in
-    let opened : text ++ (separator ++ name ++ more) ≡ whole = rw (first, is) at h in
-    let order : ((text ++ separator) ++ name) ++ more ≡ text ++ (separator ++ name ++ more) = simp append_assoc in
+-- the row at an index, and those after it
+pub next_row : (flags : List (Flag Perms)) (i : ℕ) → i < length flags
+    → drop i (rows_of flags) ≡ row_of (get_or flags i nothing) ∷ drop (i + 1) (rows_of flags)
+next_row flags i h =
+    drop-map row_of i flags ∙ ap (λ (l : List (Flag Perms)). rows_of l) (drop_more flags i nothing h)
+    ∙ ap (λ (l : List Row). row_of (get_or flags i nothing) ∷ l) (sym (drop-map row_of (i + 1) flags))
+
+-- and the room that their names take
+pub next_room : (flags : List (Flag Perms)) (i : ℕ) → i < length flags
+    → room_of (drop i (rows_of flags)) ≡ length (get_or flags i nothing).name.now + 1 + room_of (drop (i + 1) (rows_of flags))
+next_room flags i h =
+    ap room_of (next_row flags i h) ∙ sum_by-cons (λ (row : Row). length row.0 + 1) (row_of (get_or flags i nothing)) (drop (i + 1) (rows_of flags))
+
+pub name_taken : (text separator before after whole : List ℕ) (bits : ℕ) (row : Row) (rows later : List Row)
+    → rows ≡ row ∷ later → (bit_and bits row.1 == row.1) ≡ true → before ≡ text ++ separator → after ≡ before ++ row.0
+    → text ++ separated separator (names_of_set bits rows) ≡ whole
+    → after ++ separated (43 ∷ []) (names_of_set bits later) ≡ whole
+name_taken text separator before after whole bits row rows later first is p q h =
+    let more = separated (43 ∷ []) (names_of_set bits later) in
+    let opened : text ++ (separator ++ row.0 ++ more) ≡ whole = rw (first, is) at h in
+    let order : ((text ++ separator) ++ row.0) ++ more ≡ text ++ (separator ++ row.0 ++ more) = simp append_assoc in
     rw (q, p) (order ∙ opened)
 
-pub name_passed : (text separator name whole : List ℕ) (rest : ℕ) (names later : List (List ℕ))
-    → names ≡ name ∷ later → (rest % 2 == 1) ≡ false
-    → text ++ separated separator (names_of_set_bits rest names) ≡ whole
-    → text ++ separated separator (names_of_set_bits (rest / 2) later) ≡ whole
-name_passed text separator name whole rest names later first is h = rw (first, is) at h
+pub name_passed : (text separator whole : List ℕ) (bits : ℕ) (row : Row) (rows later : List Row)
+    → rows ≡ row ∷ later → (bit_and bits row.1 == row.1) ≡ false
+    → text ++ separated separator (names_of_set bits rows) ≡ whole
+    → text ++ separated separator (names_of_set bits later) ≡ whole
+name_passed text separator whole bits row rows later first is h = rw (first, is) at h
 
-pub none_left : (text separator whole : List ℕ) (rest i : ℕ) (names : List (Bor (List ℕ))) → length names ≤ i
-    → text ++ separated separator (names_of_set_bits rest (drop i (texts_of names))) ≡ whole → text ≡ whole
-none_left text separator whole rest i names h e =
-    let all : drop i (texts_of names) ≡ [] = drop_all i (texts_of names) (omega (arith, length-map names (λ (name : Bor (List ℕ)). name.now))) in
+pub none_left : (text separator whole : List ℕ) (bits i : ℕ) (flags : List (Flag Perms)) → length flags ≤ i
+    → text ++ separated separator (names_of_set bits (drop i (rows_of flags))) ≡ whole → text ≡ whole
+none_left text separator whole bits i flags h e =
+    let all : drop i (rows_of flags) ≡ [] = drop_all i (rows_of flags) (omega (arith, length-map flags row_of)) in
     sym (append-nil text) ∙ (rw all at e)

@@ -1,5 +1,5 @@
 -- What `show` writes for a text.
-use Rattle.std.specs.Prelude.{◌≡◌, ◌⊎◌, ℕ, List, ◌++◌, length, codes, decimal}
+use Rattle.std.specs.Prelude.{◌≡◌, ◌⊎◌, ℕ, List, ◌++◌, length, codes, decimal, Bool, IsTrue, ◌↔◌, if◌then◌else◌}
 use Rattle.std.specs.List.{AllPass}
 use Rattle.hex.specs.Hex.{is_hex_digit}
 use Rattle.cc_word.specs.Refusal.{code_of, name_of}
@@ -9,6 +9,9 @@ use Rattle.cc_word.specs.WordText.{digits_of}
 use Rattle.cc_word.specs.declared.fields.Fields.{Fields}
 use Rattle.cc_word.specs.declared.refusal.Refusal.{Refusal}
 use Rattle.cc_word.specs.declared.refusal.Refusal.TheVariants.{Syntax}
+use Rattle.cc_bounds.specs.declared.span.Span.{Span}
+use Rattle.cc_bounds.specs.Decoding.{stored_exponent, DecodesTo}
+use Rattle.cc_cap.specs.Canonical.{IsCanonical}
 use Rattle.cheri_cap.specs.Permissions.{permissions_text}
 use Rattle.cheri_cap.specs.Text.{hexadecimal, line_of}
 
@@ -17,8 +20,8 @@ abbrev pub IsWordText : List ℕ → Type 0
 IsWordText text = (length text ≡ 32) × AllPass is_hex_digit text
 
 -- the lines of a word and of its fields
-abbrev pub listing_of : (word : ℕ) (fields : Fields) → List ℕ
-listing_of word fields =
+abbrev pub field_lines_of : (word : ℕ) (fields : Fields) → List ℕ
+field_lines_of word fields =
     line_of (codes "word") (digits_of 32 word)
     ++ line_of (codes "perms") (digits_of 4 fields.perms ++ codes " " ++ permissions_text fields.perms)
     ++ line_of (codes "reserved") (decimal fields.reserved)
@@ -29,16 +32,34 @@ listing_of word fields =
     ++ line_of (codes "b") (digits_of 4 fields.b)
     ++ line_of (codes "address") (hexadecimal fields.address)
 
+-- the lines of what they decode to, and of whether the word is canonical
+abbrev pub bounds_lines_of : (fields : Fields) (bounds : Span) (canonical : Bool) → List ℕ
+bounds_lines_of fields bounds canonical =
+    line_of (codes "exponent") (decimal (stored_exponent fields))
+    ++ line_of (codes "base") (hexadecimal bounds.base)
+    ++ line_of (codes "top") (hexadecimal bounds.top)
+    ++ line_of (codes "canonical") (if canonical then codes "yes" else codes "no")
+
+-- all thirteen lines
+abbrev pub listing_of : (word : ℕ) (fields : Fields) (bounds : Span) (canonical : Bool) → List ℕ
+listing_of word fields bounds canonical = field_lines_of word fields ++ bounds_lines_of fields bounds canonical
+
 -- the line of a refusal: `error`, its code and its name
 abbrev pub refusal_line_of : Refusal → List ℕ
 refusal_line_of refusal = line_of (codes "error") (decimal (code_of refusal) ++ codes " " ++ name_of refusal)
 
--- the listing of a word: its lines with the fields whose word it is, and there are no other such fields
+-- The listing of a word: its lines, with the fields whose word it is, the span that they decode to, and
+-- whether it is the word of a capability. There are no other such fields, and there is no other such span.
 pub record IsWordListing (word : ℕ) (listing : List ℕ) : Type 0 where
   pub fields : Fields
+  pub bounds : Span
+  pub canonical : Bool
   pub of_word : word_of fields ≡ word
-  pub only : (other : Fields) → word_of other ≡ word → other ≡ fields
-  pub lines : listing ≡ listing_of word fields
+  pub only_fields : (other : Fields) → word_of other ≡ word → other ≡ fields
+  pub decoded : DecodesTo fields bounds
+  pub only_bounds : (other : Span) → DecodesTo fields other → other ≡ bounds
+  pub is_canonical : IsTrue canonical ↔ IsCanonical word
+  pub lines : listing ≡ listing_of word fields bounds canonical
 
 -- the listing of a text: of a word that of the word, and of any other text the line of a refusal
 abbrev pub IsListing : (text listing : List ℕ) → Type 0

@@ -1,10 +1,10 @@
 //! The listing of a word: one line for each of its fields.
-ghost use Rattle.std.specs.Prelude.{◌≡◌, ◌+◌, ◌≤◌, ◌++◌, ◌↔◌, [], codes, decimal, false, true, length, IfOk, IsErr, IsTrue, OnOk, OnErr};
+ghost use Rattle.std.specs.Prelude.{◌≡◌, ◌+◌, ◌≤◌, ◌++◌, ◌↔◌, [], codes, decimal, false, true, length, IfOk, IsErr, IsTrue, OnOk, OnErr, if◌then◌else◌};
 ghost use Rattle.std.specs.Io.KnownBytes.{Appends};
 ghost use Rattle.cc_word.specs.Word.{bit_of, word_of};
 ghost use Rattle.cc_word.specs.WordText.{digits_of};
 ghost use Rattle.cheri_cap.specs.Devices.{TakesBeginning};
-ghost use Rattle.cheri_cap.specs.Listing.{IsListing, IsWordText, listing_of, refusal_line_of};
+ghost use Rattle.cheri_cap.specs.Listing.{IsListing, IsWordText, bounds_lines_of, field_lines_of, listing_of, refusal_line_of};
 ghost use Rattle.cheri_cap.specs.Permissions.{permissions_text};
 ghost use Rattle.cheri_cap.specs.Show.{ShowsText};
 ghost use Rattle.cheri_cap.specs.Text.{hexadecimal, line_of};
@@ -13,6 +13,9 @@ use crate::devices::{Sink, write_all};
 use crate::permissions::push_permissions;
 use crate::summary::{ScriptFault, Summary};
 use crate::text::{ROOM, Text};
+use bitflags::Flags;
+use cc_bounds::{Span, decode, exponent};
+use cc_cap::{Perms, is_canonical};
 use cc_word::{Fields, Refusal, read_word, unpack};
 
 /// Writes the listing of the word that a text spells, or the line `error 1 syntax` for a text that is
@@ -53,7 +56,8 @@ fn push_answer(answer: &mut Text, text: &[u8]) -> Summary
 {
     match read_word(text) {
         Some(word) => {
-            push_listing(answer, word, &unpack(word));
+            let fields = unpack(word);
+            push_listing(answer, word, &fields, &decode(&fields), is_canonical(word));
             Summary { any_error: false }
         }
         None => {
@@ -63,10 +67,20 @@ fn push_answer(answer: &mut Text, text: &[u8]) -> Summary
     }
 }
 
-/// Appends the lines of a word with these fields.
-fn push_listing(text: &mut Text, word: u128, fields: &Fields)
+/// Appends the lines of a word with these fields and bounds.
+fn push_listing(text: &mut Text, word: u128, fields: &Fields, bounds: &Span, canonical: bool)
     requires { text.old ≡ [] }
-    ensures { text.new ≡ listing_of word fields.now }
+    ensures { text.new ≡ listing_of word fields.now bounds.now canonical }
+{
+    push_field_lines(text, word, fields);
+    push_bounds_lines(text, fields, bounds, canonical);
+}
+
+/// Appends the lines of a word and of its fields.
+fn push_field_lines(text: &mut Text, word: u128, fields: &Fields)
+    requires { text.old ≡ [] }
+    ensures value { text.new ≡ field_lines_of word fields.now }
+    ensures fits { length text.new ≤ 382 }
 {
     push_digits_line(text, b"word", word, 32);
     push_permissions_line(text, fields.perms);
@@ -77,6 +91,30 @@ fn push_listing(text: &mut Text, word: u128, fields: &Fields)
     push_digits_line(text, b"t", u128::from(fields.t), 3);
     push_digits_line(text, b"b", u128::from(fields.b), 4);
     push_hexadecimal_line(text, b"address", u128::from(fields.address));
+}
+
+/// Appends the lines of what the fields decode to.
+fn push_bounds_lines(text: &mut Text, fields: &Fields, bounds: &Span, canonical: bool)
+    requires { length text.old + 143 ≤ ROOM }
+    ensures { text.new ≡ text.old ++ bounds_lines_of fields.now bounds.now canonical }
+{
+    push_decimal_line(text, b"exponent", u128::from(exponent(fields)));
+    push_hexadecimal_line(text, b"base", u128::from(bounds.base));
+    push_hexadecimal_line(text, b"top", bounds.top);
+    push_canonical_line(text, canonical);
+}
+
+/// Appends the line that says whether the word is canonical.
+fn push_canonical_line(text: &mut Text, canonical: bool)
+    requires { length text.old + 14 ≤ ROOM }
+    ensures value { text.new ≡ text.old ++ line_of (codes "canonical") (if canonical then codes "yes" else codes "no") }
+    ensures fits { length text.new ≤ length text.old + 14 }
+{
+    if canonical {
+        text.push(b"canonical yes\n");
+    } else {
+        text.push(b"canonical no\n");
+    }
 }
 
 /// Appends the line of a refusal: `error`, its code and its name.
@@ -138,6 +176,6 @@ fn push_permissions_line(text: &mut Text, perms: u16)
     text.push(b"perms ");
     text.push_digits(u128::from(perms), 4);
     text.push(b" ");
-    push_permissions(text, perms);
+    push_permissions(text, Perms::from_bits_retain(perms));
     text.push(b"\n");
 }

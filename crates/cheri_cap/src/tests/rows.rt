@@ -16,6 +16,10 @@ ie 1
 t 006
 b 0004
 address 0x0
+exponent 52
+base 0x0
+top 0x10000000000000000
+canonical yes
 ";
 
 const ALL_ONES_LISTING: &str = "\
@@ -29,6 +33,10 @@ ie 0
 t ff9
 b 3ffb
 address 0xffffffffffffffff
+exponent 0
+base 0xfffffffffffffffb
+top 0x10000000000000ff9
+canonical no
 ";
 
 const SEALED_OBJECT_LISTING: &str = "\
@@ -41,6 +49,10 @@ ie 0
 t 200
 b 1000
 address 0x1000
+exponent 0
+base 0x1000
+top 0x1200
+canonical yes
 ";
 
 /// Shows the text into ample room, and compares what was written and how it ended.

@@ -7,9 +7,16 @@ returns-in-Some-clause-listing c =
     inl (
       c.in-Some.ensures.found.0 refl,
       record {
-        fields = c.unpack.result;
-        of_word = c.unpack.ensures.word ∙ c.in-Some.ensures.value;
-        only = λ other is. c.unpack.ensures.only other (is ∙ sym c.in-Some.ensures.value);
-        lines = c.push_listing.ensures ∙ ap (λ (word : ℕ). listing_of word c.unpack.result) c.in-Some.ensures.value;
+        fields = c.unpack-fields.result;
+        bounds = c.decode.result;
+        canonical = c.is_canonical.result;
+        of_word = c.unpack-fields.ensures.word ∙ c.in-Some.ensures.value;
+        only_fields = λ other is. c.unpack-fields.ensures.only other (is ∙ sym c.in-Some.ensures.value);
+        decoded = c.decode.ensures.decodes;
+        only_bounds = c.decode.ensures.only;
+        is_canonical = rw (← c.in-Some.ensures.value) c.is_canonical.ensures;
+        lines =
+            c.push_listing.ensures
+            ∙ ap (λ (word : ℕ). listing_of word c.unpack-fields.result c.decode.result c.is_canonical.result) c.in-Some.ensures.value;
       },
     )

@@ -1,0 +1,131 @@
+-- The encodings that a `Cap` keeps.
+use Rattle.std.proofs.Common.{ℕ, Bool, true, ◌≡◌, ◌+◌, ◌-◌, ◌^◌, ◌<◌, ◌≤◌, ◌↔◌, IsTrue, refl, inr, sym, subst, arith}
+use Rattle.cc_word.specs.declared.fields.Fields.{Fields}
+use Rattle.cc_bounds.specs.declared.span.Span.{Span}
+use Rattle.cc_bounds.specs.Span.{IsSpan, IsWithin, span_from, from_zero}
+use Rattle.cc_bounds.specs.Granule.{IsGranted, IsExact, IsSound, granted_span}
+use Rattle.cc_bounds.specs.Encoding.{Encoding, HasBoundsFields, ie_of, t_of, b_of}
+use Rattle.cc_bounds.specs.Decoding.{DecodesTo}
+use Rattle.cc_bounds.proofs.GranuleLemmas.{granted_same}
+use Rattle.cc_bounds.proofs.SoundLemmas.{same_span, granted-sound}
+use Rattle.cc_bounds.proofs.SoundDecodingLemmas.{sound-decodes, decodes-representable, inside-Represents}
+use Rattle.cc_bounds.proofs.DecodingLemmas.{DecodesTo-same}
+use Rattle.cc_bounds.proofs.ComputingLemmas.{granted_span-is, bounds_fields-is, bounds_fields-are}
+use Rattle.cc_bounds.proofs.TightestLemmas.{granted-tight, decoded-sound}
+use Rattle.cc_cap.specs.Bounds.{encoding_of, AreFieldsOf, HasSoundBounds}
+use Rattle.cc_cap.specs.Cap.{IsEncodingFor}
+use Rattle.cc_cap.specs.Capability.{Capability, IsCapability, IsUnsealed, root_capability}
+use Rattle.cc_cap.specs.Derivation.{request_of}
+use Rattle.cc_cap.proofs.DerivationLemmas.{IsGranted-within}
+
+-- the encoding of a request for a sound span is that of the span
+pub encoding_of-sound : (span : Span) (base length : ℕ) (set : Encoding) → base ≡ span.base → base + length ≡ span.top
+    → IsSound span → IsGranted (span_from base length) set.granted
+    → (IsTrue set.exact ↔ IsExact (span_from base length)) → set ≡ encoding_of span
+encoding_of-sound span base length set is_base is_top sound granted exact =
+    let whole : span_from base length ≡ span = λ i. record { base = is_base i; top = is_top i } in
+    let granted' : IsGranted span set.granted = subst (λ (asked : Span). IsGranted asked set.granted) whole granted in
+    let same : set.granted ≡ span = granted_same span set.granted span granted' sound in
+    let is_exact : set.exact ≡ true = exact.1 (subst (λ (asked : Span). IsExact asked) (sym whole) sound) in
+    λ i. record { granted = same i; exact = is_exact i }
+
+-- what the encoding of a request within the bounds of a capability is
+pub IsEncodingFor-made : (cap : Capability) (length : ℕ) (set : Encoding) → IsCapability cap → IsUnsealed cap
+    → cap.span.base ≤ cap.address → cap.address + length ≤ cap.span.top
+    → IsGranted (request_of cap length) set.granted → (IsTrue set.exact ↔ IsExact (request_of cap length))
+    → IsEncodingFor cap length set
+IsEncodingFor-made cap length set is_cap unsealed base top granted exact =
+    let request : Span = request_of cap length in
+    let inside : IsWithin request cap.span = record { from_base = base; to_top = top } in
+    let is_request : IsSpan request =
+    record { in_order = omega arith; base_fits = is_cap.address_fits; top_fits = omega (arith, top, is_cap.is_span.top_fits) } in
+    let sound = granted-sound request set.granted is_request granted in
+    let covers = (granted-tight request set.granted is_request granted).covers in
+    record {
+      unsealed = unsealed;
+      inside = inside;
+      granted = granted;
+      exact = exact;
+      is_span = sound.is_span;
+      sound = sound.sound;
+      same = λ is_exact. granted_same request set.granted request granted (exact.0 is_exact);
+      within = IsGranted-within request set.granted cap.span is_request is_cap.is_span is_cap.sound inside granted;
+      holds_address =
+          inside-Represents set.granted cap.address sound.is_span sound.sound covers.from_base (omega (arith, covers.to_top));
+    }
+
+-- ---- the encoding that fields hold
+
+-- fields that hold the encoding of a sound span decode to it
+HasSoundBounds-decodes : (fields : Fields) (span : Span) → HasSoundBounds fields span → DecodesTo fields span
+HasSoundBounds-decodes fields span holds =
+    sound-decodes span holds.is_span holds.sound fields holds.bounds holds.representable
+
+-- fields do not hold the encoding of a sound span where what they decode to is no span
+pub no_span : (fields : Fields) (span : Span) → DecodesTo fields span → ¬ IsSpan span
+    → ¬ ((other : Span) × HasSoundBounds fields other)
+no_span fields span decodes never some =
+    let same = DecodesTo-same fields some.0 span (HasSoundBounds-decodes fields some.0 some.1) decodes in
+    never (subst IsSpan same some.1.is_span)
+
+-- fields that hold the encoding of a sound span are those of what they decode to
+pub held_fields : (fields : Fields) (span : Span) → DecodesTo fields span → (other : Span) × HasSoundBounds fields other
+    → AreFieldsOf span fields
+held_fields fields span decodes some =
+    let same = DecodesTo-same fields some.0 span (HasSoundBounds-decodes fields some.0 some.1) decodes in
+    let are = bounds_fields-are some.0 fields.ie fields.t fields.b some.1.is_span some.1.bounds in
+    subst (λ (held : Span). AreFieldsOf held fields) same (record { ie = are.is_ie; t = are.is_t; b = are.is_b })
+
+-- fields that are those of the span that they decode to hold its encoding
+pub HasSoundBounds-made : (fields : Fields) (span : Span) → IsSpan span → DecodesTo fields span
+    → AreFieldsOf span fields → HasSoundBounds fields span
+HasSoundBounds-made fields span is_span decodes are =
+    let sound = decoded-sound span is_span (fields, decodes) in
+    let own = bounds_fields-is span is_span in
+    let bounds : HasBoundsFields span fields.ie fields.t fields.b =
+    subst (λ (f : Bool). HasBoundsFields span f fields.t fields.b) (sym are.ie)
+    (subst (λ (n : ℕ). HasBoundsFields span (ie_of span) n fields.b) (sym are.t)
+    (subst (λ (n : ℕ). HasBoundsFields span (ie_of span) (t_of span) n) (sym are.b) own)) in
+    record {
+      is_span = is_span;
+      sound = sound;
+      bounds = bounds;
+      representable = decodes-representable span fields is_span sound bounds decodes;
+    }
+
+-- the encoding of a request for the span that fields decode to is that of the span
+pub encoding_of-decoded : (fields : Fields) (span : Span) (base : ℕ) (set : Encoding) → DecodesTo fields span → IsSpan span
+    → base ≡ span.base → IsGranted (span_from span.base (span.top - base)) set.granted
+    → (IsTrue set.exact ↔ IsExact (span_from span.base (span.top - base))) → set ≡ encoding_of span
+encoding_of-decoded fields span base set decodes is_span is_base granted exact =
+    let top : span.base + (span.top - base) ≡ span.top = omega (arith, is_base, is_span.in_order) in
+    encoding_of-sound span span.base (span.top - base) set refl top (decoded-sound span is_span (fields, decodes)) granted exact
+
+-- ---- the whole address space
+
+-- its span is sound
+pub whole-IsSound : IsSound (from_zero (2 ^ 64))
+whole-IsSound =
+    let whole : Span = from_zero (2 ^ 64) in
+    let is_whole : IsSpan whole = record { in_order = omega arith; base_fits = omega arith; top_fits = omega arith } in
+    let granted : Span = granted_span whole in
+    let is_granted = granted_span-is whole is_whole in
+    let covers = (granted-tight whole granted is_whole is_granted).covers in
+    let fits = (granted-sound whole granted is_whole is_granted).is_span in
+    let same : granted ≡ whole =
+    same_span granted whole (omega (arith, covers.from_base)) (omega (arith, covers.to_top, fits.top_fits)) in
+    subst (IsGranted whole) same is_granted
+
+-- the root is a capability that can exist
+pub root-IsCapability : IsCapability root_capability
+root-IsCapability =
+    let whole : Span = from_zero (2 ^ 64) in
+    let is_whole : IsSpan whole = record { in_order = omega arith; base_fits = omega arith; top_fits = omega arith } in
+    record {
+      is_span = is_whole;
+      sound = whole-IsSound;
+      address_fits = omega arith;
+      representable = inside-Represents whole 0 is_whole whole-IsSound (omega arith) (omega arith);
+      permissions_fit = omega arith;
+      is_type = inr refl;
+    }

@@ -1,0 +1,141 @@
+-- The word of a capability: there is one, and no other capability has it.
+use Rattle.std.proofs.Common.{ℕ, Bool, ◌≡◌, ◌==◌, ◌∙◌, ◌-◌, ◌^◌, ◌<◌, ◌≤◌, inl, inr, refl, sym, ap, subst, arith}
+use Rattle.cc_word.specs.declared.fields.Fields.{Fields}
+use Rattle.cc_word.specs.Word.{bit_of, turned, layout_of, word_of}
+use Rattle.cc_word.proofs.WordLemmas.{cut-word_of, same_fields, test-bit_of}
+use Rattle.cc_bounds.specs.Window.{Represents}
+use Rattle.cc_bounds.specs.Encoding.{ie_of, t_of, b_of}
+use Rattle.cc_bounds.proofs.DecodingLemmas.{DecodesTo-same}
+use Rattle.cc_bounds.proofs.SoundDecodingLemmas.{sound-decodes}
+use Rattle.cc_bounds.proofs.ComputingLemmas.{bounds_fields-is, bounds_fields-are}
+use Rattle.cc_cap.specs.Bounds.{HasSoundBounds}
+use Rattle.cc_cap.specs.ObjType.{IsObjType}
+use Rattle.cc_cap.specs.Capability.{Capability, IsCapability}
+use Rattle.cc_cap.specs.Canonical.{IsFieldsOf, IsWordOf, word_of_capability}
+
+-- ---- the word of a capability
+
+-- a type of a capability has 18 bits
+IsObjType-fits : (otype : ℕ) → IsObjType otype → otype < 2 ^ 18
+IsObjType-fits otype is_type = elim is_type [ inl sealing ↦ omega arith | inr unsealed ↦ omega arith ]
+
+-- the word of fields that are a capability's
+pub layout-word_of_capability : (cap : Capability) (perms : ℕ) (flag : Bool) (otype : ℕ) (ie : Bool) (t b address : ℕ)
+    → perms ≡ cap.permissions → flag ≡ cap.flag → otype ≡ cap.otype → ie ≡ ie_of cap.span → t ≡ t_of cap.span
+    → b ≡ b_of cap.span → address ≡ cap.address
+    → layout_of perms 0 (bit_of flag) (0x3ffff - otype) (1 - bit_of ie) (turned 2 (turned 1 t)) (turned 2 b) address
+    ≡ word_of_capability cap
+unfolding word_of_capability
+layout-word_of_capability cap perms flag otype ie t b address is_perms is_flag is_otype is_ie is_t is_b is_address =
+    λ i. layout_of (is_perms i) 0 (bit_of (is_flag i)) (0x3ffff - is_otype i) (1 - bit_of (is_ie i))
+    (turned 2 (turned 1 (is_t i))) (turned 2 (is_b i)) (is_address i)
+
+-- the computing form is the word
+pub IsWordOf-made : (cap : Capability) (word : ℕ) → IsCapability cap → t_of cap.span < 2 ^ 12 → b_of cap.span < 2 ^ 14
+    → word ≡ word_of_capability cap → IsWordOf cap word
+unfolding word_of_capability
+IsWordOf-made cap word is_cap t_fits b_fits is_word = record {
+  is_capability = is_cap;
+  fields = record {
+    perms = cap.permissions;
+    reserved = 0;
+    flag = cap.flag;
+    otype = cap.otype;
+    ie = ie_of cap.span;
+    t = t_of cap.span;
+    b = b_of cap.span;
+    address = cap.address;
+    perms_fit = is_cap.permissions_fit;
+    reserved_fits = omega arith;
+    otype_fits = IsObjType-fits cap.otype is_cap.is_type;
+    t_fits = t_fits;
+    b_fits = b_fits;
+    address_fits = is_cap.address_fits;
+  };
+  is_fields = record {
+    permissions = refl;
+    reserved = refl;
+    flag = refl;
+    otype = refl;
+    bounds = bounds_fields-is cap.span is_cap.is_span;
+    address = refl;
+  };
+  is_word = is_word;
+}
+
+-- a capability has one word
+pub IsWordOf-word_of_capability : (cap : Capability) (word : ℕ) → IsWordOf cap word → word ≡ word_of_capability cap
+IsWordOf-word_of_capability cap word is_word_of =
+    let fields : Fields = is_word_of.fields in
+    let own = is_word_of.is_fields in
+    let bounds = bounds_fields-are cap.span fields.ie fields.t fields.b is_word_of.is_capability.is_span own.bounds in
+    let reserved : word ≡ layout_of fields.perms 0 (bit_of fields.flag) (0x3ffff - fields.otype) (1 - bit_of fields.ie)
+    (turned 2 (turned 1 fields.t)) (turned 2 fields.b) fields.address =
+    is_word_of.is_word ∙ ap
+    (λ (n : ℕ). layout_of fields.perms n (bit_of fields.flag) (0x3ffff - fields.otype) (1 - bit_of fields.ie)
+    (turned 2 (turned 1 fields.t)) (turned 2 fields.b) fields.address)
+    own.reserved in
+    reserved ∙ layout-word_of_capability cap fields.perms fields.flag fields.otype fields.ie fields.t fields.b fields.address
+    own.permissions own.flag own.otype bounds.is_ie bounds.is_t bounds.is_b own.address
+
+-- ---- the capability of a word
+
+-- a word has one set of fields
+word_of-same : (one other : Fields) (word : ℕ) → word_of one ≡ word → word_of other ≡ word → one ≡ other
+word_of-same one other word is_one is_other =
+    let cut = cut-word_of one word is_one in
+    let also = cut-word_of other word is_other in
+    same_fields one other (sym cut.cut_perms ∙ also.cut_perms) (sym cut.cut_reserved ∙ also.cut_reserved)
+    (sym (ap (λ (n : ℕ). n == 1) cut.cut_flag ∙ test-bit_of one.flag) ∙ (ap (λ (n : ℕ). n == 1) also.cut_flag ∙ test-bit_of other.flag))
+    (sym cut.cut_otype ∙ also.cut_otype)
+    (sym (ap (λ (n : ℕ). n == 1) cut.cut_ie ∙ test-bit_of one.ie) ∙ (ap (λ (n : ℕ). n == 1) also.cut_ie ∙ test-bit_of other.ie))
+    (sym cut.cut_t ∙ also.cut_t) (sym cut.cut_b ∙ also.cut_b) (sym cut.cut_address ∙ also.cut_address)
+
+-- fields are those of one capability
+IsFieldsOf-same : (one other : Capability) (fields : Fields) → IsCapability one → IsCapability other
+    → IsFieldsOf one fields → IsFieldsOf other fields → one ≡ other
+IsFieldsOf-same one other fields is_one is_other own also =
+    let at_one = subst (Represents one.span) (sym own.address) is_one.representable in
+    let at_other = subst (Represents other.span) (sym also.address) is_other.representable in
+    let span : one.span ≡ other.span =
+    DecodesTo-same fields one.span other.span (sound-decodes one.span is_one.is_span is_one.sound fields own.bounds at_one)
+    (sound-decodes other.span is_other.is_span is_other.sound fields also.bounds at_other) in
+    λ i. record {
+      span = span i;
+      address = (sym own.address ∙ also.address) i;
+      permissions = (sym own.permissions ∙ also.permissions) i;
+      flag = (sym own.flag ∙ also.flag) i;
+      otype = (sym own.otype ∙ also.otype) i;
+    }
+
+-- a word is that of one capability
+pub IsWordOf-same : (one other : Capability) (word : ℕ) → IsWordOf one word → IsWordOf other word → one ≡ other
+IsWordOf-same one other word own also =
+    let same = word_of-same own.fields also.fields word (sym own.is_word) (sym also.is_word) in
+    IsFieldsOf-same one other own.fields own.is_capability also.is_capability own.is_fields
+    (subst (IsFieldsOf other) (sym same) also.is_fields)
+
+-- the capability that is read from fields has their word
+pub IsWordOf-read : (cap : Capability) (fields : Fields) (word : ℕ) → HasSoundBounds fields cap.span → IsObjType cap.otype
+    → fields.perms ≡ cap.permissions → fields.reserved ≡ 0 → fields.flag ≡ cap.flag → fields.otype ≡ cap.otype
+    → fields.address ≡ cap.address → word_of fields ≡ word → IsWordOf cap word
+IsWordOf-read cap fields word bounds is_type perms reserved flag otype address is_word = record {
+  is_capability = record {
+    is_span = bounds.is_span;
+    sound = bounds.sound;
+    address_fits = subst (λ (n : ℕ). n < 2 ^ 64) address fields.address_fits;
+    representable = subst (Represents cap.span) address bounds.representable;
+    permissions_fit = subst (λ (n : ℕ). n < 2 ^ 16) perms fields.perms_fit;
+    is_type = is_type;
+  };
+  fields = fields;
+  is_fields = record {
+    permissions = perms;
+    reserved = reserved;
+    flag = flag;
+    otype = otype;
+    bounds = bounds.bounds;
+    address = address;
+  };
+  is_word = sym is_word;
+}

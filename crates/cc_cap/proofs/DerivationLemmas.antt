@@ -1,0 +1,40 @@
+-- A derived capability grants no more than the one that it is derived from.
+use Rattle.std.proofs.Common.{ℕ, Bool, true, false, ◌≡◌, ◌==◌, ◌∙◌, ◌≤◌, if◌then◌else◌, sym, ap, arith}
+use Rattle.std.proofs.lemmas.Nat.{and_assoc, and_le_l}
+use Rattle.std.specs.Int.Bits.{and_self}
+use Rattle.std.specs.Int.RustNames.{bit_and}
+use Rattle.cc_bounds.specs.declared.span.Span.{Span}
+use Rattle.cc_bounds.specs.Span.{IsSpan, IsWithin}
+use Rattle.cc_bounds.specs.Granule.{IsGranted, IsSound}
+use Rattle.cc_bounds.proofs.SoundDecodingLemmas.{sound-IsDecoded}
+use Rattle.cc_bounds.proofs.TightestLemmas.{granted-tightest}
+use Rattle.cc_cap.specs.Permissions.{HasAll, global_permission, unsealed_permissions}
+
+-- ---- permissions
+
+-- what a mask leaves was there
+pub HasAll-masked : (permissions mask : ℕ) → HasAll permissions (bit_and permissions mask)
+HasAll-masked permissions mask =
+    sym (and_assoc mask permissions permissions) ∙ ap (λ (n : ℕ). bit_and n mask) (and_self permissions)
+
+-- what unsealing leaves was there
+pub HasAll-unsealed : (permissions authority : ℕ) → HasAll permissions (unsealed_permissions permissions authority)
+HasAll-unsealed permissions authority =
+    elim (bit_and authority global_permission == global_permission)
+    as (λ has. HasAll permissions (if has then permissions else bit_and permissions 65534))
+    [ true ↦ and_self permissions | false ↦ HasAll-masked permissions 65534 ]
+
+pub ruleset permissions_stay = (HasAll-masked, HasAll-unsealed)
+
+-- a set that another has all of is no larger
+pub HasAll-fits : (permissions others : ℕ) → HasAll permissions others → others ≤ permissions
+HasAll-fits permissions others has = omega (arith, and_le_l permissions others, has)
+
+-- ---- bounds
+
+-- the granted span of a request within a sound span lies within that span
+pub IsGranted-within : (request granted parent : Span) → IsSpan request → IsSpan parent → IsSound parent
+    → IsWithin request parent → IsGranted request granted → IsWithin granted parent
+IsGranted-within request granted parent is_request is_parent sound within is_granted =
+    let word = sound-IsDecoded parent is_parent sound in
+    granted-tightest request granted is_request is_granted word.0 parent word.1 within

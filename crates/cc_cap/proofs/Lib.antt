@@ -1,0 +1,3 @@
+pub mod DerivationLemmas
+pub mod BoundsLemmas
+pub mod CanonicalLemmas

@@ -1,0 +1,70 @@
+-- How a `Cap` keeps its capability. No public clause cites this file.
+use Rattle.std.proofs.Common.{sym}
+use Rattle.std.specs.Prelude.{ℕ, true, ◌≡◌, ◌⊎◌, ◌↔◌, IsTrue, Result, IsOk}
+use Rattle.cc_word.specs.declared.refusal.Refusal.{Refusal}
+use Rattle.cc_word.specs.declared.refusal.Refusal.TheVariants.{Sealed, OutOfBounds, MissingPermission}
+use Rattle.cc_bounds.specs.declared.span.Span.{Span}
+use Rattle.cc_bounds.specs.Span.{IsSpan, IsWithin}
+use Rattle.cc_bounds.specs.Granule.{IsGranted, IsExact, IsSound}
+use Rattle.cc_bounds.specs.Window.{Represents}
+use Rattle.cc_bounds.specs.Encoding.{Encoding}
+use Rattle.cc_cap.specs.declared.cap.Cap.TheInside.{Inside}
+use Rattle.cc_cap.specs.Bounds.{encoding_of}
+use Rattle.cc_cap.specs.Permissions.{bits_of, HasAll}
+use Rattle.cc_cap.specs.Capability.{Capability, IsCapability, IsUnsealed, Grants}
+use Rattle.cc_cap.specs.Derivation.{RefusedUnless, request_of}
+
+-- the capability that is kept
+abbrev pub value_of : Inside → Capability
+value_of inside = record {
+  span = inside.set.granted;
+  address = inside.address;
+  permissions = bits_of inside.perms;
+  flag = inside.flag;
+  otype = inside.otype;
+}
+
+-- the capability can exist, and its encoding is that of an exact request, whatever it was made by
+pub record IsWellFormed (inside : Inside) : Type 0 where
+  pub exact : inside.set.exact ≡ true
+  pub is_capability : IsCapability (value_of inside)
+
+-- what keeps the capability
+abbrev pub inside_of : Capability → Inside
+inside_of cap = record {
+  set = encoding_of cap.span;
+  address = cap.address;
+  perms = record { 0 = cap.permissions };
+  flag = cap.flag;
+  otype = cap.otype;
+}
+
+-- it keeps what it was made of
+pub inside_of-value_of : (inside : Inside) → IsWellFormed inside → inside_of (value_of inside) ≡ inside
+inside_of-value_of inside formed =
+    λ i. record inside { set = record { granted = inside.set.granted; exact = sym formed.exact i } }
+
+-- the encoding of the bounds of a length, which may be asked for
+pub record IsEncodingFor (cap : Capability) (length : ℕ) (set : Encoding) : Type 0 where
+  pub unsealed : IsUnsealed cap
+  pub inside : IsWithin (request_of cap length) cap.span
+  pub granted : IsGranted (request_of cap length) set.granted
+  pub exact : IsTrue set.exact ↔ IsExact (request_of cap length)
+  pub same : IsTrue set.exact → set.granted ≡ request_of cap length
+  pub is_span : IsSpan set.granted
+  pub sound : IsSound set.granted
+  pub within : IsWithin set.granted cap.span
+  pub holds_address : Represents set.granted cap.address
+
+-- the bounds of a length may not be asked for
+abbrev pub IsRefusedBounds : Capability → ℕ → Refusal → Type 0
+IsRefusedBounds cap length refusal =
+    ((¬ IsUnsealed cap) × (refusal ≡ Sealed))
+    ⊎ (IsUnsealed cap × (¬ IsWithin (request_of cap length) cap.span) × (refusal ≡ OutOfBounds))
+
+-- whether an authority has a permission and grants its own address
+abbrev pub ChecksAuthority : Capability → ℕ → Result Unit Refusal → Type 0
+ChecksAuthority authority permission result =
+    RefusedUnless (HasAll authority.permissions permission) MissingPermission result (
+    RefusedUnless (Grants authority authority.address) OutOfBounds result (
+    IsOk result))

@@ -1,0 +1,81 @@
+-- What a capability is, what it grants, and what differs from it in one part.
+use Rattle.std.specs.Prelude.{ℕ, Bool, false, ◌≡◌, ◌≤◌, ◌<◌, ◌^◌}
+use Rattle.cc_bounds.specs.declared.span.Span.{Span}
+use Rattle.cc_bounds.specs.Span.{IsSpan, HasByte, IsWithin, from_zero}
+use Rattle.cc_bounds.specs.Granule.{IsSound}
+use Rattle.cc_bounds.specs.Window.{Represents}
+use Rattle.cc_cap.specs.declared.obj_type.TheConstants.{LAST_SEALING_TYPE, UNSEALED_TYPE}
+use Rattle.cc_cap.specs.Permissions.{HasAll, unsealed_permissions}
+use Rattle.cc_cap.specs.ObjType.{IsObjType}
+
+-- a capability: the span that it grants, its own address, its permissions as bits, its flag and its type
+pub record Capability : Type 0 where
+  pub span : Span
+  pub address : ℕ
+  pub permissions : ℕ
+  pub flag : Bool
+  pub otype : ℕ
+
+-- What is true of every capability that exists: its span is sound, its address is representable for the
+-- span, its permissions are among the sixteen, and its type is unsealed or one that sealing gives.
+pub record IsCapability (cap : Capability) : Type 0 where
+  pub is_span : IsSpan cap.span
+  pub sound : IsSound cap.span
+  pub address_fits : cap.address < 2 ^ 64
+  pub representable : Represents cap.span cap.address
+  pub permissions_fit : cap.permissions < 2 ^ 16
+  pub is_type : IsObjType cap.otype
+
+-- the type says that it is unsealed
+abbrev pub IsUnsealed : Capability → Type 0
+IsUnsealed cap = cap.otype ≡ UNSEALED_TYPE
+
+-- the type is one that sealing gives
+abbrev pub IsSealed : Capability → Type 0
+IsSealed cap = cap.otype ≤ LAST_SEALING_TYPE
+
+-- the capability grants the byte
+abbrev pub Grants : Capability → ℕ → Type 0
+Grants cap byte = HasByte cap.span byte
+
+-- the child grants no byte and no permission that the parent does not
+pub record GrantsNoMore (child parent : Capability) : Type 0 where
+  pub bytes : IsWithin child.span parent.span
+  pub permissions : HasAll parent.permissions child.permissions
+
+-- the root capability: every permission over every address
+abbrev pub root_capability : Capability
+root_capability = record {
+  span = from_zero (2 ^ 64);
+  address = 0;
+  permissions = 0xffff;
+  flag = false;
+  otype = UNSEALED_TYPE;
+}
+
+-- the same at another address
+abbrev pub at_address : Capability → ℕ → Capability
+at_address cap address = record cap { address = address }
+
+-- the same with other bounds
+abbrev pub with_span : Capability → Span → Capability
+with_span cap span = record cap { span = span }
+
+-- the same with other permissions
+abbrev pub with_permissions : Capability → ℕ → Capability
+with_permissions cap permissions = record cap { permissions = permissions }
+
+-- the same with another flag
+abbrev pub with_flag : Capability → Bool → Capability
+with_flag cap flag = record cap { flag = flag }
+
+-- the same, sealed with this type
+abbrev pub sealed_with : Capability → ℕ → Capability
+sealed_with cap otype = record cap { otype = otype }
+
+-- the same, unsealed by an authority
+abbrev pub unsealed_by : Capability → Capability → Capability
+unsealed_by cap authority = record cap {
+  permissions = unsealed_permissions cap.permissions authority.permissions;
+  otype = UNSEALED_TYPE;
+}

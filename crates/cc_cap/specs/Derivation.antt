@@ -1,0 +1,87 @@
+-- The rules by which one capability is derived from another. The checks of a rule stand in the order in
+-- which they are made, and the first that fails answers.
+use Rattle.std.specs.Prelude.{ℕ, Bool, ◌≡◌, ◌⊎◌, ◌+◌, ◌%◌, ◌^◌, ◌≤◌, Result, Ok, Err}
+use Rattle.std.specs.Int.RustNames.{bit_and}
+use Rattle.cc_word.specs.declared.refusal.Refusal.{Refusal}
+use Rattle.cc_word.specs.declared.refusal.Refusal.TheVariants.{Sealed, Unsealed, OutOfBounds, Inexact, Unrepresentable, MissingPermission, ReservedType, TypeMismatch, NotCanonical, ExceedsAuthority}
+use Rattle.cc_bounds.specs.declared.span.Span.{Span}
+use Rattle.cc_bounds.specs.Span.{IsWithin, span_from}
+use Rattle.cc_bounds.specs.Granule.{IsGranted, IsExact}
+use Rattle.cc_bounds.specs.Window.{Represents}
+use Rattle.cc_cap.specs.declared.obj_type.TheConstants.{LAST_SEALING_TYPE}
+use Rattle.cc_cap.specs.Permissions.{HasAll, seal_permission, unseal_permission}
+use Rattle.cc_cap.specs.Capability.{Capability, IsUnsealed, IsSealed, Grants, GrantsNoMore, at_address, with_span, with_permissions, with_flag, sealed_with, unsealed_by}
+use Rattle.cc_cap.specs.Canonical.{IsWordOf, IsCanonical}
+
+-- the condition holds and the rest decides, or it fails and the result is this refusal
+abbrev pub RefusedUnless : {A : Type 0} → Type 0 → Refusal → Result A Refusal → Type 0 → Type 0
+RefusedUnless condition refusal result rest = (condition × rest) ⊎ ((¬ condition) × (result ≡ Err refusal))
+
+-- moving the address
+abbrev pub SetsAddress : Capability → ℕ → Result Capability Refusal → Type 0
+SetsAddress cap address result =
+    RefusedUnless (IsUnsealed cap) Sealed result (
+    RefusedUnless (Represents cap.span address) Unrepresentable result (
+    result ≡ Ok (at_address cap address)))
+
+-- moving the address by an amount, round the end of the address space
+abbrev pub Increments : Capability → ℕ → Result Capability Refusal → Type 0
+Increments cap amount result = SetsAddress cap ((cap.address + amount) % 2 ^ 64) result
+
+-- the span that is asked for when bounds of a length are set: it begins at the address
+abbrev pub request_of : Capability → ℕ → Span
+request_of cap length = span_from cap.address length
+
+-- setting bounds, which may be rounded
+abbrev pub SetsBounds : Capability → ℕ → Result Capability Refusal → Type 0
+SetsBounds cap length result =
+    RefusedUnless (IsUnsealed cap) Sealed result (
+    RefusedUnless (IsWithin (request_of cap length) cap.span) OutOfBounds result (
+    (granted : Span) × IsGranted (request_of cap length) granted × (result ≡ Ok (with_span cap granted))))
+
+-- setting bounds that may not be rounded
+abbrev pub SetsExactBounds : Capability → ℕ → Result Capability Refusal → Type 0
+SetsExactBounds cap length result =
+    RefusedUnless (IsUnsealed cap) Sealed result (
+    RefusedUnless (IsWithin (request_of cap length) cap.span) OutOfBounds result (
+    RefusedUnless (IsExact (request_of cap length)) Inexact result (
+    result ≡ Ok (with_span cap (request_of cap length)))))
+
+-- keeping the permissions that are in the mask too
+abbrev pub MasksPermissions : Capability → ℕ → Result Capability Refusal → Type 0
+MasksPermissions cap mask result =
+    RefusedUnless (IsUnsealed cap) Sealed result (
+    result ≡ Ok (with_permissions cap (bit_and cap.permissions mask)))
+
+-- setting the flag
+abbrev pub SetsFlag : Capability → Bool → Result Capability Refusal → Type 0
+SetsFlag cap flag result =
+    RefusedUnless (IsUnsealed cap) Sealed result (
+    result ≡ Ok (with_flag cap flag))
+
+-- sealing with the authority's address as the type
+abbrev pub Seals : Capability → Capability → Result Capability Refusal → Type 0
+Seals cap authority result =
+    RefusedUnless (IsUnsealed cap × IsUnsealed authority) Sealed result (
+    RefusedUnless (HasAll authority.permissions seal_permission) MissingPermission result (
+    RefusedUnless (Grants authority authority.address) OutOfBounds result (
+    RefusedUnless (authority.address ≤ LAST_SEALING_TYPE) ReservedType result (
+    result ≡ Ok (sealed_with cap authority.address)))))
+
+-- unsealing what is sealed with the authority's address; GLOBAL is kept only where both have it
+abbrev pub Unseals : Capability → Capability → Result Capability Refusal → Type 0
+Unseals cap authority result =
+    RefusedUnless (IsSealed cap) Unsealed result (
+    RefusedUnless (IsUnsealed authority) Sealed result (
+    RefusedUnless (HasAll authority.permissions unseal_permission) MissingPermission result (
+    RefusedUnless (Grants authority authority.address) OutOfBounds result (
+    RefusedUnless (authority.address ≡ cap.otype) TypeMismatch result (
+    result ≡ Ok (unsealed_by cap authority))))))
+
+-- rebuilding the capability of a word that grants no more than the authority
+abbrev pub Rebuilds : Capability → ℕ → Result Capability Refusal → Type 0
+Rebuilds authority word result =
+    RefusedUnless (IsUnsealed authority) Sealed result (
+    RefusedUnless (IsCanonical word) NotCanonical result (
+    (cap : Capability) × IsWordOf cap word
+    × RefusedUnless (IsUnsealed cap × GrantsNoMore cap authority) ExceedsAuthority result (result ≡ Ok cap)))

@@ -1,0 +1,8 @@
+-- In reading order.
+pub mod Permissions
+pub mod ObjType
+pub mod Capability
+pub mod Canonical
+pub mod Derivation
+pub mod Bounds
+pub mod Cap

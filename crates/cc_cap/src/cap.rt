@@ -1,0 +1,340 @@
+//! Capabilities, and the calls that derive them.
+use crate::bounds::{ADDRESS_SPACE, as_exact, encoding_in};
+use crate::obj_type::ObjType;
+use crate::perms::Perms;
+use bitflags::Flags;
+use cc_bounds::{Set, Span, represents};
+use cc_word::{Fields, Refusal, pack, unpack};
+use std::marker::Model;
+
+/// A capability: bounds, an address, permissions, a flag and an object type.
+///
+/// It is tagged, and can't be forged: only the calls of this type make one, and each but [`Cap::root`]
+/// derives it from one or two others, or refuses. Its word is canonical. The standard: UCAM-CL-TR-987,
+/// the capability instructions.
+#[derive(Clone, Copy, PartialEq, Eq, Debug)]
+pub struct Cap {
+    set: Set,
+    address: u64,
+    perms: Perms,
+    flag: bool,
+    otype: ObjType,
+}
+
+impl Model for Cap {
+    ghost use Rattle.cc_cap.specs.Capability.{Capability};
+
+    ghost Value = { Capability };
+
+    ghost use Rattle.cc_cap.specs.Cap.{value_of, IsWellFormed, inside_of, inside_of-value_of};
+
+    ghost view = { value_of };
+
+    ghost invariant = { IsWellFormed };
+
+    ghost inverse = { inside_of };
+
+    ghost inverse_ok = { inside_of-value_of };
+}
+
+impl Cap {
+    ghost use Rattle.std.specs.Prelude.{ℕ, false, ◌≡◌, ◌↔◌, ◌≤◌, ◌^◌, IsTrue, IfOk, MatchOption, MatchResult};
+    ghost use Rattle.cc_cap.specs.Cap.{IsEncodingFor, IsRefusedBounds, ChecksAuthority};
+    ghost use Rattle.cc_cap.specs.Permissions.{bits_of};
+    ghost use Rattle.cc_cap.specs.Capability.{Capability, IsSealed, IsUnsealed, GrantsNoMore, root_capability};
+    ghost use Rattle.cc_cap.specs.Canonical.{IsWordOf, IsCanonical, word_of_capability};
+    ghost use Rattle.cc_cap.specs.Derivation.{SetsAddress, Increments, SetsBounds, SetsExactBounds, MasksPermissions, SetsFlag, Seals, Unseals, Rebuilds};
+
+    /// The root capability: every permission over every address, at address 0 and unsealed.
+    pub fn root() -> Cap
+        ensures { result ≡ root_capability }
+    {
+        Cap {
+            set: as_exact(cc_bounds::set_bounds(0, ADDRESS_SPACE)),
+            address: 0,
+            perms: Perms::all(),
+            flag: false,
+            otype: ObjType::UNSEALED,
+        }
+    }
+
+    /// This capability at another address, with the same bounds.
+    ///
+    /// The address may leave the bounds, and then grants nothing there. It may not go so far that the word
+    /// would decode to other bounds. Refusals in order: `Sealed`, `Unrepresentable`. The instruction
+    /// CSetAddr.
+    pub fn set_address(&self, address: u64) -> Result<Cap, Refusal>
+        ensures made { SetsAddress self.now address result }
+        ensures monotonic { IfOk result (λ cap. GrantsNoMore cap self.now) }
+    {
+        if self.is_sealed() {
+            return Err(Refusal::Sealed);
+        }
+        if !represents(&self.set, address) {
+            return Err(Refusal::Unrepresentable);
+        }
+        Ok(Cap { address, ..*self })
+    }
+
+    /// This capability with its address moved up, round the end of the address space.
+    ///
+    /// Refusals in order: `Sealed`, `Unrepresentable`. The instruction CIncOffset.
+    pub fn increment(&self, amount: u64) -> Result<Cap, Refusal>
+        ensures made { Increments self.now amount result }
+        ensures monotonic { IfOk result (λ cap. GrantsNoMore cap self.now) }
+    {
+        self.set_address(self.address.wrapping_add(amount))
+    }
+
+    /// This capability with the bounds of `len` bytes from its address on, rounded where they can't be
+    /// stored exactly. The address stays.
+    ///
+    /// The caller has `len <= 2^64`. Refusals in order: `Sealed`; `OutOfBounds`, unless the bytes asked for
+    /// lie within the bounds. Rounding never leaves them. The instruction CSetBounds.
+    pub fn set_bounds(&self, len: u128) -> Result<Cap, Refusal>
+        requires { len ≤ 2 ^ 64 }
+        ensures made { SetsBounds self.now len result }
+        ensures monotonic { IfOk result (λ cap. GrantsNoMore cap self.now) }
+    {
+        let set = self.encode(len)?;
+        Ok(Cap {
+            set: as_exact(set),
+            ..*self
+        })
+    }
+
+    /// This capability with exactly the bounds of `len` bytes from its address on. The address stays.
+    ///
+    /// The caller has `len <= 2^64`. Refusals in order: `Sealed`; `OutOfBounds`, as for
+    /// [`Cap::set_bounds`]; `Inexact`, where the bounds can't be stored without rounding. The instruction
+    /// CSetBoundsExact.
+    pub fn set_bounds_exact(&self, len: u128) -> Result<Cap, Refusal>
+        requires { len ≤ 2 ^ 64 }
+        ensures made { SetsExactBounds self.now len result }
+        ensures monotonic { IfOk result (λ cap. GrantsNoMore cap self.now) }
+    {
+        let set = self.encode(len)?;
+        if !set.exact() {
+            return Err(Refusal::Inexact);
+        }
+        Ok(Cap { set, ..*self })
+    }
+
+    /// This capability with the permissions that are also in the mask.
+    ///
+    /// Refusals: `Sealed`. The instruction CAndPerm.
+    #[tactic(auto, using(crate::proofs::DerivationLemmas::permissions_stay))]
+    pub fn and_perms(&self, mask: Perms) -> Result<Cap, Refusal>
+        ensures made { MasksPermissions self.now (bits_of mask) result }
+        ensures monotonic { IfOk result (λ cap. GrantsNoMore cap self.now) }
+    {
+        if self.is_sealed() {
+            return Err(Refusal::Sealed);
+        }
+        let perms = self.perms.intersection(mask);
+        Ok(Cap { perms, ..*self })
+    }
+
+    /// This capability with this flag.
+    ///
+    /// Refusals: `Sealed`. The instruction CSetFlags.
+    pub fn set_flag(&self, flag: bool) -> Result<Cap, Refusal>
+        ensures made { SetsFlag self.now flag result }
+        ensures monotonic { IfOk result (λ cap. GrantsNoMore cap self.now) }
+    {
+        if self.is_sealed() {
+            return Err(Refusal::Sealed);
+        }
+        Ok(Cap { flag, ..*self })
+    }
+
+    /// This capability sealed with the authority's address as its type.
+    ///
+    /// Refusals in order: `Sealed`, where either is sealed; `MissingPermission`, unless the authority has
+    /// SEAL; `OutOfBounds`, unless its address is in its bounds; `ReservedType`, for an address above
+    /// 0x3ffef. The instruction CSeal.
+    pub fn seal(&self, authority: &Cap) -> Result<Cap, Refusal>
+        ensures made { Seals self.now authority.now result }
+        ensures monotonic { IfOk result (λ cap. GrantsNoMore cap self.now) }
+    {
+        if self.is_sealed() || authority.is_sealed() {
+            return Err(Refusal::Sealed);
+        }
+        authority.check_authority(Perms::SEAL)?;
+        let Some(otype) = ObjType::sealing(authority.address) else {
+            return Err(Refusal::ReservedType);
+        };
+        Ok(Cap { otype, ..*self })
+    }
+
+    /// This sealed capability unsealed. It keeps GLOBAL only where the authority has it too.
+    ///
+    /// Refusals in order: `Unsealed`, where it is not sealed; `Sealed`, where the authority is;
+    /// `MissingPermission`, unless the authority has UNSEAL; `OutOfBounds`, unless its address is in its
+    /// bounds; `TypeMismatch`, unless its address is the type. The instruction CUnseal.
+    #[tactic(auto, using(crate::proofs::DerivationLemmas::permissions_stay))]
+    pub fn unseal(&self, authority: &Cap) -> Result<Cap, Refusal>
+        ensures made { Unseals self.now authority.now result }
+        ensures monotonic { IfOk result (λ cap. GrantsNoMore cap self.now) }
+    {
+        if !self.is_sealed() {
+            return Err(Refusal::Unsealed);
+        }
+        if authority.is_sealed() {
+            return Err(Refusal::Sealed);
+        }
+        authority.check_authority(Perms::UNSEAL)?;
+        if authority.address != u64::from(self.otype.bits()) {
+            return Err(Refusal::TypeMismatch);
+        }
+        let perms = self.perms.unsealed_by(authority.perms);
+        Ok(Cap {
+            perms,
+            otype: ObjType::UNSEALED,
+            ..*self
+        })
+    }
+
+    /// The capability of a word, where it grants no more than the authority does.
+    ///
+    /// Refusals in order: `Sealed`, where the authority is; `NotCanonical`, where the word is the word of
+    /// no capability; `ExceedsAuthority`, where its capability is sealed, has bounds that are not within
+    /// the authority's, or has a permission that the authority lacks. Either flag is accepted.
+    pub fn rebuild(authority: &Cap, word: u128) -> Result<Cap, Refusal>
+        ensures made { Rebuilds authority.now word result }
+        ensures monotonic { IfOk result (λ cap. GrantsNoMore cap authority.now) }
+    {
+        if authority.is_sealed() {
+            return Err(Refusal::Sealed);
+        }
+        let Some(cap) = Cap::of_word(word) else {
+            return Err(Refusal::NotCanonical);
+        };
+        if !cap.is_allowed_by(authority) {
+            return Err(Refusal::ExceedsAuthority);
+        }
+        Ok(cap)
+    }
+
+    /// The capability's word, which is canonical, and which no other capability has.
+    pub fn word(&self) -> u128
+        ensures word { IsWordOf self.now result }
+        ensures computed { result ≡ word_of_capability self.now }
+        ensures one_word { (word : ℕ) → IsWordOf self.now word → word ≡ result }
+        ensures one_capability { (other : Capability) → IsWordOf other result → other ≡ self.now }
+    {
+        pack(&Fields {
+            perms: self.perms.bits(),
+            reserved: 0,
+            flag: self.flag,
+            otype: self.otype.bits(),
+            ie: self.set.ie(),
+            t: self.set.t(),
+            b: self.set.b(),
+            address: self.address,
+        })
+    }
+
+    /// The bounds.
+    pub fn span(&self) -> Span
+        ensures { result ≡ self.now.span }
+    {
+        self.set.granted()
+    }
+
+    /// The capability's own address, in its bounds or not.
+    pub fn address(&self) -> u64
+        ensures { result ≡ self.now.address }
+    {
+        self.address
+    }
+
+    /// The permissions.
+    pub fn perms(&self) -> Perms
+        ensures { bits_of result ≡ self.now.permissions }
+    {
+        self.perms
+    }
+
+    /// The flag.
+    pub fn flag(&self) -> bool
+        ensures { result ≡ self.now.flag }
+    {
+        self.flag
+    }
+
+    /// The object type.
+    pub fn otype(&self) -> ObjType
+        ensures { result ≡ self.now.otype }
+    {
+        self.otype
+    }
+
+    /// Whether the capability is sealed.
+    pub fn is_sealed(&self) -> bool
+        ensures sealed { IsTrue result ↔ IsSealed self.now }
+        ensures unsealed { (result ≡ false) ↔ IsUnsealed self.now }
+    {
+        self.otype.is_sealed()
+    }
+
+    // The encoding of the bounds of `len` bytes from the address on, where they may be asked for.
+    fn encode(&self, len: u128) -> Result<Set, Refusal>
+        requires { len ≤ 2 ^ 64 }
+        ensures { MatchResult result (IsEncodingFor self.now len) (IsRefusedBounds self.now len) }
+    {
+        if self.is_sealed() {
+            return Err(Refusal::Sealed);
+        }
+        let span = self.span();
+        if self.address < span.base || u128::from(self.address) + len > span.top {
+            return Err(Refusal::OutOfBounds);
+        }
+        Ok(cc_bounds::set_bounds(self.address, len))
+    }
+
+    // Whether the capability has the permission, and grants the address that it has.
+    fn check_authority(&self, permission: Perms) -> Result<(), Refusal>
+        ensures { ChecksAuthority self.now (bits_of permission) result }
+    {
+        if !self.perms.contains(permission) {
+            return Err(Refusal::MissingPermission);
+        }
+        let span = self.span();
+        if self.address < span.base || u128::from(self.address) >= span.top {
+            return Err(Refusal::OutOfBounds);
+        }
+        Ok(())
+    }
+
+    // Whether the authority may rebuild this capability: it is unsealed, and grants no more.
+    fn is_allowed_by(&self, authority: &Cap) -> bool
+        ensures { IsTrue result ↔ (IsUnsealed self.now × GrantsNoMore self.now authority.now) }
+    {
+        let inner = self.span();
+        let outer = authority.span();
+        outer.base <= inner.base
+            && inner.top <= outer.top
+            && authority.perms.contains(self.perms)
+            && !self.is_sealed()
+    }
+
+    // The capability of a word, and `None` for a word that is not canonical.
+    pub(crate) fn of_word(word: u128) -> Option<Cap>
+        ensures { MatchOption result (¬ IsCanonical word) (λ cap. IsWordOf cap word) }
+    {
+        let fields = unpack(word);
+        if fields.reserved != 0 {
+            return None;
+        }
+        let otype = ObjType::from_bits(fields.otype)?;
+        let set = encoding_in(&fields)?;
+        Some(Cap {
+            set,
+            address: fields.address,
+            perms: Perms::from_bits_retain(fields.perms),
+            flag: fields.flag,
+            otype,
+        })
+    }
+}

@@ -1,0 +1,78 @@
+//! The object types that a capability may have.
+ghost use Rattle.std.specs.Prelude.{ℕ, ◌≡◌, ◌↔◌, ◌≤◌, IsTrue, IsSome, IfSome};
+ghost use Rattle.cc_cap.specs.ObjType.{IsObjType};
+
+use std::marker::Model;
+
+/// The last type that sealing gives. The sixteen types above it are reserved.
+pub(crate) const LAST_SEALING_TYPE: u32 = 0x3ffef;
+
+/// The type of an unsealed capability.
+pub(crate) const UNSEALED_TYPE: u32 = 0x3ffff;
+
+/// The object type of a capability: unsealed, or one of the types from 0 to 0x3ffef that sealing gives.
+///
+/// No value is one of the reserved types from 0x3fff0 to 0x3fffe. The standard: UCAM-CL-TR-987, the object
+/// types of 128-bit capabilities.
+#[derive(Clone, Copy, PartialEq, Eq, Debug)]
+pub struct ObjType {
+    bits: u32,
+}
+
+impl Model for ObjType {
+    ghost Value = { ℕ };
+
+    ghost view = { λ otype. otype.bits };
+
+    ghost invariant = { λ otype. IsObjType otype.bits };
+
+    ghost inverse = { λ bits. record { bits = bits } };
+}
+
+impl ObjType {
+    /// The type of an unsealed capability, 0x3ffff.
+    pub const UNSEALED: ObjType = ObjType {
+        bits: UNSEALED_TYPE,
+    };
+
+    /// The type that sealing gives for this number, and `None` for a number above 0x3ffef.
+    pub fn sealing(number: u64) -> Option<ObjType>
+        ensures found { IsSome result ↔ (number ≤ LAST_SEALING_TYPE) }
+        ensures value { IfSome result (λ otype. otype ≡ number) }
+    {
+        if number <= u64::from(LAST_SEALING_TYPE) {
+            Some(ObjType {
+                bits: number as u32,
+            })
+        } else {
+            None
+        }
+    }
+
+    /// The type of these 18 bits, and `None` for a reserved type or more bits.
+    pub fn from_bits(bits: u32) -> Option<ObjType>
+        ensures found { IsSome result ↔ IsObjType bits }
+        ensures value { IfSome result (λ otype. otype ≡ bits) }
+    {
+        if bits <= LAST_SEALING_TYPE || bits == UNSEALED_TYPE {
+            Some(ObjType { bits })
+        } else {
+            None
+        }
+    }
+
+    /// The type's 18 bits.
+    pub fn bits(self) -> u32
+        ensures value { result ≡ self }
+        ensures allowed { IsObjType self }
+    {
+        self.bits
+    }
+
+    /// Whether a capability of this type is sealed.
+    pub fn is_sealed(self) -> bool
+        ensures { IsTrue result ↔ (self ≤ LAST_SEALING_TYPE) }
+    {
+        self != ObjType::UNSEALED
+    }
+}
