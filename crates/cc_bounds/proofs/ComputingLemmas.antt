@@ -1,6 +1,6 @@
 -- The computing forms are what the definitions say: exponents, granules, granted spans, padded sizes, fields.
 use Rattle.std.proofs.Common.{subst, ◌≡◌, ℕ, zero, suc, ◌+◌, ◌-◌, ◌*◌, ◌<◌, ◌≤◌, ◌/◌, ◌%◌, ◌^◌, Bool, true, false, refl, sym, ◌∙◌, ap, arith, inl, inr, nat_le, nat_lt, if◌then◌else◌}
-use Rattle.std.specs.Prelude.{IsTrue, ◌↔◌}
+use Rattle.std.specs.Prelude.{IsTrue}
 use Rattle.std.specs.Int.{div_ceil}
 use Rattle.std.proofs.Math.Nat.{div-add-mod', zero-div}
 use Rattle.std.proofs.Math.Pow.{pow_mono}
@@ -10,7 +10,7 @@ use Rattle.cc_bounds.specs.declared.span.Span.{Span}
 use Rattle.cc_bounds.specs.Span.{IsSpan, length_of, span_from, from_zero}
 use Rattle.cc_bounds.specs.Granule.{granule_count, IsGranule, IsExponent, rounded_to, IsGranted, IsSound, first_exponent, exponent_of, granule_of, granted_span, padded_size}
 use Rattle.cc_bounds.specs.Encoding.{HasBoundsFields, ie_of, t_of, b_of}
-use Rattle.cc_bounds.proofs.GranuleLemmas.{le-div_ceil, div_ceil-lt, div_ceil-le, granule_count-covered, IsLeastExponent, least-granule, first-least, few_at_52, granule_same, exponent-least, least-exponent, exponent_same, least-short}
+use Rattle.cc_bounds.proofs.GranuleLemmas.{le-div_ceil, granule_count-covered, IsLeastExponent, least-granule, first-least, few_at_52, granule_same, exponent_same}
 use Rattle.cc_bounds.proofs.SoundLemmas.{rounded_to-one, rounded_to-whole}
 
 -- the search finds the least exponent
@@ -191,9 +191,9 @@ padded-sound start size fits multiple span =
     ]
 
 -- the granule of a length from its power of two, as it is shifted
-pub granule-shifted : (size power : ℕ) → size ≤ 2 ^ 64 → power ≤ 55 → IsGranule (record { base = 0; top = size }) (2 ^ power)
+pub granule_shifted : (size power : ℕ) → size ≤ 2 ^ 64 → power ≤ 55 → IsGranule (record { base = 0; top = size }) (2 ^ power)
     → 1 * 2 ^ power % 2 ^ 64 ≡ granule_of (from_zero size)
-granule-shifted size power fits power_fits h =
+granule_shifted size power fits power_fits h =
     let p = pow_mono power_fits in
     let whole : 1 * 2 ^ power % 2 ^ 64 ≡ 2 ^ power = omega (arith, p) in
     let zero_is : size ≡ 0 + size = omega arith in

@@ -1,6 +1,5 @@
 -- What a `Set` stores: the exponent and the fields of a sound span.
-use Rattle.std.proofs.Common.{subst, ◌≡◌, ℕ, zero, suc, ◌+◌, ◌-◌, ◌*◌, ◌<◌, ◌≤◌, ◌/◌, ◌%◌, ◌^◌, Bool, true, false, refl, sym, ◌∙◌, ap, arith, inl, inr, nat_le, nat_lt, bit_and}
-use Rattle.std.specs.Prelude.{IsTrue, ◌↔◌}
+use Rattle.std.proofs.Common.{subst, ◌≡◌, ℕ, ◌+◌, ◌-◌, ◌*◌, ◌<◌, ◌≤◌, ◌/◌, ◌%◌, ◌^◌, sym, ◌∙◌, ap, arith, inl, inr, nat_lt, bit_and}
 use Rattle.std.proofs.Math.Nat.{mul-le-mul_right}
 use Rattle.std.proofs.lemmas.Nat.{pow_pos, pow-add, shl-shr, and_mask}
 use Rattle.std.proofs.lemmas.Bool.{cases_lt}
@@ -8,8 +7,8 @@ use Rattle.cc_bounds.specs.declared.span.Span.{Span}
 use Rattle.cc_bounds.specs.Span.{IsSpan, length_of}
 use Rattle.cc_bounds.specs.Granule.{IsGranule, IsExponent, rounded_to, IsGranted, IsSound, exponent_of}
 use Rattle.cc_bounds.specs.Encoding.{ie_of, t_of, b_of, IsEncoding}
-use Rattle.cc_bounds.proofs.GranuleLemmas.{IsLeastExponent, least_same, exponent-least, power-exponent}
-use Rattle.cc_bounds.proofs.SoundLemmas.{IsLongGranted, granted-long, granted-sound}
+use Rattle.cc_bounds.proofs.GranuleLemmas.{least_same, exponent-least, power-exponent}
+use Rattle.cc_bounds.proofs.SoundLemmas.{granted-long, granted-sound}
 use Rattle.cc_bounds.proofs.ComputingLemmas.{exponent_of-is, exponent-exponent_of, exponent_of-short}
 
 -- a granule is eight units of its exponent
@@ -107,18 +106,30 @@ pub encoded : (request granted : Span) (power e : ℕ) → IsSpan request → gr
 encoded request granted power e is_span is_rounded is_granule small large is =
     let grant = granted-sound request granted is_span is_granted in
     let exponent : IsExponent request e = subst (λ (n : ℕ). IsExponent request n) (sym is) (power-exponent request power is_granule small large) in
-    let e_is : e ≡ exponent_of granted = exponent-exponent_of granted e grant.is_span (grant.exponent e exponent) in
+    let own = grant.exponent e exponent in
+    let e_is : e ≡ exponent_of granted = exponent-exponent_of granted e grant.is_span own in
+    let fit = sound-fit granted grant.is_span grant.sound in
     record {
       is_span = grant.is_span;
       sound = grant.sound;
+      is_exponent = own;
       is_e = e_is;
       is_ie = flag;
-      is_t = ap (λ (n : ℕ). n + e / 8) (and_mask (granted.top / 2 ^ e) 12) ∙ ap (λ (n : ℕ). granted.top / 2 ^ n % 2 ^ 12 + n / 8) e_is;
-      is_b =
-          ap (λ (n : ℕ). n + bit_and e 7) (and_mask (granted.base / 2 ^ e) 14) ∙ ap (λ (n : ℕ). granted.base / 2 ^ e % 2 ^ 14 + n) (and_mask e 3)
-          ∙ ap (λ (n : ℕ). granted.base / 2 ^ n % 2 ^ 14 + n % 8) e_is;
+      is_t = t_is e_is;
+      is_b = b_is e_is;
+      e_fits = omega (arith, e_is, fit.exponent_fits);
+      t_fits = rw (t_is e_is) fit.t_fits;
+      b_fits = rw (b_is e_is) fit.b_fits;
     }
   where
+    t_is : e ≡ exponent_of granted → bit_and (granted.top / 2 ^ e) 4095 + e / 8 ≡ t_of granted
+    t_is e_is = ap (λ (n : ℕ). n + e / 8) (and_mask (granted.top / 2 ^ e) 12) ∙ ap (λ (n : ℕ). granted.top / 2 ^ n % 2 ^ 12 + n / 8) e_is
+
+    b_is : e ≡ exponent_of granted → bit_and (granted.base / 2 ^ e) 16383 + bit_and e 7 ≡ b_of granted
+    b_is e_is =
+        ap (λ (n : ℕ). n + bit_and e 7) (and_mask (granted.base / 2 ^ e) 14) ∙ ap (λ (n : ℕ). granted.base / 2 ^ e % 2 ^ 14 + n) (and_mask e 3)
+        ∙ ap (λ (n : ℕ). granted.base / 2 ^ n % 2 ^ 14 + n % 8) e_is
+
     is_granted : IsGranted request granted
     is_granted = record { granule = 2 ^ power; is_granule = is_granule; is_rounded = is_rounded }
 
@@ -129,16 +140,3 @@ encoded request granted power e is_span is_rounded is_granule small large is =
           | inl short ↦ let z = small short in let s = grant.as_short short in grind (arith, z, s)
           | inr long ↦ let z = large long in let s = grant.as_long long in grind (arith, z, s)
         ]
-
-module _ (span : Span) (e : ℕ) (ie : Bool) (t b : ℕ) (h : IsEncoding span e ie t b) where
-  pub encoding_exponent : IsExponent span e
-  encoding_exponent = subst (λ (n : ℕ). IsExponent span n) (sym h.is_e) (exponent_of-is span h.is_span)
-
-  pub encoding_e_fits : e ≤ 52
-  encoding_e_fits = let fit = sound-fit span h.is_span h.sound in omega (arith, h.is_e, fit.exponent_fits)
-
-  pub encoding_t_fits : t < 2 ^ 12
-  encoding_t_fits = let fit = sound-fit span h.is_span h.sound in omega (arith, h.is_t, fit.t_fits)
-
-  pub encoding_b_fits : b < 2 ^ 14
-  encoding_b_fits = let fit = sound-fit span h.is_span h.sound in omega (arith, h.is_b, fit.b_fits)

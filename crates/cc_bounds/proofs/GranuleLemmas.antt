@@ -1,13 +1,13 @@
 -- Granules: how many a request touches, the least that is coarse enough, and rounding to them.
 use Rattle.std.proofs.Common.{subst, ◌≡◌, ℕ, zero, suc, ◌+◌, ◌-◌, ◌*◌, ◌<◌, ◌≤◌, ◌/◌, ◌^◌, refl, sym, ◌∙◌, ap, arith, inl, inr}
-use Rattle.std.specs.Int.{div_ceil, IsPowerOfTwo}
-use Rattle.std.proofs.Math.Nat.{mul-le-mul_right, div-mul-le_self, lt-div-mul-add, le_of_mul-le-mul_right, lt_of_mul-lt-mul_right, pow-suc}
+use Rattle.std.specs.Int.{div_ceil}
+use Rattle.std.proofs.Math.Nat.{div-mul-le_self, lt-div-mul-add, le_of_mul-le-mul_right, lt_of_mul-lt-mul_right, pow-suc}
 use Rattle.std.proofs.Math.Pow.{pow_mono}
-use Rattle.std.proofs.lemmas.Nat.{pow_pos, pow-add, le-div, shl-shr}
+use Rattle.std.proofs.lemmas.Nat.{pow_pos, pow-add, le-div}
 use Rattle.std.proofs.lemmas.Bool.{cases_lt}
 use Rattle.std.proofs.lemmas.Grind.{div_ceil_times}
 use Rattle.cc_bounds.specs.declared.span.Span.{Span}
-use Rattle.cc_bounds.specs.Span.{IsSpan, IsWithin, length_of}
+use Rattle.cc_bounds.specs.Span.{length_of}
 use Rattle.cc_bounds.specs.Granule.{granule_count, IsCoarseEnough, IsGranule, IsExponent, rounded_to, IsGranted}
 
 -- ---- division rounded up

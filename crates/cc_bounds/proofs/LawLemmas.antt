@@ -1,13 +1,13 @@
 -- The laws of encoding, as they are stated, and how much a length is padded.
-use Rattle.std.proofs.Common.{subst, ◌≡◌, ℕ, zero, suc, ◌+◌, ◌-◌, ◌*◌, ◌<◌, ◌≤◌, ◌/◌, ◌%◌, ◌^◌, Bool, refl, sym, ◌∙◌, ap, arith, inl, inr}
+use Rattle.std.proofs.Common.{subst, ◌≡◌, ℕ, zero, suc, ◌+◌, ◌*◌, ◌<◌, ◌≤◌, ◌/◌, ◌^◌, Bool, refl, sym, ◌∙◌, ap, arith, inl, inr}
 use Rattle.std.specs.Prelude.{◌↔◌}
 use Rattle.std.specs.Int.{div_ceil}
 use Rattle.std.proofs.Math.Nat.{pow-suc, mul-le-mul_right}
 use Rattle.std.proofs.lemmas.Nat.{pow_pos}
 use Rattle.std.proofs.lemmas.Bool.{cases_lt}
 use Rattle.cc_bounds.specs.declared.span.Span.{Span}
-use Rattle.cc_bounds.specs.Span.{IsSpan, length_of, from_zero}
-use Rattle.cc_bounds.specs.Granule.{granule_count, IsGranule, IsExponent, rounded_to, IsGranted, IsSound, granule_of, exponent_of, granted_span, padded_size}
+use Rattle.cc_bounds.specs.Span.{IsSpan, from_zero}
+use Rattle.cc_bounds.specs.Granule.{IsGranule, IsExponent, rounded_to, IsGranted, IsSound, granule_of, exponent_of, granted_span, padded_size}
 use Rattle.cc_bounds.specs.Encoding.{HasBoundsFields, ie_of, t_of, b_of}
 use Rattle.cc_bounds.specs.Tightest.{IsDecoded}
 use Rattle.cc_bounds.proofs.GranuleLemmas.{le-div_ceil, div_ceil-lt, div_ceil-le, IsLeastExponent}

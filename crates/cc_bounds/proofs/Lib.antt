@@ -12,3 +12,4 @@ pub mod SoundDecodingLemmas
 pub mod TightestLemmas
 pub mod WindowLemmas
 pub mod LawLemmas
+pub mod FieldsLemmas

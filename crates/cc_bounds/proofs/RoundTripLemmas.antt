@@ -1,20 +1,13 @@
 -- Fields with the encoding of a sound span decode to it, at each representable address.
-use Rattle.std.proofs.Common.{subst, ◌≡◌, ℕ, ◌+◌, ◌-◌, ◌*◌, ◌<◌, ◌≤◌, ◌/◌, ◌%◌, ◌^◌, Bool, true, false, refl, sym, ◌∙◌, ap, arith, inl, inr}
-use Rattle.std.specs.Prelude.{IsTrue, ◌↔◌}
+use Rattle.std.proofs.Common.{subst, ◌≡◌, ℕ, ◌+◌, ◌-◌, ◌*◌, ◌<◌, ◌≤◌, ◌/◌, ◌%◌, ◌^◌, refl, sym, ◌∙◌, ap, arith, inl, inr}
 use Rattle.std.proofs.Math.Nat.{mul-le-mul_right, div-mul-le_self, div-add-mod', add-mul-mod_self_right, mod-eq_of_lt}
 use Rattle.std.proofs.Math.Pow.{pow_mono}
 use Rattle.std.proofs.lemmas.Nat.{pow_pos, pow-add}
 use Rattle.std.proofs.lemmas.Bool.{cases_lt}
 use Rattle.cc_word.specs.declared.fields.Fields.{Fields}
-use Rattle.cc_bounds.specs.declared.span.Span.{Span}
-use Rattle.cc_bounds.specs.Span.{IsSpan, length_of}
-use Rattle.cc_bounds.specs.Granule.{IsExponent, IsSound, exponent_of}
-use Rattle.cc_bounds.specs.Window.{section_of, IsRepresentable, Represents}
-use Rattle.cc_bounds.specs.Encoding.{HasBoundsFields, ie_of, t_of, b_of}
-use Rattle.cc_bounds.specs.Decoding.{stored_exponent, without_exponent, base_mantissa, IsTopMantissa, raised, window_size, first_section, IsInWindow, IsWindow, IsPlaced, IsTopBeside, DecodesTo}
+use Rattle.cc_bounds.specs.Window.{IsRepresentable}
+use Rattle.cc_bounds.specs.Decoding.{stored_exponent, base_mantissa, IsTopMantissa, window_size, first_section, IsWindow, IsPlaced, IsTopBeside, DecodesTo}
 use Rattle.cc_bounds.proofs.PlaceLemmas.{units_lt}
-use Rattle.cc_bounds.proofs.ComputingLemmas.{bounds_fields-are, exponent_of-short}
-use Rattle.cc_bounds.proofs.EncodingLemmas.{IsLongSpan, sound-long}
 
 -- numbers that whole sizes make equal are equal modulo the size
 same_modulo : (size x y s v : ℕ) → x + s * size ≡ y + v * size → x % size ≡ y % size

@@ -1,14 +1,13 @@
 -- Sound spans: what a request is granted is one, of the same exponent.
-use Rattle.std.proofs.Common.{subst, ◌≡◌, ℕ, zero, suc, ◌+◌, ◌-◌, ◌*◌, ◌<◌, ◌≤◌, ◌/◌, ◌^◌, Bool, true, false, refl, sym, ◌∙◌, ap, arith, inl, inr, nat_le, nat_lt, if◌then◌else◌}
+use Rattle.std.proofs.Common.{subst, ◌≡◌, ℕ, ◌+◌, ◌-◌, ◌*◌, ◌<◌, ◌≤◌, ◌/◌, ◌^◌, refl, sym, ◌∙◌, ap, arith, inl, inr}
 use Rattle.std.specs.Int.{div_ceil}
 use Rattle.std.proofs.Math.Nat.{mul-le-mul_right, div-mul-le_self, le_of_mul-le-mul_right, lt-div-mul-add}
-use Rattle.std.proofs.Math.Pow.{pow_mono}
 use Rattle.std.proofs.lemmas.Nat.{pow_pos, pow-add, shl-shr}
 use Rattle.std.proofs.lemmas.Bool.{cases_lt}
 use Rattle.cc_bounds.specs.declared.span.Span.{Span}
-use Rattle.cc_bounds.specs.Span.{IsSpan, IsWithin, length_of, span_from, from_zero}
-use Rattle.cc_bounds.specs.Granule.{granule_count, IsCoarseEnough, IsGranule, IsExponent, rounded_to, IsGranted, IsSound, first_exponent, exponent_of, granule_of, granted_span, padded_size}
-use Rattle.cc_bounds.proofs.GranuleLemmas.{le-div_ceil, div_ceil-lt, div_ceil-le, div_ceil-multiple, granule_count-within, granule_count-covered, IsLeastExponent, least_same, least-fits, least-many, few_at_52, pow-order, granule-least, least-granule, first-least, granule_same, exponent-least, least-exponent, exponent_same}
+use Rattle.cc_bounds.specs.Span.{IsSpan, length_of}
+use Rattle.cc_bounds.specs.Granule.{IsCoarseEnough, IsGranule, IsExponent, rounded_to, IsGranted, IsSound}
+use Rattle.cc_bounds.proofs.GranuleLemmas.{le-div_ceil, div_ceil-lt, div_ceil-le, div_ceil-multiple, granule_count-within, granule_count-covered, IsLeastExponent, least_same, least-fits, least-many, pow-order, granule-least, least-granule, exponent-least, least-exponent}
 
 -- ---- rounding
 

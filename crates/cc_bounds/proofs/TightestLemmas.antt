@@ -4,15 +4,14 @@ use Rattle.std.specs.Int.{div_ceil}
 use Rattle.std.proofs.Math.Nat.{mul-le-mul_right}
 use Rattle.std.proofs.lemmas.Nat.{pow_pos, pow-add, le-div}
 use Rattle.std.proofs.lemmas.Bool.{cases_lt}
-use Rattle.cc_word.specs.declared.fields.Fields.{Fields}
 use Rattle.cc_bounds.specs.declared.span.Span.{Span}
 use Rattle.cc_bounds.specs.Span.{IsSpan, IsWithin, length_of}
-use Rattle.cc_bounds.specs.Granule.{granule_count, IsGranule, IsGranted, IsSound, granted_span}
-use Rattle.cc_bounds.specs.Decoding.{stored_exponent, DecodesTo}
+use Rattle.cc_bounds.specs.Granule.{granule_count, IsGranted, IsSound, granted_span}
+use Rattle.cc_bounds.specs.Decoding.{stored_exponent}
 use Rattle.cc_bounds.specs.Tightest.{IsDecoded, IsTight, IsTightest}
 use Rattle.cc_bounds.proofs.PlaceLemmas.{stored_exponent-le}
 use Rattle.cc_bounds.proofs.DecodedSpanLemmas.{word_short, word_long, IsInGranules}
-use Rattle.cc_bounds.proofs.GranuleLemmas.{div_ceil-le, granule_count-covered, IsLeastExponent, least-granule, least-short}
+use Rattle.cc_bounds.proofs.GranuleLemmas.{div_ceil-le, granule_count-covered, least-granule, least-short}
 use Rattle.cc_bounds.proofs.SoundLemmas.{same_span, IsLongGranted, granted-long, granted-short}
 use Rattle.cc_bounds.proofs.ComputingLemmas.{granted_span-is}
 

@@ -1,15 +1,17 @@
 -- The fields in which the bounds of a sound span are stored, and what a `Set` is.
-use Rattle.std.specs.Prelude.{ℕ, Bool, ◌≡◌, ◌+◌, ◌/◌, ◌%◌, ◌^◌, ◌≤◌, ◌↔◌, IsTrue, nat_le}
+use Rattle.std.specs.Prelude.{ℕ, Bool, ◌≡◌, ◌+◌, ◌/◌, ◌%◌, ◌^◌, ◌<◌, ◌≤◌, ◌↔◌, IsTrue, nat_le}
+use Rattle.cc_word.specs.declared.fields.Fields.{Fields}
 use Rattle.cc_bounds.specs.declared.span.Span.{Span}
 use Rattle.cc_bounds.specs.Span.{IsSpan, length_of}
 use Rattle.cc_bounds.specs.Granule.{IsExponent, IsSound, exponent_of}
+use Rattle.cc_bounds.specs.Window.{Represents}
 
 -- what a `Set` is: the span that was granted, and whether the request was exact
 pub record Encoding : Type 0 where
   pub granted : Span
   pub exact : Bool
 
--- The bounds fields of a span of this exponent. The exponent is internal from 4096 bytes up. T and B are
+-- The bounds fields of a sound span of this exponent. The exponent is internal from 4096 bytes up. T and B are
 -- the top and the base in units of 2 ^ exponent, as far as their fields reach; their low three bits, which
 -- are then zero, hold the exponent's digits to base 8. Where it is not internal the exponent is 0, and T
 -- and B are the low bits of the ends.
@@ -20,7 +22,16 @@ pub record HasBoundsFields (span : Span) (ie : Bool) (t b : ℕ) : Type 0 where
   pub is_t : t ≡ span.top / 2 ^ exponent % 2 ^ 12 + exponent / 8
   pub is_b : b ≡ span.base / 2 ^ exponent % 2 ^ 14 + exponent % 8
 
--- ---- Computing forms of the three fields, joined to `HasBoundsFields` by a law in `src/laws.rt`.
+-- The fields store the span: it is sound, its bounds fields are theirs, and their address is
+-- representable for it.
+pub record StoresSpan (fields : Fields) (span : Span) : Type 0 where
+  pub is_span : IsSpan span
+  pub sound : IsSound span
+  pub bounds_fields : HasBoundsFields span fields.ie fields.t fields.b
+  pub representable : Represents span fields.address
+
+-- ---- Computing forms of the three fields. The law `every_request_is_encoded_once` says that just these
+-- meet `HasBoundsFields`.
 
 -- IE of a span
 abbrev pub ie_of : Span → Bool
@@ -34,11 +45,16 @@ t_of span = span.top / 2 ^ exponent_of span % 2 ^ 12 + exponent_of span / 8
 abbrev pub b_of : Span → ℕ
 b_of span = span.base / 2 ^ exponent_of span % 2 ^ 14 + exponent_of span % 8
 
--- what a `Set` stores: a sound span, and its exponent and fields, which the span determines
+-- What a `Set` stores, for its model alone: a sound span, with its exponent and fields, which the span
+-- determines and which fit where they are stored.
 pub record IsEncoding (span : Span) (e : ℕ) (ie : Bool) (t b : ℕ) : Type 0 where
   pub is_span : IsSpan span
   pub sound : IsSound span
+  pub is_exponent : IsExponent span e
   pub is_e : e ≡ exponent_of span
   pub is_ie : ie ≡ ie_of span
   pub is_t : t ≡ t_of span
   pub is_b : b ≡ b_of span
+  pub e_fits : e ≤ 52
+  pub t_fits : t < 2 ^ 12
+  pub b_fits : b < 2 ^ 14

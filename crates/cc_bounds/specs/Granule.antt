@@ -39,7 +39,7 @@ pub record IsGranted (request granted : Span) : Type 0 where
   pub is_granule : IsGranule request granule
   pub is_rounded : granted ≡ rounded_to granule request
 
--- a sound span: setting bounds to it gives it back
+-- a sound span, of a pair that is a span of the address space: setting bounds to it gives it back
 abbrev pub IsSound : Span → Type 0
 IsSound span = IsGranted span span
 
@@ -47,8 +47,8 @@ IsSound span = IsGranted span span
 abbrev pub IsExact : Span → Type 0
 IsExact request = IsGranted request request
 
--- ---- Computing forms, for what is built of granules. Laws in `src/laws.rt` join each to its definition
--- above; no claim about a call needs them to be read.
+-- ---- Computing forms, for what is built of granules. The law `every_request_is_encoded_once` says that
+-- each is the one number, or the one span, that its definition above is met by.
 
 -- the first exponent, of `tries` and one more from this one on, whose granule the request touches at most
 -- 1023 times, or the last of them

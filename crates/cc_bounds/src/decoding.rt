@@ -22,7 +22,7 @@ const FOUR_LAPS: u128 = 1 << 66;
 /// The exponent of a word's bounds, from 0 to 52.
 ///
 /// It is 0 without IE. With IE the low three bits of the T and the B field hold it. The standard:
-/// UCAM-CL-TR-987, the decoding of the bounds; Woodruff et al. 2019, section 4.
+/// UCAM-CL-TR-987, the decoding of the bounds; Woodruff et al. 2019.
 pub fn exponent(fields: &Fields) -> u8
     ensures { result ≡ stored_exponent fields.now }
 {
@@ -124,7 +124,7 @@ fn decoded_top(fields: &Fields, base: u64) -> u128
 /// The bounds of a word.
 ///
 /// Every word has them. Those of a word that belongs to no capability may have a top below the base, or
-/// past 2^64. The standard: UCAM-CL-TR-987, the decoding of the bounds; Woodruff et al. 2019, section 4.
+/// past 2^64. The standard: UCAM-CL-TR-987, the decoding of the bounds; Woodruff et al. 2019.
 pub fn decode(fields: &Fields) -> Span
     ensures decodes { DecodesTo fields.now result }
     ensures only { (span : SpanSpec) → DecodesTo fields.now span → span ≡ result }

@@ -1,22 +1,25 @@
 //! The encoding of a sound span, and setting bounds.
-ghost use Rattle.std.specs.Prelude.{◌≡◌, ◌+◌, ◌^◌, ◌<◌, ◌≤◌, ◌↔◌, IsTrue};
+ghost use Rattle.std.specs.Prelude.{◌≡◌, ◌+◌, ◌^◌, ◌<◌, ◌≤◌, ◌↔◌, IsTrue, true, IfSome};
 ghost use Rattle.cc_bounds.specs.Span.{IsSpan, span_from, length_of};
 ghost use Rattle.cc_bounds.specs.Granule.{IsExponent, IsGranted, IsSound, IsExact, exponent_of};
-ghost use Rattle.cc_bounds.specs.Encoding.{ie_of, t_of, b_of};
+ghost use Rattle.cc_bounds.specs.Encoding.{HasBoundsFields, StoresSpan, ie_of, t_of, b_of};
+ghost use Rattle.cc_bounds.specs.declared.span.Span.{Span as SpanSpec};
 ghost use Rattle.cc_bounds.specs.Tightest.{DecodesBack, IsTight, IsTightest};
 
+use crate::decoding::decode;
 use crate::rounding::{granule_power, rounded};
 use crate::span::Span;
+use cc_word::Fields;
 use std::marker::Model;
 
 /// The bounds of a capability as its word stores them: a sound span with its exponent and its bounds
 /// fields, and whether the request that asked for it was exact.
 ///
-/// Only [`set_bounds`] makes one. The standard: UCAM-CL-TR-987, the compressed
-/// capability encoding; Woodruff et al. 2019, section 4.
+/// Only [`set_bounds`] and [`Set::of_fields`] make one. The standard: UCAM-CL-TR-987, the compressed
+/// capability encoding; Woodruff et al. 2019.
 #[derive(Clone, Copy, PartialEq, Eq, Debug)]
 pub struct Set {
-    e: u8,
+    exponent: u8,
     ie: bool,
     t: u16,
     b: u16,
@@ -33,10 +36,10 @@ impl Model for Set {
 
     ghost view = { λ set. record { granted = set.granted; exact = set.exact } };
 
-    ghost invariant = { λ set. IsEncoding set.granted set.e set.ie set.t set.b };
+    ghost invariant = { λ set. IsEncoding set.granted set.exponent set.ie set.t set.b };
 
     ghost inverse = { λ encoding. record {
-      e = exponent_of encoding.granted;
+      exponent = exponent_of encoding.granted;
       ie = ie_of encoding.granted;
       t = t_of encoding.granted;
       b = b_of encoding.granted;
@@ -45,7 +48,7 @@ impl Model for Set {
     } };
 
     ghost inverse_ok = { λ set h i. record {
-      e = sym h.is_e i;
+      exponent = sym h.is_e i;
       ie = sym h.is_ie i;
       t = sym h.is_t i;
       b = sym h.is_b i;
@@ -55,13 +58,35 @@ impl Model for Set {
 }
 
 impl Set {
+    /// The encoding whose bounds fields these fields have: `Some` exactly if they store a sound span, for
+    /// which their address is representable. That span is granted, and exact.
+    ///
+    /// The permissions, the reserved bits, the flag and the type are not looked at.
+    pub fn of_fields(fields: &Fields) -> Option<Set>
+        ensures found { IfSome result (λ set. StoresSpan fields.now set.granted) }
+        ensures only { (span : SpanSpec) → StoresSpan fields.now span
+            → result ≡ Some (record { granted = span; exact = true }) }
+    {
+        let span = decode(fields);
+        if !is_span(&span) {
+            return None;
+        }
+        // A span that some word decodes to is sound, so that this grants the span itself.
+        let set = encode(&span);
+        if has_fields(&set, fields) {
+            Some(set)
+        } else {
+            None
+        }
+    }
+
     /// The exponent E, from 0 to 52. The granule is 2^(E+3) bytes where [`Set::ie`] is true, else 1.
     pub fn e(&self) -> u8
         ensures exponent { IsExponent self.now.granted result }
         ensures computed { result ≡ exponent_of self.now.granted }
         ensures fits { result ≤ 52 }
     {
-        self.e
+        self.exponent
     }
 
     /// The internal exponent IE: whether the exponent is stored in the low bits of the T and B fields. It
@@ -104,6 +129,33 @@ impl Set {
     {
         self.exact
     }
+
+    /// The same bounds as those of an exact request: what setting bounds to the granted span gives.
+    pub fn as_exact(self) -> Set
+        ensures granted { result.granted ≡ self.granted }
+        ensures exact { result.exact ≡ true }
+    {
+        Set {
+            exact: true,
+            ..self
+        }
+    }
+}
+
+/// Whether a base and a top are those of a span of the address space.
+fn is_span(span: &Span) -> bool
+    ensures { IsTrue result ↔ IsSpan span.now }
+{
+    u128::from(span.base) <= span.top && span.top <= 1 << 64
+}
+
+/// Whether the fields are those that the encoding stores.
+fn has_fields(set: &Set, fields: &Fields) -> bool
+    ensures { let span = set.now.granted in
+        IsTrue result
+        ↔ ((fields.now.ie ≡ ie_of span) × (fields.now.t ≡ t_of span) × (fields.now.b ≡ b_of span)) }
+{
+    (fields.ie, fields.t, fields.b) == (set.ie, set.t, set.b)
 }
 
 /// The encoding of what a request is granted.
@@ -116,7 +168,7 @@ fn encode(request: &Span) -> Set
     let exponent = power.saturating_sub(3);
     let granted = rounded(request, power);
     Set {
-        e: exponent as u8,
+        exponent: exponent as u8,
         ie: power > 0,
         t: ((granted.top >> exponent) & 0xfff) as u16 + (exponent >> 3) as u16,
         b: ((granted.base >> exponent) & 0x3fff) as u16 + (exponent & 0x7) as u16,
@@ -128,9 +180,9 @@ fn encode(request: &Span) -> Set
 /// The encoding of the least bounds that cover a request.
 ///
 /// The request is `[base, base + len)`; the caller has `base + len <= 2^64`. Below 4096 bytes it is
-/// granted as it is. Else its ends are rounded outwards to the granule, and no word has bounds that cover
-/// the request and lie within the granted ones. The standard: UCAM-CL-TR-987, `CSetBounds`; Woodruff et
-/// al. 2019, section 4.
+/// granted as it is. Else its ends are rounded outwards to the granule, and the granted bounds lie within
+/// those of every word whose bounds cover the request. The standard: UCAM-CL-TR-987, `CSetBounds`;
+/// Woodruff et al. 2019.
 pub fn set_bounds(base: u64, len: u128) -> Set
     requires { base + len ≤ 2 ^ 64 }
     ensures granted { IsGranted (span_from base len) result.granted }

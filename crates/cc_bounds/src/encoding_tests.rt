@@ -2,6 +2,7 @@
 //! definitions.
 
 use crate::{Set, Span, alignment_mask, granule, represents, round_length, set_bounds};
+use cc_word::unpack;
 use std::process::Abort;
 
 /// The size of the address space.
@@ -211,6 +212,46 @@ fn every_address_representable(rt: HostRuntime) {
         assert_eq!(rt; set.e(), e, "{request:?}");
         for address in [0, 0x7fff_ffff_ffff_ffff, 0x8000_0000_0000_0000, u64::MAX] {
             assert!(rt; represents(&set, address), "{request:?}");
+        }
+    }
+}
+
+/// Words, each with the base and top of the sound span that its fields store, if they store one: null,
+/// small bounds in the window and at its end, exponents 1 and 51, an exponent of 53, another word of the
+/// bounds of null, a top below the base, a top past the end.
+const WORDS: [(u128, Option<(u64, u128)>); 9] = [
+    (0, Some((0, LAP))),
+    (
+        0xffff_0000_0481_9004_0000_0000_0000_1000,
+        Some((0x1000, 0x1200)),
+    ),
+    (0xffff_0000_0481_8004_ffff_ffff_ffff_f800, Some((0, 0x200))),
+    (
+        0xffff_0000_027f_89fd_0000_0000_0001_13f0,
+        Some((0x1_13f0, 0x1_33f0)),
+    ),
+    (
+        0xffff_0000_0000_1007_0000_0000_0000_0000,
+        Some((0x8000_0000_0000_0000, LAP)),
+    ),
+    (0xffff_0000_0000_0001_0000_0000_0000_0000, None),
+    (0xffff_0000_0000_2000_0000_0000_0000_0000, None),
+    (0xffff_0000_0000_3007_0000_0000_0000_0000, None),
+    (0xffff_0000_0441_bf04_ffff_ffff_ffff_ff00, None),
+];
+
+#[test]
+fn stored_spans(rt: HostRuntime) {
+    for (word, expected) in WORDS {
+        match (Set::of_fields(&unpack(word)), expected) {
+            (Some(set), Some((base, top))) => {
+                assert_eq!(rt; set.granted(), Span { base, top }, "word {word}");
+                assert!(rt; set.exact(), "word {word}");
+            }
+            (found, expected) => {
+                assert!(rt; found.is_none(), "word {word}");
+                assert!(rt; expected.is_none(), "word {word}");
+            }
         }
     }
 }

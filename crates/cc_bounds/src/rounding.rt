@@ -60,8 +60,8 @@ pub(crate) fn rounded(request: &Span, power: u32) -> Span
 /// The granule of a length, in bytes: the unit in which the bounds of that many bytes from address 0 up
 /// are stored. It is 1 below 4096 bytes, else a power of two from 8 to 2^55.
 ///
-/// The caller has `len <= 2^64`. The standard: UCAM-CL-TR-987, `CRRL` and `CRAM`; Woodruff et al. 2019,
-/// section 4.
+/// The caller has `len <= 2^64`. The standard: UCAM-CL-TR-987, `CRRL` and `CRAM`; Woodruff et al. 2019.
+#[tactic(auto, using(crate::proofs::ComputingLemmas::granule_shifted))]
 pub fn granule(len: u128) -> u64
     requires { len ≤ 2 ^ 64 }
     ensures granule { IsGranule (from_zero len) result }
@@ -74,7 +74,8 @@ pub fn granule(len: u128) -> u64
 /// address space is 2^64, and not 0.
 ///
 /// So many bytes, from a multiple of the granule up, have exact bounds. The caller has `len <= 2^64`. The
-/// standard: UCAM-CL-TR-987, `CRRL` (CRepresentableLength), which answers 0 for 2^64.
+/// standard: UCAM-CL-TR-987, `CRRL` (CRepresentableLength), which answers 0 where the length
+/// rounds to 2^64.
 pub fn round_length(len: u128) -> u128
     requires { len ≤ 2 ^ 64 }
     ensures { result ≡ padded_size len }

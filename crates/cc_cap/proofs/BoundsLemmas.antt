@@ -12,7 +12,7 @@ use Rattle.cc_bounds.proofs.SoundDecodingLemmas.{sound-decodes, decodes-represen
 use Rattle.cc_bounds.proofs.DecodingLemmas.{DecodesTo-same}
 use Rattle.cc_bounds.proofs.ComputingLemmas.{granted_span-is, bounds_fields-is, bounds_fields-are}
 use Rattle.cc_bounds.proofs.TightestLemmas.{granted-tight, decoded-sound}
-use Rattle.cc_cap.specs.Bounds.{encoding_of, AreFieldsOf, HasSoundBounds}
+use Rattle.cc_cap.specs.Bounds.{encoding_of}
 use Rattle.cc_cap.specs.Cap.{IsEncodingFor}
 use Rattle.cc_cap.specs.Capability.{Capability, IsCapability, IsUnsealed, root_capability}
 use Rattle.cc_cap.specs.Derivation.{request_of}
@@ -53,53 +53,6 @@ IsEncodingFor-made cap length set is_cap unsealed base top granted exact =
       holds_address =
           inside-Represents set.granted cap.address sound.is_span sound.sound covers.from_base (omega (arith, covers.to_top));
     }
-
--- ---- the encoding that fields hold
-
--- fields that hold the encoding of a sound span decode to it
-HasSoundBounds-decodes : (fields : Fields) (span : Span) → HasSoundBounds fields span → DecodesTo fields span
-HasSoundBounds-decodes fields span holds =
-    sound-decodes span holds.is_span holds.sound fields holds.bounds holds.representable
-
--- fields do not hold the encoding of a sound span where what they decode to is no span
-pub no_span : (fields : Fields) (span : Span) → DecodesTo fields span → ¬ IsSpan span
-    → ¬ ((other : Span) × HasSoundBounds fields other)
-no_span fields span decodes never some =
-    let same = DecodesTo-same fields some.0 span (HasSoundBounds-decodes fields some.0 some.1) decodes in
-    never (subst IsSpan same some.1.is_span)
-
--- fields that hold the encoding of a sound span are those of what they decode to
-pub held_fields : (fields : Fields) (span : Span) → DecodesTo fields span → (other : Span) × HasSoundBounds fields other
-    → AreFieldsOf span fields
-held_fields fields span decodes some =
-    let same = DecodesTo-same fields some.0 span (HasSoundBounds-decodes fields some.0 some.1) decodes in
-    let are = bounds_fields-are some.0 fields.ie fields.t fields.b some.1.is_span some.1.bounds in
-    subst (λ (held : Span). AreFieldsOf held fields) same (record { ie = are.is_ie; t = are.is_t; b = are.is_b })
-
--- fields that are those of the span that they decode to hold its encoding
-pub HasSoundBounds-made : (fields : Fields) (span : Span) → IsSpan span → DecodesTo fields span
-    → AreFieldsOf span fields → HasSoundBounds fields span
-HasSoundBounds-made fields span is_span decodes are =
-    let sound = decoded-sound span is_span (fields, decodes) in
-    let own = bounds_fields-is span is_span in
-    let bounds : HasBoundsFields span fields.ie fields.t fields.b =
-    subst (λ (f : Bool). HasBoundsFields span f fields.t fields.b) (sym are.ie)
-    (subst (λ (n : ℕ). HasBoundsFields span (ie_of span) n fields.b) (sym are.t)
-    (subst (λ (n : ℕ). HasBoundsFields span (ie_of span) (t_of span) n) (sym are.b) own)) in
-    record {
-      is_span = is_span;
-      sound = sound;
-      bounds = bounds;
-      representable = decodes-representable span fields is_span sound bounds decodes;
-    }
-
--- the encoding of a request for the span that fields decode to is that of the span
-pub encoding_of-decoded : (fields : Fields) (span : Span) (base : ℕ) (set : Encoding) → DecodesTo fields span → IsSpan span
-    → base ≡ span.base → IsGranted (span_from span.base (span.top - base)) set.granted
-    → (IsTrue set.exact ↔ IsExact (span_from span.base (span.top - base))) → set ≡ encoding_of span
-encoding_of-decoded fields span base set decodes is_span is_base granted exact =
-    let top : span.base + (span.top - base) ≡ span.top = omega (arith, is_base, is_span.in_order) in
-    encoding_of-sound span span.base (span.top - base) set refl top (decoded-sound span is_span (fields, decodes)) granted exact
 
 -- ---- the whole address space
 

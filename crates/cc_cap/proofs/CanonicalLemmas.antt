@@ -4,11 +4,10 @@ use Rattle.cc_word.specs.declared.fields.Fields.{Fields}
 use Rattle.cc_word.specs.Word.{bit_of, turned, layout_of, word_of}
 use Rattle.cc_word.proofs.WordLemmas.{cut-word_of, same_fields, test-bit_of}
 use Rattle.cc_bounds.specs.Window.{Represents}
-use Rattle.cc_bounds.specs.Encoding.{ie_of, t_of, b_of}
+use Rattle.cc_bounds.specs.Encoding.{StoresSpan, ie_of, t_of, b_of}
 use Rattle.cc_bounds.proofs.DecodingLemmas.{DecodesTo-same}
 use Rattle.cc_bounds.proofs.SoundDecodingLemmas.{sound-decodes}
 use Rattle.cc_bounds.proofs.ComputingLemmas.{bounds_fields-is, bounds_fields-are}
-use Rattle.cc_cap.specs.Bounds.{HasSoundBounds}
 use Rattle.cc_cap.specs.ObjType.{IsObjType}
 use Rattle.cc_cap.specs.Capability.{Capability, IsCapability}
 use Rattle.cc_cap.specs.Canonical.{IsFieldsOf, IsWordOf, word_of_capability}
@@ -116,7 +115,7 @@ IsWordOf-same one other word own also =
     (subst (IsFieldsOf other) (sym same) also.is_fields)
 
 -- the capability that is read from fields has their word
-pub IsWordOf-read : (cap : Capability) (fields : Fields) (word : ℕ) → HasSoundBounds fields cap.span → IsObjType cap.otype
+pub IsWordOf-read : (cap : Capability) (fields : Fields) (word : ℕ) → StoresSpan fields cap.span → IsObjType cap.otype
     → fields.perms ≡ cap.permissions → fields.reserved ≡ 0 → fields.flag ≡ cap.flag → fields.otype ≡ cap.otype
     → fields.address ≡ cap.address → word_of fields ≡ word → IsWordOf cap word
 IsWordOf-read cap fields word bounds is_type perms reserved flag otype address is_word = record {
@@ -134,7 +133,7 @@ IsWordOf-read cap fields word bounds is_type perms reserved flag otype address i
     reserved = reserved;
     flag = flag;
     otype = otype;
-    bounds = bounds.bounds;
+    bounds = bounds.bounds_fields;
     address = address;
   };
   is_word = sym is_word;

@@ -1,5 +1,5 @@
 //! Capabilities, and the calls that derive them.
-use crate::bounds::{ADDRESS_SPACE, as_exact, encoding_in};
+use crate::bounds::{ADDRESS_SPACE, as_exact};
 use crate::obj_type::ObjType;
 use crate::perms::Perms;
 use bitflags::Flags;
@@ -41,7 +41,7 @@ impl Cap {
     ghost use Rattle.std.specs.Prelude.{ℕ, false, ◌≡◌, ◌↔◌, ◌≤◌, ◌^◌, IsTrue, IfOk, MatchOption, MatchResult};
     ghost use Rattle.cc_cap.specs.Cap.{IsEncodingFor, IsRefusedBounds, ChecksAuthority};
     ghost use Rattle.cc_cap.specs.Permissions.{bits_of};
-    ghost use Rattle.cc_cap.specs.Capability.{Capability, IsSealed, IsUnsealed, GrantsNoMore, root_capability};
+    ghost use Rattle.cc_cap.specs.Capability.{Capability, IsCapability, IsSealed, IsUnsealed, GrantsNoMore, root_capability};
     ghost use Rattle.cc_cap.specs.Canonical.{IsWordOf, IsCanonical, word_of_capability};
     ghost use Rattle.cc_cap.specs.Derivation.{SetsAddress, Increments, SetsBounds, SetsExactBounds, MasksPermissions, SetsFlag, Seals, Unseals, Rebuilds};
 
@@ -96,9 +96,8 @@ impl Cap {
         ensures made { SetsBounds self.now len result }
         ensures monotonic { IfOk result (λ cap. GrantsNoMore cap self.now) }
     {
-        let set = self.encode(len)?;
         Ok(Cap {
-            set: as_exact(set),
+            set: as_exact(self.encode(len)?),
             ..*self
         })
     }
@@ -235,9 +234,10 @@ impl Cap {
         })
     }
 
-    /// The bounds.
+    /// The bounds. They are sound, and the address is representable for them.
     pub fn span(&self) -> Span
-        ensures { result ≡ self.now.span }
+        ensures span { result ≡ self.now.span }
+        ensures is_capability { IsCapability self.now }
     {
         self.set.granted()
     }
@@ -275,7 +275,7 @@ impl Cap {
         ensures sealed { IsTrue result ↔ IsSealed self.now }
         ensures unsealed { (result ≡ false) ↔ IsUnsealed self.now }
     {
-        self.otype.is_sealed()
+        ObjType::is_sealed(self.otype)
     }
 
     // The encoding of the bounds of `len` bytes from the address on, where they may be asked for.
@@ -328,7 +328,7 @@ impl Cap {
             return None;
         }
         let otype = ObjType::from_bits(fields.otype)?;
-        let set = encoding_in(&fields)?;
+        let set = Set::of_fields(&fields)?;
         Some(Cap {
             set,
             address: fields.address,

@@ -4,15 +4,16 @@ ghost use Rattle.std.specs.Prelude.{◌<◌, ◌^◌};
 /// The fields of a capability word, with the exclusive-or of the null capability taken away.
 ///
 /// ```text
-///  127    124 123        112 111  110 109  108        91 90 89       78 77       64 63          0
-/// +----------+--------------+--------+----+-------------+--+-----------+-----------+-------------+
-/// | user     | hardware     | re-    |flag| object type |IE| T field   | B field   | address     |
-/// | perms  4 | perms     12 | served2|  1 |          18 | 1|        12 |        14 |          64 |
-/// +----------+--------------+--------+----+-------------+--+-----------+-----------+-------------+
+/// 127   124 123     112 111  110  109  108    91  90  89    78 77    64 63       0
+/// +---------+-----------+--------+----+----------+----+--------+--------+----------+
+/// | user    | hardware  |reserved|flag| object   | IE | T      | B      | address  |
+/// | perms   | perms     |        |    | type     |    | field  | field  |          |
+/// +---------+-----------+--------+----+----------+----+--------+--------+----------+
+///      4         12          2     1       18      1      12       14        64
 /// ```
 ///
 /// The type keeps each field within its width, for every value that exists. The standard: UCAM-CL-TR-987,
-/// the compressed capability encoding; Woodruff et al. 2019, section 4.
+/// the compressed capability encoding; Woodruff et al. 2019.
 #[derive(Clone, Copy, PartialEq, Eq, Debug)]
 pub struct Fields {
     /// The four user permissions above the twelve hardware permissions.

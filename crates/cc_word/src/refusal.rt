@@ -46,7 +46,7 @@ pub enum Refusal {
     ZeroSize = 19,
     /// No place in the pool is left for an object of this size.
     NoRoom = 20,
-    /// No live object has this number.
+    /// No object has this number, or where a live one is wanted, none that lives.
     NoObject = 21,
     /// As many slots or objects as the limit were made.
     Full = 22,

@@ -1,8 +1,7 @@
 use Rattle.std.proofs.Common.{ℕ, Bool, true, false, ◌≡◌, ◌∙◌, ◌&&◌, refl, sym, ap, subst}
-use Rattle.std.proofs.lemmas.Bool.{and_from, and_parts, eqb-true, eq-eqb}
+use Rattle.std.proofs.lemmas.Bool.{and_parts, eqb-true, eq-eqb}
 use lib.Dec.{eqb}
 use mathlib.Core.Bool.{beq}
-use Rattle.cc_bounds.specs.declared.span.Span.{Span}
 use Rattle.cc_bounds.specs.Granule.{exponent_of}
 use Rattle.cc_bounds.specs.Encoding.{ie_of, t_of, b_of}
 use Rattle.cc_cap.specs.Capability.{Capability}

@@ -1,4 +1,4 @@
-use Rattle.std.proofs.Common.{◌≡◌, ◌∙◌, ◌≤◌, ◌+◌, sym, ap, subst, arith}
+use Rattle.std.proofs.Common.{◌∙◌, ◌≤◌, ◌+◌, sym, ap, subst, arith}
 use Rattle.cc_cap.specs.Cap.{IsEncodingFor, value_of}
 use Rattle.cc_cap.specs.Capability.{Capability, IsUnsealed}
 use Rattle.cc_cap.proofs.BoundsLemmas.{IsEncodingFor-made}
@@ -8,7 +8,7 @@ pub returns : goal.returns
 returns c =
     let unsealed = c.is_sealed.ensures.unsealed.0 c.if-is_sealed.false in
     let cap : Capability = value_of c.self.inside in
-    let span_is = c.span-span.ensures ∙ ap (λ (now : Capability). now.span) (sym c.self.view_is) in
+    let span_is = c.span-span.ensures.span ∙ ap (λ (now : Capability). now.span) (sym c.self.view_is) in
     let base : cap.span.base ≤ cap.address = omega (arith, ap (λ s. s.base) span_is, c.if-self-span.false) in
     let top : cap.address + c.args.len ≤ cap.span.top = omega (arith, ap (λ s. s.top) span_is, c.from.ensures, c.if-from-len.false) in
     let set = c.set_bounds.ensures in

@@ -1,10 +1,8 @@
-use Rattle.std.proofs.Common.{◌≡◌, ◌∙◌, ◌^◌, ap, subst, sym, arith}
-use Rattle.cc_bounds.specs.declared.span.Span.{Span}
+use Rattle.std.proofs.Common.{◌≡◌, ◌∙◌, ◌^◌, ap, subst, sym}
 use Rattle.cc_bounds.specs.Span.{from_zero}
 use Rattle.cc_bounds.specs.Encoding.{Encoding}
 use Rattle.cc_bounds.proofs.GranuleLemmas.{granted_same}
-use Rattle.cc_cap.specs.Cap.{value_of}
-use Rattle.cc_cap.specs.Capability.{Capability, IsCapability, root_capability}
+use Rattle.cc_cap.specs.Capability.{IsCapability, root_capability}
 use Rattle.cc_cap.proofs.BoundsLemmas.{whole-IsSound, root-IsCapability}
 use Rattle.cc_cap.proofs.cap.Cap.root.Goals as goal
 
