@@ -1,3 +1,4 @@
 mod DeviceLemmas
 mod DigitLemmas
+mod InvocationLemmas
 mod PermissionLemmas

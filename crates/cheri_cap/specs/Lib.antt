@@ -5,3 +5,4 @@ pub mod Listing
 pub mod Devices
 pub mod Show
 pub mod Outcome
+pub mod Invocation

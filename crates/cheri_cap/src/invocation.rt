@@ -1,8 +1,12 @@
 //! The command line.
+ghost use Rattle.std.specs.Prelude.{◌≡◌, IfErr, IfOk, true};
+ghost use Rattle.clap.specs.Walk.{texts};
+ghost use Rattle.clap.specs.Words.{app_of, kind_of, subcommand_of, subcommand_rows_of, takes};
+ghost use Rattle.cheri_cap.specs.Invocation.{HasItsTexts, IsInvocation, program};
 
 use clap::error::ErrorKind;
-use clap::{Arg, ArgAction, Command, Error};
-use std::alloc::Global;
+use clap::{Arg, ArgAction, ArgMatches, Command, Error};
+use std::alloc::{AllocError, Global};
 
 /// What the program is asked to do.
 #[derive(Clone, Copy, Debug)]
@@ -39,7 +43,22 @@ Example:
 ///
 /// An error is a mistake in the words, a request for help or for the version, or want of memory; its
 /// kind says which, and its text is for the user.
-pub fn read_words<'a>(alloc: Global, words: &'a [&'a str]) -> Result<Invocation<'a>, Error> {
+pub fn read_words<'a>(alloc: Global, words: &'a [&'a str]) -> Result<Invocation<'a>, Error>
+    ensures read { IfOk result (IsInvocation (subcommand_of program (texts words.now))) }
+    ensures refused { IfErr result (λ error.
+        takes program (texts words.now) ≡ true → kind_of error ≡ ErrorKind.OutOfMemory) }
+{
+    let mut command = command(alloc)?;
+    match command.try_get_matches_from_mut(words) {
+        Ok(matches) => Ok(invocation_of(&matches)),
+        Err(error) => Err(error),
+    }
+}
+
+/// The program as clap reads it.
+fn command<'a>(alloc: Global) -> Result<Command<'a>, AllocError>
+    ensures { IfOk result (λ command. app_of command ≡ program) }
+{
     let word = Arg::new(alloc, "word")
         .value_name("WORD")
         .help(WORD_HELP)
@@ -49,7 +68,7 @@ pub fn read_words<'a>(alloc: Global, words: &'a [&'a str]) -> Result<Invocation<
         .about(SHOW_ABOUT)
         .after_help(SHOW_AFTER_HELP)
         .arg(word)?;
-    let mut command = Command::new(alloc, "cheri-cap")
+    Command::new(alloc, "cheri-cap")
         .bin_name("cheri-cap")?
         .version("0.1.0")
         .about(ABOUT)
@@ -57,13 +76,19 @@ pub fn read_words<'a>(alloc: Global, words: &'a [&'a str]) -> Result<Invocation<
         .arg_required_else_help(true)
         .subcommand_required(true)
         .disable_help_subcommand(true)
-        .subcommand(show)?;
-    let matches = command.try_get_matches_from_mut(words)?;
-    match matches
-        .subcommand_matches("show")
-        .and_then(|show| show.get_str("word"))
-    {
-        Some(word) => Ok(Invocation::Show { word }),
-        None => Err(command.error(ErrorKind::MissingSubcommand, "a command is wanted")?),
+        .subcommand(show)
+}
+
+/// What the command that clap found asks for.
+fn invocation_of<'a>(matches: &ArgMatches<'a>) -> Invocation<'a>
+    requires { HasItsTexts (subcommand_rows_of matches.now) }
+    ensures { IsInvocation (subcommand_rows_of matches.now) result }
+{
+    match matches.subcommand() {
+        Some((_, show)) => match show.get_str("word") {
+            Some(word) => Invocation::Show { word },
+            None => unreachable!(),
+        },
+        None => unreachable!(),
     }
 }

@@ -48,18 +48,16 @@ impl<'a> Sink for SliceSink<'a> {
     ghost has_failed = { λ s. s.has_failed };
 
     fn write(&mut self, piece: &[u8]) -> Result<usize, Failed> {
-        let is_full = self.taken == self.room.len() && !piece.is_empty();
+        let start = self.taken;
+        let is_full = start == self.room.len() && !piece.is_empty();
         if self.has_failed || is_full || self.calls_left == 1 {
             self.has_failed = true;
             return Err(Failed);
         }
         self.calls_left = self.calls_left.saturating_sub(1);
-        let count = self
-            .piece
-            .min(piece.len())
-            .min(self.room.len() - self.taken);
-        let end = self.taken + count;
-        self.room[self.taken..end].copy_from_slice(&piece[..count]);
+        let count = self.piece.min(piece.len()).min(self.room.len() - start);
+        let end = start + count;
+        self.room[start..end].copy_from_slice(&piece[..count]);
         self.taken = end;
         Ok(count)
     }

@@ -6,7 +6,6 @@ use crate::slice_devices::SliceSink;
 use crate::std_devices::FromWriter;
 use crate::summary::{ScriptFault, Summary};
 use std::io::{self, Write};
-use std::test::Fail;
 
 /// Each call of the sink fails in turn, the flush too, and then no call does.
 #[test]
@@ -81,11 +80,12 @@ fn vec_as_writer(rt: HostRuntime) {
     assert_eq!(rt; bytes.as_slice(), NULL_LISTING.as_bytes());
 }
 
-/// A writer that answers its calls by a plan.
+/// A writer that answers its calls by a plan, and counts the flushes.
 #[derive(Drop)]
 struct Faulty {
     write: Answer,
     flush: Answer,
+    flushes: u32,
 }
 
 #[derive(Clone, Copy)]
@@ -107,6 +107,7 @@ impl Write for Faulty {
     }
 
     fn flush(&mut self) -> io::Result<()> {
+        self.flushes = self.flushes.saturating_add(1);
         match self.flush {
             Answer::All | Answer::Nothing => Ok(()),
             Answer::Interrupted => Err(io::Error::from(io::ErrorKind::Interrupted)),
@@ -118,15 +119,20 @@ impl Write for Faulty {
 #[test]
 fn errors_of_writers_are_failures(rt: HostRuntime) {
     let table = [
-        (Answer::All, Answer::All, true),
-        (Answer::Nothing, Answer::All, false),
-        (Answer::Interrupted, Answer::All, false),
-        (Answer::Broken, Answer::All, false),
-        (Answer::All, Answer::Interrupted, false),
-        (Answer::All, Answer::Broken, false),
+        (Answer::All, Answer::All, true, 1),
+        (Answer::Nothing, Answer::All, false, 0),
+        (Answer::Interrupted, Answer::All, false, 0),
+        (Answer::Broken, Answer::All, false, 0),
+        (Answer::All, Answer::Interrupted, false, 1),
+        (Answer::All, Answer::Broken, false, 1),
     ];
-    for (write, flush, is_ok) in table {
-        let mut sink = FromWriter::new(Faulty { write, flush });
+    for (write, flush, is_ok, flushes) in table {
+        let mut writer = Faulty {
+            write,
+            flush,
+            flushes: 0,
+        };
+        let mut sink = FromWriter::new(&mut writer);
         let outcome = show_word(NULL_WORD.as_bytes(), &mut sink);
         let wanted = if is_ok {
             Ok(Summary { any_error: false })
@@ -134,6 +140,19 @@ fn errors_of_writers_are_failures(rt: HostRuntime) {
             Err(ScriptFault::Write)
         };
         assert_eq!(rt; outcome, wanted);
-        assert_eq!(rt; sink.flush().is_ok(), is_ok);
+        assert_eq!(rt; writer.flushes, flushes);
     }
+}
+
+#[test]
+fn failed_writer_is_asked_no_more(rt: HostRuntime) {
+    let mut writer = Faulty {
+        write: Answer::Interrupted,
+        flush: Answer::All,
+        flushes: 0,
+    };
+    let mut sink = FromWriter::new(&mut writer);
+    assert_eq!(rt; sink.write(b"a"), Err(Failed));
+    assert_eq!(rt; sink.flush(), Err(Failed));
+    assert_eq!(rt; writer.flushes, 0);
 }
