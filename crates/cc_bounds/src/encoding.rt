@@ -132,8 +132,7 @@ impl Set {
 
     /// The same bounds as those of an exact request: what setting bounds to the granted span gives.
     pub fn as_exact(self) -> Set
-        ensures granted { result.granted ≡ self.granted }
-        ensures exact { result.exact ≡ true }
+        ensures { result ≡ record self { exact = true } }
     {
         Set {
             exact: true,

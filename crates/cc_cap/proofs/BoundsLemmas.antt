@@ -1,17 +1,14 @@
 -- The encodings that a `Cap` keeps.
-use Rattle.std.proofs.Common.{ℕ, Bool, true, ◌≡◌, ◌+◌, ◌-◌, ◌^◌, ◌<◌, ◌≤◌, ◌↔◌, IsTrue, refl, inr, sym, subst, arith}
-use Rattle.cc_word.specs.declared.fields.Fields.{Fields}
+use Rattle.std.proofs.Common.{ℕ, true, ◌≡◌, ◌+◌, ◌^◌, ◌≤◌, ◌↔◌, IsTrue, refl, inr, sym, subst, arith}
 use Rattle.cc_bounds.specs.declared.span.Span.{Span}
 use Rattle.cc_bounds.specs.Span.{IsSpan, IsWithin, span_from, from_zero}
 use Rattle.cc_bounds.specs.Granule.{IsGranted, IsExact, IsSound, granted_span}
-use Rattle.cc_bounds.specs.Encoding.{Encoding, HasBoundsFields, ie_of, t_of, b_of}
-use Rattle.cc_bounds.specs.Decoding.{DecodesTo}
+use Rattle.cc_bounds.specs.Encoding.{Encoding}
 use Rattle.cc_bounds.proofs.GranuleLemmas.{granted_same}
 use Rattle.cc_bounds.proofs.SoundLemmas.{same_span, granted-sound}
-use Rattle.cc_bounds.proofs.SoundDecodingLemmas.{sound-decodes, decodes-representable, inside-Represents}
-use Rattle.cc_bounds.proofs.DecodingLemmas.{DecodesTo-same}
-use Rattle.cc_bounds.proofs.ComputingLemmas.{granted_span-is, bounds_fields-is, bounds_fields-are}
-use Rattle.cc_bounds.proofs.TightestLemmas.{granted-tight, decoded-sound}
+use Rattle.cc_bounds.proofs.SoundDecodingLemmas.{inside-Represents}
+use Rattle.cc_bounds.proofs.ComputingLemmas.{granted_span-is}
+use Rattle.cc_bounds.proofs.TightestLemmas.{granted-tight}
 use Rattle.cc_cap.specs.Bounds.{encoding_of}
 use Rattle.cc_cap.specs.Cap.{IsEncodingFor}
 use Rattle.cc_cap.specs.Capability.{Capability, IsCapability, IsUnsealed, root_capability}

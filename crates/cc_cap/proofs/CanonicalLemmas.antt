@@ -1,5 +1,5 @@
 -- The word of a capability: there is one, and no other capability has it.
-use Rattle.std.proofs.Common.{ℕ, Bool, ◌≡◌, ◌==◌, ◌∙◌, ◌-◌, ◌^◌, ◌<◌, ◌≤◌, inl, inr, refl, sym, ap, subst, arith}
+use Rattle.std.proofs.Common.{ℕ, Bool, ◌≡◌, ◌==◌, ◌∙◌, ◌-◌, ◌^◌, ◌<◌, inl, inr, refl, sym, ap, subst, arith}
 use Rattle.cc_word.specs.declared.fields.Fields.{Fields}
 use Rattle.cc_word.specs.Word.{bit_of, turned, layout_of, word_of}
 use Rattle.cc_word.proofs.WordLemmas.{cut-word_of, same_fields, test-bit_of}

@@ -1,5 +1,5 @@
 -- A derived capability grants no more than the one that it is derived from.
-use Rattle.std.proofs.Common.{ℕ, Bool, true, false, ◌≡◌, ◌==◌, ◌∙◌, ◌≤◌, if◌then◌else◌, sym, ap, arith}
+use Rattle.std.proofs.Common.{ℕ, true, false, ◌==◌, ◌∙◌, ◌≤◌, if◌then◌else◌, sym, ap, arith}
 use Rattle.std.proofs.lemmas.Nat.{and_assoc, and_le_l}
 use Rattle.std.specs.Int.Bits.{and_self}
 use Rattle.std.specs.Int.RustNames.{bit_and}
@@ -8,6 +8,7 @@ use Rattle.cc_bounds.specs.Span.{IsSpan, IsWithin}
 use Rattle.cc_bounds.specs.Granule.{IsGranted, IsSound}
 use Rattle.cc_bounds.proofs.SoundDecodingLemmas.{sound-IsDecoded}
 use Rattle.cc_bounds.proofs.TightestLemmas.{granted-tightest}
+use Rattle.cc_cap.specs.Capability.{Capability, GrantsNoMore}
 use Rattle.cc_cap.specs.Permissions.{HasAll, global_permission, unsealed_permissions}
 
 -- ---- permissions
@@ -30,6 +31,11 @@ pub ruleset permissions_stay = (HasAll-masked, HasAll-unsealed)
 pub HasAll-fits : (permissions others : ℕ) → HasAll permissions others → others ≤ permissions
 HasAll-fits permissions others has = omega (arith, and_le_l permissions others, has)
 
+-- what a set has all of has all that this has
+HasAll-chain : (one two three : ℕ) → HasAll one two → HasAll two three → HasAll one three
+HasAll-chain one two three first second =
+    ap (bit_and one) (sym second) ∙ sym (and_assoc three one two) ∙ ap (λ (n : ℕ). bit_and n three) first ∙ second
+
 -- ---- bounds
 
 -- the granted span of a request within a sound span lies within that span
@@ -38,3 +44,19 @@ pub IsGranted-within : (request granted parent : Span) → IsSpan request → Is
 IsGranted-within request granted parent is_request is_parent sound within is_granted =
     let word = sound-IsDecoded parent is_parent sound in
     granted-tightest request granted is_request is_granted word.0 parent word.1 within
+
+-- ---- granting no more
+
+pub GrantsNoMore-itself : (cap : Capability) → GrantsNoMore cap cap
+GrantsNoMore-itself cap =
+    record { bytes = record { from_base = omega arith; to_top = omega arith }; permissions = and_self cap.permissions }
+
+pub GrantsNoMore-chain : (one two three : Capability) → GrantsNoMore one two → GrantsNoMore two three → GrantsNoMore one three
+GrantsNoMore-chain one two three first second = record {
+  bytes = record {
+    from_base = omega (arith, first.bytes.from_base, second.bytes.from_base);
+    to_top = omega (arith, first.bytes.to_top, second.bytes.to_top);
+  };
+  permissions =
+      HasAll-chain three.permissions two.permissions one.permissions second.permissions first.permissions;
+}

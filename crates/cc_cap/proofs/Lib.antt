@@ -1,3 +1,4 @@
 pub mod DerivationLemmas
 pub mod BoundsLemmas
 pub mod CanonicalLemmas
+pub mod ReachLemmas

@@ -3,7 +3,6 @@ use Rattle.std.proofs.Common.{sym}
 use Rattle.std.specs.Prelude.{ℕ, true, ◌≡◌, ◌⊎◌, ◌↔◌, IsTrue, Result, IsOk}
 use Rattle.cc_word.specs.declared.refusal.Refusal.{Refusal}
 use Rattle.cc_word.specs.declared.refusal.Refusal.TheVariants.{Sealed, OutOfBounds, MissingPermission}
-use Rattle.cc_bounds.specs.declared.span.Span.{Span}
 use Rattle.cc_bounds.specs.Span.{IsSpan, IsWithin}
 use Rattle.cc_bounds.specs.Granule.{IsGranted, IsExact, IsSound}
 use Rattle.cc_bounds.specs.Window.{Represents}

@@ -4,9 +4,8 @@ use Rattle.cc_bounds.specs.declared.span.Span.{Span}
 use Rattle.cc_bounds.specs.Span.{IsSpan, HasByte, IsWithin, from_zero}
 use Rattle.cc_bounds.specs.Granule.{IsSound}
 use Rattle.cc_bounds.specs.Window.{Represents}
-use Rattle.cc_cap.specs.declared.obj_type.TheConstants.{LAST_SEALING_TYPE, UNSEALED_TYPE}
 use Rattle.cc_cap.specs.Permissions.{HasAll, unsealed_permissions}
-use Rattle.cc_cap.specs.ObjType.{IsObjType}
+use Rattle.cc_cap.specs.ObjType.{IsObjType, last_sealing_type, unsealed_type}
 
 -- a capability: the span that it grants, its own address, its permissions as bits, its flag and its type
 pub record Capability : Type 0 where
@@ -28,17 +27,17 @@ pub record IsCapability (cap : Capability) : Type 0 where
 
 -- the type says that it is unsealed
 abbrev pub IsUnsealed : Capability → Type 0
-IsUnsealed cap = cap.otype ≡ UNSEALED_TYPE
+IsUnsealed cap = cap.otype ≡ unsealed_type
 
 -- the type is one that sealing gives
 abbrev pub IsSealed : Capability → Type 0
-IsSealed cap = cap.otype ≤ LAST_SEALING_TYPE
+IsSealed cap = cap.otype ≤ last_sealing_type
 
 -- the capability grants the byte
 abbrev pub Grants : Capability → ℕ → Type 0
 Grants cap byte = HasByte cap.span byte
 
--- the child grants no byte and no permission that the parent does not
+-- the child's span lies within the parent's, and its permissions are among the parent's
 pub record GrantsNoMore (child parent : Capability) : Type 0 where
   pub bytes : IsWithin child.span parent.span
   pub permissions : HasAll parent.permissions child.permissions
@@ -50,7 +49,7 @@ root_capability = record {
   address = 0;
   permissions = 0xffff;
   flag = false;
-  otype = UNSEALED_TYPE;
+  otype = unsealed_type;
 }
 
 -- the same at another address
@@ -77,5 +76,5 @@ sealed_with cap otype = record cap { otype = otype }
 abbrev pub unsealed_by : Capability → Capability → Capability
 unsealed_by cap authority = record cap {
   permissions = unsealed_permissions cap.permissions authority.permissions;
-  otype = UNSEALED_TYPE;
+  otype = unsealed_type;
 }

@@ -8,7 +8,7 @@ use Rattle.cc_bounds.specs.declared.span.Span.{Span}
 use Rattle.cc_bounds.specs.Span.{IsWithin, span_from}
 use Rattle.cc_bounds.specs.Granule.{IsGranted, IsExact}
 use Rattle.cc_bounds.specs.Window.{Represents}
-use Rattle.cc_cap.specs.declared.obj_type.TheConstants.{LAST_SEALING_TYPE}
+use Rattle.cc_cap.specs.ObjType.{last_sealing_type}
 use Rattle.cc_cap.specs.Permissions.{HasAll, seal_permission, unseal_permission}
 use Rattle.cc_cap.specs.Capability.{Capability, IsUnsealed, IsSealed, Grants, GrantsNoMore, at_address, with_span, with_permissions, with_flag, sealed_with, unsealed_by}
 use Rattle.cc_cap.specs.Canonical.{IsWordOf, IsCanonical}
@@ -65,7 +65,7 @@ Seals cap authority result =
     RefusedUnless (IsUnsealed cap × IsUnsealed authority) Sealed result (
     RefusedUnless (HasAll authority.permissions seal_permission) MissingPermission result (
     RefusedUnless (Grants authority authority.address) OutOfBounds result (
-    RefusedUnless (authority.address ≤ LAST_SEALING_TYPE) ReservedType result (
+    RefusedUnless (authority.address ≤ last_sealing_type) ReservedType result (
     result ≡ Ok (sealed_with cap authority.address)))))
 
 -- unsealing what is sealed with the authority's address; GLOBAL is kept only where both have it

@@ -4,5 +4,6 @@ pub mod ObjType
 pub mod Capability
 pub mod Canonical
 pub mod Derivation
+pub mod Reach
 pub mod Bounds
 pub mod Cap

@@ -1,7 +1,14 @@
 -- The object types that a capability may have.
 use Rattle.std.specs.Prelude.{ℕ, ◌≡◌, ◌≤◌, ◌⊎◌}
-use Rattle.cc_cap.specs.declared.obj_type.TheConstants.{LAST_SEALING_TYPE, UNSEALED_TYPE}
+
+-- the last type that sealing gives
+abbrev pub last_sealing_type : ℕ
+last_sealing_type = 0x3ffef
+
+-- the type of an unsealed capability
+abbrev pub unsealed_type : ℕ
+unsealed_type = 0x3ffff
 
 -- a type that sealing gives, or the type of an unsealed capability
 abbrev pub IsObjType : ℕ → Type 0
-IsObjType otype = (otype ≤ LAST_SEALING_TYPE) ⊎ (otype ≡ UNSEALED_TYPE)
+IsObjType otype = (otype ≤ last_sealing_type) ⊎ (otype ≡ unsealed_type)

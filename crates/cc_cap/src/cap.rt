@@ -1,5 +1,4 @@
 //! Capabilities, and the calls that derive them.
-use crate::bounds::{ADDRESS_SPACE, as_exact};
 use crate::obj_type::ObjType;
 use crate::perms::Perms;
 use bitflags::Flags;
@@ -7,12 +6,15 @@ use cc_bounds::{Set, Span, represents};
 use cc_word::{Fields, Refusal, pack, unpack};
 use std::marker::Model;
 
+/// How many bytes the address space has.
+const ADDRESS_SPACE: u128 = 1 << 64;
+
 /// A capability: bounds, an address, permissions, a flag and an object type.
 ///
 /// It is tagged, and can't be forged: only the calls of this type make one, and each but [`Cap::root`]
 /// derives it from one or two others, or refuses. Its word is canonical. The standard: UCAM-CL-TR-987,
 /// the capability instructions.
-#[derive(Clone, Copy, PartialEq, Eq, Debug)]
+#[derive(Clone, Copy, Debug)]
 pub struct Cap {
     set: Set,
     address: u64,
@@ -37,12 +39,36 @@ impl Model for Cap {
     ghost inverse_ok = { inside_of-value_of };
 }
 
+impl PartialEq for Cap {
+    ghost use Rattle.std.specs.Prelude.{◌==◌};
+    ghost use Rattle.std.proofs.Common.{rules};
+    ghost use Rattle.std.specs.Cmp.Rules.{comparing};
+    ghost use Rattle.cc_cap.specs.Canonical.{word_of_capability};
+
+    // Two capabilities are equal exactly if their words are equal.
+    ghost eq = { λ one other. word_of_capability one == word_of_capability other };
+
+    ghost laws = { Prim.search (comparing, rules) };
+
+    fn eq(&self, other: &Cap) -> bool {
+        self.word() == other.word()
+    }
+}
+
+impl Eq for Cap {
+    ghost use Rattle.std.proofs.Common.{rules};
+    ghost use Rattle.std.specs.Cmp.Rules.{comparing};
+
+    ghost laws = { Prim.search (comparing, rules) };
+}
+
 impl Cap {
     ghost use Rattle.std.specs.Prelude.{ℕ, false, ◌≡◌, ◌↔◌, ◌≤◌, ◌^◌, IsTrue, IfOk, MatchOption, MatchResult};
     ghost use Rattle.cc_cap.specs.Cap.{IsEncodingFor, IsRefusedBounds, ChecksAuthority};
     ghost use Rattle.cc_cap.specs.Permissions.{bits_of};
     ghost use Rattle.cc_cap.specs.Capability.{Capability, IsCapability, IsSealed, IsUnsealed, GrantsNoMore, root_capability};
     ghost use Rattle.cc_cap.specs.Canonical.{IsWordOf, IsCanonical, word_of_capability};
+    ghost use Rattle.cc_cap.specs.Reach.{IsReachable};
     ghost use Rattle.cc_cap.specs.Derivation.{SetsAddress, Increments, SetsBounds, SetsExactBounds, MasksPermissions, SetsFlag, Seals, Unseals, Rebuilds};
 
     /// The root capability: every permission over every address, at address 0 and unsealed.
@@ -50,7 +76,7 @@ impl Cap {
         ensures { result ≡ root_capability }
     {
         Cap {
-            set: as_exact(cc_bounds::set_bounds(0, ADDRESS_SPACE)),
+            set: cc_bounds::set_bounds(0, ADDRESS_SPACE).as_exact(),
             address: 0,
             perms: Perms::all(),
             flag: false,
@@ -97,7 +123,7 @@ impl Cap {
         ensures monotonic { IfOk result (λ cap. GrantsNoMore cap self.now) }
     {
         Ok(Cap {
-            set: as_exact(self.encode(len)?),
+            set: self.encode(len)?.as_exact(),
             ..*self
         })
     }
@@ -198,10 +224,12 @@ impl Cap {
     ///
     /// Refusals in order: `Sealed`, where the authority is; `NotCanonical`, where the word is the word of
     /// no capability; `ExceedsAuthority`, where its capability is sealed, has bounds that are not within
-    /// the authority's, or has a permission that the authority lacks. Either flag is accepted.
+    /// the authority's, or has a permission that the authority lacks. Either flag is accepted. It adds no
+    /// power: the other calls make the same from the authority.
     pub fn rebuild(authority: &Cap, word: u128) -> Result<Cap, Refusal>
         ensures made { Rebuilds authority.now word result }
         ensures monotonic { IfOk result (λ cap. GrantsNoMore cap authority.now) }
+        ensures reached { IfOk result (λ cap. IsReachable authority.now cap) }
     {
         if authority.is_sealed() {
             return Err(Refusal::Sealed);
@@ -309,7 +337,8 @@ impl Cap {
 
     // Whether the authority may rebuild this capability: it is unsealed, and grants no more.
     fn is_allowed_by(&self, authority: &Cap) -> bool
-        ensures { IsTrue result ↔ (IsUnsealed self.now × GrantsNoMore self.now authority.now) }
+        ensures allowed { IsTrue result ↔ (IsUnsealed self.now × GrantsNoMore self.now authority.now) }
+        ensures authority { IsCapability authority.now }
     {
         let inner = self.span();
         let outer = authority.span();

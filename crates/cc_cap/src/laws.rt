@@ -1,11 +1,16 @@
 //! What holds of all capabilities.
-ghost use Rattle.std.specs.Prelude.{IsTrue};
+ghost use Rattle.cc_cap.specs.Capability.{Capability, IsCapability, IsUnsealed, GrantsNoMore};
+ghost use Rattle.cc_cap.specs.Reach.{IsReachable};
 
-use crate::cap::Cap;
+/// Each capability grants no more than itself, and no more than what one grants no more than grants no
+/// more than. So what is derived in any number of steps grants no more than what it began with.
+pub fn granting_no_more_is_an_order()
+    ensures itself { (cap : Capability) → GrantsNoMore cap cap }
+    ensures chain { (one two three : Capability) → GrantsNoMore one two → GrantsNoMore two three → GrantsNoMore one three }
+{}
 
-/// Two capabilities are equal exactly if their words are equal: the answer is always true.
-pub fn equal_by_words(one: &Cap, other: &Cap) -> bool
-    ensures { IsTrue result }
-{
-    (one == other) == (one.word() == other.word())
-}
+/// Every unsealed capability that grants no more than an unsealed one is reached from it.
+pub fn all_that_grants_no_more_is_reached()
+    ensures { (from to : Capability) → IsCapability from → IsCapability to → IsUnsealed from → IsUnsealed to
+        → GrantsNoMore to from → IsReachable from to }
+{}

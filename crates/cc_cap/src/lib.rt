@@ -1,7 +1,6 @@
 //! Capabilities of the 128-bit CHERI Concentrate format, and how one is derived from another.
 #![tactic(auto)]
 
-mod bounds;
 mod canonical;
 mod cap;
 mod laws;
@@ -11,7 +10,7 @@ mod perms;
 pub use bitflags::Flags;
 pub use canonical::is_canonical;
 pub use cap::Cap;
-pub use laws::equal_by_words;
+pub use laws::{all_that_grants_no_more_is_reached, granting_no_more_is_an_order};
 pub use obj_type::ObjType;
 pub use perms::Perms;
 

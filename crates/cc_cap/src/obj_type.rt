@@ -1,6 +1,6 @@
 //! The object types that a capability may have.
 ghost use Rattle.std.specs.Prelude.{ℕ, ◌≡◌, ◌↔◌, ◌≤◌, IsTrue, IsSome, IfSome};
-ghost use Rattle.cc_cap.specs.ObjType.{IsObjType};
+ghost use Rattle.cc_cap.specs.ObjType.{IsObjType, last_sealing_type};
 
 use std::marker::Model;
 
@@ -37,7 +37,7 @@ impl ObjType {
 
     /// The type that sealing gives for this number, and `None` for a number above 0x3ffef.
     pub fn sealing(number: u64) -> Option<ObjType>
-        ensures found { IsSome result ↔ (number ≤ LAST_SEALING_TYPE) }
+        ensures found { IsSome result ↔ (number ≤ last_sealing_type) }
         ensures value { IfSome result (λ otype. otype ≡ number) }
     {
         if number <= u64::from(LAST_SEALING_TYPE) {
@@ -71,7 +71,7 @@ impl ObjType {
 
     /// Whether a capability of this type is sealed.
     pub fn is_sealed(self) -> bool
-        ensures { IsTrue result ↔ (self ≤ LAST_SEALING_TYPE) }
+        ensures { IsTrue result ↔ (self ≤ last_sealing_type) }
     {
         self != ObjType::UNSEALED
     }

@@ -33,7 +33,7 @@ abbrev pub IsInvocation : Option (Text × List Row) → Invocation → Type 0
 IsInvocation found (Show word) =
     (rows : List Row) × (found ≡ Some (codes "show", rows)) × (first_of (codes "word") rows ≡ Some word.now)
 
--- a command was found that has its texts
+-- a command was found that has its texts; only a private contract cites this
 abbrev pub HasItsTexts : Option (Text × List Row) → Type 0
 HasItsTexts found =
     (rows : List Row) × (found ≡ Some (codes "show", rows)) × ((word : Text) × (first_of (codes "word") rows ≡ Some word))

@@ -1,6 +1,6 @@
 //! Which words are canonical or equal, and the names of permissions.
 use super::{at, small};
-use crate::{Perms, equal_by_words, is_canonical};
+use crate::{Perms, is_canonical};
 use std::test::Fail;
 
 #[test]
@@ -39,8 +39,8 @@ fn canonical_words(rt: HostRuntime) {
 #[test]
 fn equal_words(rt: HostRuntime) -> Result<(), Fail> {
     let small = small()?;
-    assert!(rt; equal_by_words(&small, &at(0x1000)?.set_bounds(0x200)?));
-    assert!(rt; equal_by_words(&small, &small.set_flag(true)?));
+    assert!(rt; small == at(0x1000)?.set_bounds(0x200)?);
+    assert!(rt; small != small.set_flag(true)?);
     Ok(())
 }
 

@@ -1,9 +1,8 @@
-use Rattle.std.proofs.Common.{◌≡◌, refl, sym, ap, subst, Some}
+use Rattle.std.proofs.Common.{◌≡◌, refl, sym, ap, subst}
 use Rattle.cc_bounds.specs.Encoding.{Encoding}
 use Rattle.cc_cap.specs.Bounds.{encoding_of}
 use Rattle.cc_cap.specs.ObjType.{IsObjType}
 use Rattle.cc_cap.specs.Cap.{value_of}
-use Rattle.cc_cap.specs.Capability.{Capability}
 use Rattle.cc_cap.specs.Canonical.{IsWordOf}
 use Rattle.cc_cap.proofs.CanonicalLemmas.{IsWordOf-read}
 use Rattle.cc_cap.proofs.cap.Cap.of_word.Goals as goal

@@ -7,5 +7,13 @@ returns-clause-made c =
     let made = c.in_ok-set.ensures in
     let is_exact : c.in_ok-set.set.exact ≡ true = search rules in
     let same = made.same is_exact in
-    inl (made.unsealed, inl (made.inside, inl (made.exact.0 is_exact,
-    ap (λ (cap : Capability). Ok cap) (λ i. record (c.self.view_is i) { span = same i }))))
+    inl (
+      made.unsealed,
+      inl (
+        made.inside,
+        inl (
+          made.exact.0 is_exact,
+          ap (λ (cap : Capability). Ok cap) (λ i. record (c.self.view_is i) { span = same i }),
+        ),
+      ),
+    )
