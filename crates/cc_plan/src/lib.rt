@@ -1,0 +1,21 @@
+//! Where memory objects are placed in a pool: placers, which find room beside the spans that they hold,
+//! and the planner of objects over any of them.
+#![tactic(auto)]
+
+pub mod laws;
+mod object;
+mod placer;
+mod planner;
+mod replay;
+mod rounding;
+mod scan;
+mod sorted;
+#[cfg(test)]
+mod tests;
+
+pub use object::{ObjectId, PlannedObject};
+pub use placer::Placer;
+pub use planner::Planner;
+pub use replay::{PlanCall, PlanReply, plan_run};
+pub use scan::ScanPlacer;
+pub use sorted::SortedPlacer;
