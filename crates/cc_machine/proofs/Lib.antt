@@ -1,0 +1,10 @@
+pub mod OutcomeLemmas
+pub mod ReachLemmas
+pub mod RootLemmas
+pub mod ConfinementLemmas
+pub mod GrowthLemmas
+pub mod RuleLemmas
+pub mod RunLemmas
+pub mod SlotLemmas
+pub mod StepLemmas
+pub mod TreeLemmas
