@@ -2,7 +2,7 @@
 //! and the planner of objects over any of them.
 #![tactic(auto)]
 
-pub mod laws;
+mod laws;
 mod object;
 mod placer;
 mod planner;
@@ -13,6 +13,7 @@ mod sorted;
 #[cfg(test)]
 mod tests;
 
+pub use laws::order_of_held_spans_says_nothing;
 pub use object::{ObjectId, PlannedObject};
 pub use placer::Placer;
 pub use planner::Planner;

@@ -31,7 +31,6 @@ pub struct Planner<P: Placer> {
 
 impl<P: Placer> Model for Planner<P> {
     ghost use Rattle.std.specs.Prelude.{vec_capacity};
-    ghost use Rattle.cc_plan.specs.PlannerState.{IsObjectRoom};
     ghost use Rattle.cc_plan.specs.Plan.{Plan};
     ghost use Rattle.cc_plan.specs.PlannerState.{IsPlanner};
 
@@ -117,12 +116,12 @@ impl<P: Placer> Planner<P> {
     /// Ends an object: its bytes are free again.
     ///
     /// Refusals: `NoObject`, where the number was never given or its object was freed.
-    pub fn free(&mut self, object: ObjectId) -> Result<(), Refusal>
-        ensures rule { Frees self.old object.0 result self.new }
+    pub fn free(&mut self, id: ObjectId) -> Result<(), Refusal>
+        ensures rule { Frees self.old id.0 result self.new }
         ensures exact_objects { HaveExactBounds self.new.objects }
         ensures disjoint_objects { HaveDisjointBounds self.new.objects }
     {
-        let Some(position) = position_of_live(&self.objects, object) else {
+        let Some(position) = position_of_live(&self.objects, id) else {
             return Err(Refusal::NoObject);
         };
         let object = self.objects[position];
