@@ -3,9 +3,7 @@
 //! Each function here is a law: it does nothing, and what it ensures is the claim. The claims are about the
 //! very step and run by which [`Machine::step`](crate::Machine::step) and
 //! [`Machine::run`](crate::Machine::run) say what they do.
-ghost use Rattle.std.specs.Prelude.{ℕ, Bool, ◌≡◌, List, Ok};
-ghost use Rattle.cc_cap.specs.Capability.{Capability, IsCapability};
-ghost use Rattle.cc_cap.specs.Derivation.{Rebuilds};
+ghost use Rattle.std.specs.Prelude.{ℕ, Bool, ◌≡◌, List};
 ghost use Rattle.cc_machine.specs.declared.op.Op.{Op};
 ghost use Rattle.cc_machine.specs.declared.reply.Reply.{Reply};
 ghost use Rattle.cc_machine.specs.State.{State};
@@ -13,7 +11,7 @@ ghost use Rattle.cc_machine.specs.Step.{Step};
 ghost use Rattle.cc_machine.specs.Run.{Run, IsReached};
 ghost use Rattle.cc_machine.specs.Laws.{IsMonotonicTree, HasSealingAuthority};
 ghost use Rattle.cc_machine.specs.Confinement.{RunsWithin, IsConfined};
-ghost use Rattle.cc_machine.specs.Reach.{IsReachable, ReachesAll};
+ghost use Rattle.cc_machine.specs.Reach.{ReachesAll};
 
 /// A step has one outcome, and so has a run: from one state the same operations give the same replies and
 /// lead to the same state.
@@ -44,11 +42,9 @@ pub fn confinement()
         → IsReached old → RunsWithin given old old ops replies new → IsConfined given old new }
 {}
 
-/// All that lies within a capability is reached from it: by five operations on its slot, if it is tagged and
-/// unsealed and five slots are left, and so [`Cap::rebuild`](cc_cap::Cap::rebuild) adds no power.
+/// All that lies within the capability of a slot is reached from it: every unsealed capability that grants no
+/// more is made by five operations, none refused, if the slot is tagged and unsealed and five slots are left.
 pub fn reachability()
-    ensures operations { (old new : State) (ops : List Op) (replies : List Reply)
+    ensures { (old new : State) (ops : List Op) (replies : List Reply)
         → IsReached old → Run old ops replies new → ReachesAll old ops replies new }
-    ensures rebuild { (authority cap : Capability) (word : ℕ)
-        → IsCapability authority → Rebuilds authority word (Ok cap) → IsReachable authority cap }
 {}
