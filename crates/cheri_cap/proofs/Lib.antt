@@ -1,4 +1,6 @@
 mod DeviceLemmas
 mod DigitLemmas
+mod GivenLemmas
 mod InvocationLemmas
+mod NumberLemmas
 mod PermissionLemmas

@@ -1,8 +1,10 @@
 -- In reading order.
 pub mod Text
+pub mod Devices
+pub mod Answer
 pub mod Permissions
 pub mod Listing
-pub mod Devices
-pub mod Show
+pub mod Numbers
+pub mod Rounding
 pub mod Outcome
 pub mod Invocation

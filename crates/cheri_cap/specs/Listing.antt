@@ -2,16 +2,15 @@
 use Rattle.std.specs.Prelude.{◌≡◌, ◌⊎◌, ℕ, List, ◌++◌, length, codes, decimal, Bool, IsTrue, ◌↔◌, if◌then◌else◌}
 use Rattle.std.specs.List.{AllPass}
 use Rattle.hex.specs.Hex.{is_hex_digit}
-use Rattle.cc_word.specs.Refusal.{code_of, name_of}
 use Rattle.cc_word.specs.Word.{word_of, bit_of}
 use Rattle.std.specs.Str.Parse.{digits_value}
 use Rattle.cc_word.specs.WordText.{digits_of}
 use Rattle.cc_word.specs.declared.fields.Fields.{Fields}
-use Rattle.cc_word.specs.declared.refusal.Refusal.{Refusal}
 use Rattle.cc_word.specs.declared.refusal.Refusal.TheVariants.{Syntax}
 use Rattle.cc_bounds.specs.declared.span.Span.{Span}
 use Rattle.cc_bounds.specs.Decoding.{stored_exponent, DecodesTo}
 use Rattle.cc_cap.specs.Canonical.{IsCanonical}
+use Rattle.cheri_cap.specs.Answer.{refusal_line_of}
 use Rattle.cheri_cap.specs.Permissions.{permissions_text}
 use Rattle.cheri_cap.specs.Text.{hexadecimal, line_of}
 
@@ -43,10 +42,6 @@ bounds_lines_of fields bounds canonical =
 -- all thirteen lines
 abbrev pub listing_of : (word : ℕ) (fields : Fields) (bounds : Span) (canonical : Bool) → List ℕ
 listing_of word fields bounds canonical = field_lines_of word fields ++ bounds_lines_of fields bounds canonical
-
--- the line of a refusal: `error`, its code and its name
-abbrev pub refusal_line_of : Refusal → List ℕ
-refusal_line_of refusal = line_of (codes "error") (decimal (code_of refusal) ++ codes " " ++ name_of refusal)
 
 -- The listing of a word: its lines, with the fields whose word it is, the span that they decode to, and
 -- whether it is the word of a capability. There are no other such fields, and there is no other such span.

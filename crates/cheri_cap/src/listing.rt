@@ -1,15 +1,14 @@
 //! The listing of a word: one line for each of its fields.
-ghost use Rattle.std.specs.Prelude.{◌≡◌, ◌+◌, ◌≤◌, ◌++◌, ◌↔◌, [], codes, decimal, false, true, length, IfOk, IsErr, IsTrue, OnOk, OnErr, if◌then◌else◌};
-ghost use Rattle.std.specs.Io.KnownBytes.{Appends};
+ghost use Rattle.std.specs.Prelude.{◌≡◌, ◌+◌, ◌≤◌, ◌++◌, ◌↔◌, [], codes, decimal, false, true, length, IfOk, IsErr, IsTrue, OnErr, if◌then◌else◌};
 ghost use Rattle.cc_word.specs.Word.{bit_of, word_of};
 ghost use Rattle.cc_word.specs.WordText.{digits_of};
-ghost use Rattle.cheri_cap.specs.Devices.{TakesBeginning};
-ghost use Rattle.cheri_cap.specs.Listing.{IsListing, IsWordText, bounds_lines_of, field_lines_of, listing_of, refusal_line_of};
+ghost use Rattle.cheri_cap.specs.Answer.{WritesAnswer};
+ghost use Rattle.cheri_cap.specs.Listing.{IsListing, IsWordText, bounds_lines_of, field_lines_of, listing_of};
 ghost use Rattle.cheri_cap.specs.Permissions.{permissions_text};
-ghost use Rattle.cheri_cap.specs.Show.{ShowsText};
 ghost use Rattle.cheri_cap.specs.Text.{hexadecimal, line_of};
 
-use crate::devices::{Sink, write_all};
+use crate::answers::{push_refusal_line, write_answer};
+use crate::devices::Sink;
 use crate::permissions::push_permissions;
 use crate::summary::{ScriptFault, Summary};
 use crate::text::{ROOM, Text};
@@ -25,7 +24,7 @@ use cc_word::{Fields, Refusal, read_word, unpack};
 /// written.
 pub fn show_word<W: Sink>(text: &[u8], sink: &mut W) -> Result<Summary, ScriptFault>
     requires { W.has_failed sink.old ≡ false }
-    ensures shown { ShowsText text.now (W.taken_bytes sink.old) (W.taken_bytes sink.new) result }
+    ensures shown { WritesAnswer (IsListing text.now) (W.taken_bytes sink.old) (W.taken_bytes sink.new) result }
     ensures any_error { IfOk result (λ summary. IsTrue summary.any_error ↔ (¬ IsWordText text.now)) }
     ensures fails { IsErr result ↔ (W.has_failed sink.new ≡ true) }
     ensures write { OnErr result (result ≡ Err ScriptFault.Write) }
@@ -34,18 +33,6 @@ pub fn show_word<W: Sink>(text: &[u8], sink: &mut W) -> Result<Summary, ScriptFa
     let summary = push_answer(&mut answer, text);
     write_answer(&answer, sink)?;
     Ok(summary)
-}
-
-/// Writes an answer and flushes the sink.
-fn write_answer<W: Sink>(answer: &Text, sink: &mut W) -> Result<(), ScriptFault>
-    requires { W.has_failed sink.old ≡ false }
-    ensures ok { OnOk result (Appends (W.taken_bytes sink.old) (W.taken_bytes sink.new) answer.now) }
-    ensures err { OnErr result (TakesBeginning (W.taken_bytes sink.old) (W.taken_bytes sink.new) answer.now) }
-    ensures fails { IsErr result ↔ (W.has_failed sink.new ≡ true) }
-    ensures write { OnErr result (result ≡ Err ScriptFault.Write) }
-{
-    write_all(sink, answer.bytes()).map_err(|_| ScriptFault::Write)?;
-    sink.flush().map_err(|_| ScriptFault::Write)
 }
 
 /// Appends the listing of a text.
@@ -115,19 +102,6 @@ fn push_canonical_line(text: &mut Text, canonical: bool)
     } else {
         text.push(b"canonical no\n");
     }
-}
-
-/// Appends the line of a refusal: `error`, its code and its name.
-fn push_refusal_line(text: &mut Text, refusal: Refusal)
-    requires { length text.old + 80 ≤ ROOM }
-    ensures value { text.new ≡ text.old ++ refusal_line_of refusal }
-    ensures fits { length text.new ≤ length text.old + 80 }
-{
-    text.push(b"error ");
-    text.push_decimal(u128::from(refusal.code()));
-    text.push(b" ");
-    text.push(refusal.name().as_bytes());
-    text.push(b"\n");
 }
 
 /// Appends a line whose value is the last `count` hexadecimal digits of a number.

@@ -1,11 +1,14 @@
-//! The program `cheri-cap`: shows what CHERI Concentrate capability words hold.
+//! The program `cheri-cap`: shows what CHERI Concentrate capability words hold, and how lengths are rounded.
 #![tactic(auto)]
 
+mod answers;
 mod devices;
 mod invocation;
 mod listing;
+mod numbers;
 mod outcome;
 mod permissions;
+mod rounding;
 mod slice_devices;
 mod std_devices;
 mod summary;
@@ -15,6 +18,7 @@ use clap::error::ErrorKind;
 use invocation::{Invocation, read_words};
 use listing::show_word;
 use outcome::{Fault, status};
+use rounding::show_round;
 use std::alloc::AllocError;
 use std::env::{self, Env};
 use std::io;
@@ -73,6 +77,7 @@ fn answer<R: Print>(rt: &R, invocation: Invocation<'_>) -> Result<Summary, Fault
     let mut output = FromWriter::new(io::writer(rt));
     match invocation {
         Invocation::Show { word } => Ok(show_word(word.as_bytes(), &mut output)?),
+        Invocation::Round { length } => Ok(show_round(length.as_bytes(), &mut output)?),
     }
 }
 

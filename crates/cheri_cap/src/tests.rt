@@ -3,4 +3,6 @@
 mod command_line;
 mod devices;
 mod endings;
+mod numbers;
+mod rounding;
 mod rows;

@@ -6,17 +6,33 @@ use std::test::Fail;
 
 #[test]
 fn show_is_taken(rt: HostRuntime) -> Result<(), Fail> {
-    for words in [
-        ["cheri-cap", "show", "12"].as_slice(),
-        ["cheri-cap", "show", "--", "12"].as_slice(),
+    for (words, word) in [
+        (["cheri-cap", "show", "12"].as_slice(), "12"),
+        (["cheri-cap", "show", ""].as_slice(), ""),
+        (["cheri-cap", "show", "--", "12"].as_slice(), "12"),
+        (["cheri-cap", "show", "--", "-5"].as_slice(), "-5"),
+        (["cheri-cap", "show", "round"].as_slice(), "round"),
     ] {
-        let Invocation::Show { word } = read_words(rt.alloc(), words)?;
-        assert_eq!(rt; word, "12");
+        assert_eq!(rt; read_words(rt.alloc(), words)?, Invocation::Show { word });
     }
-    let Invocation::Show { word } = read_words(rt.alloc(), &["cheri-cap", "show", "--", "-5"])?;
-    assert_eq!(rt; word, "-5");
-    let Invocation::Show { word } = read_words(rt.alloc(), &["cheri-cap", "show", ""])?;
-    assert_eq!(rt; word, "");
+    Ok(())
+}
+
+#[test]
+fn round_is_taken(rt: HostRuntime) -> Result<(), Fail> {
+    for (words, length) in [
+        (["cheri-cap", "round", "0x10"].as_slice(), "0x10"),
+        (["cheri-cap", "round", ""].as_slice(), ""),
+        (["cheri-cap", "round", "q"].as_slice(), "q"),
+        (["cheri-cap", "round", "--", "12"].as_slice(), "12"),
+        (["cheri-cap", "round", "--", "-5"].as_slice(), "-5"),
+        (["cheri-cap", "round", "show"].as_slice(), "show"),
+    ] {
+        assert_eq!(rt;
+            read_words(rt.alloc(), words)?,
+            Invocation::Round { length }
+        );
+    }
     Ok(())
 }
 
@@ -50,6 +66,22 @@ fn refused_command_lines(rt: HostRuntime) {
         Some((unknown, true))
     );
     assert_eq!(rt;
+        refusal(alloc, &["cheri-cap", "round"]),
+        Some((missing, true))
+    );
+    assert_eq!(rt;
+        refusal(alloc, &["cheri-cap", "round", "1", "2"]),
+        Some((unknown, true))
+    );
+    assert_eq!(rt;
+        refusal(alloc, &["cheri-cap", "round", "-5"]),
+        Some((unknown, true))
+    );
+    assert_eq!(rt;
+        refusal(alloc, &["cheri-cap", "show", "--length", "1"]),
+        Some((unknown, true))
+    );
+    assert_eq!(rt;
         refusal(alloc, &["cheri-cap", "shows", "1"]),
         Some((no_command, true))
     );
@@ -71,5 +103,6 @@ fn help_and_version_are_asked(rt: HostRuntime) {
     assert_eq!(rt; refusal(alloc, &["cheri-cap", "--help"]), help);
     assert_eq!(rt; refusal(alloc, &["cheri-cap", "-h"]), help);
     assert_eq!(rt; refusal(alloc, &["cheri-cap", "show", "--help"]), help);
+    assert_eq!(rt; refusal(alloc, &["cheri-cap", "round", "--help"]), help);
     assert_eq!(rt; refusal(alloc, &["cheri-cap", "--version"]), version);
 }

@@ -1,20 +1,37 @@
-use Rattle.std.proofs.Common.{◌≡◌, ◌∙◌, ap, sym, codes, Some, None}
-use Rattle.clap.specs.Words.{first_of, found_of}
+use Rattle.std.proofs.Common.{◌∙◌, ap, sym, codes, Some}
+use Rattle.clap.specs.Words.{found_of, rows_of}
 use Rattle.clap.proofs.WalkLemmas.{first_value-rows}
-use Rattle.cheri_cap.proofs.InvocationLemmas.{same_rows}
+use Rattle.cheri_cap.proofs.InvocationLemmas.{command_is, has_text, round_text, show_text}
 use Rattle.cheri_cap.proofs.invocation.invocation_of.Goals as goal
 
-pub unreachable-requires : goal.unreachable-requires
-unreachable-requires c =
-    let rows = same_rows _ _ _ c.in-Some.ensures.rows c.requires.1 in
-    let none : None ≡ Some c.requires.2.0 =
-    c.in-None-get_str.ensures ∙ first_value-rows (found_of c.in-Some.show.now) (codes "word") ∙ ap (first_of (codes "word")) rows ∙ c.requires.2.1 in
-    cc none
+pub wanted_text-requires : goal.wanted_text-requires
+wanted_text-requires c =
+    let here = c.in-Some-show-default in
+    let rows = rows_of (found_of here.show.now) in
+    let is = command_is c.args.matches.now (codes "show") rows (sym (ap Some here.is-show) ∙ here.ensures.name) here.ensures.rows in
+    has_text (found_of here.show.now) (codes "word") (show_text _ rows is c.requires)
 
-pub returns : goal.returns
-returns c =
-    let rows = same_rows _ _ _ c.in-Some.ensures.rows c.requires.1 in (
-      c.requires.0,
-      c.requires.1,
-      ap (first_of (codes "word")) (sym rows) ∙ sym (first_value-rows (found_of c.in-Some.show.now) (codes "word")) ∙ sym c.in-Some-get_str.ensures,
+pub wanted_text-requires-in-Some-round-default : goal.wanted_text-requires-in-Some-round-default
+wanted_text-requires-in-Some-round-default c =
+    let here = c.in-Some-round-default in
+    let rows = rows_of (found_of here.round.now) in
+    let is = command_is c.args.matches.now (codes "round") rows (sym (ap Some here.is-round) ∙ here.ensures.name) here.ensures.rows in
+    has_text (found_of here.round.now) (codes "length") (round_text _ rows is c.requires)
+
+pub returns-in-Some-show-default : goal.returns-in-Some-show-default
+returns-in-Some-show-default c =
+    let here = c.in-Some-show-default in
+    let f = found_of here.show.now in (
+      rows_of f,
+      command_is c.args.matches.now (codes "show") (rows_of f) (sym (ap Some here.is-show) ∙ here.ensures.name) here.ensures.rows,
+      sym (first_value-rows f (codes "word")) ∙ c.wanted_text.ensures,
+    )
+
+pub returns-in-Some-round-default : goal.returns-in-Some-round-default
+returns-in-Some-round-default c =
+    let here = c.in-Some-round-default in
+    let f = found_of here.round.now in (
+      rows_of f,
+      command_is c.args.matches.now (codes "round") (rows_of f) (sym (ap Some here.is-round) ∙ here.ensures.name) here.ensures.rows,
+      sym (first_value-rows f (codes "length")) ∙ c.wanted_text-in-Some-round-default.ensures,
     )

@@ -1,4 +1,4 @@
-use Rattle.std.proofs.Common.{◌≡◌, true, false, arith, ap, ◌∙◌, ◌++◌, ◌==◌, length, List, ℕ, length-append, Bor, sym, rules, get_or}
+use Rattle.std.proofs.Common.{◌≡◌, arith, ap, ◌∙◌, ◌++◌, length, List, ℕ, length-append, Bor, rules, get_or}
 use Rattle.std.proofs.lemmas.Bool.{eq-eqb, ne_eqb}
 use Rattle.std.specs.Int.RustNames.{bit_and}
 use Rattle.cc_cap.specs.Permissions.{bits_of}
