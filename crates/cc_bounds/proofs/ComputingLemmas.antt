@@ -190,12 +190,10 @@ padded-sound start size fits multiple span =
           }
     ]
 
--- the granule of a length from its power of two, as it is shifted
-pub granule_shifted : (size power : ℕ) → size ≤ 2 ^ 64 → power ≤ 55 → IsGranule (record { base = 0; top = size }) (2 ^ power)
-    → 1 * 2 ^ power % 2 ^ 64 ≡ granule_of (from_zero size)
-granule_shifted size power fits power_fits h =
-    let p = pow_mono power_fits in
-    let whole : 1 * 2 ^ power % 2 ^ 64 ≡ 2 ^ power = omega (arith, p) in
+-- the granule of a length from its power of two
+pub granule_power_of : (size power : ℕ) → size ≤ 2 ^ 64 → IsGranule (record { base = 0; top = size }) (2 ^ power)
+    → 2 ^ power ≡ granule_of (from_zero size)
+granule_power_of size power fits h =
     let zero_is : size ≡ 0 + size = omega arith in
     let own : IsGranule (from_zero size) (2 ^ power) = subst (λ (n : ℕ). IsGranule (record { base = 0; top = n }) (2 ^ power)) zero_is h in
-    whole ∙ granule-granule_of (from_zero size) (2 ^ power) (from_zero-span size fits) own
+    granule-granule_of (from_zero size) (2 ^ power) (from_zero-span size fits) own

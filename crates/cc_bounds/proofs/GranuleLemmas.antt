@@ -1,9 +1,12 @@
 -- Granules: how many a request touches, the least that is coarse enough, and rounding to them.
 use Rattle.std.proofs.Common.{subst, ◌≡◌, ℕ, zero, suc, ◌+◌, ◌-◌, ◌*◌, ◌<◌, ◌≤◌, ◌/◌, ◌^◌, refl, sym, ◌∙◌, ap, arith, inl, inr}
 use Rattle.std.specs.Int.{div_ceil}
+use Rattle.std.specs.Int.Count.{count_leading_zeros}
 use Rattle.std.proofs.Math.Nat.{div-mul-le_self, lt-div-mul-add, le_of_mul-le-mul_right, lt_of_mul-lt-mul_right, pow-suc}
 use Rattle.std.proofs.Math.Pow.{pow_mono}
-use Rattle.std.proofs.lemmas.Nat.{pow_pos, pow-add, le-div}
+use Rattle.std.proofs.lemmas.Nat.{pow_pos, pow-add, le-div, leading_length}
+use Rattle.std.proofs.lemmas.Nat.Bits.{and_high_mask}
+use Rattle.std.specs.Int.Bits.{bit_and}
 use Rattle.std.proofs.lemmas.Bool.{cases_lt}
 use Rattle.std.proofs.lemmas.Grind.{div_ceil_times}
 use Rattle.cc_bounds.specs.declared.span.Span.{Span}
@@ -32,6 +35,31 @@ div_ceil-multiple m g pos =
     let up = le-div_ceil (m * g) g pos in
     let least = le_of_mul-le-mul_right up pos in
     omega (arith, most, least)
+
+-- adding all but one before a division rounds it up
+pub div_ceil_by_sum : (n g rest : ℕ) → 0 < g → rest ≡ g - 1 → (n + rest) / g ≡ div_ceil n g
+div_ceil_by_sum n g rest pos is =
+    let down = div-mul-le_self (n + rest) g in
+    let above = lt-div-mul-add {a = n + rest} pos in
+    let least = div_ceil-le n g ((n + rest) / g) pos (omega (arith, above, is)) in
+    let up = le-div_ceil n g pos in
+    let less : (n + rest) / g * g < (div_ceil n g + 1) * g = omega (arith, down, up, is) in
+    let most = lt_of_mul-lt-mul_right g less in
+    omega (arith, least, most)
+
+-- the same, of a power of two
+pub div_ceil_shifted : (n power rest : ℕ) → rest ≡ 2 ^ power - 1 → (n + rest) / 2 ^ power ≡ div_ceil n (2 ^ power)
+div_ceil_shifted n power rest is = div_ceil_by_sum n (2 ^ power) rest (pow_pos power) is
+
+-- and so does clearing the low bits of that sum
+pub rounded_up_masked : (n power rest : ℕ) → n ≤ 2 ^ 64 → power ≤ 55 → rest ≡ 2 ^ power - 1
+    → bit_and (n + rest) (2 ^ 128 - 1 - rest) ≡ div_ceil n (2 ^ power) * 2 ^ power
+rounded_up_masked n power rest fits power_fits is =
+    let pos = pow_pos power in
+    let p = pow_mono power_fits in
+    let mask : 2 ^ 128 - 1 - rest ≡ 2 ^ 128 - 2 ^ power = omega (arith, is, pos, p) in
+    let cleared = and_high_mask 128 power (omega arith) (n + rest) (omega (arith, fits, is, p)) in
+    ap (λ (m : ℕ). bit_and (n + rest) m) mask ∙ cleared ∙ ap (λ (k : ℕ). k * 2 ^ power) (div_ceil_shifted n power rest is)
 
 -- ---- counting granules
 
@@ -229,7 +257,99 @@ power-exponent request power h small large = record {
       subst (λ (n : ℕ). IsGranule request (2 ^ n)) split h;
 }
 
--- the largest granule is that of a request for which no smaller one is coarse enough
-pub last_granule : (request : Span) → 4096 ≤ length_of request → request.top ≤ 2 ^ 64
-    → ((k : ℕ) → 3 ≤ k → k < 55 → 1023 < granule_count request (2 ^ k)) → IsGranule request (2 ^ 55)
-last_granule request long fits before = first_granule request 55 long (omega arith) (few_at_52 request fits) before
+-- ---- the granule of a length, and its growth by the rounding of the ends
+
+-- a request not longer than so many granules touches at most one more
+pub granule_count-few : (request : Span) (g n : ℕ) → 0 < g → request.base ≤ request.top → length_of request ≤ n * g
+    → granule_count request g ≤ n + 1
+granule_count-few request g n pos order short =
+    let down = lt-div-mul-add {a = request.base} pos in
+    let up = div_ceil-le request.top g (request.base / g + 1 + n) pos (omega (arith, down, short)) in
+    omega (arith, up)
+
+-- a request of at least so many granules' length touches as many
+pub granule_count-many : (request : Span) (g n : ℕ) → 0 < g → request.base ≤ request.top → n * g ≤ length_of request
+    → n ≤ granule_count request g
+granule_count-many request g n pos order long =
+    let up = le-div_ceil request.top g pos in
+    let down = div-mul-le_self request.base g in
+    let products : (n + request.base / g) * g ≤ div_ceil request.top g * g = omega (arith, up, down, long) in
+    let k = le_of_mul-le-mul_right products pos in
+    omega (arith, k)
+
+-- of no smaller granule does a request touch few enough
+length-before : (request : Span) (power : ℕ) → request.base ≤ request.top → 512 * 2 ^ power ≤ length_of request
+    → (k : ℕ) → 3 ≤ k → k < power → 1023 < granule_count request (2 ^ k)
+length-before request power order least k three less =
+    let p : 2 ^ suc k ≤ 2 ^ power = pow_mono less in
+    let q = pow-suc 2 k in
+    let many = granule_count-many request (2 ^ k) 1024 (pow_pos k) order (omega (arith, least, p, q)) in
+    omega (arith, many)
+
+-- the power of the length is that of the granule where the request touches few enough
+pub length_granule : (request : Span) (size power : ℕ) → 512 * 2 ^ power ≤ size → size ≡ length_of request
+    → 4096 ≤ length_of request → 3 ≤ power → granule_count request (2 ^ power) ≤ 1023 → IsGranule request (2 ^ power)
+length_granule request size power least is long three few =
+    let least' : 512 * 2 ^ power ≤ length_of request = omega (arith, least, is) in
+    first_granule request power long three few (length-before request power (omega arith) least')
+
+-- and else the next power is
+pub grown_granule : (request : Span) (size power : ℕ) → 512 * 2 ^ power ≤ size → size < 1024 * 2 ^ power
+    → size ≡ length_of request → 4096 ≤ length_of request → 3 ≤ power → 1023 < granule_count request (2 ^ power)
+    → IsGranule request (2 ^ (power + 1))
+grown_granule request size power least below is long three many =
+    let least' : 512 * 2 ^ power ≤ length_of request = omega (arith, least, is) in
+    let two : 2 ^ (power + 1) ≡ 2 * 2 ^ power = let s : power + 1 ≡ suc power = omega arith in let p = pow-suc 2 power in rw s (omega (arith, p)) in
+    let few = granule_count-few request (2 ^ (power + 1)) 512 (pow_pos (power + 1)) (omega arith) (omega (arith, below, is, two)) in
+    let before = length-before request power (omega arith) least' in
+    first_granule request (power + 1) long (omega arith) (omega (arith, few))
+    (λ k from_three less. elim (cases_lt k power) [
+      | inl smaller ↦ before k from_three smaller
+      | inr larger ↦ let same : k ≡ power = omega (arith, less, larger) in rw same many
+    ])
+
+-- it grows to the largest granule at most, of which every request touches few enough
+pub grown_fits : (request : Span) (power : ℕ) → request.top ≤ 2 ^ 64 → power ≤ 55 → 1023 < granule_count request (2 ^ power) → power + 1 ≤ 55
+grown_fits request power fits most many =
+    elim (cases_lt power 55) [
+      | inl less ↦ omega (arith, less)
+      | inr same ↦
+          let is : power ≡ 55 = omega (arith, most, same) in
+          let few = few_at_52 request fits in
+          let many' : 1023 < granule_count request (2 ^ 55) = rw is at many in
+          absurd (omega (arith, few, many'))
+    ]
+
+-- ---- the power of a length by its leading zeros
+
+pub record IsPowerOfLength (size power : ℕ) : Type 0 where
+  pub from_three : 3 ≤ power
+  pub fits : power ≤ 55
+  pub least : 512 * 2 ^ power ≤ size
+  pub below : size < 1024 * 2 ^ power
+
+pub leading_power : (size : ℕ) → 4096 ≤ size → size ≤ 2 ^ 64 → IsPowerOfLength size (67 - count_leading_zeros 64 (size / 8192))
+leading_power size long fits =
+    let h = leading_length 64 (size / 8192) (omega arith) in
+    by_bits h.0 h.1 h.2 h.3
+  where
+    by_bits : (bits : ℕ) → count_leading_zeros 64 (size / 8192) + bits ≡ 64 → size / 8192 < 2 ^ bits
+        → 2 ^ bits ≤ 2 * (size / 8192) + 1 → IsPowerOfLength size (67 - count_leading_zeros 64 (size / 8192))
+    by_bits zero sum small large =
+        let is : 67 - count_leading_zeros 64 (size / 8192) ≡ 3 = omega (arith, sum) in
+        rw is (record { from_three = omega arith; fits = omega arith; least = omega arith; below = omega (arith, small) })
+    by_bits (suc rest) sum small large =
+        let bits : ℕ = suc rest in
+        let is : 67 - count_leading_zeros 64 (size / 8192) ≡ bits + 3 = omega (arith, sum) in
+        let units = pow-add 2 bits 3 in
+        let half = pow-suc 2 rest in
+        rw is (record {
+          from_three = omega arith;
+          fits =
+              elim (cases_lt 52 bits) [
+                | inl more ↦ let p = pow_mono more in absurd (omega (arith, p, large))
+                | inr less ↦ omega (arith, less)
+              ];
+          least = omega (arith, units, half, large);
+          below = omega (arith, units, small);
+        })

@@ -93,12 +93,13 @@ fn small_requests(rt: HostRuntime) {
 }
 
 /// Requests from 4096 bytes up, and those on both sides of the growth at the 1,023rd granule.
-const ROUNDED: [SetRow; 9] = [
+const ROUNDED: [SetRow; 10] = [
     ((0, 0x1000), (0, true, 0x000, 0x0000), (0, 0x1000), true),
     ((1, 0x1000), (0, true, 0x008, 0x0000), (0, 0x1008), false),
     ((0, 0x1ff8), (0, true, 0xff8, 0x0000), (0, 0x1ff8), true),
     ((0, 0x1ff9), (1, true, 0x000, 0x0001), (0, 0x2000), false),
     ((0, 0x1fff), (1, true, 0x000, 0x0001), (0, 0x2000), false),
+    ((1, 0x1ff0), (0, true, 0xff8, 0x0000), (0, 0x1ff8), false),
     ((1, 0x1ff7), (0, true, 0xff8, 0x0000), (0, 0x1ff8), false),
     ((1, 0x1ff8), (1, true, 0x000, 0x0001), (0, 0x2000), false),
     ((7, 0x1ff1), (0, true, 0xff8, 0x0000), (0, 0x1ff8), false),

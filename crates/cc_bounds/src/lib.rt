@@ -8,6 +8,8 @@ mod encoding;
 mod encoding_laws;
 #[cfg(test)]
 mod encoding_tests;
+#[cfg(test)]
+mod plain_search;
 mod rounding;
 mod span;
 mod window;

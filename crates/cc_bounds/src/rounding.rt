@@ -1,5 +1,6 @@
 //! The granule of a request, and requests and lengths rounded to it.
-ghost use Rattle.std.specs.Prelude.{◌≡◌, ◌+◌, ◌-◌, ◌^◌, ◌<◌, ◌≤◌};
+ghost use Rattle.std.specs.Prelude.{◌≡◌, ◌+◌, ◌-◌, ◌*◌, ◌^◌, ◌<◌, ◌≤◌};
+ghost use Rattle.std.specs.Int.{div_ceil};
 ghost use Rattle.cc_bounds.specs.Span.{IsSpan, length_of, from_zero};
 ghost use Rattle.cc_bounds.specs.Granule.{granule_count, IsGranule, rounded_to, granule_of, padded_size};
 
@@ -14,19 +15,43 @@ const MAX_GRANULES: u128 = 1023;
 /// The power of two of the largest granule.
 const MAX_POWER: u32 = 55;
 
+/// The bits below bit `power`.
+fn low_bits(power: u32) -> u128
+    requires { power ≤ MAX_POWER }
+    ensures { result ≡ 2 ^ power - 1 }
+{
+    (1 << power) - 1
+}
+
 /// How many granules of 2^power bytes the request touches.
+#[tactic(auto, using(crate::proofs::GranuleLemmas::div_ceil_shifted))]
 fn granules_touched(request: &Span, power: u32) -> u128
     requires is_span { IsSpan request.now }
     requires fits { power ≤ MAX_POWER }
     ensures { result ≡ granule_count request.now (2 ^ power) }
 {
-    request.top.div_ceil(1 << power) - (u128::from(request.base) >> power)
+    ((request.top + low_bits(power)) >> power) - (u128::from(request.base) >> power)
+}
+
+/// The power of two of the granules of which a length of 4096 bytes or more has at least 512, and less
+/// than 1024: 3, and one more for each bit of the length from bit 13 up.
+#[tactic(auto, using(crate::proofs::GranuleLemmas::leading_power))]
+fn power_of_length(len: u128) -> u32
+    requires coarse { 4096 ≤ len }
+    requires fits { len ≤ 2 ^ 64 }
+    ensures from_three { 3 ≤ result }
+    ensures fits { result ≤ MAX_POWER }
+    ensures least { 512 * 2 ^ result ≤ len }
+    ensures below { len < 1024 * 2 ^ result }
+{
+    67 - ((len >> 13) as u64).leading_zeros()
 }
 
 /// The granule of a request as a power of two: 0 below 4096 bytes, else from 3 to 55.
 ///
-/// It tries 8, 16, 32 and so on, until the request touches few enough.
-#[tactic(auto, using(crate::proofs::GranuleLemmas::first_granule, crate::proofs::GranuleLemmas::last_granule))]
+/// It is the power of the length, or one more where the ends, rounded to that, are more granules apart
+/// than ten bits count.
+#[tactic(auto, using(crate::proofs::GranuleLemmas::length_granule, crate::proofs::GranuleLemmas::grown_granule, crate::proofs::GranuleLemmas::grown_fits))]
 pub(crate) fn granule_power(request: &Span) -> u32
     requires { IsSpan request.now }
     ensures granule { IsGranule request.now (2 ^ result) }
@@ -34,15 +59,27 @@ pub(crate) fn granule_power(request: &Span) -> u32
     ensures small { length_of request.now < 4096 → result ≡ 0 }
     ensures large { 4096 ≤ length_of request.now → 3 ≤ result }
 {
-    if request.top - u128::from(request.base) < FIRST_COARSE_LENGTH {
+    let len = request.top - u128::from(request.base);
+    if len < FIRST_COARSE_LENGTH {
         return 0;
     }
-    for power in 3..MAX_POWER {
-        if granules_touched(request, power) <= MAX_GRANULES {
-            return power;
-        }
+    let power = power_of_length(len);
+    if granules_touched(request, power) <= MAX_GRANULES {
+        power
+    } else {
+        power + 1
     }
-    MAX_POWER
+}
+
+/// The number rounded up to a multiple of 2^power.
+#[tactic(auto, using(crate::proofs::GranuleLemmas::rounded_up_masked))]
+fn round_up(number: u128, power: u32) -> u128
+    requires number_fits { number ≤ 2 ^ 64 }
+    requires power_fits { power ≤ MAX_POWER }
+    ensures { result ≡ div_ceil number (2 ^ power) * 2 ^ power }
+{
+    let low_bits = low_bits(power);
+    (number + low_bits) & !low_bits
 }
 
 /// The request with its base rounded down and its top rounded up to a multiple of 2^power bytes.
@@ -53,21 +90,31 @@ pub(crate) fn rounded(request: &Span, power: u32) -> Span
 {
     Span {
         base: (request.base >> power) << power,
-        top: request.top.div_ceil(1 << power) << power,
+        top: round_up(request.top, power),
     }
+}
+
+/// The granule of a length as a power of two: 0 below 4096 bytes, else from 3 to 55.
+#[tactic(auto, using(crate::proofs::ComputingLemmas::granule_power_of))]
+fn length_power(len: u128) -> u32
+    requires { len ≤ 2 ^ 64 }
+    ensures granule { IsGranule (from_zero len) (2 ^ result) }
+    ensures computed { 2 ^ result ≡ granule_of (from_zero len) }
+    ensures fits { result ≤ MAX_POWER }
+{
+    granule_power(&Span { base: 0, top: len })
 }
 
 /// The granule of a length, in bytes: the unit in which the bounds of that many bytes from address 0 up
 /// are stored. It is 1 below 4096 bytes, else a power of two from 8 to 2^55.
 ///
 /// The caller has `len <= 2^64`. The standard: UCAM-CL-TR-987, `CRRL` and `CRAM`; Woodruff et al. 2019.
-#[tactic(auto, using(crate::proofs::ComputingLemmas::granule_shifted))]
 pub fn granule(len: u128) -> u64
     requires { len ≤ 2 ^ 64 }
     ensures granule { IsGranule (from_zero len) result }
     ensures computed { result ≡ granule_of (from_zero len) }
 {
-    1 << granule_power(&Span { base: 0, top: len })
+    1 << length_power(len)
 }
 
 /// The representable length: the length rounded up to a multiple of its granule. That of the whole
@@ -80,8 +127,7 @@ pub fn round_length(len: u128) -> u128
     requires { len ≤ 2 ^ 64 }
     ensures { result ≡ padded_size len }
 {
-    let granule = u128::from(granule(len));
-    len.div_ceil(granule) * granule
+    round_up(len, length_power(len))
 }
 
 /// The representable alignment mask: all ones, but for zeros below the granule of the length. An address

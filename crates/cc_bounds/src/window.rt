@@ -1,40 +1,23 @@
 //! The window of addresses at which bounds are representable.
 ghost use Rattle.std.specs.Prelude.{◌≡◌, ◌≤◌, ◌↔◌, IsTrue};
 ghost use Rattle.cc_word.specs.declared.fields.Fields.{Fields as FieldsSpec};
-ghost use Rattle.cc_bounds.specs.Window.{section_of, window_start_of, IsRepresentable, Represents};
+ghost use Rattle.cc_bounds.specs.Window.{IsRepresentable, Represents};
 ghost use Rattle.cc_bounds.specs.Encoding.{HasBoundsFields};
 ghost use Rattle.cc_bounds.specs.Decoding.{DecodesTo};
 
 use crate::encoding::Set;
 
-/// The size of the address space.
-const LAP: u128 = 1 << 64;
-
-/// An eighth of the window, in bytes.
-fn section(exponent: u8) -> u128
-    requires { exponent ≤ 52 }
-    ensures { result ≡ section_of exponent }
-{
-    1 << (exponent + 11)
-}
-
-/// Where the window begins, one lap of the address space up.
-fn window_start(base: u64, exponent: u8) -> u128
-    requires { exponent ≤ 52 }
-    ensures { result ≡ window_start_of base exponent }
-{
-    let section = section(exponent);
-    LAP + u128::from(base) / section * section - section
-}
-
 /// Whether the address stands in the window, which goes round the end of the address space.
+///
+/// Sections are counted from address 0 up, and the window begins one below the base's own.
 #[tactic(auto, using(crate::proofs::WindowLemmas::representable_test))]
 fn is_representable(base: u64, exponent: u8, address: u64) -> bool
     requires { exponent ≤ 52 }
     ensures { IsTrue result ↔ IsRepresentable base exponent address }
 {
-    let above_start = u128::from(address) + 2 * LAP - window_start(base, exponent);
-    above_start % LAP < 8 * section(exponent)
+    let section_width = exponent + 11;
+    let start = (base >> section_width).wrapping_sub(1) << section_width;
+    address.wrapping_sub(start) >> section_width < 8
 }
 
 /// Whether the address is representable for the bounds: whether a word with these bounds fields decodes
