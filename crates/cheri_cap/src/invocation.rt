@@ -24,11 +24,15 @@ pub enum Invocation<'a> {
     },
 }
 
-const ABOUT: &str = "Shows what 128-bit CHERI Concentrate capability words hold";
+const ABOUT: &str =
+    "Shows what 128-bit CHERI Concentrate capability words hold, and which bounds they can have";
 
 const AFTER_HELP: &str = "\
 Try it with the word of a capability that grants the 512 bytes from 0x1000:
   cheri-cap show ffff0000048190040000000000001000
+
+or with a length that such a capability can only grant rounded up:
+  cheri-cap round 8191
 
 The exit status is 0, or 1 where an answer is an error, 2 for a command line that is not
 understood, and 3 where the program ran out of memory or its output failed.";
@@ -49,14 +53,14 @@ const ROUND_ABOUT: &str =
     "Shows how many bytes an allocation of N bytes has to set aside, and how to align it";
 
 const LENGTH_HELP: &str = "\
-The length in bytes, at most 2^64: in decimal, or in hexadecimal after 0x; leading zeros are allowed";
+The length in bytes, at most 2^64: decimal digits, or 0x and hexadecimal digits of either case";
 
 const ROUND_AFTER_HELP: &str = "\
 The answer is one line, `round LENGTH GRANULE MASK`, with each number in hexadecimal:
-  LENGTH   the bytes to set aside, the least length from N up whose bounds a capability can hold
-  GRANULE  where to put them, at an address that is a multiple of this
-  MASK     an address \"and\" this is rounded down to such a multiple
-So placed, the bounds of the capability are exactly those bytes, and no other object shares them.
+  LENGTH   how many bytes to set aside: the least number from N up that bounds can have exactly
+  GRANULE  how to align them: they begin at an address that is a multiple of this
+  MASK     rounds an address down to such a multiple, as `address & MASK`
+A capability for bytes placed so grants them, and nothing beside them.
 
 For a text that is no number the answer is `error 1 syntax`, and for a number above 2^64 it is
 `error 4 range`, both with exit status 1.
@@ -110,7 +114,7 @@ fn round_command<'a>(alloc: Global) -> Result<Command<'a>, AllocError>
 
 /// The program without its commands.
 fn bare_program<'a>(alloc: Global) -> Result<Command<'a>, AllocError>
-    ensures shape { IfOk result (λ command. app_of command ≡ bare_program) }
+    ensures { IfOk result (λ command. app_of command ≡ bare_program) }
 {
     Ok(
         Command::new(alloc, "cheri-cap")

@@ -7,7 +7,7 @@ pub returns : goal.returns
 returns c =
     let with_show =
     c.in_ok-subcommand.ensures.shape c.in_ok-show_command.ensures.local
-    ∙ ap₂ with_subcommand c.in_ok-bare_program.ensures.shape (ap (λ (a : App). a.top) c.in_ok-show_command.ensures.shape) in
+    ∙ ap₂ with_subcommand c.in_ok-bare_program.ensures (ap (λ (a : App). a.top) c.in_ok-show_command.ensures.shape) in
     IfOk-weaker c.subcommand-2.result _ _
     (λ r added. added.shape c.in_ok-round_command.ensures.local ∙ ap₂ with_subcommand with_show (ap (λ (a : App). a.top) c.in_ok-round_command.ensures.shape))
     c.subcommand-2.ensures
