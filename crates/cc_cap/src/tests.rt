@@ -103,6 +103,15 @@ fn rounding_overflow(rt: HostRuntime) -> Result<(), Fail> {
         told(Cap::root().set_bounds(8191)?),
         (0xffff0000000180050000000000000000, 0, 0x2000)
     );
+    let placed = at(1)?;
+    assert_eq!(rt;
+        told(placed.set_bounds(8184)?),
+        (0xffff0000000180050000000000000001, 0, 0x2000)
+    );
+    assert_eq!(rt;
+        told(placed.set_bounds(8176)?),
+        (0xffff000003ff80040000000000000001, 0, 0x1ff8)
+    );
     Ok(())
 }
 
