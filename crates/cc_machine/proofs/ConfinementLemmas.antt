@@ -1,30 +1,36 @@
 -- Confinement, by induction over the operations of a run.
-use Rattle.std.proofs.Common.{ℕ, Bool, ◌≡◌, ◌<◌, ◌≤◌, IsTrue, List, [], ◌∷◌, length, sym, subst, inl, inr, arith}
+use Rattle.std.proofs.Common.{ℕ, Bool, ◌≡◌, ◌⊎◌, ◌<◌, ◌≤◌, ◌∙◌, IsTrue, List, [], ◌∷◌, Some, length, refl, sym, ap, subst, inl, inr, arith}
 use Rattle.std.proofs.lemmas.Bool.{cases_lt}
 use Rattle.cc_cap.specs.Permissions.{HasAll, seal_permission, unseal_permission}
-use Rattle.cc_cap.specs.Capability.{Capability, IsSealed, Grants}
+use Rattle.cc_cap.specs.Capability.{Capability, IsUnsealed, IsSealed, Grants, GrantsNoMore}
 use Rattle.cc_machine.specs.declared.op.Op.{Op}
 use Rattle.cc_machine.specs.declared.reply.Reply.{Reply}
-use Rattle.cc_machine.specs.State.{State, SlotState, with_slot, IsSlot, IsParent}
+use Rattle.cc_machine.specs.State.{State, SlotState, tagged_slot, with_slot, IsSlot, IsParent, IsAncestor}
 use Rattle.cc_machine.specs.State.IsAncestor.{parent_of, above_parent}
+use Rattle.cc_machine.specs.Laws.{IsAuthority}
 use Rattle.cc_machine.specs.Confinement.{Uses, IsHeld, StepsWithin, RunsWithin, HasGivenAncestor, NoneMay, IsConfined}
 use Rattle.cc_machine.proofs.RuleLemmas.{HasAll-trans, Grants-more}
-use Rattle.cc_machine.proofs.SlotLemmas.{slot_at, IsSlot-same, IsSlot-within, length-with_slot, IsSlot-stays, IsSlot-split, IsParent-new, IsParent-split, IsAncestor-stays}
-use Rattle.cc_machine.proofs.GrowthLemmas.{IsGrowth, IsUsedAuthority, Step-grows}
-use Rattle.cc_machine.proofs.TreeLemmas.{Keeps, was, is_parent_of_new, Keeps-with_slot, less-above}
+use Rattle.cc_machine.proofs.SlotLemmas.{Slot, slot_at, IsSlot-same, IsSlot-within, length-with_slot, IsSlot-stays, IsSlot-split, IsParent-stays, IsParent-new, IsParent-split, IsAncestor-stays}
+use Rattle.cc_machine.specs.Objects.{with_object}
+use Rattle.cc_plan.specs.Plan.{capability_over, span_at}
+use Rattle.cc_machine.proofs.SameSlotsLemmas.{SlotLike, HaveSameSlots, HaveSameSlots-sym, HaveSameSlots-list, IsParent-same, IsAncestor-same}
+use Rattle.cc_machine.proofs.RevokingLemmas.{RevokesObject-same}
+use Rattle.cc_machine.proofs.GrowthLemmas.{IsGrowth, GrowsTagged, GivesPool, AddsObject, FreesObject, Effect, IsUsedAuthority, Step-effect}
+use Rattle.cc_machine.proofs.GrowthLemmas.Effect.{stays, grows, gives, makes, frees}
+use Rattle.cc_machine.proofs.TreeLemmas.{Keeps, Keeps-effect, was, is_parent_of_new, Keeps-with_slot, less-above}
 
--- what a run that began at `start` has come to by `now`: the slots of the start are as they were, and those made
--- since are confined
+-- what a run that began at `start` has come to by `now`: the slots of the start are as they were, but for what was
+-- revoked, and those made since are confined
 pub record IsConfinedSoFar (given : ℕ → Bool) (start now : State) : Type 0 where
   pub keeps : Keeps now
-  pub stays : (number : ℕ) (slot : SlotState) → IsSlot start number slot → IsSlot now number slot
+  pub kept_slots : (number : ℕ) (slot : SlotState) → IsSlot start number slot → SlotLike now number slot
   pub confined : IsConfined given start now
 
 -- nothing has been done
 confined-start : (given : ℕ → Bool) (start : State) → Keeps start → IsConfinedSoFar given start start
 confined-start given start keeps = record {
   keeps = keeps;
-  stays = λ number slot is. is;
+  kept_slots = λ number slot is. record { other = slot; is_slot = is; capability = refl; parent = refl };
   confined = record {
     derived = λ number made within. absurd (omega (arith, made, within));
     none_unsealed = λ otype none parent number above made is _ _ _. absurd (omega (arith, made, IsSlot-within is.is_slot));
@@ -39,14 +45,18 @@ module _ (given : ℕ → Bool) (start old : State) (so_far : IsConfinedSoFar gi
   none-held permission otype number slot none held is permitted grants = elim (cases_lt number (length start.slots)) [
     | inl was ↦
         let there = slot_at start number was in
-        let same : slot ≡ there.slot = IsSlot-same is (so_far.stays number there.slot there.is_slot) in
-        let is_start : IsSlot start number slot = subst (λ (s : SlotState). IsSlot start number s) (sym same) there.is_slot in
+        let like = so_far.kept_slots number there.slot there.is_slot in
+        let same : slot.capability ≡ there.slot.capability = ap (λ (s : SlotState). s.capability) (IsSlot-same is like.is_slot) ∙ like.capability in
         let is_given : IsTrue (given number) = elim held [ inl chosen ↦ chosen | inr made ↦ absurd (omega (arith, was, made)) ] in
-        none number slot is_given is_start permitted grants
+        none number there.slot is_given there.is_slot
+        (subst (λ (c : Capability). HasAll c.permissions permission) same permitted) (subst (λ (c : Capability). Grants c otype) same grants)
     | inr made ↦
         let up = so_far.confined.derived number made (IsSlot-within is) in
         let there = slot_at start up.ancestor up.was_there in
-        let less = less-above old so_far.keeps there.slot slot up.is_ancestor (so_far.stays up.ancestor there.slot there.is_slot) is in
+        let like = so_far.kept_slots up.ancestor there.slot there.is_slot in
+        let less : GrantsNoMore slot.capability there.slot.capability =
+        subst (λ (c : Capability). GrantsNoMore slot.capability c) like.capability
+        (less-above old so_far.keeps like.other slot up.is_ancestor like.is_slot is) in
         none up.ancestor there.slot up.is_given there.is_slot
         (HasAll-trans there.slot.capability.permissions slot.capability.permissions permission less.permissions permitted)
         (Grants-more slot.capability there.slot.capability otype less grants)
@@ -131,20 +141,88 @@ module _ (given : ℕ → Bool) (start old : State) (so_far : IsConfinedSoFar gi
     confined-more : IsConfinedSoFar given start (with_slot old capability parent)
     confined-more = record {
       keeps = Keeps-with_slot old op parent above capability is_above growth so_far.keeps;
-      stays = λ number slot is. IsSlot-stays old capability parent (so_far.stays number slot is);
+      kept_slots = λ number slot is.
+          let like = so_far.kept_slots number slot is in
+          record {
+            other = like.other;
+            is_slot = IsSlot-stays old capability parent like.is_slot;
+            capability = like.capability;
+            parent = like.parent;
+          };
       confined = record { derived = derived-more; none_unsealed = unsealed-more; none_sealed = sealed-more };
     }
 
+-- the same slots are confined
+module _ (given : ℕ → Bool) (start old new : State) (so_far : IsConfinedSoFar given start old) (same : HaveSameSlots old new) where
+  derived-same : (number : ℕ) → length start.slots ≤ number → number < length new.slots → HasGivenAncestor given start new number
+  derived-same number made within =
+      let up = so_far.confined.derived number made (omega (arith, within, same.as_many)) in
+      record {
+        ancestor = up.ancestor;
+        is_given = up.is_given;
+        was_there = up.was_there;
+        is_ancestor = IsAncestor-same same up.is_ancestor;
+      }
+
+  unsealed-same : (otype : ℕ) → NoneMay given start unseal_permission otype → (first number : ℕ) (one : SlotState)
+      → length start.slots ≤ number → IsParent new first number → IsSlot new first one → IsSealed one.capability
+      → ¬ (one.capability.otype ≡ otype)
+  unsealed-same otype none first number one made is is_one sealed at =
+      let like = same.back first one is_one in
+      so_far.confined.none_unsealed otype none first number like.other made (IsParent-same (HaveSameSlots-sym same) is) like.is_slot
+      (subst (λ (c : Capability). IsSealed c) (sym like.capability) sealed)
+      (ap (λ (c : Capability). c.otype) like.capability ∙ at)
+
+  sealed-same : (otype : ℕ) → NoneMay given start seal_permission otype → (number : ℕ) (slot : SlotState)
+      → length start.slots ≤ number → IsSlot new number slot → IsSealed slot.capability → ¬ (slot.capability.otype ≡ otype)
+  sealed-same otype none number slot made is sealed at =
+      let like = same.back number slot is in
+      so_far.confined.none_sealed otype none number like.other made like.is_slot
+      (subst (λ (c : Capability). IsSealed c) (sym like.capability) sealed)
+      (ap (λ (c : Capability). c.otype) like.capability ∙ at)
+
+  confined-same : Keeps new → IsConfinedSoFar given start new
+  confined-same keeps = record {
+    keeps = keeps;
+    kept_slots = λ number slot is.
+        let like = so_far.kept_slots number slot is in
+        let next = same.there number like.other like.is_slot in
+        record {
+          other = next.other;
+          is_slot = next.is_slot;
+          capability = next.capability ∙ like.capability;
+          parent = next.parent ∙ like.parent;
+        };
+    confined = record { derived = derived-same; none_unsealed = unsealed-same; none_sealed = sealed-same };
+  }
+
 -- a step stays confined
-confined-step : (given : ℕ → Bool) (start old new : State) (op : Op) (reply : Reply) → IsConfinedSoFar given start old
-    → StepsWithin given start old op reply new → IsConfinedSoFar given start new
-confined-step given start old new op reply so_far within = elim (Step-grows old new op reply so_far.keeps.spans within.step) [
-  | inl same ↦ subst (λ (s : State). IsConfinedSoFar given start s) (sym same) so_far
-  | inr grows ↦
-      subst (λ (s : State). IsConfinedSoFar given start s) (sym grows.is_new)
-      (confined-more given start old so_far op grows.parent grows.above grows.capability
-      (within.uses_held grows.not_refused) grows.uses grows.is_slot grows.growth)
-]
+module _ (given : ℕ → Bool) (start old new : State) (op : Op) (reply : Reply) (so_far : IsConfinedSoFar given start old)
+    (within : StepsWithin given start old op reply new) where
+  confined-effect : Keeps new → Effect old op reply new → IsConfinedSoFar given start new
+  confined-effect keeps (stays same) = subst (λ (s : State). IsConfinedSoFar given start s) (sym same) so_far
+  confined-effect keeps (grows grown) =
+      let g = grown.grows in
+      subst (λ (s : State). IsConfinedSoFar given start s) (sym g.is_new)
+      (confined-more given start old so_far op g.parent g.above g.capability
+      (within.uses_held g.not_refused) g.uses g.is_slot g.growth)
+  confined-effect keeps (gives it) =
+      let same = HaveSameSlots-list old new (ap (λ (s : State). s.slots) it.is_new) in
+      confined-same given start old new so_far same keeps
+  confined-effect keeps (makes made) =
+      let cap : Capability = capability_over (span_at made.start made.size) made.above.capability in
+      let more =
+      confined-more given start old so_far op made.pool made.above cap
+      (within.uses_held made.not_refused) made.uses made.is_pool.is_slot made.growth in
+      confined-same given start (with_slot old cap made.pool) new more
+      (HaveSameSlots-list (with_slot old cap made.pool) new (ap (λ (s : State). s.slots) made.is_new)) keeps
+  confined-effect keeps (frees freed) =
+      confined-same given start old new so_far (RevokesObject-same old new freed.ends.object freed.ends.revoked) keeps
+
+  confined-step : IsConfinedSoFar given start new
+  confined-step =
+      let effect = Step-effect old new op reply so_far.keeps.spans so_far.keeps.pool within.step in
+      confined-effect (Keeps-effect old new op reply so_far.keeps effect) effect
 
 -- a run stays confined
 confined-run : (given : ℕ → Bool) (start old new : State) (ops : List Op) (replies : List Reply) → IsConfinedSoFar given start old

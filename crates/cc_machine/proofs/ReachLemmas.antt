@@ -1,5 +1,6 @@
 -- All that lies within a capability is derived from it by five operations.
-use Rattle.std.proofs.Common.{ℕ, suc, Bool, false, ◌≡◌, ◌+◌, ◌-◌, ◌<◌, ◌≤◌, ◌∙◌, List, [], ◌∷◌, Option, Some, Result, Ok, Err, MatchResult, if◌then◌else◌, length, refl, sym, ap, subst, inl, inr, arith}
+use Rattle.std.proofs.Common.{ℕ, suc, Bool, false, ◌≡◌, ◌⊎◌, ◌+◌, ◌-◌, ◌<◌, ◌≤◌, ◌∙◌, List, [], ◌∷◌, Option, Some, Result, Ok, Err, MatchResult, if◌then◌else◌, length, refl, sym, ap, subst, inl, inr, arith}
+use Rattle.std.specs.List.{slice_get}
 use Rattle.std.specs.Int.RustNames.{bit_and}
 use Rattle.cc_word.specs.declared.refusal.Refusal.{Refusal}
 use Rattle.cc_word.specs.declared.refusal.Refusal.TheVariants.{Revoked}
@@ -9,18 +10,17 @@ use Rattle.cc_bounds.specs.Granule.{IsGranted}
 use Rattle.cc_bounds.specs.Window.{Represents}
 use Rattle.cc_bounds.proofs.SoundDecodingLemmas.{inside-Represents}
 use Rattle.cc_cap.specs.Capability.{Capability, IsCapability, IsUnsealed, GrantsNoMore, at_address, with_span, with_permissions, with_flag}
-use Rattle.cc_cap.specs.Derivation.{request_of, SetsAddress, SetsExactBounds, MasksPermissions, SetsFlag}
-use Rattle.cc_cap.specs.Reach.{IsReachable}
+use Rattle.cc_cap.specs.Derivation.{RefusedUnless, request_of, SetsAddress, SetsExactBounds, MasksPermissions, SetsFlag, Rebuilds}
 use Rattle.cc_machine.specs.declared.op.Op.{Op}
 use Rattle.cc_machine.specs.declared.op.Op.TheVariants.{Addr, Exact, Perms, Flag}
 use Rattle.cc_machine.specs.declared.reply.Reply.{Reply}
 use Rattle.cc_machine.specs.State.{State, SlotState, tagged_slot, with_slot, IsSlot}
-use Rattle.cc_machine.specs.Step.{usable, usable_slot, Adds, Derives, Step, IsRefused}
+use Rattle.cc_machine.specs.Step.{usable, usable_slot, OnSlot, Adds, Derives, Step}
 use Rattle.cc_machine.specs.Run.{Run}
-use Rattle.cc_machine.specs.Reach.{path_to, EndsWith, ReachesAll}
-use Rattle.cc_machine.proofs.RuleLemmas.{IsKept}
-use Rattle.cc_machine.proofs.SlotLemmas.{length-with_slot, IsSlot-new}
-use Rattle.cc_machine.proofs.OutcomeLemmas.{SetsAddress-one, SetsExactBounds-one, MasksPermissions-one, SetsFlag-one}
+use Rattle.cc_machine.specs.Confinement.{IsRefused}
+use Rattle.cc_machine.specs.Reach.{IsReachable, path_to, EndsWith, ReachesAll}
+use Rattle.cc_machine.proofs.RuleLemmas.{IsKept, passes, IsCapability-kept}
+use Rattle.cc_machine.proofs.SlotLemmas.{length-with_slot, IsSlot-new, IsSlot-same}
 use Rattle.cc_machine.proofs.TreeLemmas.{Keeps}
 
 -- a span is that of its length from its base up
@@ -62,15 +62,53 @@ reachable authority cap kept from_unsealed is unsealed less =
     } in
     record {
       at_base = at_base;
-      in_bounds = bounded;
-      in_place = placed;
-      with_mask = masked;
-      moved = inl (from_unsealed, inl (base_held, refl));
-      bounded = inl (from_unsealed, inl (within, inl (exact, refl)));
-      placed = inl (from_unsealed, inl (address_held, refl));
-      masked = inl (from_unsealed, refl);
-      flagged = inl (from_unsealed, ap Ok whole);
+      bounded = bounded;
+      placed = placed;
+      masked = masked;
+      goes_to_base = inl (from_unsealed, inl (base_held, refl));
+      gets_bounds = inl (from_unsealed, inl (within, inl (exact, refl)));
+      gets_address = inl (from_unsealed, inl (address_held, refl));
+      gets_permissions = inl (from_unsealed, refl);
+      gets_flag = inl (from_unsealed, ap Ok whole);
     }
+
+-- what is rebuilt is reached
+pub rebuilt-reachable : (authority cap : Capability) (word : ℕ) → IsCapability authority → Rebuilds authority word (Ok cap) → IsReachable authority cap
+rebuilt-reachable authority cap word is rule =
+    let first = passes rule in
+    let second = passes first.1 in
+    let third = passes second.1.2 in
+    let e : cap ≡ second.1.0 = let f = third.1 in cc in
+    subst (λ (c : Capability). IsReachable authority c) (sym e)
+    (reachable authority second.1.0 (IsCapability-kept authority is) first.0 second.1.1.is_capability third.0.0 third.0.1)
+
+-- ---- a rule has one result
+
+one_result : {condition rest rest' : Type 0} {refusal : Refusal} {result result' : Result Capability Refusal}
+    → RefusedUnless condition refusal result rest → RefusedUnless condition refusal result' rest'
+    → (rest → rest' → result ≡ result') → result ≡ result'
+one_result (inl one) (inl other) same = same one.1 other.1
+one_result (inl one) (inr other) same = absurd (other.0 one.0)
+one_result (inr one) (inl other) same = absurd (one.0 other.0)
+one_result (inr one) (inr other) same = one.1 ∙ sym other.1
+
+SetsAddress-one : (cap : Capability) (address : ℕ) (result result' : Result Capability Refusal)
+    → SetsAddress cap address result → SetsAddress cap address result' → result ≡ result'
+SetsAddress-one cap address result result' one other =
+    one_result one other (λ first first'. one_result first first' (λ e e'. e ∙ sym e'))
+
+SetsExactBounds-one : (cap : Capability) (size : ℕ) (result result' : Result Capability Refusal)
+    → SetsExactBounds cap size result → SetsExactBounds cap size result' → result ≡ result'
+SetsExactBounds-one cap size result result' one other =
+    one_result one other (λ first first'. one_result first first' (λ second second'. one_result second second' (λ e e'. e ∙ sym e')))
+
+MasksPermissions-one : (cap : Capability) (mask : ℕ) (result result' : Result Capability Refusal)
+    → MasksPermissions cap mask result → MasksPermissions cap mask result' → result ≡ result'
+MasksPermissions-one cap mask result result' one other = one_result one other (λ e e'. e ∙ sym e')
+
+SetsFlag-one : (cap : Capability) (flag : Bool) (result result' : Result Capability Refusal)
+    → SetsFlag cap flag result → SetsFlag cap flag result' → result ≡ result'
+SetsFlag-one cap flag result result' one other = one_result one other (λ e e'. e ∙ sym e')
 
 -- ---- steps that are not refused
 
@@ -143,25 +181,25 @@ path-ends : (old : State) (number : ℕ) (authority cap : Capability) (one two t
 path-ends old number authority cap one two three four five a b c d e at reach room first second third fourth fifth =
     let n : ℕ = length old.slots in
     let made_a = Derives-makes old a one number authority reach.at_base (λ by result. SetsAddress by cap.span.base result) at
-    (λ result rule. SetsAddress-one authority cap.span.base result (Ok reach.at_base) rule reach.moved)
+    (λ result rule. SetsAddress-one authority cap.span.base result (Ok reach.at_base) rule reach.goes_to_base)
     (omega (arith, room)) first in
-    let made_b = Derives-makes a b two n reach.at_base reach.in_bounds (λ by result. SetsExactBounds by (length_of cap.span) result) made_a.at
-    (λ result rule. SetsExactBounds-one reach.at_base (length_of cap.span) result (Ok reach.in_bounds) rule reach.bounded)
+    let made_b = Derives-makes a b two n reach.at_base reach.bounded (λ by result. SetsExactBounds by (length_of cap.span) result) made_a.at
+    (λ result rule. SetsExactBounds-one reach.at_base (length_of cap.span) result (Ok reach.bounded) rule reach.gets_bounds)
     (omega (arith, room, made_a.longer, made_a.same_limit)) second in
     let n1 : length a.slots ≡ n + 1 = omega (arith, made_a.longer) in
-    let at_b : IsAt b (n + 1) reach.in_bounds = subst (λ (k : ℕ). IsAt b k reach.in_bounds) n1 made_b.at in
-    let made_c = Derives-makes b c three (n + 1) reach.in_bounds reach.in_place (λ by result. SetsAddress by cap.address result) at_b
-    (λ result rule. SetsAddress-one reach.in_bounds cap.address result (Ok reach.in_place) rule reach.placed)
+    let at_b : IsAt b (n + 1) reach.bounded = subst (λ (k : ℕ). IsAt b k reach.bounded) n1 made_b.at in
+    let made_c = Derives-makes b c three (n + 1) reach.bounded reach.placed (λ by result. SetsAddress by cap.address result) at_b
+    (λ result rule. SetsAddress-one reach.bounded cap.address result (Ok reach.placed) rule reach.gets_address)
     (omega (arith, room, n1, made_b.longer, made_a.same_limit, made_b.same_limit)) third in
     let n2 : length b.slots ≡ n + 2 = omega (arith, n1, made_b.longer) in
-    let at_c : IsAt c (n + 2) reach.in_place = subst (λ (k : ℕ). IsAt c k reach.in_place) n2 made_c.at in
-    let made_d = Derives-makes c d four (n + 2) reach.in_place reach.with_mask (λ by result. MasksPermissions by cap.permissions result) at_c
-    (λ result rule. MasksPermissions-one reach.in_place cap.permissions result (Ok reach.with_mask) rule reach.masked)
+    let at_c : IsAt c (n + 2) reach.placed = subst (λ (k : ℕ). IsAt c k reach.placed) n2 made_c.at in
+    let made_d = Derives-makes c d four (n + 2) reach.placed reach.masked (λ by result. MasksPermissions by cap.permissions result) at_c
+    (λ result rule. MasksPermissions-one reach.placed cap.permissions result (Ok reach.masked) rule reach.gets_permissions)
     (omega (arith, room, n2, made_c.longer, made_a.same_limit, made_b.same_limit, made_c.same_limit)) fourth in
     let n3 : length c.slots ≡ n + 3 = omega (arith, n2, made_c.longer) in
-    let at_d : IsAt d (n + 3) reach.with_mask = subst (λ (k : ℕ). IsAt d k reach.with_mask) n3 made_d.at in
-    let made_e = Derives-makes d e five (n + 3) reach.with_mask cap (λ by result. SetsFlag by cap.flag result) at_d
-    (λ result rule. SetsFlag-one reach.with_mask cap.flag result (Ok cap) rule reach.flagged)
+    let at_d : IsAt d (n + 3) reach.masked = subst (λ (k : ℕ). IsAt d k reach.masked) n3 made_d.at in
+    let made_e = Derives-makes d e five (n + 3) reach.masked cap (λ by result. SetsFlag by cap.flag result) at_d
+    (λ result rule. SetsFlag-one reach.masked cap.flag result (Ok cap) rule reach.gets_flag)
     (omega (arith, room, n3, made_d.longer, made_a.same_limit, made_b.same_limit, made_c.same_limit, made_d.same_limit)) fifth in
     let n4 : length d.slots ≡ n + 4 = omega (arith, n3, made_d.longer) in
     let at_e : IsAt e (n + 4) cap = subst (λ (k : ℕ). IsAt e k cap) n4 made_e.at in

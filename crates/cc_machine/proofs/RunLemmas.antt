@@ -1,5 +1,5 @@
 -- Runs, one step longer.
-use Rattle.std.proofs.Common.{List, [], ◌∷◌, ◌++◌, refl, sym, subst}
+use Rattle.std.proofs.Common.{ℕ, ◌≡◌, List, [], ◌∷◌, ◌++◌, refl, sym, subst}
 use Rattle.cc_machine.specs.declared.op.Op.{Op}
 use Rattle.cc_machine.specs.declared.reply.Reply.{Reply}
 use Rattle.cc_machine.specs.State.{State, initial_state}
@@ -24,11 +24,3 @@ IsReached-step old new op reply reached step = record {
   replies = reached.replies ++ reply ∷ [];
   run = Run-push (initial_state reached.limit) old new reached.ops reached.replies op reply reached.run step;
 }
-
--- and so does a run
-pub IsReached-run : (old new : State) (ops : List Op) (replies : List Reply) → IsReached old → Run old ops replies new → IsReached new
-IsReached-run old new [] [] reached run = subst (λ (state : State). IsReached state) (sym run) reached
-IsReached-run old new (op ∷ ops) (reply ∷ replies) reached run =
-    IsReached-run run.0 new ops replies (IsReached-step old run.0 op reply reached run.1) run.2
-IsReached-run old new [] (reply ∷ replies) reached run = absurd run
-IsReached-run old new (op ∷ ops) [] reached run = absurd run

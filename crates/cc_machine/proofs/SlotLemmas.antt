@@ -1,24 +1,24 @@
 -- Slots, parents and ancestors, and what adding a slot does to them.
-use Rattle.std.proofs.Common.{ℕ, zero, suc, ◌≡◌, ◌⊎◌, ◌<◌, List, [], ◌∷◌, ◌++◌, Some, length, refl, ap, inl, inr, arith, length-append}
+use Rattle.std.proofs.Common.{ℕ, zero, suc, ◌≡◌, ◌⊎◌, ◌<◌, ◌≤◌, ◌∙◌, List, [], ◌∷◌, ◌++◌, Option, Some, None, length, refl, sym, ap, subst, inl, inr, arith, length-append}
 use Rattle.std.specs.List.{slice_get}
-use Rattle.std.proofs.lemmas.Option.{slice_get_within, slice_get_cases}
+use Rattle.std.proofs.lemmas.Option.{slice_get_within, slice_get_past, slice_get_cases}
 use Rattle.cc_cap.specs.Capability.{Capability}
 use Rattle.cc_machine.specs.State.{State, SlotState, tagged_slot, with_slot, IsSlot, IsParent, IsAncestor}
 use Rattle.cc_machine.specs.State.IsAncestor.{parent_of, above_parent}
 
 -- an element of a list is at the same place in a longer one
-slice_get-append : {X : Type 0} (xs ys : List X) (i : ℕ) (x : X) → slice_get xs i ≡ Some x → slice_get (xs ++ ys) i ≡ Some x
+pub slice_get-append : {X : Type 0} (xs ys : List X) (i : ℕ) (x : X) → slice_get xs i ≡ Some x → slice_get (xs ++ ys) i ≡ Some x
 slice_get-append [] ys i x found = cc
 slice_get-append (first ∷ xs) ys zero x found = found
 slice_get-append (first ∷ xs) ys (suc i) x found = slice_get-append xs ys i x found
 
 -- the last element
-slice_get-last : {X : Type 0} (xs : List X) (y : X) → slice_get (xs ++ y ∷ []) (length xs) ≡ Some y
+pub slice_get-last : {X : Type 0} (xs : List X) (y : X) → slice_get (xs ++ y ∷ []) (length xs) ≡ Some y
 slice_get-last [] y = refl
 slice_get-last (first ∷ xs) y = slice_get-last xs y
 
 -- an element of a list with one more is one of the list's, or the last
-slice_get-push : {X : Type 0} (xs : List X) (y : X) (i : ℕ) (x : X) → slice_get (xs ++ y ∷ []) i ≡ Some x
+pub slice_get-push : {X : Type 0} (xs : List X) (y : X) (i : ℕ) (x : X) → slice_get (xs ++ y ∷ []) i ≡ Some x
     → (slice_get xs i ≡ Some x) ⊎ ((i ≡ length xs) × (x ≡ y))
 slice_get-push [] y zero x found = inr (refl, cc)
 slice_get-push [] y (suc i) x found = cc

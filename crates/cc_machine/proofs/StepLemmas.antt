@@ -1,14 +1,15 @@
 -- A step from what its operation makes.
-use Rattle.std.proofs.Common.{ℕ, ◌≡◌, List, Result, Ok, Err, MatchResult, sym, subst}
+use Rattle.std.specs.List.{slice_get}
+use Rattle.std.proofs.Common.{ℕ, Bool, true, false, ap, ◌≡◌, List, Option, Some, None, Result, Ok, Err, MatchResult, sym, subst}
 use Rattle.cc_word.specs.declared.refusal.Refusal.{Refusal}
 use Rattle.cc_cap.specs.Permissions.{bits_of}
 use Rattle.cc_cap.specs.Capability.{Capability}
 use Rattle.cc_cap.specs.Derivation.{SetsAddress, Increments, SetsBounds, SetsExactBounds, MasksPermissions, SetsFlag, Seals, Unseals, Rebuilds}
 use Rattle.cc_machine.specs.declared.op.Op.{Op}
-use Rattle.cc_machine.specs.declared.op.Op.TheVariants.{Show, Bounds, Exact, Addr, Inc, Perms, Flag, Seal, Unseal, Rebuild, Round}
+use Rattle.cc_machine.specs.declared.op.Op.TheVariants.{Show, Bounds, Exact, Addr, Inc, Perms, Flag, Seal, Unseal, Rebuild, Round, Pool, Alloc, Free}
 use Rattle.cc_machine.specs.declared.reply.Reply.{Reply}
 use Rattle.cc_machine.specs.State.{State, SlotState}
-use Rattle.cc_machine.specs.Step.{usable_slot, OnSlot, Adds, Step}
+use Rattle.cc_machine.specs.Step.{usable, usable_slot, OnSlot, Adds, Step}
 
 -- a rule that holds of the capability of a usable slot
 pub OnSlot-usable : (slots : List SlotState) (number : ℕ) (result : Result Capability Refusal) (slot : SlotState)
@@ -17,6 +18,18 @@ OnSlot-usable slots number result slot Rule is_usable holds =
     let P : Result SlotState Refusal → Type 0 =
     λ usable. MatchResult usable (λ s. Rule s.capability) (λ refusal. result ≡ Err refusal) in
     subst P (sym is_usable) holds
+
+-- a slot that can be used is there
+pub usable-is : (slots : List SlotState) (number : ℕ) (slot : SlotState) → usable_slot slots number ≡ Ok slot → slice_get slots number ≡ Some slot
+usable-is slots number slot is = by_found (slice_get slots number) is
+  where
+    by_tag : (found : SlotState) (revoked : Bool) → usable (Some (record found { revoked = revoked })) ≡ Ok slot → record found { revoked = revoked } ≡ slot
+    by_tag found true is = cc
+    by_tag found false is = cc
+
+    by_found : (found : Option SlotState) → usable found ≡ Ok slot → found ≡ Some slot
+    by_found None is = cc
+    by_found (Some found) is = ap (λ (s : SlotState). Some s) (by_tag found found.revoked is)
 
 -- what an operation that derives makes of the slots, and the parent of what it makes
 abbrev pub Makes : List SlotState → Op → ℕ → Result Capability Refusal → Type 0
@@ -31,6 +44,9 @@ Makes slots (Seal number authority) parent result = (parent ≡ number) × OnSlo
 Makes slots (Unseal number authority) parent result = (parent ≡ number) × OnSlot slots number result (λ cap. OnSlot slots authority result (λ by. Unseals cap by result))
 Makes slots (Rebuild authority word) parent result = (parent ≡ authority) × OnSlot slots authority result (λ by. Rebuilds by word result)
 Makes slots (Round size) parent result = ⊥
+Makes slots (Pool number) parent result = ⊥
+Makes slots (Alloc size) parent result = ⊥
+Makes slots (Free number) parent result = ⊥
 
 -- the same, of what equals them
 pub Makes-along : {slots slots' : List SlotState} {op op' : Op} {pair pair' : ℕ × Result Capability Refusal}
@@ -46,6 +62,9 @@ pub Makes-Step : (old : State) (op : Op) (parent : ℕ) (result : Result Capabil
     → Makes old.slots op parent result → Adds old parent result reply new → Step old op reply new
 Makes-Step old (Show number) parent result reply new makes adds = absurd makes
 Makes-Step old (Round size) parent result reply new makes adds = absurd makes
+Makes-Step old (Pool number) parent result reply new makes adds = absurd makes
+Makes-Step old (Alloc size) parent result reply new makes adds = absurd makes
+Makes-Step old (Free number) parent result reply new makes adds = absurd makes
 Makes-Step old (Bounds number size) parent result reply new makes adds =
     let P : ℕ → Type 0 = λ n. Adds old n result reply new in
     record { result = result; made = makes.1; added = subst P makes.0 adds }

@@ -1,18 +1,24 @@
 -- What every state that a run reaches keeps, by induction over the operations.
-use Rattle.std.proofs.Common.{ℕ, zero, suc, ◌≡◌, ◌<◌, List, [], ◌∷◌, Some, None, length, refl, sym, ap, subst, inl, inr, arith}
-use Rattle.cc_cap.specs.Permissions.{unseal_permission}
-use Rattle.cc_cap.specs.Capability.{Capability, IsSealed, GrantsNoMore, root_capability}
+use Rattle.std.proofs.Common.{ℕ, zero, suc, ◌≡◌, ◌⊎◌, ◌<◌, List, [], ◌∷◌, Option, Some, None, length, refl, sym, ap, subst, ◌∙◌, inl, inr, arith}
+use Rattle.std.specs.List.{slice_get}
+use Rattle.cc_cap.specs.Permissions.{seal_permission, unseal_permission}
+use Rattle.cc_cap.specs.Capability.{Capability, IsUnsealed, IsSealed, GrantsNoMore, root_capability}
+use Rattle.cc_plan.specs.Plan.{capability_over, span_at}
 use Rattle.cc_machine.specs.declared.op.Op.{Op}
 use Rattle.cc_machine.specs.declared.reply.Reply.{Reply}
 use Rattle.cc_machine.specs.State.{State, SlotState, tagged_slot, initial_state, with_slot, IsSlot, IsParent, IsAncestor}
 use Rattle.cc_machine.specs.State.IsAncestor.{parent_of, above_parent}
 use Rattle.cc_machine.specs.Step.{Step}
 use Rattle.cc_machine.specs.Run.{Run, IsReached}
-use Rattle.cc_machine.specs.Laws.{IsMonotonicTree, HasAuthorityBefore, IsSealedByAuthority, HasSealingAuthority}
+use Rattle.cc_machine.specs.Laws.{IsMonotonicTree, IsAuthority, HasAuthorityBefore, IsSealedByAuthority, HasSealingAuthority}
 use Rattle.cc_machine.proofs.RootLemmas.{whole-sound}
 use Rattle.cc_machine.proofs.RuleLemmas.{IsKept, GrantsNoMore-trans, sealed-unsealed}
-use Rattle.cc_machine.proofs.SlotLemmas.{IsSlot-same, IsSlot-within, slot_at, IsSlot-stays, IsSlot-split, IsParent-split}
-use Rattle.cc_machine.proofs.GrowthLemmas.{IsGrowth, KeepsSpans, IsUsedAuthority, Step-grows}
+use Rattle.cc_machine.specs.Objects.{with_object}
+use Rattle.cc_machine.proofs.SlotLemmas.{IsSlot-same, IsSlot-within, slot_at, IsSlot-stays, IsSlot-new, IsSlot-split, IsParent-split}
+use Rattle.cc_machine.proofs.SameSlotsLemmas.{SlotLike, HaveSameSlots, HaveSameSlots-sym, HaveSameSlots-list, IsSlot-along, IsParent-same}
+use Rattle.cc_machine.proofs.RevokingLemmas.{RevokesObject-same}
+use Rattle.cc_machine.proofs.GrowthLemmas.{IsGrowth, Grows, GrowsTagged, GivesPool, AddsObject, FreesObject, Effect, HasUnsealed, KeepsPool, KeepsSpans, IsUsedAuthority, Step-effect}
+use Rattle.cc_machine.proofs.GrowthLemmas.Effect.{stays, grows, gives, makes, frees}
 
 -- the laws, as they are kept from one step to the next: of each slot and its parent
 pub record Keeps (state : State) : Type 0 where
@@ -22,6 +28,7 @@ pub record Keeps (state : State) : Type 0 where
       (parent number : ℕ) (above below : SlotState) → IsParent state parent number
       → IsSlot state parent above → IsSlot state number below → GrantsNoMore below.capability above.capability
   pub authority : HasSealingAuthority state
+  pub pool : KeepsPool state
 
 -- ---- the opening state
 
@@ -50,6 +57,7 @@ Keeps-initial limit = record {
         let root = subst (λ (s : SlotState). IsSealed s.capability) (only_slot limit number slot is).1 sealed in
         absurd (sealed-unsealed root_capability root refl);
   };
+  pool = λ number is. let e : None ≡ Some number = is in cc;
 }
 
 -- ---- one more slot
@@ -78,9 +86,9 @@ module _ (old : State) (op : Op) (parent : ℕ) (above : SlotState) (capability 
       IsSlot-same (subst (λ (n : ℕ). IsSlot old n slot) same there) is_above
 
   -- an authority stays
-  stays : {number permission otype : ℕ} → HasAuthorityBefore old number permission otype
+  authority_stays : {number permission otype : ℕ} → HasAuthorityBefore old number permission otype
       → HasAuthorityBefore (with_slot old capability parent) number permission otype
-  stays has = record {
+  authority_stays has = record {
     authority = has.authority;
     slot = has.slot;
     before = has.before;
@@ -127,7 +135,7 @@ module _ (old : State) (op : Op) (parent : ℕ) (above : SlotState) (capability 
     | inl there ↦
         let order = keeps.parent_first first number there in
         let within = IsSlot-within there.is_slot in
-        stays (keeps.authority.unsealing first number one there (was (omega (arith, order, within)) is_one) sealed)
+        authority_stays (keeps.authority.unsealing first number one there (was (omega (arith, order, within)) is_one) sealed)
     | inr new ↦
         let e = is_parent_of_new new.1 is_one in
         let sealed' = subst (λ (s : SlotState). IsSealed s.capability) e sealed in
@@ -146,7 +154,7 @@ module _ (old : State) (op : Op) (parent : ℕ) (above : SlotState) (capability 
           is_parent = sealed_by.is_parent;
           is_slot = IsSlot-stays old capability parent sealed_by.is_slot;
           unsealed = sealed_by.unsealed;
-          authorized = stays sealed_by.authorized;
+          authorized = authority_stays sealed_by.authorized;
         }
     | inr new ↦
         let sealed' = subst (λ (s : SlotState). IsSealed s.capability) new.1 sealed in
@@ -169,17 +177,112 @@ module _ (old : State) (op : Op) (parent : ℕ) (above : SlotState) (capability 
     parent_first = first_of_new;
     less = less_of_new;
     authority = record { unsealing = unsealing_of_new; sealing = sealing_of_new };
+    pool = λ number is.
+        let there = keeps.pool number is in
+        record { slot = there.slot; is_slot = IsSlot-stays old capability parent there.is_slot; unsealed = there.unsealed };
   }
+
+-- ---- the same slots
+
+module _ (old new : State) (same : HaveSameSlots old new) (keeps : Keeps old) where
+  less_of_same : (parent number : ℕ) (above below : SlotState) → IsParent new parent number → IsSlot new parent above
+      → IsSlot new number below → GrantsNoMore below.capability above.capability
+  less_of_same parent number above below is is_above is_below =
+      let one = same.back parent above is_above in
+      let other = same.back number below is_below in
+      let less = keeps.less parent number one.other other.other (IsParent-same (HaveSameSlots-sym same) is) one.is_slot other.is_slot in
+      subst (λ (c : Capability). GrantsNoMore below.capability c) one.capability
+      (subst (λ (c : Capability). GrantsNoMore c one.other.capability) other.capability less)
+
+  authority_of_same : {number permission otype : ℕ} → HasAuthorityBefore old number permission otype → HasAuthorityBefore new number permission otype
+  authority_of_same {number} {permission} {otype} has =
+      let like = same.there has.authority has.slot has.is_slot in
+      record {
+        authority = has.authority;
+        slot = like.other;
+        before = has.before;
+        is_slot = like.is_slot;
+        is_authority = subst (λ (c : Capability). IsAuthority c permission otype) (sym like.capability) has.is_authority;
+      }
+
+  unsealing_of_same : (parent number : ℕ) (above : SlotState) → IsParent new parent number → IsSlot new parent above
+      → IsSealed above.capability → HasAuthorityBefore new number unseal_permission above.capability.otype
+  unsealing_of_same parent number above is is_above sealed =
+      let like = same.back parent above is_above in
+      let sealed' = subst (λ (c : Capability). IsSealed c) (sym like.capability) sealed in
+      subst (λ (c : Capability). HasAuthorityBefore new number unseal_permission c.otype) like.capability
+      (authority_of_same (keeps.authority.unsealing parent number like.other (IsParent-same (HaveSameSlots-sym same) is) like.is_slot sealed'))
+
+  sealing_of_same : (number : ℕ) (slot : SlotState) → IsSlot new number slot → IsSealed slot.capability → IsSealedByAuthority new number slot
+  sealing_of_same number slot is sealed =
+      let like = same.back number slot is in
+      let by = keeps.authority.sealing number like.other like.is_slot (subst (λ (c : Capability). IsSealed c) (sym like.capability) sealed) in
+      let up = same.there by.parent by.above by.is_slot in
+      record {
+        parent = by.parent;
+        above = up.other;
+        is_parent = sym like.parent ∙ by.is_parent;
+        is_slot = up.is_slot;
+        unsealed = subst (λ (c : Capability). IsUnsealed c) (sym up.capability) by.unsealed;
+        authorized =
+            subst (λ (c : Capability). HasAuthorityBefore new number seal_permission c.otype) like.capability
+            (authority_of_same by.authorized);
+      }
+
+  -- the laws stay, with whatever pool
+  pub Keeps-same : KeepsPool new → Keeps new
+  Keeps-same pool = record {
+    spans = λ number slot is.
+        let like = same.back number slot is in
+        subst (λ (c : Capability). IsKept c.span) like.capability (keeps.spans number like.other like.is_slot);
+    parent_first = λ parent number is. keeps.parent_first parent number (IsParent-same (HaveSameSlots-sym same) is);
+    less = less_of_same;
+    authority = record { unsealing = unsealing_of_same; sealing = sealing_of_same };
+    pool = pool;
+  }
+
+  -- the same pool
+  pub KeepsPool-same : new.pool ≡ old.pool → KeepsPool new
+  KeepsPool-same same_pool number is =
+      let there = keeps.pool number (sym same_pool ∙ is) in
+      let like = same.there number there.slot there.is_slot in
+      record {
+        slot = like.other;
+        is_slot = like.is_slot;
+        unsealed = subst (λ (c : Capability). IsUnsealed c) (sym like.capability) there.unsealed;
+      }
 
 -- ---- steps and runs
 
+pub Keeps-effect : (old new : State) (op : Op) (reply : Reply) → Keeps old → Effect old op reply new → Keeps new
+Keeps-effect old new op reply keeps (stays same) = subst (λ (s : State). Keeps s) (sym same) keeps
+Keeps-effect old new op reply keeps (grows grown) =
+    subst (λ (s : State). Keeps s) (sym grown.grows.is_new)
+    (Keeps-with_slot old op grown.grows.parent grown.grows.above grown.grows.capability grown.grows.is_slot grown.grows.growth keeps)
+Keeps-effect old new op reply keeps (gives given) =
+    let mid : State = record old { pool = Some given.number } in
+    let same = HaveSameSlots-list old mid refl in
+    let pool : KeepsPool mid = λ number is.
+    let e : given.number ≡ number = (let f : Some given.number ≡ Some number = is in cc) in
+    record {
+      slot = given.slot;
+      is_slot = subst (λ (n : ℕ). IsSlot mid n given.slot) e (IsSlot-along refl given.is_slot);
+      unsealed = given.unsealed;
+    } in
+    subst (λ (s : State). Keeps s) (sym given.is_new) (Keeps-same old mid same keeps pool)
+Keeps-effect old new op reply keeps (makes made) =
+    let cap : Capability = capability_over (span_at made.start made.size) made.above.capability in
+    let mid : State = with_slot old cap made.pool in
+    let next : State = with_object old cap made.pool made.size in
+    let kept = Keeps-with_slot old op made.pool made.above cap made.is_pool.is_slot made.growth keeps in
+    let same = HaveSameSlots-list mid next refl in
+    subst (λ (s : State). Keeps s) (sym made.is_new) (Keeps-same mid next same kept (KeepsPool-same mid next same kept refl))
+Keeps-effect old new op reply keeps (frees freed) =
+    let same = RevokesObject-same old new freed.ends.object freed.ends.revoked in
+    Keeps-same old new same keeps (KeepsPool-same old new same keeps freed.ends.pool_stays)
+
 pub Keeps-step : (old new : State) (op : Op) (reply : Reply) → Keeps old → Step old op reply new → Keeps new
-Keeps-step old new op reply keeps step = elim (Step-grows old new op reply keeps.spans step) [
-  | inl same ↦ subst (λ (s : State). Keeps s) (sym same) keeps
-  | inr grows ↦
-      subst (λ (s : State). Keeps s) (sym grows.is_new)
-      (Keeps-with_slot old op grows.parent grows.above grows.capability grows.is_slot grows.growth keeps)
-]
+Keeps-step old new op reply keeps step = Keeps-effect old new op reply keeps (Step-effect old new op reply keeps.spans keeps.pool step)
 
 pub Keeps-run : (old new : State) (ops : List Op) (replies : List Reply) → Keeps old → Run old ops replies new → Keeps new
 Keeps-run old new [] [] keeps run = subst (λ (s : State). Keeps s) (sym run) keeps

@@ -1,8 +1,11 @@
 -- In reading order.
 pub mod State
+pub mod Objects
 pub mod Step
 pub mod Run
 pub mod Laws
+pub mod ObjectLaws
 pub mod Confinement
 pub mod Reach
+pub mod Revoking
 pub mod Machine

@@ -1,11 +1,58 @@
 -- What is true of the fields of every machine. No public clause cites this.
-use Rattle.std.specs.Prelude.{◌≤◌, vec_len, vec_capacity}
+use Rattle.std.specs.Prelude.{ℕ, ◌≡◌, ◌≤◌, List, [], ◌∷◌, Option, Some, None, length, map, vec_len, vec_capacity}
+use Rattle.std.specs.Prelude.{option_and_then, option_map, slice_get}
+use Rattle.cc_cap.specs.Capability.{Capability}
+use Rattle.cc_plan.specs.declared.object.PlannedObject.{PlannedObject}
+use Rattle.cc_plan.specs.Plan.{Plan}
 use Rattle.cc_machine.specs.declared.machine.Machine.TheInside.{Inside}
+use Rattle.cc_machine.specs.declared.object.Object.{Object}
+use Rattle.cc_machine.specs.State.{State, SlotState}
+use Rattle.cc_machine.specs.Objects.{span_of_slot}
 use Rattle.cc_machine.specs.Run.{IsReached}
 
--- there is room for as many slots as the limit, and the state is one that a run leads to
+-- the objects of a planner with their slots
+unfoldable pub objects_in : List PlannedObject → List ℕ → List Object
+objects_in (planned ∷ rest) (slot ∷ slots) =
+    record { size = planned.size; slot = slot; live = planned.live } ∷ objects_in rest slots
+objects_in _ _ = []
+
+-- the state that the fields are
+abbrev pub state_of : Inside → State
+state_of machine = record {
+  limit = machine.limit;
+  slots = machine.slots.items;
+  pool = machine.pool;
+  objects = objects_in machine.planner.objects machine.object_slots.items;
+}
+
+-- the capability of the pool's slot
+abbrev pub pool_capability : State → Option Capability
+pool_capability state =
+    option_and_then (λ number. option_map (λ slot. slot.capability) (slice_get state.slots number)) state.pool
+
+-- what a planner knows of an object, of which the bounds are its slot's
+abbrev pub planned_object : List SlotState → Object → PlannedObject
+planned_object slots object = record {
+  size = object.size;
+  span = span_of_slot slots object.slot;
+  live = object.live;
+}
+
+-- what a planner knows of a state
+abbrev pub plan_of : State → Plan
+plan_of state = record {
+  limit = state.limit;
+  pool = pool_capability state;
+  objects = map (planned_object state.slots) state.objects;
+}
+
+-- There is room for as many slots and objects as the limit, each planned object has a slot, the planner knows
+-- what the state says of the pool and the objects, and the state is one that a run leads to.
 pub record IsMachine (machine : Inside) : Type 0 where
   pub limit_fits : machine.limit ≤ 65536
   pub within_limit : vec_len machine.slots ≤ machine.limit
   pub has_room : machine.limit ≤ vec_capacity machine.slots
-  pub reached : IsReached (record { limit = machine.limit; slots = machine.slots.items })
+  pub has_object_room : machine.limit ≤ vec_capacity machine.object_slots
+  pub each_has_slot : length machine.object_slots.items ≡ length machine.planner.objects
+  pub planned : machine.planner ≡ plan_of (state_of machine)
+  pub reached : IsReached (state_of machine)

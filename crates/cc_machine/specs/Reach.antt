@@ -1,16 +1,31 @@
--- Reachability: all that lies within a slot's capability is made by five operations.
-use Rattle.std.specs.Prelude.{ℕ, false, ◌≡◌, ◌+◌, ◌≤◌, List, [], ◌∷◌, length}
+-- Reachability: all that lies within a capability is derived from it by five operations.
+use Rattle.std.specs.Prelude.{ℕ, Bool, false, ◌≡◌, ◌+◌, ◌≤◌, List, [], ◌∷◌, length, Ok}
 use Rattle.std.specs.List.{AllByRecursion}
 use Rattle.cc_bounds.specs.Span.{length_of}
 use Rattle.cc_cap.specs.Capability.{Capability, IsCapability, IsUnsealed, GrantsNoMore}
+use Rattle.cc_cap.specs.Derivation.{SetsAddress, SetsExactBounds, MasksPermissions, SetsFlag}
 use Rattle.cc_machine.specs.declared.op.Op.{Op}
 use Rattle.cc_machine.specs.declared.op.Op.TheVariants.{Exact, Addr, Perms, Flag}
 use Rattle.cc_machine.specs.declared.reply.Reply.{Reply}
 use Rattle.cc_machine.specs.State.{State, SlotState, IsSlot}
-use Rattle.cc_machine.specs.Step.{IsRefused}
+use Rattle.cc_machine.specs.Run.{Run}
+use Rattle.cc_machine.specs.Confinement.{IsRefused}
 
--- The five derivations by which a capability is reached, as operations: the first on the slot, each next one on
--- the slot just made, of which the first has the number `next`.
+-- Five rules, none of which refuses, derive the capability from an authority: its address becomes the base,
+-- then it gets the bounds, its address is set, permissions are taken away, and the flag is set.
+pub record IsReachable (authority cap : Capability) : Type 0 where
+  pub at_base : Capability
+  pub bounded : Capability
+  pub placed : Capability
+  pub masked : Capability
+  pub goes_to_base : SetsAddress authority cap.span.base (Ok at_base)
+  pub gets_bounds : SetsExactBounds at_base (length_of cap.span) (Ok bounded)
+  pub gets_address : SetsAddress bounded cap.address (Ok placed)
+  pub gets_permissions : MasksPermissions placed cap.permissions (Ok masked)
+  pub gets_flag : SetsFlag masked cap.flag (Ok cap)
+
+-- The same as operations: the first on the slot, each next one on the slot just made, of which the first has
+-- the number `next`.
 abbrev pub path_to : Capability → (number next : ℕ) → List Op
 path_to cap number next =
     Addr number cap.span.base

@@ -1,19 +1,25 @@
-//! Slots of capabilities, the operations on them, and who was derived from whom.
+//! Slots of capabilities, the operations on them, who was derived from whom, and the objects of a pool.
 #![tactic(auto)]
 
 mod laws;
 mod len;
 mod machine;
+mod object;
 mod op;
 mod reply;
+mod revoking;
 mod rules;
 mod slot;
 mod stepping;
 #[cfg(test)]
 mod tests;
 
-pub use laws::{confinement, monotonic_tree, one_outcome, reachability, sealing_authority};
+pub use laws::{
+    confinement, disjoint_objects, exact_objects, exact_revocation, monotonic_tree,
+    objects_from_pool, reachability, sealing_authority,
+};
 pub use len::Len;
 pub use machine::Machine;
+pub use object::Object;
 pub use op::Op;
 pub use reply::Reply;

@@ -1,6 +1,9 @@
 //! The machine.
+use crate::len::Len;
+use crate::object::Object;
 use crate::op::Op;
 use crate::reply::Reply;
+use crate::revoking::revoke;
 use crate::rules::{
     rebuilt, sealed, unsealed, with_address, with_bounds, with_exact_bounds, with_flag,
     with_increment, with_perms,
@@ -8,6 +11,7 @@ use crate::rules::{
 use crate::slot::Slot;
 use crate::stepping::{add, round, show, usable};
 use cc_cap::Cap;
+use cc_plan::{ObjectId, Planner, SortedPlacer};
 use cc_word::Refusal;
 use std::alloc::{AllocError, Global};
 use std::marker::Model;
@@ -15,11 +19,16 @@ use std::marker::Model;
 /// Slots of capabilities, numbered from 0.
 ///
 /// Slot 0 has the root capability. Every other slot has a capability that was derived from an earlier slot,
-/// its parent. All memory is taken when the machine is opened.
+/// its parent. One slot may be made the pool, in whose bounds objects are made: each object is a slot below
+/// the pool's, and when it is freed, that slot and all that was derived from it is revoked. All memory is
+/// taken when the machine is opened.
 #[derive(Drop)]
 pub struct Machine {
     limit: u32,
     slots: Vec<Slot>,
+    pool: Option<u32>,
+    planner: Planner<SortedPlacer>,
+    object_slots: Vec<u32>,
 }
 
 impl Model for Machine {
@@ -27,20 +36,25 @@ impl Model for Machine {
 
     ghost Value = { State };
 
-    ghost use Rattle.cc_machine.specs.Machine.{IsMachine};
+    ghost use Rattle.cc_machine.specs.Machine.{IsMachine, state_of};
 
-    ghost view = { λ machine. record { limit = machine.limit; slots = machine.slots.items } };
+    ghost view = { state_of };
 
     ghost invariant = { IsMachine };
 }
 
 impl Machine {
     ghost use Rattle.std.specs.Prelude.{ℕ, Bool, ◌≡◌, ◌≤◌, IfOk, length};
+    ghost use Rattle.cc_plan.specs.Placement.{HaveSameSpans};
+    ghost use Rattle.cc_plan.specs.Plan.{held_spans as planned_spans};
+    ghost use Rattle.cc_machine.specs.declared.op.Op.TheVariants.{Pool, Alloc, Free};
     ghost use Rattle.cc_machine.specs.State.{initial_state};
-    ghost use Rattle.cc_machine.specs.Step.{IsRefused, capability_at, parent_at, Step};
+    ghost use Rattle.cc_machine.specs.Objects.{object_at, held_bytes_of, held_spans};
+    ghost use Rattle.cc_machine.specs.Step.{capability_at, parent_at, Step};
     ghost use Rattle.cc_machine.specs.Run.{Run, IsReached};
     ghost use Rattle.cc_machine.specs.Laws.{IsMonotonicTree, HasSealingAuthority};
-    ghost use Rattle.cc_machine.specs.Confinement.{RunsWithin, IsConfined};
+    ghost use Rattle.cc_machine.specs.ObjectLaws.{KeepsObjectLaws};
+    ghost use Rattle.cc_machine.specs.Confinement.{IsRefused, RunsWithin, IsConfined};
     ghost use Rattle.cc_machine.specs.Reach.{ReachesAll};
 
     /// A machine with room for `limit` slots, of which one is made: slot 0, the root.
@@ -58,17 +72,24 @@ impl Machine {
             revoked: false,
             parent: None,
         });
-        Ok(Machine { limit, slots })
+        let planner = Planner::with_limit(alloc, limit)?;
+        let object_slots = Vec::with_capacity(alloc, limit as usize)?;
+        Ok(Machine {
+            limit,
+            slots,
+            pool: None,
+            planner,
+            object_slots,
+        })
     }
 
     /// How many slots were made, revoked ones counted: the number of the next one.
     ///
-    /// It also tells what every machine keeps, whatever was done with it.
+    /// It also tells what is true of every machine, whatever was done with it: its state is one that a run
+    /// leads to, and so keeps the laws of every run.
     pub fn slots(&self) -> u32
         ensures count { result ≡ length self.now.slots }
         ensures reached { IsReached self.now }
-        ensures tree { IsMonotonicTree self.now }
-        ensures sealing { HasSealingAuthority self.now }
     {
         self.slots.len() as u32
     }
@@ -92,16 +113,48 @@ impl Machine {
         Ok(slot.parent)
     }
 
+    /// The object of a number, live or freed.
+    ///
+    /// Refusals: `NoObject`, where the number was never given.
+    pub fn object(&self, number: u32) -> Result<Object, Refusal>
+        ensures { result ≡ object_at self.now.objects number }
+    {
+        let planned = self
+            .planner
+            .object(ObjectId(number))
+            .ok_or(Refusal::NoObject)?;
+        Ok(Object {
+            size: planned.size,
+            slot: self.object_slots[number as usize - 1],
+            live: planned.live,
+        })
+    }
+
+    /// How many bytes the live objects hold: the sum of the lengths of their bounds.
+    pub fn held_bytes(&self) -> u128
+        ensures { result ≡ held_bytes_of self.now }
+    {
+        self.planner.held_bytes()
+    }
+
+    /// The planner, which holds the bounds of the live objects.
+    pub fn planner(&self) -> &Planner<SortedPlacer>
+        ensures { HaveSameSpans (planned_spans result.now.objects) (held_spans self.now) }
+    {
+        &self.planner
+    }
+
     /// Does one operation.
     ///
     /// A refused operation leaves the machine as it was. What is made goes into a new slot, the last, and is
-    /// refused with `Full`, after every other check, where there are as many slots as the limit.
+    /// refused with `Full` where there are as many slots as the limit: after every other check, save that an
+    /// object is looked a place for only then.
     pub fn step(&mut self, op: &Op) -> Reply
         ensures step { Step self.old op.now result self.new }
         ensures refused { IsRefused result → self.new ≡ self.old }
-        ensures reached { IsReached self.new }
         ensures tree { IsMonotonicTree self.new }
         ensures sealing { HasSealingAuthority self.new }
+        ensures objects { KeepsObjectLaws self.new }
     {
         let slots = &self.slots;
         let (parent, made) = match *op {
@@ -116,8 +169,85 @@ impl Machine {
             Op::Unseal(number, authority) => (number, unsealed(slots, number, authority)),
             Op::Rebuild(authority, word) => (authority, rebuilt(slots, authority, word)),
             Op::Round(length) => return round(length),
+            Op::Pool(number) => return self.set_pool(number),
+            Op::Alloc(length) => return self.alloc(length),
+            Op::Free(object) => return self.free(object),
         };
         add(&mut self.slots, self.limit, parent, made)
+    }
+
+    /// Makes the bounds of a slot the pool. Refusals in order: `NoSlot`, `Revoked`, `Sealed`,
+    /// `PoolAlreadySet`.
+    fn set_pool(&mut self, number: u32) -> Reply
+        ensures { Step self.old (Pool number) result self.new }
+    {
+        let pool = match usable(&self.slots, number) {
+            Ok(slot) => slot.capability,
+            Err(refusal) => return Reply::Refused(refusal),
+        };
+        if let Err(refusal) = self.planner.give_pool(pool) {
+            return Reply::Refused(refusal);
+        }
+        self.pool = Some(number);
+        Reply::PoolSet {
+            slot: number,
+            span: pool.span(),
+        }
+    }
+
+    /// Makes an object of this size at the least place of the pool. Refusals in order: `NoPool`, `ZeroSize`,
+    /// `Full`, `NoRoom`.
+    ///
+    /// The planner has no more objects than the machine has slots: it never refuses with `Full` itself.
+    fn alloc(&mut self, length: Len) -> Reply
+        ensures { Step self.old (Alloc length) result self.new }
+    {
+        let Some(pool) = self.pool else {
+            return Reply::Refused(Refusal::NoPool);
+        };
+        let size = length.get();
+        if size == 0 {
+            return Reply::Refused(Refusal::ZeroSize);
+        }
+        let number = self.slots.len() as u32;
+        if number == self.limit {
+            return Reply::Refused(Refusal::Full);
+        }
+        let (object, capability) = match self.planner.alloc(size) {
+            Ok(made) => made,
+            Err(refusal) => return Reply::Refused(refusal),
+        };
+        self.slots.push_reserved(Slot {
+            capability,
+            revoked: false,
+            parent: Some(pool),
+        });
+        self.object_slots.push_reserved(number);
+        Reply::Allocated {
+            object: object.0,
+            slot: number,
+            word: capability.word(),
+            span: capability.span(),
+            held: self.planner.held_bytes(),
+        }
+    }
+
+    /// Frees an object, and revokes its slot and all that was derived from it. Refusals: `NoObject`, where
+    /// the number was never given or its object was freed.
+    fn free(&mut self, object: u32) -> Reply
+        ensures { Step self.old (Free object) result self.new }
+    {
+        if let Err(refusal) = self.planner.free(ObjectId(object)) {
+            return Reply::Refused(refusal);
+        }
+        let slot = self.object_slots[object as usize - 1];
+        let revoked = revoke(&mut self.slots, slot);
+        let held = self.planner.held_bytes();
+        Reply::Freed {
+            object,
+            revoked,
+            held,
+        }
     }
 
     /// Does operations one after another, and writes the reply of each.
@@ -126,9 +256,9 @@ impl Machine {
     pub fn run(&mut self, ops: &[Op], replies: &mut [Reply])
         requires { length ops.now ≡ length replies.old }
         ensures run { Run self.old ops.now replies.new self.new }
-        ensures reached { IsReached self.new }
         ensures tree { IsMonotonicTree self.new }
         ensures sealing { HasSealingAuthority self.new }
+        ensures objects { KeepsObjectLaws self.new }
         ensures confined { (given : ℕ → Bool)
             → RunsWithin given self.old self.old ops.now replies.new self.new → IsConfined given self.old self.new }
         ensures reaches { ReachesAll self.old ops.now replies.new self.new }

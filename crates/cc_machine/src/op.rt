@@ -30,4 +30,10 @@ pub enum Op {
     Rebuild(u32, u128),
     /// What a length is rounded to.
     Round(Len),
+    /// Makes the bounds of the slot the pool of all objects.
+    Pool(u32),
+    /// Makes an object of this size in the pool.
+    Alloc(Len),
+    /// Frees the object, and revokes what was derived from it.
+    Free(u32),
 }

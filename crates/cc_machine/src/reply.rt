@@ -40,6 +40,35 @@ pub enum Reply {
         /// The bits that a base has to keep for bounds of that length to be exact (the instruction CRAM).
         mask: u64,
     },
+    /// The pool was set.
+    PoolSet {
+        /// The number of its slot.
+        slot: u32,
+        /// Its bounds.
+        span: Span,
+    },
+    /// An object was made.
+    Allocated {
+        /// The object's number.
+        object: u32,
+        /// The number of its slot.
+        slot: u32,
+        /// The word of its capability.
+        word: u128,
+        /// The object's bounds.
+        span: Span,
+        /// How many bytes live objects hold after it, padding counted.
+        held: u128,
+    },
+    /// An object was freed.
+    Freed {
+        /// The object's number.
+        object: u32,
+        /// How many slots were revoked by it.
+        revoked: u32,
+        /// How many bytes live objects hold after it, padding counted.
+        held: u128,
+    },
     /// The operation was refused, and nothing changed.
     Refused(Refusal),
 }

@@ -1,5 +1,6 @@
 //! The parts of a step, over the slots of a machine.
-ghost use Rattle.std.specs.Prelude.{ℕ, ◌≡◌, ◌≤◌, vec_len, vec_capacity};
+ghost use Rattle.std.specs.Prelude.{ℕ, ◌≡◌, ◌≤◌, List, Option, vec_len, vec_capacity};
+ghost use Rattle.cc_machine.specs.declared.object.Object.{Object};
 ghost use Rattle.cc_machine.specs.Step.{usable_slot, Shows, RoundsLength, Adds};
 
 use crate::len::Len;
@@ -58,8 +59,9 @@ pub(crate) fn add(
 ) -> Reply
     requires room { limit ≤ vec_capacity slots.old }
     requires within_limit { vec_len slots.old ≤ limit }
-    ensures added { Adds (record { limit = limit; slots = slots.old.items }) parent made result
-        (record { limit = limit; slots = slots.new.items }) }
+    ensures added { (pool : Option ℕ) (objects : List Object)
+        → Adds (record { limit = limit; slots = slots.old.items; pool = pool; objects = objects }) parent made result
+        (record { limit = limit; slots = slots.new.items; pool = pool; objects = objects }) }
     ensures room { limit ≤ vec_capacity slots.new }
     ensures within_limit { vec_len slots.new ≤ limit }
 {

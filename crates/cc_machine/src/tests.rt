@@ -1,4 +1,6 @@
 //! Worked rows as lists of operations: each operation with its reply.
+mod objects;
+
 use crate::{Len, Machine, Op, Reply};
 use cc_bounds::Span;
 use cc_cap::{ObjType, Perms};

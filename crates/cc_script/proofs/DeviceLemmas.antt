@@ -1,0 +1,82 @@
+-- What devices move in several calls.
+use Rattle.std.proofs.Common.{◌≡◌, ℕ, ◌+◌, ◌≤◌, List, [], ◌++◌, length, take, drop, Option, Some, None, refl, sym, ◌∙◌, ap, append_assoc, arith, subst, ◌-◌, length-append}
+use Rattle.std.proofs.lemmas.Grind.{common_steps}
+use Rattle.std.proofs.lemmas.List.{take_all, take-take, drop-take, take-append-drop, length-drop, take_rest, append-nil}
+use Rattle.std.proofs.Math.Seq.{take-append-add}
+use Rattle.std.specs.Io.KnownBytes.{Appends, Consumes, Keeps}
+use Rattle.cc_script.specs.Devices.{TakesBeginning}
+
+pub appends_none : (a : Option (List ℕ)) → Appends a a []
+appends_none None = tt
+appends_none (Some xs) = grind (arith, common_steps)
+
+pub appends_twice : (a b c : Option (List ℕ)) (xs ys : List ℕ) → Appends a b xs → Appends b c ys → Appends a c (xs ++ ys)
+appends_twice None b c xs ys p q = tt
+appends_twice (Some zs) (Some bs) (Some cs) xs ys p q = q ∙ ap (λ (l : List ℕ). l ++ ys) p ∙ append_assoc zs xs ys
+appends_twice (Some zs) (Some bs) None xs ys p q = q
+appends_twice (Some zs) None c xs ys p q = elim p [ ]
+
+pub keeps_appends : (a b : Option (List ℕ)) → Keeps a b → Appends a b []
+keeps_appends None b k = tt
+keeps_appends (Some xs) (Some ys) k = grind (arith, common_steps)
+keeps_appends (Some xs) None k = k
+
+pub consumes_none : (a : Option (List ℕ)) → Consumes a a []
+consumes_none None = tt
+consumes_none (Some xs) = refl
+
+pub consumes_twice : (a b c : Option (List ℕ)) (xs ys : List ℕ) → Consumes a b xs → Consumes b c ys → Consumes a c (xs ++ ys)
+consumes_twice None b c xs ys p q = tt
+consumes_twice (Some zs) (Some bs) (Some cs) xs ys p q = p ∙ ap (λ (l : List ℕ). xs ++ l) q ∙ sym (append_assoc xs ys cs)
+consumes_twice (Some zs) (Some bs) None xs ys p q = q
+consumes_twice (Some zs) None c xs ys p q = elim p [ ]
+
+pub keeps_consumes : (a b : Option (List ℕ)) → Keeps a b → Consumes a b []
+keeps_consumes None b k = tt
+keeps_consumes (Some xs) (Some ys) k = sym k
+keeps_consumes (Some xs) None k = k
+
+pub take_further : (i n : ℕ) (xs : List ℕ) → take (i + n) xs ≡ take i xs ++ take n (drop i xs)
+take_further i n xs =
+    let front : take i (take (i + n) xs) ≡ take i xs = take-take i (i + n) xs (omega arith) in
+    let back : drop i (take (i + n) xs) ≡ take n (drop i xs) = drop-take i n xs in
+    let whole : take i (take (i + n) xs) ++ drop i (take (i + n) xs) ≡ take (i + n) xs = take-append-drop i (take (i + n) xs) in
+    cc
+
+-- a write more of the rest, as `&bytes[i..]` is read
+pub appends_further : (a b c : Option (List ℕ)) (bytes : List ℕ) (i n : ℕ)
+    → Appends a b (take i bytes) → Appends b c (take n (take (length bytes - i) (drop i bytes))) → Appends a c (take (i + n) bytes)
+appends_further a b c bytes i n p q =
+    let r : Appends b c (take n (drop i bytes)) = subst (λ (l : List ℕ). Appends b c (take n l)) (take_rest bytes i) q in
+    rw (take_further i n bytes) (appends_twice a b c (take i bytes) (take n (drop i bytes)) p r)
+
+-- how many bytes such a write takes
+pub count_further : (bytes : List ℕ) (i n : ℕ) → i ≤ length bytes → n ≤ length (take (length bytes - i) (drop i bytes)) → i + n ≤ length bytes
+count_further bytes i n h k = omega (arith, ap length (take_rest bytes i), length-drop i bytes)
+
+-- a call that failed after some bytes
+pub part_kept : (a b c : Option (List ℕ)) (bytes : List ℕ) (i : ℕ) → i ≤ length bytes → Appends a b (take i bytes) → Keeps b c → TakesBeginning a c bytes
+part_kept a b c bytes i h p k = record {
+  count = i;
+  within = h;
+  taken = subst (λ (l : List ℕ). Appends a c l) (append-nil (take i bytes)) (appends_twice a b c (take i bytes) [] p (keeps_appends b c k));
+}
+
+-- a piece written whole, and a beginning of the next
+pub then_part : (a b c : Option (List ℕ)) (xs ys : List ℕ) → Appends a b xs → TakesBeginning b c ys → TakesBeginning a c (xs ++ ys)
+then_part a b c xs ys p t = record {
+  count = length xs + t.count;
+  within = omega (arith, length-append xs ys, t.within);
+  taken = rw (take-append-add xs ys t.count) (appends_twice a b c xs (take t.count ys) p t.taken);
+}
+
+-- a call that moved nothing, after a piece written whole
+pub then_kept : (a b c : Option (List ℕ)) (xs : List ℕ) → Appends a b xs → Keeps b c → Appends a c xs
+then_kept a b c xs p k = subst (λ (l : List ℕ). Appends a c l) (append-nil xs) (appends_twice a b c xs [] p (keeps_appends b c k))
+
+pub takes_whole : (a b : Option (List ℕ)) (xs : List ℕ) → Appends a b xs → TakesBeginning a b xs
+takes_whole a b xs p = record {
+  count = length xs;
+  within = omega arith;
+  taken = rw (take_all (length xs) xs (omega arith)) p;
+}

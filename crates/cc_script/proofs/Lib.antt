@@ -1,0 +1,11 @@
+mod NumberLemmas
+mod LineLemmas
+mod SplitLemmas
+mod PieceLemmas
+mod ValueLemmas
+mod NameLemmas
+mod CommandLemmas
+mod EngineLemmas
+mod RunLemmas
+mod DigitLemmas
+mod DeviceLemmas

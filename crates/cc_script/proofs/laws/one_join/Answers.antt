@@ -1,0 +1,5 @@
+use Rattle.cc_script.proofs.PieceLemmas.{one_join}
+use Rattle.cc_script.proofs.laws.one_join.Goals as goal
+
+pub returns : goal.returns
+returns c = one_join

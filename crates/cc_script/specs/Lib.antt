@@ -1,0 +1,9 @@
+-- In reading order.
+pub mod Lines
+pub mod Numbers
+pub mod Commands
+pub mod Replies
+pub mod Output
+pub mod Devices
+pub mod Correct
+pub mod Engine

@@ -1,0 +1,52 @@
+-- The texts of replies, without their line feed.
+use Rattle.std.specs.Prelude.{ℕ, Bool, true, false, List, ◌++◌, codes, decimal, Option, Some, None}
+use Rattle.std.specs.Fmt.{digits}
+use Rattle.cc_word.specs.Refusal.{code_of, name_of}
+use Rattle.cc_word.specs.Word.{bit_of}
+use Rattle.cc_word.specs.WordText.{digits_of}
+use Rattle.cc_word.specs.declared.refusal.Refusal.{Refusal}
+use Rattle.cc_bounds.specs.declared.span.Span.{Span}
+use Rattle.cc_cap.specs.Permissions.{bits_of}
+use Rattle.cc_machine.specs.declared.reply.Reply.{Reply}
+use Rattle.cc_machine.specs.declared.reply.Reply.TheVariants.{Made, Shown, Rounded, PoolSet, Allocated, Freed, Refused}
+
+-- `0x` and the digits of a number to base 16, in lower case and without leading zeros
+abbrev pub hexadecimal : ℕ → List ℕ
+hexadecimal number = codes "0x" ++ digits 16 false number
+
+-- base and top
+abbrev pub bounds_text : Span → List ℕ
+bounds_text span = hexadecimal span.base ++ codes " " ++ hexadecimal span.top
+
+-- a slot that was made: its number, its word, its bounds
+abbrev pub made_text : (slot word : ℕ) → Span → List ℕ
+made_text slot word span = decimal slot ++ codes " " ++ digits_of 32 word ++ codes " " ++ bounds_text span
+
+-- the parent's slot, or `-` for the root, which has none
+abbrev pub parent_text : Option ℕ → List ℕ
+parent_text None = codes "-"
+parent_text (Some slot) = decimal slot
+
+-- a refusal: its code and its name
+abbrev pub refusal_text : Refusal → List ℕ
+refusal_text refusal = codes "error " ++ decimal (code_of refusal) ++ codes " " ++ name_of refusal
+
+-- the text of a reply
+unfoldable pub reply_text : Reply → List ℕ
+reply_text (Made slot word span) = codes "slot " ++ made_text slot word span
+reply_text (Shown word span perms flag otype parent) =
+    codes "cap " ++ digits_of 32 word ++ codes " " ++ bounds_text span ++ codes " " ++ digits_of 4 (bits_of perms)
+    ++ codes " " ++ decimal (bit_of flag) ++ codes " " ++ digits_of 5 otype ++ codes " " ++ parent_text parent
+reply_text (Rounded rounded granule mask) =
+    codes "round " ++ hexadecimal rounded ++ codes " " ++ hexadecimal granule ++ codes " " ++ hexadecimal mask
+reply_text (PoolSet slot span) = codes "pool " ++ decimal slot ++ codes " " ++ bounds_text span
+reply_text (Allocated object slot word span held) =
+    codes "object " ++ decimal object ++ codes " slot " ++ made_text slot word span ++ codes " held " ++ decimal held
+reply_text (Freed object revoked held) =
+    codes "freed " ++ decimal object ++ codes " revoked " ++ decimal revoked ++ codes " held " ++ decimal held
+reply_text (Refused refusal) = refusal_text refusal
+
+-- the reply is an error
+abbrev pub is_error : Reply → Bool
+is_error (Refused refusal) = true
+is_error reply = false

@@ -1,0 +1,200 @@
+//! Runs a script.
+ghost use Rattle.std.specs.Prelude.{◌≡◌, ℕ, true, false, List, [], ◌∷◌, take, length, not, ◌==◌, ◌↔◌, Err, IfSome, IfOk, OnOk, OnErr, IsErr};
+ghost use Rattle.std.specs.Io.KnownBytes.{Appends};
+ghost use Rattle.cc_script.specs.Lines.{lines_from};
+ghost use Rattle.cc_script.specs.Commands.{operation_of};
+ghost use Rattle.cc_script.specs.Replies.{is_error};
+ghost use Rattle.cc_script.specs.Output.{Takes, rest_text};
+ghost use Rattle.cc_script.specs.Devices.{TakesBeginning};
+ghost use Rattle.cc_script.specs.Correct.{StopsInReply, RunsScript, RunsWhole};
+ghost use Rattle.cc_script.specs.Engine.{AnswersLine, CutsLine, Answers};
+
+use crate::devices::{Failed, Sink, Source};
+use crate::lines::LineStart;
+use crate::parsing::parse_line;
+use crate::printing::{refusal_line, reply_line};
+use crate::summary::{ScriptFault, Summary};
+use cc_machine::{Machine, Reply};
+use cc_word::Refusal;
+
+/// The most bytes that are read at once.
+const PIECE: usize = 4096;
+
+/// Runs the script that the source gives: each line is stepped by the machine, and its reply is written
+/// before the next line is looked at.
+///
+/// The caller has that neither device has failed before. The sink is flushed once, at the end of the
+/// script. `Read` is answered exactly if the source failed: then the replies of the whole lines that came
+/// before were written, and the machine stands after these. `Write` is answered exactly if the sink failed:
+/// then a beginning of the output was written, and the machine stands after the line whose reply was being
+/// written. Takes no memory of its own.
+pub fn run_script<R: Source, W: Sink>(
+    machine: &mut Machine,
+    source: &mut R,
+    sink: &mut W,
+) -> Result<Summary, ScriptFault>
+    requires source { R.has_failed source.old ≡ false }
+    requires sink { W.has_failed sink.old ≡ false }
+    ensures whole { IfSome (R.to_come source.old) (λ text.
+        RunsWhole machine.old text (R.to_come source.new) (W.taken_bytes sink.old) (W.taken_bytes sink.new) result machine.new) }
+    ensures runs { RunsScript machine.old (R.to_come source.old) (R.to_come source.new) (W.taken_bytes sink.old) (W.taken_bytes sink.new) result machine.new }
+    ensures read { (result ≡ Err ScriptFault.Read) ↔ (R.has_failed source.new ≡ true) }
+    ensures write { (result ≡ Err ScriptFault.Write) ↔ (W.has_failed sink.new ≡ true) }
+{
+    run_pieces(machine, source, sink)
+}
+
+/// Runs the script, piece by piece.
+fn run_pieces<R: Source, W: Sink>(
+    machine: &mut Machine,
+    source: &mut R,
+    sink: &mut W,
+) -> Result<Summary, ScriptFault>
+    requires source { R.has_failed source.old ≡ false }
+    requires sink { W.has_failed sink.old ≡ false }
+    ensures runs { RunsScript machine.old (R.to_come source.old) (R.to_come source.new) (W.taken_bytes sink.old) (W.taken_bytes sink.new) result machine.new }
+    ensures read { (result ≡ Err ScriptFault.Read) ↔ (R.has_failed source.new ≡ true) }
+    ensures write { (result ≡ Err ScriptFault.Write) ↔ (W.has_failed sink.new ≡ true) }
+{
+    let mut start = LineStart::new();
+    let mut any_error = false;
+    let mut piece = [0u8; PIECE];
+    'pieces: loop {
+        let count = match source.read(&mut piece) {
+            Ok(count) => count,
+            Err(Failed) => return Err(ScriptFault::Read),
+        };
+        if count == 0 {
+            break;
+        }
+        match take_piece(machine, &mut start, &piece[..count], sink) {
+            Ok(is_error) => any_error |= is_error,
+            Err(Failed) => return Err(ScriptFault::Write),
+        }
+    }
+    match finish(start.as_slice(), sink) {
+        Ok(is_error) => Ok(Summary {
+            any_error: any_error | is_error,
+        }),
+        Err(Failed) => Err(ScriptFault::Write),
+    }
+}
+
+/// Answers the lines that end in a piece of the script, and keeps the beginning of the next. Tells whether
+/// a reply was an error.
+fn take_piece<W: Sink>(
+    machine: &mut Machine,
+    start: &mut LineStart,
+    piece: &[u8],
+    sink: &mut W,
+) -> Result<bool, Failed>
+    requires { W.has_failed sink.old ≡ false }
+    ensures ok { (begun : List ℕ) → start.old ≡ take 129 begun → IfOk result (λ error.
+        Answers machine.old begun piece.now start.new (W.taken_bytes sink.old) (W.taken_bytes sink.new) error machine.new) }
+    ensures err { (begun : List ℕ) → start.old ≡ take 129 begun → OnErr result (
+        StopsInReply machine.old (lines_from begun piece.now) (W.taken_bytes sink.old) (W.taken_bytes sink.new) machine.new) }
+    ensures fails { IsErr result ↔ (W.has_failed sink.new ≡ true) }
+{
+    let mut any_error = false;
+    for byte in piece {
+        match take_byte(machine, start, *byte, sink) {
+            Ok(is_error) => any_error |= is_error,
+            Err(Failed) => return Err(Failed),
+        }
+    }
+    Ok(any_error)
+}
+
+/// Takes one byte of the script, and answers the line that it ends.
+fn take_byte<W: Sink>(
+    machine: &mut Machine,
+    start: &mut LineStart,
+    byte: u8,
+    sink: &mut W,
+) -> Result<bool, Failed>
+    requires { W.has_failed sink.old ≡ false }
+    ensures ok { (begun : List ℕ) → start.old ≡ take 129 begun → IfOk result (λ error.
+        Answers machine.old begun (byte ∷ []) start.new (W.taken_bytes sink.old) (W.taken_bytes sink.new) error machine.new) }
+    ensures err { (begun : List ℕ) → start.old ≡ take 129 begun → OnErr result (
+        StopsInReply machine.old (lines_from begun (byte ∷ [])) (W.taken_bytes sink.old) (W.taken_bytes sink.new) machine.new) }
+    ensures fails { IsErr result ↔ (W.has_failed sink.new ≡ true) }
+{
+    if byte != b'\n' {
+        start.push(byte);
+        return Ok(false);
+    }
+    match answer_line(machine, start.as_slice(), sink) {
+        Ok(is_error) => {
+            start.clear();
+            Ok(is_error)
+        }
+        Err(Failed) => Err(Failed),
+    }
+}
+
+/// Takes one line and writes its reply. Tells whether that is an error.
+fn answer_line<W: Sink>(machine: &mut Machine, line: &[u8], sink: &mut W) -> Result<bool, Failed>
+    requires { W.has_failed sink.old ≡ false }
+    ensures ok { IfOk result (λ error. AnswersLine machine.old line.now (W.taken_bytes sink.old) (W.taken_bytes sink.new) error machine.new) }
+    ensures err { OnErr result (CutsLine machine.old line.now (W.taken_bytes sink.old) (W.taken_bytes sink.new) machine.new) }
+    ensures fails { IsErr result ↔ (W.has_failed sink.new ≡ true) }
+{
+    let reply = reply_to(machine, line);
+    match reply_line(&reply).write(sink) {
+        Ok(()) => Ok(is_refusal(&reply)),
+        Err(Failed) => Err(Failed),
+    }
+}
+
+/// The machine's reply to a line, or the refusal of the line for its fault.
+fn reply_to(machine: &mut Machine, line: &[u8]) -> Reply
+    ensures { Takes machine.old (operation_of line.now) result machine.new }
+{
+    match parse_line(line) {
+        Ok(op) => machine.step(&op),
+        Err(refusal) => Reply::Refused(refusal),
+    }
+}
+
+/// Whether the reply is an error.
+fn is_refusal(reply: &Reply) -> bool
+    ensures { result ≡ is_error reply.now }
+{
+    matches!(reply, Reply::Refused(_))
+}
+
+/// Ends the output: the last reply, where a rest has no line feed, and the flush. Tells whether there was
+/// such a rest.
+fn finish<W: Sink>(rest: &[u8], sink: &mut W) -> Result<bool, Failed>
+    requires { W.has_failed sink.old ≡ false }
+    ensures error { IfOk result (λ error. error ≡ not (length rest.now == 0)) }
+    ensures ok { OnOk result (Appends (W.taken_bytes sink.old) (W.taken_bytes sink.new) (rest_text rest.now)) }
+    ensures err { OnErr result (TakesBeginning (W.taken_bytes sink.old) (W.taken_bytes sink.new) (rest_text rest.now)) }
+    ensures fails { IsErr result ↔ (W.has_failed sink.new ≡ true) }
+{
+    let is_error = match refuse_rest(rest, sink) {
+        Ok(is_error) => is_error,
+        Err(Failed) => return Err(Failed),
+    };
+    match sink.flush() {
+        Ok(()) => Ok(is_error),
+        Err(Failed) => Err(Failed),
+    }
+}
+
+/// Refuses a rest that is not empty. Tells whether it did.
+fn refuse_rest<W: Sink>(rest: &[u8], sink: &mut W) -> Result<bool, Failed>
+    requires { W.has_failed sink.old ≡ false }
+    ensures error { IfOk result (λ error. error ≡ not (length rest.now == 0)) }
+    ensures ok { OnOk result (Appends (W.taken_bytes sink.old) (W.taken_bytes sink.new) (rest_text rest.now)) }
+    ensures err { OnErr result (TakesBeginning (W.taken_bytes sink.old) (W.taken_bytes sink.new) (rest_text rest.now)) }
+    ensures fails { IsErr result ↔ (W.has_failed sink.new ≡ true) }
+{
+    if rest.is_empty() {
+        return Ok(false);
+    }
+    match refusal_line(Refusal::Unfinished).write(sink) {
+        Ok(()) => Ok(true),
+        Err(Failed) => Err(Failed),
+    }
+}

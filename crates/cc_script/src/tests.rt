@@ -1,0 +1,8 @@
+//! Tests of what no contract says: outside values, by topic.
+
+mod devices;
+mod lines;
+mod numbers;
+mod replies;
+mod rows;
+mod scripts;

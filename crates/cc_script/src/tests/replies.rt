@@ -1,0 +1,106 @@
+//! Replies as users read them.
+use crate::reply_line;
+use cc_bounds::Span;
+use cc_cap::{ObjType, Perms};
+use cc_machine::Reply;
+use cc_word::Refusal;
+
+const ALL: Span = Span {
+    base: 0,
+    top: 1 << 64,
+};
+
+const SMALL: Span = Span {
+    base: 0x1000,
+    top: 0x1200,
+};
+
+#[test]
+fn replies_as_text(rt: HostRuntime) {
+    let perms = Perms::from_bits(0xffff).expect(&rt, "a set");
+    let sealed = ObjType::from_bits(7).expect(&rt, "a type");
+    let rows: [(Reply, &str); 9] = [
+        (
+            Reply::Made {
+                slot: 1,
+                word: 0xffff_0000_0000_0000_0000_0000_0000_1000,
+                span: ALL,
+            },
+            "slot 1 ffff0000000000000000000000001000 0x0 0x10000000000000000",
+        ),
+        (
+            Reply::Shown {
+                word: 0xffff << 112,
+                span: ALL,
+                perms,
+                flag: false,
+                otype: ObjType::UNSEALED,
+                parent: None,
+            },
+            "cap ffff0000000000000000000000000000 0x0 0x10000000000000000 ffff 0 3ffff -",
+        ),
+        (
+            Reply::Shown {
+                word: 0xffff_1fff_c481_9004_0000_0000_0000_1000,
+                span: SMALL,
+                perms,
+                flag: true,
+                otype: sealed,
+                parent: Some(2),
+            },
+            "cap ffff1fffc48190040000000000001000 0x1000 0x1200 ffff 1 00007 2",
+        ),
+        (
+            Reply::Rounded {
+                rounded: 0x2000,
+                granule: 0x10,
+                mask: 0xffff_ffff_ffff_fff0,
+            },
+            "round 0x2000 0x10 0xfffffffffffffff0",
+        ),
+        (
+            Reply::PoolSet {
+                slot: 2,
+                span: SMALL,
+            },
+            "pool 2 0x1000 0x1200",
+        ),
+        (
+            Reply::Allocated {
+                object: 1,
+                slot: 3,
+                word: 0xffff_0000_0418_8004_0000_0000_0001_0000,
+                span: Span {
+                    base: 0x10000,
+                    top: 0x10064,
+                },
+                held: 100,
+            },
+            "object 1 slot 3 ffff0000041880040000000000010000 0x10000 0x10064 held 100",
+        ),
+        (
+            Reply::Freed {
+                object: 2,
+                revoked: 1,
+                held: 8296,
+            },
+            "freed 2 revoked 1 held 8296",
+        ),
+        (
+            Reply::Freed {
+                object: 1,
+                revoked: 1,
+                held: 1 << 64,
+            },
+            "freed 1 revoked 1 held 18446744073709551616",
+        ),
+        (
+            Reply::Refused(Refusal::Unrepresentable),
+            "error 11 unrepresentable",
+        ),
+    ];
+    for (reply, text) in &rows {
+        let line = reply_line(reply);
+        assert!(rt; line.bytes() == text.as_bytes(), "{text}");
+    }
+}

@@ -1,0 +1,108 @@
+//! Worked scripts, each on a machine of its own.
+use crate::{ScriptFault, SliceSink, SliceSource, Summary, run_script};
+use cc_machine::Machine;
+use std::process::Abort;
+use std::test::Fail;
+
+/// A script, the limit of slots, and what it writes.
+type Row<'a> = (&'a str, u32, &'a str, &'a str);
+
+#[rattlefmt::skip]
+const ROWS: [Row; 20] = [
+    ("empty_script", 4096, "", ""),
+    ("root_shown", 4096, "show 0\n", "cap ffff0000000000000000000000000000 0x0 0x10000000000000000 ffff 0 3ffff -\n"),
+    ("small_bounds", 4096, "addr 0 0x1000\nbounds 1 0x200\n",
+        "slot 1 ffff0000000000000000000000001000 0x0 0x10000000000000000\nslot 2 ffff0000048190040000000000001000 0x1000 0x1200\n"),
+    ("empty_bounds", 4096, "addr 0 0x1000\nbounds 1 0\n",
+        "slot 1 ffff0000000000000000000000001000 0x0 0x10000000000000000\nslot 2 ffff0000040190040000000000001000 0x1000 0x1000\n"),
+    ("longest_byte_granule", 4096, "bounds 0 4095\n", "slot 1 ffff000007fe40040000000000000000 0x0 0xfff\n"),
+    ("shortest_coarse_granule", 4096, "bounds 0 4096\n", "slot 1 ffff0000000180040000000000000000 0x0 0x1000\n"),
+    ("rounded_and_inexact", 4096, "addr 0 1\nbounds 1 4096\nexact 1 4096\nshow 3\nbounds 1 0xffffffffffffffff\n",
+        "slot 1 ffff0000000000000000000000000001 0x0 0x10000000000000000\nslot 2 ffff0000000380040000000000000001 0x0 0x1008\nerror 10 inexact\nerror 5 slot\nslot 3 ffff0000000000000000000000000001 0x0 0x10000000000000000\n"),
+    ("rounding_overflow", 4096, "bounds 0 8191\nround 4095\nround 8184\nround 8185\n",
+        "slot 1 ffff0000000180050000000000000000 0x0 0x2000\nround 0xfff 0x1 0xffffffffffffffff\nround 0x1ff8 0x8 0xfffffffffffffff8\nround 0x2000 0x10 0xfffffffffffffff0\n"),
+    ("whole_address_space", 4096, "round 0xffffffffffffffff\nround 0x10000000000000000\nround 0x10000000000000001\n",
+        "round 0x10000000000000000 0x80000000000000 0xff80000000000000\nround 0x10000000000000000 0x80000000000000 0xff80000000000000\nerror 4 range\n"),
+    ("end_of_address_space", 4096, "addr 0 0xffffffffffffff00\nbounds 1 0x100\nbounds 1 0x101\n",
+        "slot 1 ffff000000000000ffffffffffffff00 0x0 0x10000000000000000\nslot 2 ffff00000401bf04ffffffffffffff00 0xffffffffffffff00 0x10000000000000000\nerror 9 bounds\n"),
+    ("window_edges", 4096, "addr 0 0x1000\nbounds 1 0x200\naddr 2 0x800\naddr 2 0x47ff\naddr 2 0x7ff\naddr 2 0x4800\n",
+        "slot 1 ffff0000000000000000000000001000 0x0 0x10000000000000000\nslot 2 ffff0000048190040000000000001000 0x1000 0x1200\nslot 3 ffff0000048190040000000000000800 0x1000 0x1200\nslot 4 ffff00000481900400000000000047ff 0x1000 0x1200\nerror 11 unrepresentable\nerror 11 unrepresentable\n"),
+    ("window_round_zero", 4096, "bounds 0 0x200\naddr 1 0xfffffffffffff800\naddr 1 0xfffffffffffff7ff\ninc 2 0x800\n",
+        "slot 1 ffff0000048180040000000000000000 0x0 0x200\nslot 2 ffff000004818004fffffffffffff800 0x0 0x200\nerror 11 unrepresentable\nslot 3 ffff0000048180040000000000000000 0x0 0x200\n"),
+    ("every_address_representable", 4096, "addr 0 0x8000000000000000\nbounds 1 0x8000000000000000\naddr 2 0\n",
+        "slot 1 ffff0000000000008000000000000000 0x0 0x10000000000000000\nslot 2 ffff0000000010078000000000000000 0x8000000000000000 0x10000000000000000\nslot 3 ffff0000000010070000000000000000 0x8000000000000000 0x10000000000000000\n"),
+    ("sealing", 4096, "addr 0 0x1000\nbounds 1 0x200\naddr 0 7\nseal 2 3\nshow 4\nbounds 4 16\naddr 0 0x3fff0\nseal 2 5\nunseal 4 3\nperms 3 UNSEAL\nunseal 4 7\nseal 2 7\nunseal 2 3\nunseal 4 0\n",
+        "slot 1 ffff0000000000000000000000001000 0x0 0x10000000000000000\nslot 2 ffff0000048190040000000000001000 0x1000 0x1200\nslot 3 ffff0000000000000000000000000007 0x0 0x10000000000000000\nslot 4 ffff1fffc48190040000000000001000 0x1000 0x1200\ncap ffff1fffc48190040000000000001000 0x1000 0x1200 ffff 0 00007 2\nerror 7 sealed\nslot 5 ffff000000000000000000000003fff0 0x0 0x10000000000000000\nerror 13 type\nslot 6 ffff0000048190040000000000001000 0x1000 0x1200\nslot 7 02000000000000000000000000000007 0x0 0x10000000000000000\nslot 8 fffe0000048190040000000000001000 0x1000 0x1200\nerror 12 permission\nerror 8 unsealed\nerror 14 mismatch\n"),
+    ("rebuilding", 4096, "rebuild 0 00000000000000000000000000000000\nrebuild 0 ffff0000000000010000000000000000\nrebuild 0 ffff0000000020000000000000000000\nrebuild 0 ffff4000000000000000000000000000\nrebuild 0 ffff00000441bf04ffffffffffffff00\nrebuild 0 ffff1fffc48190040000000000001000\nrebuild 1 ffff0000048190040000000000001000\nflag 0 1\n",
+        "slot 1 00000000000000000000000000000000 0x0 0x10000000000000000\nerror 15 canonical\nerror 15 canonical\nerror 15 canonical\nerror 15 canonical\nerror 16 exceeds\nerror 16 exceeds\nslot 2 ffff2000000000000000000000000000 0x0 0x10000000000000000\n"),
+    ("slots_run_out", 2, "addr 0 1\naddr 0 2\nexact 1 4096\nshow 1\n",
+        "slot 1 ffff0000000000000000000000000001 0x0 0x10000000000000000\nerror 22 full\nerror 10 inexact\ncap ffff0000000000000000000000000001 0x0 0x10000000000000000 ffff 0 3ffff 0\n"),
+    ("line_faults", 4096, "\nshow  0\nshow 4294967296\nshow 1\nperms 0 READ\nperms 0 LOAD+LOAD\nperms 0 -\n",
+        "error 1 syntax\nerror 1 syntax\nerror 4 range\nerror 5 slot\nerror 1 syntax\nslot 1 00040000000000000000000000000000 0x0 0x10000000000000000\nslot 2 00000000000000000000000000000000 0x0 0x10000000000000000\n"),
+    ("long_lines", 4096, "show 000000000000000000000000000000000000000000000000000000000000000000000000000000000000000000000000000000000000000000000000000\nshow 0000000000000000000000000000000000000000000000000000000000000000000000000000000000000000000000000000000000000000000000000000\n",
+        "cap ffff0000000000000000000000000000 0x0 0x10000000000000000 ffff 0 3ffff -\nerror 3 long\n"),
+    ("first_fit_plan_and_revocation", 4096, "addr 0 0x10000\nexact 1 0x10000\npool 2\nalloc 100\nalloc 5000\nalloc 4\nalloc 8191\nfree 2\nalloc 4097\nalloc 65537\nalloc 0\nbounds 3 16\nfree 1\nshow 8\nfree 1\nshow 0",
+        "slot 1 ffff0000000000000000000000010000 0x0 0x10000000000000000\nslot 2 ffff0000000190000000000000010000 0x10000 0x20000\npool 2 0x10000 0x20000\nobject 1 slot 3 ffff0000041880040000000000010000 0x10000 0x10064 held 100\nobject 2 slot 4 ffff000000fd806c0000000000010068 0x10068 0x113f0 held 5100\nobject 3 slot 5 ffff0000041b80600000000000010064 0x10064 0x10068 held 5104\nobject 4 slot 6 ffff0000027f89fd00000000000113f0 0x113f0 0x133f0 held 13296\nfreed 2 revoked 1 held 8296\nobject 5 slot 7 ffff0000001d806c0000000000010068 0x10068 0x11070 held 12400\nerror 20 noroom\nerror 19 zero\nslot 8 ffff0000040580040000000000010000 0x10000 0x10010\nfreed 1 revoked 2 held 12300\nerror 6 revoked\nerror 21 object\nerror 2 unfinished\n"),
+    ("pool_of_everything", 4096, "alloc 1\npool 0\npool 0\nalloc 0x10000000000000000\nalloc 1\n",
+        "error 17 nopool\npool 0 0x0 0x10000000000000000\nerror 18 poolset\nobject 1 slot 1 ffff0000000000000000000000000000 0x0 0x10000000000000000 held 18446744073709551616\nerror 20 noroom\n"),
+];
+
+fn run(rt: &impl Abort, machine: &mut Machine, row: &Row, sizes: (usize, usize)) {
+    let (name, _, script, output) = *row;
+    let mut room = [0u8; 2048];
+    let mut source = SliceSource::new(script.as_bytes(), sizes.0.max(1), None);
+    let mut sink = SliceSink::new(&mut room, sizes.1.max(1), None);
+    let answer = run_script(machine, &mut source, &mut sink);
+    assert!(rt; answer.is_ok(), "{name}");
+    assert!(rt; sink.taken() == output.len(), "{name}");
+    assert!(rt; room.starts_with(output.as_bytes()), "{name}");
+}
+
+#[test]
+fn rows(rt: HostRuntime) -> Result<(), Fail> {
+    for row in &ROWS {
+        for size in &[1usize, 7, 4096] {
+            let mut machine = Machine::with_limit(rt.alloc(), row.1.clamp(1, 65_536))?;
+            run(&rt, &mut machine, row, (*size, *size));
+        }
+    }
+    Ok(())
+}
+
+#[test]
+fn device_failures(rt: HostRuntime) -> Result<(), Fail> {
+    let script = b"show 0\nsho";
+    let reply = b"cap ffff0000000000000000000000000000 0x0 0x10000000000000000 ffff 0 3ffff -\n";
+    let mut room = [0u8; 256];
+    let mut machine = Machine::with_limit(rt.alloc(), 16)?;
+    let mut source = SliceSource::new(script, 1, Some(11));
+    let mut sink = SliceSink::new(&mut room, 256, None);
+    assert!(rt; run_script(&mut machine, &mut source, &mut sink) == Err(ScriptFault::Read));
+    assert!(rt; sink.taken() == reply.len());
+    assert!(rt; room.starts_with(reply));
+    let mut room = [0u8; 7];
+    let mut source = SliceSource::new(script, 1, Some(11));
+    let mut sink = SliceSink::new(&mut room, 256, None);
+    assert!(rt; run_script(&mut machine, &mut source, &mut sink) == Err(ScriptFault::Write));
+    assert!(rt; room == *b"cap fff");
+    Ok(())
+}
+
+#[test]
+fn room_for_one_reply(rt: HostRuntime) -> Result<(), Fail> {
+    let script = b"addr 0 1\naddr 0 2\n";
+    let mut room = [0u8; 64];
+    let mut machine = Machine::with_limit(rt.alloc(), 16)?;
+    let mut source = SliceSource::new(script, 5, None);
+    let mut sink = SliceSink::new(&mut room, 5, None);
+    assert!(rt; run_script(&mut machine, &mut source, &mut sink) == Err(ScriptFault::Write));
+    assert!(rt; machine.slots() == 3);
+    assert!(rt; room[63] == b'\n');
+    let mut room = [0u8; 63];
+    let mut machine = Machine::with_limit(rt.alloc(), 16)?;
+    let mut source = SliceSource::new(script, 5, None);
+    let mut sink = SliceSink::new(&mut room, 5, None);
+    assert!(rt; run_script(&mut machine, &mut source, &mut sink) == Err(ScriptFault::Write));
+    assert!(rt; machine.slots() == 2);
+    Ok(())
+}

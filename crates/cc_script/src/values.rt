@@ -1,0 +1,70 @@
+//! The values of commands that are no numbers.
+ghost use Rattle.std.specs.Prelude.{◌≡◌, ◌==◌};
+ghost use Rattle.std.specs.List.{slice_split};
+ghost use Rattle.bitflags.specs.Sets.{find_name};
+ghost use Rattle.cc_cap.specs.Permissions.{permission_table};
+ghost use Rattle.cc_script.specs.Commands.{flag_in, word_in, permissions_in, with_names};
+
+use crate::words::split_at_first;
+use cc_cap::Perms;
+use cc_word::Refusal;
+
+/// The flag that a text spells: `0` or `1`, and nothing else.
+pub fn read_flag(text: &[u8]) -> Result<bool, Refusal>
+    ensures { result ≡ flag_in text.now }
+{
+    if text == b"0".as_slice() {
+        Ok(false)
+    } else if text == b"1".as_slice() {
+        Ok(true)
+    } else {
+        Err(Refusal::Syntax)
+    }
+}
+
+/// The capability word that a text spells: 32 hexadecimal digits of either case.
+pub fn read_word_value(text: &[u8]) -> Result<u128, Refusal>
+    ensures { result ≡ word_in text.now }
+{
+    match cc_word::read_word(text) {
+        Some(word) => Ok(word),
+        None => Err(Refusal::Syntax),
+    }
+}
+
+/// The set of permissions that a text spells: names in upper case, joined by `+`, in any order and
+/// repeated or not, or `-` for none.
+pub fn read_permissions(text: &[u8]) -> Result<Perms, Refusal>
+    ensures { result ≡ permissions_in text.now }
+{
+    if text == b"-".as_slice() {
+        return Perms::from_bits(0).ok_or(Refusal::Syntax);
+    }
+    match read_names(text) {
+        Some(bits) => Perms::from_bits(bits).ok_or(Refusal::Syntax),
+        None => Err(Refusal::Syntax),
+    }
+}
+
+/// The bits of the permissions whose names a text joins by `+`.
+fn read_names(text: &[u8]) -> Option<u16>
+    ensures { result ≡ with_names 0 (slice_split (λ byte. byte == 43) text.now) }
+{
+    let mut bits = 0;
+    let mut rest = text;
+    'names: while let Some((name, after)) = split_at_first(rest, b'+') {
+        bits |= read_name(name)?;
+        rest = after;
+    }
+    Some(bits | read_name(rest)?)
+}
+
+/// The bit of the permission of this name.
+fn read_name(name: &[u8]) -> Option<u16>
+    ensures { result ≡ find_name permission_table name.now }
+{
+    match std::str::from_utf8(name) {
+        Ok(name) => Perms::from_name(name).map(Perms::bits),
+        Err(_) => None,
+    }
+}
