@@ -12,8 +12,8 @@ use Rattle.cc_script.specs.Lines.{lines_from, rest_from, rest_of}
 use Rattle.cc_script.specs.Commands.{operation_of}
 use Rattle.cc_script.specs.Replies.{reply_text, is_error}
 use Rattle.cc_script.specs.Output.{Takes, TakesLines, with_line_feed, replies_text, rest_text}
-use Rattle.cc_script.specs.Correct.{StopsInReply, RunsScript}
-use Rattle.cc_script.specs.declared.summary.ScriptFault.TheVariants.{Write}
+use Rattle.cc_script.specs.Correct.{StopsInReply, WritesOutput, RunsAfter}
+use Rattle.cc_script.specs.declared.summary.ScriptFault.TheVariants.{Read, Write}
 use Rattle.cc_script.specs.Engine.{AnswersLine, CutsLine, Answers, Reads}
 use Rattle.cc_script.proofs.DeviceLemmas.{appends_none, appends_twice, consumes_none, consumes_twice}
 use Rattle.cc_script.proofs.LineLemmas.{lines_further, rest_further, start_further}
@@ -172,34 +172,61 @@ stops_in_piece a b c t u v begun piece start i e within p q =
     (stops_earlier a c t v begun (take i piece ++ get_or piece i 0 ∷ []) (drop (i + 1) piece)
     (stops_further a b c t u v begun (take i piece) (get_or piece i 0 ∷ []) start e p q))
 
--- ---- a run
+-- ---- the reads of a run
 
-pub reads_begins : (a : State) (c t : Option (List ℕ)) (start : List ℕ) → start ≡ [] → Reads a c c start t t false a
-reads_begins a c t start is = record {
+pub reads_begins : (a : State) (c t : Option (List ℕ)) (begun start : List ℕ) → start ≡ take 129 begun → Reads a begun c c start t t false a
+reads_begins a c t begun start is = record {
   text = [];
   given = consumes_none c;
   answers = record { replies = []; lines = refl; written = appends_none t; error_is = refl; start_is = is };
 }
 
-pub reads_more : (a b d : State) (c l j t u v : Option (List ℕ)) (start end piece : List ℕ) (e f : Bool) → (r : Reads a c l start t u e b)
-    → Consumes l j piece → Answers b (rest_from [] r.text) piece end u v f d → Reads a c j end t v (e || f) d
-reads_more a b d c l j t u v start end piece e f r given p = record {
+pub reads_more : (a b d : State) (c l j t u v : Option (List ℕ)) (begun start end piece : List ℕ) (e f : Bool)
+    → (r : Reads a begun c l start t u e b) → Consumes l j piece
+    → Answers b (rest_from begun r.text) piece end u v f d → Reads a begun c j end t v (e || f) d
+reads_more a b d c l j t u v begun start end piece e f r given p = record {
   text = r.text ++ piece;
   given = consumes_twice c l j r.text piece r.given given;
-  answers = answers_further a b d t u v [] r.text piece start end e f r.answers p;
+  answers = answers_further a b d t u v begun r.text piece start end e f r.answers p;
+}
+
+-- ---- a run of a script: the opening was answered, and what follows read
+
+-- the sink failed in the opening
+pub stops_in_opening : (a b : State) (c t u : Option (List ℕ)) (opening : List ℕ)
+    → StopsInReply a (lines_from [] opening) t u b → RunsAfter opening a c c t u (Err Write) b
+stops_in_opening a b c t u opening p = record {
+  text = [];
+  given = consumes_none c;
+  runs = inl (subst (λ (l : List ℕ). StopsInReply a (lines_from [] l) t u b) (sym (append-nil opening)) p);
 }
 
 -- the text that was read, after a call that gave nothing
 still : (c l j : Option (List ℕ)) (text : List ℕ) → Consumes c l text → Consumes l j [] → Consumes c j text
 still c l j text p q = subst (λ (x : List ℕ). Consumes c j x) (append-nil text) (consumes_twice c l j text [] p q)
 
+-- the source failed
+pub fails_reading : (a b d : State) (c l j t u v : Option (List ℕ)) (opening first start : List ℕ) (e f : Bool)
+    → Answers a [] opening first t u e b → Reads b (rest_from [] opening) c l start u v f d → Consumes l j []
+    → RunsAfter opening a c j t v (Err Read) d
+fails_reading a b d c l j t u v opening first start e f p r nothing =
+    let q = answers_further a b d t u v [] opening r.text first start e f p r.answers in
+    record {
+      text = r.text;
+      given = still c l j r.text r.given nothing;
+      runs = record { replies = q.replies; lines = q.lines; written = q.written };
+    }
+
 -- the sink failed in a piece
-pub stops_reading : (a b d : State) (c l j t u v : Option (List ℕ)) (start piece : List ℕ) (e : Bool) → (r : Reads a c l start t u e b)
-    → Consumes l j piece → StopsInReply b (lines_from (rest_from [] r.text) piece) u v d → RunsScript a c j t v (Err Write) d
-stops_reading a b d c l j t u v start piece e r given p = record {
+pub stops_reading : (a b d z : State) (c l j t u v w : Option (List ℕ)) (opening first start piece : List ℕ) (e f : Bool)
+    → Answers a [] opening first t u e b → (r : Reads b (rest_from [] opening) c l start u v f d) → Consumes l j piece
+    → StopsInReply d (lines_from (rest_from (rest_from [] opening) r.text) piece) v w z
+    → RunsAfter opening a c j t w (Err Write) z
+stops_reading a b d z c l j t u v w opening first start piece e f p r given s = record {
   text = r.text ++ piece;
   given = consumes_twice c l j r.text piece r.given given;
-  runs = inl (stops_further a b d t u v [] r.text piece start e r.answers p);
+  runs = inl (stops_further a b z t u w [] opening (r.text ++ piece) first e p
+      (stops_further b d z u v w (rest_from [] opening) r.text piece start f r.answers s));
 }
 
 -- the beginning of the rest tells what the rest gets
@@ -211,49 +238,56 @@ empty_start : (rest : List ℕ) → (length (take 129 rest) == 0) ≡ (length re
 empty_start [] = refl
 empty_start (byte ∷ rest) = eqb-suc-zero (length (take 128 rest)) ∙ sym (eqb-suc-zero (length rest))
 
+-- all of a text was answered, and the output ended
+writes_output : (a b : State) (t u v : Option (List ℕ)) (text start : List ℕ) (e f : Bool) → Answers a [] text start t u e b
+    → Appends u v (rest_text start) → f ≡ not (length start == 0) → WritesOutput a text t v (e || f) b
+writes_output a b t u v text start e f q p f_is =
+    let rest : List ℕ = rest_of text in
+    record {
+      output = replies_text q.replies ++ rest_text rest;
+      of_text = record {
+        replies = q.replies;
+        lines = q.lines;
+        output_is = refl;
+        error_is = rw (q.error_is, f_is, q.start_is, empty_start rest) refl;
+      };
+      written = appends_twice t u v (replies_text q.replies) (rest_text rest) q.written
+          (subst (λ (x : List ℕ). Appends u v x) (ap rest_text q.start_is ∙ rest_start rest) p);
+    }
+
 -- the source is at its end, and the output was ended
-pub ends : (a b : State) (c l j t u v : Option (List ℕ)) (start : List ℕ) (e f : Bool) → Reads a c l start t u e b
-    → Consumes l j [] → IsAtEnd j → Appends u v (rest_text start) → f ≡ not (length start == 0)
-    → RunsScript a c j t v (Ok (record { any_error = e || f })) b
-ends a b c l j t u v start e f r given at_end p f_is =
-    let rest : List ℕ = rest_of r.text in
+pub ends : (a b d : State) (c l j t u v w : Option (List ℕ)) (opening first start : List ℕ) (e f g : Bool)
+    → Answers a [] opening first t u e b → (r : Reads b (rest_from [] opening) c l start u v f d) → Consumes l j [] → IsAtEnd j
+    → Appends v w (rest_text start) → g ≡ not (length start == 0)
+    → RunsAfter opening a c j t w (Ok (record { any_error = (e || f) || g })) d
+ends a b d c l j t u v w opening first start e f g p r nothing at_end s g_is =
+    let q = answers_further a b d t u v [] opening r.text first start e f p r.answers in
     record {
       text = r.text;
-      given = still c l j r.text r.given given;
-      runs = (
-        at_end,
-        record {
-          output = replies_text r.answers.replies ++ rest_text rest;
-          of_text = record {
-            replies = r.answers.replies;
-            lines = r.answers.lines;
-            output_is = refl;
-            error_is = rw (r.answers.error_is, f_is, r.answers.start_is, empty_start rest) refl;
-          };
-          written = appends_twice t u v (replies_text r.answers.replies) (rest_text rest) r.answers.written
-              (subst (λ (x : List ℕ). Appends u v x) (ap rest_text r.answers.start_is ∙ rest_start rest) p);
-        },
-      );
+      given = still c l j r.text r.given nothing;
+      runs = (at_end, writes_output a d t v w (opening ++ r.text) start (e || f) g q s g_is);
     }
 
 -- the source is at its end, and the sink failed in ending the output
-pub stops_ending : (a b : State) (c l j t u v : Option (List ℕ)) (start : List ℕ) (e : Bool) → Reads a c l start t u e b
-    → Consumes l j [] → IsAtEnd j → TakesBeginning u v (rest_text start) → RunsScript a c j t v (Err Write) b
-stops_ending a b c l j t u v start e r given at_end p =
-    let rest : List ℕ = rest_of r.text in
-    let same : rest_text start ≡ rest_text rest = ap rest_text r.answers.start_is ∙ rest_start rest in
-    let q : TakesBeginning u v (rest_text rest) = subst (λ (x : List ℕ). TakesBeginning u v x) same p in
+pub stops_ending : (a b d : State) (c l j t u v w : Option (List ℕ)) (opening first start : List ℕ) (e f : Bool)
+    → Answers a [] opening first t u e b → (r : Reads b (rest_from [] opening) c l start u v f d) → Consumes l j [] → IsAtEnd j
+    → TakesBeginning v w (rest_text start) → RunsAfter opening a c j t w (Err Write) d
+stops_ending a b d c l j t u v w opening first start e f p r nothing at_end s =
+    let rest : List ℕ = rest_of (opening ++ r.text) in
+    let q = answers_further a b d t u v [] opening r.text first start e f p r.answers in
+    let same : rest_text start ≡ rest_text rest = ap rest_text q.start_is ∙ rest_start rest in
+    let k : TakesBeginning v w (rest_text rest) = subst (λ (x : List ℕ). TakesBeginning v w x) same s in
     record {
       text = r.text;
-      given = still c l j r.text r.given given;
+      given = still c l j r.text r.given nothing;
       runs = inr (
         at_end,
         record {
-          replies = r.answers.replies;
-          lines = r.answers.lines;
-          count = q.count;
-          within = q.within;
-          written = appends_twice t u v (replies_text r.answers.replies) (take q.count (rest_text rest)) r.answers.written q.taken;
+          replies = q.replies;
+          lines = q.lines;
+          count = k.count;
+          within = k.within;
+          written = appends_twice t v w (replies_text q.replies) (take k.count (rest_text rest)) q.written k.taken;
         },
       );
     }

@@ -13,7 +13,7 @@ use Rattle.cc_script.specs.Commands.{operation_of}
 use Rattle.cc_script.specs.Lines.{lines_of, rest_of}
 use Rattle.cc_script.specs.Replies.{reply_text, is_error}
 use Rattle.cc_script.specs.Output.{Takes, TakesLines, with_line_feed, replies_text, rest_text, with_operation, operations_of, RunsOperations}
-use Rattle.cc_script.specs.Correct.{StopsInReply, StopsAfterLines, WritesOutput, RunsScript, HasBeginning, BeginsOutput, RunsWhole}
+use Rattle.cc_script.specs.Correct.{StopsInReply, StopsAfterLines, WritesOutput, RunsAfter, RunsScript, HasBeginning, BeginsOutput, RunsWhole}
 use Rattle.cc_script.specs.declared.summary.ScriptFault.{ScriptFault}
 use Rattle.cc_script.specs.declared.summary.ScriptFault.TheVariants.{Read, Write}
 use Rattle.cc_script.specs.declared.summary.Summary.{Summary}
@@ -100,10 +100,21 @@ runs_input a b input (Some rest) t u (Err Write) r = elim r.runs [
       (inr q, begins_after_lines a b t u input q)
 ]
 
-pub runs_whole : (a b : State) (to_come left t u : Option (List ℕ)) (result : Result Summary ScriptFault)
-    → RunsScript a to_come left t u result b → IfSome to_come (λ input. RunsWhole a input left t u result b)
-runs_whole a b None left t u result r = tt
-runs_whole a b (Some input) left t u result r = runs_input a b input left t u result r
+-- where the bytes to come are known, the opening may count as the first of them
+runs_opened : (a b : State) (opening input : List ℕ) (left t u : Option (List ℕ)) (result : Result Summary ScriptFault)
+    → RunsAfter opening a (Some input) left t u result b → RunsScript a (Some (opening ++ input)) left t u result b
+runs_opened a b opening input None t u result r = absurd r.given
+runs_opened a b opening input (Some rest) t u result r = record {
+  text = opening ++ r.text;
+  given = ap (λ (l : List ℕ). opening ++ l) r.given ∙ sym (append_assoc opening r.text rest);
+  runs = r.runs;
+}
+
+pub runs_whole : (a b : State) (opening : List ℕ) (to_come left t u : Option (List ℕ)) (result : Result Summary ScriptFault)
+    → RunsAfter opening a to_come left t u result b → IfSome to_come (λ input. RunsWhole a (opening ++ input) left t u result b)
+runs_whole a b opening None left t u result r = tt
+runs_whole a b opening (Some input) left t u result r =
+    runs_input a b (opening ++ input) left t u result (runs_opened a b opening input left t u result r)
 
 -- ---- the operations of lines
 

@@ -55,11 +55,16 @@ RunsText old text left taken taken_now (Err Read) new = WritesReplies old text t
 RunsText old text left taken taken_now (Err Write) new =
     StopsInReply old (lines_of text) taken taken_now new ⊎ (IsAtEnd left × StopsAfterLines old text taken taken_now new)
 
--- What a run leaves. The text is what the source gave: where it tells what was to come, a beginning of that.
-pub record RunsScript (old : State) (to_come left taken taken_now : Option (List ℕ)) (result : Result Summary ScriptFault) (new : State) : Type 0 where
+-- What a run leaves of a script that begins with `opening` and goes on as the source gives. The text is what
+-- the source gave: where it tells what was to come, a beginning of that.
+pub record RunsAfter (opening : List ℕ) (old : State) (to_come left taken taken_now : Option (List ℕ)) (result : Result Summary ScriptFault) (new : State) : Type 0 where
   pub text : List ℕ
   pub given : Consumes to_come left text
-  pub runs : RunsText old text left taken taken_now result new
+  pub runs : RunsText old (opening ++ text) left taken taken_now result new
+
+-- what a run leaves of a script that is all from the source
+abbrev pub RunsScript : (old : State) (to_come left taken taken_now : Option (List ℕ)) → Result Summary ScriptFault → (new : State) → Type 0
+RunsScript = RunsAfter []
 
 -- the source failed when it had given a beginning of the text
 pub record GivesBeginning (old : State) (text : List ℕ) (left taken taken_now : Option (List ℕ)) (new : State) : Type 0 where

@@ -1,5 +1,5 @@
 -- What the parts of a run do. No public clause cites this file.
-use Rattle.std.specs.Prelude.{◌≡◌, ℕ, Bool, List, [], take, Option}
+use Rattle.std.specs.Prelude.{◌≡◌, ℕ, Bool, List, take, Option}
 use Rattle.std.specs.Io.KnownBytes.{Appends, Consumes}
 use Rattle.std.specs.List.{list_any}
 use Rattle.cc_machine.specs.declared.reply.Reply.{Reply}
@@ -32,8 +32,8 @@ pub record Answers (old : State) (begun text start : List ℕ) (taken taken_now 
   pub error_is : any_error ≡ list_any is_error replies
   pub start_is : start ≡ take 129 (rest_from begun text)
 
--- what was done between two reads
-pub record Reads (old : State) (to_come left : Option (List ℕ)) (start : List ℕ) (taken taken_now : Option (List ℕ)) (any_error : Bool) (new : State) : Type 0 where
+-- what was done between two reads, where the line that came before had begun with `begun`
+pub record Reads (old : State) (begun : List ℕ) (to_come left : Option (List ℕ)) (start : List ℕ) (taken taken_now : Option (List ℕ)) (any_error : Bool) (new : State) : Type 0 where
   pub text : List ℕ
   pub given : Consumes to_come left text
-  pub answers : Answers old [] text start taken taken_now any_error new
+  pub answers : Answers old begun text start taken taken_now any_error new

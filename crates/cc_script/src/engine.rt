@@ -1,12 +1,12 @@
 //! Runs a script.
-ghost use Rattle.std.specs.Prelude.{◌≡◌, ℕ, true, false, List, [], ◌∷◌, take, length, not, ◌==◌, ◌↔◌, Err, IfSome, IfOk, OnOk, OnErr, IsErr};
+ghost use Rattle.std.specs.Prelude.{◌≡◌, ℕ, true, false, List, [], ◌∷◌, ◌++◌, take, length, not, ◌==◌, ◌↔◌, Err, IfSome, IfOk, OnOk, OnErr, IsErr};
 ghost use Rattle.std.specs.Io.KnownBytes.{Appends};
 ghost use Rattle.cc_script.specs.Lines.{lines_from};
 ghost use Rattle.cc_script.specs.Commands.{operation_of};
 ghost use Rattle.cc_script.specs.Replies.{is_error};
 ghost use Rattle.cc_script.specs.Output.{Takes, rest_text};
 ghost use Rattle.cc_script.specs.Devices.{TakesBeginning};
-ghost use Rattle.cc_script.specs.Correct.{StopsInReply, RunsScript, RunsWhole};
+ghost use Rattle.cc_script.specs.Correct.{StopsInReply, RunsAfter, RunsScript, RunsWhole};
 ghost use Rattle.cc_script.specs.Engine.{AnswersLine, CutsLine, Answers};
 
 use crate::devices::{Failed, Sink, Source};
@@ -41,24 +41,48 @@ pub fn run_script<R: Source, W: Sink>(
     ensures read { (result ≡ Err ScriptFault.Read) ↔ (R.has_failed source.new ≡ true) }
     ensures write { (result ≡ Err ScriptFault.Write) ↔ (W.has_failed sink.new ≡ true) }
 {
-    run_pieces(machine, source, sink)
+    run_script_after(b"", machine, source, sink)
 }
 
-/// Runs the script, piece by piece.
-fn run_pieces<R: Source, W: Sink>(
+/// Runs the script that begins with these bytes and goes on as the source gives, as [`run_script`] runs one
+/// that is all from the source.
+pub fn run_script_after<R: Source, W: Sink>(
+    opening: &[u8],
     machine: &mut Machine,
     source: &mut R,
     sink: &mut W,
 ) -> Result<Summary, ScriptFault>
     requires source { R.has_failed source.old ≡ false }
     requires sink { W.has_failed sink.old ≡ false }
-    ensures runs { RunsScript machine.old (R.to_come source.old) (R.to_come source.new) (W.taken_bytes sink.old) (W.taken_bytes sink.new) result machine.new }
+    ensures whole { IfSome (R.to_come source.old) (λ text.
+        RunsWhole machine.old (opening.now ++ text) (R.to_come source.new) (W.taken_bytes sink.old) (W.taken_bytes sink.new) result machine.new) }
+    ensures runs { RunsAfter opening.now machine.old (R.to_come source.old) (R.to_come source.new) (W.taken_bytes sink.old) (W.taken_bytes sink.new) result machine.new }
+    ensures read { (result ≡ Err ScriptFault.Read) ↔ (R.has_failed source.new ≡ true) }
+    ensures write { (result ≡ Err ScriptFault.Write) ↔ (W.has_failed sink.new ≡ true) }
+{
+    run_pieces(opening, machine, source, sink)
+}
+
+/// Runs the script, piece by piece.
+fn run_pieces<R: Source, W: Sink>(
+    opening: &[u8],
+    machine: &mut Machine,
+    source: &mut R,
+    sink: &mut W,
+) -> Result<Summary, ScriptFault>
+    requires source { R.has_failed source.old ≡ false }
+    requires sink { W.has_failed sink.old ≡ false }
+    ensures runs { RunsAfter opening.now machine.old (R.to_come source.old) (R.to_come source.new) (W.taken_bytes sink.old) (W.taken_bytes sink.new) result machine.new }
     ensures read { (result ≡ Err ScriptFault.Read) ↔ (R.has_failed source.new ≡ true) }
     ensures write { (result ≡ Err ScriptFault.Write) ↔ (W.has_failed sink.new ≡ true) }
 {
     let mut start = LineStart::new();
-    let mut any_error = false;
     let mut piece = [0u8; PIECE];
+    let opening_error = match take_piece(machine, &mut start, opening, sink) {
+        Ok(is_error) => is_error,
+        Err(Failed) => return Err(ScriptFault::Write),
+    };
+    let mut any_error = false;
     'pieces: loop {
         let count = match source.read(&mut piece) {
             Ok(count) => count,
@@ -74,7 +98,7 @@ fn run_pieces<R: Source, W: Sink>(
     }
     match finish(start.as_slice(), sink) {
         Ok(is_error) => Ok(Summary {
-            any_error: any_error | is_error,
+            any_error: opening_error | any_error | is_error,
         }),
         Err(Failed) => Err(ScriptFault::Write),
     }

@@ -20,7 +20,7 @@ mod values;
 mod words;
 
 pub use devices::{Failed, Sink, Source, write_all};
-pub use engine::run_script;
+pub use engine::{run_script, run_script_after};
 pub use laws::{lines_run, one_join, one_split};
 pub use line::Line;
 pub use numbers::{read_address, read_length};

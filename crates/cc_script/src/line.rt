@@ -36,7 +36,7 @@ impl Model for Line {
 
 impl Line {
     /// No text yet.
-    pub(crate) fn new() -> Self
+    pub fn new() -> Self
         ensures { result ≡ [] }
     {
         Line {
@@ -54,7 +54,7 @@ impl Line {
     }
 
     /// Appends bytes as they are.
-    pub(crate) fn push(&mut self, bytes: &[u8])
+    pub fn push(&mut self, bytes: &[u8])
         requires { length self.old + length bytes.now ≤ ROOM }
         ensures { self.new ≡ self.old ++ bytes.now }
     {
@@ -64,7 +64,7 @@ impl Line {
     }
 
     /// Appends the number of a slot or of an object in decimal digits.
-    pub(crate) fn push_index(&mut self, number: u32)
+    pub fn push_index(&mut self, number: u32)
         requires { length self.old + 10 ≤ ROOM }
         ensures value { self.new ≡ self.old ++ decimal number }
         ensures fits { length self.new ≤ length self.old + 10 }
@@ -74,7 +74,7 @@ impl Line {
     }
 
     /// Appends a number in decimal digits.
-    pub(crate) fn push_decimal(&mut self, number: u128)
+    pub fn push_decimal(&mut self, number: u128)
         requires { length self.old + 40 ≤ ROOM }
         ensures value { self.new ≡ self.old ++ decimal number }
         ensures fits { length self.new ≤ length self.old + 40 }
@@ -84,7 +84,7 @@ impl Line {
     }
 
     /// Appends the last `count` hexadecimal digits of a number.
-    pub(crate) fn push_digits(&mut self, number: u128, count: usize)
+    pub fn push_digits(&mut self, number: u128, count: usize)
         requires digits { count ≤ 32 }
         requires room { length self.old + count ≤ ROOM }
         ensures value { self.new ≡ self.old ++ digits_of count number }
@@ -94,7 +94,7 @@ impl Line {
     }
 
     /// Appends `0x` and a number's hexadecimal digits without leading zeros.
-    pub(crate) fn push_hexadecimal(&mut self, number: u128)
+    pub fn push_hexadecimal(&mut self, number: u128)
         requires { length self.old + 34 ≤ ROOM }
         ensures value { self.new ≡ self.old ++ hexadecimal number }
         ensures fits { length self.new ≤ length self.old + 34 }
