@@ -1,6 +1,3 @@
-mod DeviceLemmas
-mod DigitLemmas
 mod GivenLemmas
 mod InvocationLemmas
-mod NumberLemmas
 mod PermissionLemmas

@@ -10,9 +10,14 @@ use Rattle.cc_word.specs.declared.refusal.Refusal.TheVariants.{Syntax}
 use Rattle.cc_bounds.specs.declared.span.Span.{Span}
 use Rattle.cc_bounds.specs.Decoding.{stored_exponent, DecodesTo}
 use Rattle.cc_cap.specs.Canonical.{IsCanonical}
-use Rattle.cheri_cap.specs.Answer.{refusal_line_of}
+use Rattle.cc_script.specs.Output.{with_line_feed}
+use Rattle.cc_script.specs.Replies.{hexadecimal}
+use Rattle.cheri_cap.specs.Answer.{IsRefusalLine}
 use Rattle.cheri_cap.specs.Permissions.{permissions_text}
-use Rattle.cheri_cap.specs.Text.{hexadecimal, line_of}
+
+-- a name, one space, a value and the line feed
+abbrev pub line_of : (name value : List ℕ) → List ℕ
+line_of name value = with_line_feed (name ++ codes " " ++ value)
 
 -- a text that spells a word: 32 hexadecimal digits of either case
 abbrev pub IsWordText : List ℕ → Type 0
@@ -60,4 +65,4 @@ pub record IsWordListing (word : ℕ) (listing : List ℕ) : Type 0 where
 abbrev pub IsListing : (text listing : List ℕ) → Type 0
 IsListing text listing =
     (IsWordText text × IsWordListing (digits_value 16 text) listing)
-    ⊎ ((¬ IsWordText text) × (listing ≡ refusal_line_of Syntax))
+    ⊎ ((¬ IsWordText text) × IsRefusalLine Syntax listing)

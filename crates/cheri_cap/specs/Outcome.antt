@@ -3,9 +3,9 @@ use Rattle.std.specs.Prelude.{ℕ, Result, Ok, Err}
 use Rattle.cc_word.specs.Word.{bit_of}
 use Rattle.cheri_cap.specs.declared.outcome.Fault.{Fault}
 use Rattle.cheri_cap.specs.declared.outcome.Fault.TheVariants as fault
-use Rattle.cheri_cap.specs.declared.summary.ScriptFault.{ScriptFault}
-use Rattle.cheri_cap.specs.declared.summary.ScriptFault.TheVariants.{Read, Write}
-use Rattle.cheri_cap.specs.declared.summary.Summary.{Summary}
+use Rattle.cc_script.specs.declared.summary.ScriptFault.{ScriptFault}
+use Rattle.cc_script.specs.declared.summary.ScriptFault.TheVariants.{Read, Write}
+use Rattle.cc_script.specs.declared.summary.Summary.{Summary}
 
 -- the fault of the program where a device fails
 abbrev pub fault_of : ScriptFault → Fault

@@ -1,13 +1,35 @@
 //! Answers, and how they are written.
-ghost use Rattle.std.specs.Prelude.{◌≡◌, ◌+◌, ◌≤◌, ◌++◌, ◌↔◌, false, length, true, IsErr, OnOk, OnErr};
+ghost use Rattle.std.specs.Prelude.{◌≡◌, ◌↔◌, [], false, true, IfOk, IsErr, OnOk, OnErr};
 ghost use Rattle.std.specs.Io.KnownBytes.{Appends};
-ghost use Rattle.cheri_cap.specs.Answer.{refusal_line_of};
-ghost use Rattle.cheri_cap.specs.Devices.{TakesBeginning};
+ghost use Rattle.cc_script.specs.Devices.{TakesBeginning};
+ghost use Rattle.cheri_cap.specs.Answer.{IsRefusalLine, WritesAnswer};
 
-use crate::devices::{Sink, write_all};
-use crate::summary::ScriptFault;
-use crate::text::{ROOM, Text};
+use crate::text::Text;
+use cc_machine::Reply;
+use cc_script::{ScriptFault, Sink, Summary, reply_line, write_all};
 use cc_word::Refusal;
+
+/// Writes the line of a refusal, and flushes the sink.
+pub fn write_refusal<W: Sink>(refusal: Refusal, sink: &mut W) -> Result<Summary, ScriptFault>
+    requires { W.has_failed sink.old ≡ false }
+    ensures shown { WritesAnswer (IsRefusalLine refusal) (W.taken_bytes sink.old) (W.taken_bytes sink.new) result }
+    ensures any_error { IfOk result (λ summary. summary.any_error ≡ true) }
+    ensures fails { IsErr result ↔ (W.has_failed sink.new ≡ true) }
+    ensures write { OnErr result (result ≡ Err ScriptFault.Write) }
+{
+    let mut answer = Text::new();
+    push_refusal(&mut answer, refusal);
+    write_answer(&answer, sink)?;
+    Ok(Summary { any_error: true })
+}
+
+/// Makes the text the line of a refusal.
+pub fn push_refusal(text: &mut Text, refusal: Refusal)
+    requires { text.old ≡ [] }
+    ensures { IsRefusalLine refusal text.new }
+{
+    text.push_line(&reply_line(&Reply::Refused(refusal)));
+}
 
 /// Writes an answer and flushes the sink.
 pub fn write_answer<W: Sink>(answer: &Text, sink: &mut W) -> Result<(), ScriptFault>
@@ -19,17 +41,4 @@ pub fn write_answer<W: Sink>(answer: &Text, sink: &mut W) -> Result<(), ScriptFa
 {
     write_all(sink, answer.bytes()).map_err(|_| ScriptFault::Write)?;
     sink.flush().map_err(|_| ScriptFault::Write)
-}
-
-/// Appends the line of a refusal: `error`, its code and its name.
-pub fn push_refusal_line(text: &mut Text, refusal: Refusal)
-    requires { length text.old + 80 ≤ ROOM }
-    ensures value { text.new ≡ text.old ++ refusal_line_of refusal }
-    ensures fits { length text.new ≤ length text.old + 80 }
-{
-    text.push(b"error ");
-    text.push_decimal(u128::from(refusal.code()));
-    text.push(b" ");
-    text.push(refusal.name().as_bytes());
-    text.push(b"\n");
 }

@@ -2,19 +2,18 @@
 ghost use Rattle.std.specs.Prelude.{◌≡◌, ◌+◌, ◌≤◌, ◌++◌, ◌↔◌, [], codes, decimal, false, true, length, IfOk, IsErr, IsTrue, OnErr, if◌then◌else◌};
 ghost use Rattle.cc_word.specs.Word.{bit_of, word_of};
 ghost use Rattle.cc_word.specs.WordText.{digits_of};
+ghost use Rattle.cc_script.specs.Replies.{hexadecimal};
 ghost use Rattle.cheri_cap.specs.Answer.{WritesAnswer};
-ghost use Rattle.cheri_cap.specs.Listing.{IsListing, IsWordText, bounds_lines_of, field_lines_of, listing_of};
+ghost use Rattle.cheri_cap.specs.Listing.{IsListing, IsWordText, bounds_lines_of, field_lines_of, line_of, listing_of};
 ghost use Rattle.cheri_cap.specs.Permissions.{permissions_text};
-ghost use Rattle.cheri_cap.specs.Text.{hexadecimal, line_of};
 
-use crate::answers::{push_refusal_line, write_answer};
-use crate::devices::Sink;
+use crate::answers::{push_refusal, write_answer};
 use crate::permissions::push_permissions;
-use crate::summary::{ScriptFault, Summary};
 use crate::text::{ROOM, Text};
 use bitflags::Flags;
 use cc_bounds::{Span, decode, exponent};
 use cc_cap::{Perms, is_canonical};
+use cc_script::{Line, ScriptFault, Sink, Summary};
 use cc_word::{Fields, Refusal, read_word, unpack};
 
 /// Writes the listing of the word that a text spells, or the line `error 1 syntax` for a text that is
@@ -48,7 +47,7 @@ fn push_answer(answer: &mut Text, text: &[u8]) -> Summary
             Summary { any_error: false }
         }
         None => {
-            push_refusal_line(answer, Refusal::Syntax);
+            push_refusal(answer, Refusal::Syntax);
             Summary { any_error: true }
         }
     }
@@ -97,48 +96,46 @@ fn push_canonical_line(text: &mut Text, canonical: bool)
     ensures value { text.new ≡ text.old ++ line_of (codes "canonical") (if canonical then codes "yes" else codes "no") }
     ensures fits { length text.new ≤ length text.old + 14 }
 {
-    if canonical {
-        text.push(b"canonical yes\n");
-    } else {
-        text.push(b"canonical no\n");
-    }
+    let mut line = line_named(b"canonical");
+    line.push(if canonical { b"yes" } else { b"no" });
+    text.push_line(&line);
 }
 
 /// Appends a line whose value is the last `count` hexadecimal digits of a number.
 fn push_digits_line(text: &mut Text, name: &[u8], number: u128, count: usize)
     requires digits { count ≤ 32 }
+    requires name { length name.now ≤ 9 }
     requires room { length text.old + length name.now + count + 2 ≤ ROOM }
     ensures value { text.new ≡ text.old ++ line_of name.now (digits_of count number) }
     ensures fits { length text.new ≤ length text.old + length name.now + count + 2 }
 {
-    text.push(name);
-    text.push(b" ");
-    text.push_digits(number, count);
-    text.push(b"\n");
+    let mut line = line_named(name);
+    line.push_digits(number, count);
+    text.push_line(&line);
 }
 
 /// Appends a line whose value is a number in decimal.
 fn push_decimal_line(text: &mut Text, name: &[u8], number: u128)
-    requires { length text.old + length name.now + 42 ≤ ROOM }
+    requires name { length name.now ≤ 9 }
+    requires room { length text.old + length name.now + 42 ≤ ROOM }
     ensures value { text.new ≡ text.old ++ line_of name.now (decimal number) }
     ensures fits { length text.new ≤ length text.old + length name.now + 42 }
 {
-    text.push(name);
-    text.push(b" ");
-    text.push_decimal(number);
-    text.push(b"\n");
+    let mut line = line_named(name);
+    line.push_decimal(number);
+    text.push_line(&line);
 }
 
 /// Appends a line whose value is a number in hexadecimal, without leading zeros.
 fn push_hexadecimal_line(text: &mut Text, name: &[u8], number: u128)
-    requires { length text.old + length name.now + 36 ≤ ROOM }
+    requires name { length name.now ≤ 9 }
+    requires room { length text.old + length name.now + 36 ≤ ROOM }
     ensures value { text.new ≡ text.old ++ line_of name.now (hexadecimal number) }
     ensures fits { length text.new ≤ length text.old + length name.now + 36 }
 {
-    text.push(name);
-    text.push(b" ");
-    text.push_hexadecimal(number);
-    text.push(b"\n");
+    let mut line = line_named(name);
+    line.push_hexadecimal(number);
+    text.push_line(&line);
 }
 
 /// Appends the line of the permissions, as digits and by name.
@@ -147,9 +144,20 @@ fn push_permissions_line(text: &mut Text, perms: u16)
     ensures value { text.new ≡ text.old ++ line_of (codes "perms") (digits_of 4 perms ++ codes " " ++ permissions_text perms) }
     ensures fits { length text.new ≤ length text.old + 137 }
 {
-    text.push(b"perms ");
-    text.push_digits(u128::from(perms), 4);
-    text.push(b" ");
-    push_permissions(text, Perms::from_bits_retain(perms));
-    text.push(b"\n");
+    let mut line = line_named(b"perms");
+    line.push_digits(u128::from(perms), 4);
+    line.push(b" ");
+    push_permissions(&mut line, Perms::from_bits_retain(perms));
+    text.push_line(&line);
+}
+
+/// The beginning of a line: its name and a space.
+fn line_named(name: &[u8]) -> Line
+    requires { length name.now ≤ 9 }
+    ensures { result ≡ name.now ++ codes " " }
+{
+    let mut line = Line::new();
+    line.push(name);
+    line.push(b" ");
+    line
 }

@@ -1,19 +1,22 @@
-//! The program `cheri-cap`: shows what CHERI Concentrate capability words hold, and how lengths are rounded.
+//! The program `cheri-cap`: shows what CHERI Concentrate capability words hold, how lengths are rounded, and
+//! what a machine of capabilities replies to a script.
 #![tactic(auto)]
 
+ghost use Rattle.std.specs.Prelude.{List, Option};
+ghost use Rattle.clap.specs.Words.{Row, Text};
+ghost use Rattle.cheri_cap.specs.Invocation.{IsInvocation};
+
 mod answers;
-mod devices;
 mod invocation;
 mod listing;
-mod numbers;
 mod outcome;
 mod permissions;
+mod planning;
 mod rounding;
-mod slice_devices;
-mod std_devices;
-mod summary;
+mod running;
 mod text;
 
+use cc_script::{FromWriter, Summary};
 use clap::error::ErrorKind;
 use invocation::{Invocation, read_words};
 use listing::show_word;
@@ -23,8 +26,7 @@ use std::alloc::AllocError;
 use std::env::{self, Env};
 use std::io;
 use std::process::ExitCode;
-use std_devices::FromWriter;
-use summary::Summary;
+use std::rt::Files;
 
 /// The exit status of a command line that is not understood.
 const REFUSED: u8 = 2;
@@ -34,7 +36,7 @@ fn main(rt: HostRuntime) -> ExitCode {
 }
 
 /// Runs the program on its arguments, and answers the exit status.
-fn run<R: Env + AllocGlobal + Print + Eprint>(rt: &R) -> u8 {
+fn run<R: Env + AllocGlobal + Files + Input + Print + Eprint>(rt: &R) -> u8 {
     let arguments = match env::args(rt) {
         Ok(arguments) => arguments.collect::<Vec<String>>(rt.alloc()),
         Err(error) if error.kind() == io::ErrorKind::OutOfMemory => Err(AllocError),
@@ -50,7 +52,10 @@ fn run<R: Env + AllocGlobal + Print + Eprint>(rt: &R) -> u8 {
 }
 
 /// Does what the arguments ask for. A command line that is not understood gets clap's text.
-fn run_arguments<R: AllocGlobal + Print + Eprint>(rt: &R, arguments: &[String]) -> u8 {
+fn run_arguments<R: AllocGlobal + Files + Input + Print + Eprint>(
+    rt: &R,
+    arguments: &[String],
+) -> u8 {
     let words: Result<Vec<&str>, AllocError> = arguments
         .iter()
         .map(|argument| argument.as_str())
@@ -72,12 +77,24 @@ fn run_arguments<R: AllocGlobal + Print + Eprint>(rt: &R, arguments: &[String]) 
     }
 }
 
-/// Writes the answer to standard output.
-fn answer<R: Print>(rt: &R, invocation: Invocation<'_>) -> Result<Summary, Fault> {
+/// Does what was asked for, and writes the answer to standard output.
+fn answer<R: AllocGlobal + Files + Input + Print>(
+    rt: &R,
+    invocation: Invocation<'_>,
+) -> Result<Summary, Fault>
+    requires { (found : Option (Text × List Row)) × IsInvocation found invocation }
+{
     let mut output = FromWriter::new(io::writer(rt));
     match invocation {
         Invocation::Show { word } => Ok(show_word(word.as_bytes(), &mut output)?),
         Invocation::Round { length } => Ok(show_round(length.as_bytes(), &mut output)?),
+        Invocation::Run { limit, file } => running::run(rt, limit, file),
+        Invocation::Plan {
+            limit,
+            base,
+            length,
+            file,
+        } => running::plan(rt, limit, base, length, file),
     }
 }
 

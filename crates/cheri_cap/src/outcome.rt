@@ -1,8 +1,10 @@
 //! How the program ends.
 ghost use Rattle.std.specs.Prelude.{◌≡◌};
+ghost use Rattle.cheri_cap.specs.declared.outcome.Fault.TheVariants as fault;
 ghost use Rattle.cheri_cap.specs.Outcome.{fault_of, status_of};
 
-use crate::summary::{ScriptFault, Summary};
+use cc_script::{ScriptFault, Summary};
+use std::alloc::AllocError;
 use thiserror::Error;
 
 /// Why the program stopped before its end. Its text is the one line that stands on standard error.
@@ -40,5 +42,13 @@ impl From<ScriptFault> for Fault {
             ScriptFault::Read => Fault::Read,
             ScriptFault::Write => Fault::Write,
         }
+    }
+}
+
+impl From<AllocError> for Fault {
+    ghost from_gives = { λ error result. result ≡ fault.Memory };
+
+    fn from(_: AllocError) -> Fault {
+        Fault::Memory
     }
 }

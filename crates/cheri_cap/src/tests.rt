@@ -3,6 +3,5 @@
 mod command_line;
 mod devices;
 mod endings;
-mod numbers;
 mod rounding;
 mod rows;

@@ -1,10 +1,8 @@
 //! Text in fixed room.
-ghost use Rattle.std.specs.Prelude.{◌≡◌, ℕ, ◌+◌, ◌≤◌, ◌<◌, List, [], ◌++◌, length, take, decimal, false};
-ghost use Rattle.std.specs.Fmt.{digit_glyph};
-ghost use Rattle.cc_word.specs.WordText.{digits_of};
-ghost use Rattle.cheri_cap.specs.Text.{hexadecimal, line_of};
+ghost use Rattle.std.specs.Prelude.{◌≡◌, ℕ, ◌+◌, ◌≤◌, List, [], ◌++◌, length, take};
+ghost use Rattle.cc_script.specs.Output.{with_line_feed};
 
-use cc_word::write_word;
+use cc_script::Line;
 use std::marker::Model;
 
 /// The most bytes of a text: more than any answer of the program has.
@@ -57,57 +55,13 @@ impl Text {
         self.len = end;
     }
 
-    /// Appends a number in decimal digits.
-    pub fn push_decimal(&mut self, number: u128)
-        requires { length self.old + 40 ≤ ROOM }
-        ensures value { self.new ≡ self.old ++ decimal number }
-        ensures fits { length self.new ≤ length self.old + 40 }
+    /// Appends a line and its line feed.
+    pub fn push_line(&mut self, line: &Line)
+        requires { length self.old + length line.now + 1 ≤ ROOM }
+        ensures value { self.new ≡ self.old ++ with_line_feed line.now }
+        ensures fits { length self.new ≡ length self.old + length line.now + 1 }
     {
-        let mut buffer = itoa::Buffer::new();
-        self.push(buffer.format(number).as_bytes());
-    }
-
-    /// Appends the last `count` hexadecimal digits of a number.
-    pub fn push_digits(&mut self, number: u128, count: usize)
-        requires digits { count ≤ 32 }
-        requires room { length self.old + count ≤ ROOM }
-        ensures value { self.new ≡ self.old ++ digits_of count number }
-        ensures fits { length self.new ≡ length self.old + count }
-    {
-        self.push(&write_word(number)[32 - count..]);
-    }
-
-    /// Appends `0x` and a number's hexadecimal digits without leading zeros.
-    pub fn push_hexadecimal(&mut self, number: u128)
-        requires { length self.old + 34 ≤ ROOM }
-        ensures value { self.new ≡ self.old ++ hexadecimal number }
-        ensures fits { length self.new ≤ length self.old + 34 }
-    {
-        self.push(b"0x");
-        let mut reversed = [0u8; 32];
-        let mut start = 32;
-        let mut rest = number;
-        'digits: loop {
-            start -= 1;
-            let digit = (rest % 16) as u8;
-            reversed[start] = hexadecimal_glyph(digit);
-            rest /= 16;
-            if rest == 0 {
-                break;
-            }
-        }
-        self.push(&reversed[start..]);
-    }
-}
-
-/// The digit of a number below 16, in lower case.
-fn hexadecimal_glyph(digit: u8) -> u8
-    requires { digit < 16 }
-    ensures { result ≡ digit_glyph false digit }
-{
-    if digit < 10 {
-        b'0' + digit
-    } else {
-        b'a' + (digit - 10)
+        self.push(line.bytes());
+        self.push(b"\n");
     }
 }

@@ -1,10 +1,7 @@
 //! Sinks that fail, and sinks over writers.
 use super::rows::{NULL_LISTING, NULL_WORD};
-use crate::devices::{Failed, Sink, write_all};
 use crate::listing::show_word;
-use crate::slice_devices::SliceSink;
-use crate::std_devices::FromWriter;
-use crate::summary::{ScriptFault, Summary};
+use cc_script::{Failed, FromWriter, ScriptFault, Sink, SliceSink, Summary, write_all};
 use std::io::{self, Write};
 
 /// Each call of the sink fails in turn, the flush too, and then no call does.

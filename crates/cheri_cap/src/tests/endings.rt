@@ -1,6 +1,6 @@
 //! Fault texts and exit statuses.
 use crate::outcome::{Fault, status};
-use crate::summary::{ScriptFault, Summary};
+use cc_script::{ScriptFault, Summary};
 use std::test::Fail;
 
 #[test]

@@ -1,7 +1,6 @@
 //! Worked answers of `round`.
 use crate::rounding::show_round;
-use crate::slice_devices::SliceSink;
-use crate::summary::{ScriptFault, Summary};
+use cc_script::{ScriptFault, SliceSink, Summary};
 use std::process::Abort;
 
 const SYNTAX: &str = "error 1 syntax\n";

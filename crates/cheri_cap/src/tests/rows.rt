@@ -1,7 +1,6 @@
 //! Worked answers of `show`.
 use crate::listing::show_word;
-use crate::slice_devices::SliceSink;
-use crate::summary::{ScriptFault, Summary};
+use cc_script::{ScriptFault, SliceSink, Summary};
 use std::process::Abort;
 
 pub const NULL_WORD: &str = "00000000000000000000000000000000";

@@ -9,7 +9,7 @@ use Rattle.cheri_cap.proofs.permissions.push_names.Goals as goal
 
 pub loop-flag-init : goal.loop-flag-init
 loop-flag-init c = record {
-  text = ap (λ (l : List ℕ). c.args.text.now ++ l) (separated-none (names_of_set (bits_of c.args.perms) (rows_of c.args.flags.now)));
+  text = ap (λ (l : List ℕ). c.args.line.now ++ l) (separated-none (names_of_set (bits_of c.args.perms) (rows_of c.args.flags.now)));
   room = omega arith;
   short = omega arith;
 }
@@ -29,7 +29,7 @@ push-requires-then-contains c =
       ap length c.name.ensures,
       ap length c.as_bytes.ensures.value,
       pushed,
-      length-append c.loop-flag.text c.loop-flag.separator.now,
+      length-append c.loop-flag.line c.loop-flag.separator.now,
       c.loop-flag.invariant.room,
       c.loop-flag.invariant.short,
       c.requires,
@@ -50,7 +50,7 @@ loop-flag-preserved c =
           let lengths = ap length w.push-then-contains.ensures in
           let before = ap length w.push.ensures in
           record {
-            text = rw (w.text-is, w.separator-is)
+            text = rw (w.line-is, w.separator-is)
                 (name_taken _ _ _ _ _ bits row _ _ next (eq-eqb (bit_and bits row.1) row.1 has) w.push.ensures
                 (w.push-then-contains.ensures ∙ ap (λ (l : List ℕ). w.push.new.self ++ l) name_is) i.text);
             room = omega (
@@ -59,10 +59,10 @@ loop-flag-preserved c =
               ap length name_is,
               lengths,
               before,
-              ap length w.text-is,
+              ap length w.line-is,
               i.room,
               i.short,
-              length-append c.loop-flag.text c.loop-flag.separator.now,
+              length-append c.loop-flag.line c.loop-flag.separator.now,
               length-append w.push.new.self w.as_bytes.result.now,
             );
             short = omega (arith, ap (λ (s : Bor (List ℕ)). length s.now) w.separator-is);
@@ -70,14 +70,14 @@ loop-flag-preserved c =
       | else-contains w ↦
           let lacks : (bit_and bits row.1 ≡ row.1) → ⊥ = search rules in
           record {
-            text = rw (w.text-is, w.separator-is)
+            text = rw (w.line-is, w.separator-is)
                 (name_passed _ _ _ bits row _ _ next (ne_eqb (bit_and bits row.1) row.1 lacks) i.text);
-            room = omega (arith, room, ap length w.text-is, i.room);
+            room = omega (arith, room, ap length w.line-is, i.room);
             short = omega (arith, ap (λ (s : Bor (List ℕ)). length s.now) w.separator-is, i.short);
           }
     ]
 
 pub returns-clause-value : goal.returns-clause-value
 returns-clause-value c =
-    none_left c.loop-flag.text c.loop-flag.separator.now _ (bits_of c.args.perms) c.loop-flag.flag-index c.args.flags.now c.loop-flag-test.false
+    none_left c.loop-flag.line c.loop-flag.separator.now _ (bits_of c.args.perms) c.loop-flag.flag-index c.args.flags.now c.loop-flag-test.false
     c.loop-flag.invariant.text

@@ -7,8 +7,8 @@ use Rattle.cheri_cap.proofs.permissions.push_names.Given as goal
 
 abbrev pub invariant-loop-flag : goal.invariant-loop-flag
 invariant-loop-flag l = record {
-  text : l.text ++ separated l.separator (names_of_set (bits_of l.perms) (drop l.flag-index (rows_of l.flags)))
-      ≡ l.initial.text ++ join_with_byte 43 (names_of_set (bits_of l.perms) (rows_of l.flags));
-  room : length l.text + room_of (drop l.flag-index (rows_of l.flags)) ≤ length l.initial.text + room_of (rows_of l.flags);
+  text : l.line ++ separated l.separator (names_of_set (bits_of l.perms) (drop l.flag-index (rows_of l.flags)))
+      ≡ l.initial.line ++ join_with_byte 43 (names_of_set (bits_of l.perms) (rows_of l.flags));
+  room : length l.line + room_of (drop l.flag-index (rows_of l.flags)) ≤ length l.initial.line + room_of (rows_of l.flags);
   short : length l.separator ≤ 1;
 }

@@ -13,4 +13,4 @@ returns-else-bits-eq0-clause-value c =
     let some = ne_eqb (bits_of c.args.perms) 0 (search rules) in
     rw some
     (c.push_names.ensures.value
-    ∙ ap (λ (l : List Row). c.args.text.now ++ join_with_byte 43 (names_of_set (bits_of c.args.perms) l)) rows)
+    ∙ ap (λ (l : List Row). c.args.line.now ++ join_with_byte 43 (names_of_set (bits_of c.args.perms) l)) rows)

@@ -1,7 +1,0 @@
-use Rattle.std.proofs.Common.{◌∙◌, ap, List, ℕ, ◌++◌}
-use Rattle.cheri_cap.proofs.DigitLemmas.{last_digits}
-use Rattle.cheri_cap.proofs.text.Text.push_digits.Goals as goal
-
-pub returns-clause-value : goal.returns-clause-value
-returns-clause-value c =
-    c.push.ensures ∙ ap (λ (l : List ℕ). c.args.self.now ++ l) (rw c.write_word.ensures (last_digits c.args.count c.args.number c.requires.digits))
