@@ -3,5 +3,6 @@
 mod command_line;
 mod devices;
 mod endings;
+mod planning;
 mod rounding;
 mod rows;

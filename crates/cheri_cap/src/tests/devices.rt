@@ -38,37 +38,6 @@ fn each_call_fails_in_turn(rt: HostRuntime) {
 }
 
 #[test]
-fn failure_stays(rt: HostRuntime) {
-    let mut room = [0; 8];
-    let mut sink = SliceSink::new(&mut room, 3, Some(2));
-    assert_eq!(rt; sink.write(b"abcdef"), Ok(3));
-    assert_eq!(rt; sink.flush(), Err(Failed));
-    assert_eq!(rt; sink.write(b"d"), Err(Failed));
-    assert_eq!(rt; sink.flush(), Err(Failed));
-    assert_eq!(rt; sink.taken(), 3);
-}
-
-#[test]
-fn full_sink_fails(rt: HostRuntime) {
-    let mut room = [0; 2];
-    let mut sink = SliceSink::new(&mut room, 200, None);
-    assert_eq!(rt; sink.write(b"abc"), Ok(2));
-    assert_eq!(rt; sink.write(b""), Ok(0));
-    assert_eq!(rt; sink.flush(), Ok(()));
-    assert_eq!(rt; sink.write(b"c"), Err(Failed));
-    assert_eq!(rt; sink.flush(), Err(Failed));
-}
-
-#[test]
-fn all_bytes_in_small_pieces(rt: HostRuntime) {
-    let mut room = [0; 8];
-    let mut sink = SliceSink::new(&mut room, 3, None);
-    assert_eq!(rt; write_all(&mut sink, b"abcdefg"), Ok(()));
-    assert_eq!(rt; sink.taken(), 7);
-    assert_eq!(rt; room.get(..7), Some(b"abcdefg".as_slice()));
-}
-
-#[test]
 fn vec_as_writer(rt: HostRuntime) {
     let mut bytes = Vec::new(rt.alloc());
     let mut sink = FromWriter::new(&mut bytes);

@@ -1,0 +1,135 @@
+//! Worked plans: the numbers of a pool, and the scripts that follow.
+use crate::planning::{plan_numbers, plan_script};
+use cc_machine::Machine;
+use cc_script::{ScriptFault, SliceSink, SliceSource, Summary};
+use cc_word::Refusal;
+use std::process::Abort;
+use std::test::Fail;
+
+/// A pool's base and length, a script, and what is written.
+type Row<'a> = (&'a str, &'a str, &'a str, &'a str, bool);
+
+#[rattlefmt::skip]
+const ROWS: [Row; 5] = [
+    ("0x10000", "0x10000", "", "slot 1 ffff0000000000000000000000010000 0x0 0x10000000000000000\nslot 2 ffff0000000190000000000000010000 0x10000 0x20000\npool 2 0x10000 0x20000\n", false),
+    ("1", "4096", "", "slot 1 ffff0000000000000000000000000001 0x0 0x10000000000000000\nerror 10 inexact\nerror 5 slot\n", true),
+    ("65536", "65536", "alloc 100\naddr 0 5\naddr 3 0x10001\nfree 1\nshow 4\nbounds 5 1\nalloc 100\n",
+        "slot 1 ffff0000000000000000000000010000 0x0 0x10000000000000000\nslot 2 ffff0000000190000000000000010000 0x10000 0x20000\npool 2 0x10000 0x20000\nobject 1 slot 3 ffff0000041880040000000000010000 0x10000 0x10064 held 100\nslot 4 ffff0000000000000000000000000005 0x0 0x10000000000000000\nslot 5 ffff0000041880040000000000010001 0x10000 0x10064\nfreed 1 revoked 2 held 0\ncap ffff0000000000000000000000000005 0x0 0x10000000000000000 ffff 0 3ffff 0\nerror 6 revoked\nobject 2 slot 6 ffff0000041880040000000000010000 0x10000 0x10064 held 100\n", true),
+    ("0x10000", "0x10000", "alloc 100\nalloc 5000\nalloc 4\nalloc 8191\nfree 2\nalloc 4097\nalloc 65537\nalloc 0\nbounds 3 16\nfree 1\nshow 8\nfree 1\nshow 0",
+        "slot 1 ffff0000000000000000000000010000 0x0 0x10000000000000000\nslot 2 ffff0000000190000000000000010000 0x10000 0x20000\npool 2 0x10000 0x20000\nobject 1 slot 3 ffff0000041880040000000000010000 0x10000 0x10064 held 100\nobject 2 slot 4 ffff000000fd806c0000000000010068 0x10068 0x113f0 held 5100\nobject 3 slot 5 ffff0000041b80600000000000010064 0x10064 0x10068 held 5104\nobject 4 slot 6 ffff0000027f89fd00000000000113f0 0x113f0 0x133f0 held 13296\nfreed 2 revoked 1 held 8296\nobject 5 slot 7 ffff0000001d806c0000000000010068 0x10068 0x11070 held 12400\nerror 20 noroom\nerror 19 zero\nslot 8 ffff0000040580040000000000010000 0x10000 0x10010\nfreed 1 revoked 2 held 12300\nerror 6 revoked\nerror 21 object\nerror 2 unfinished\n", true),
+    ("0xffffffffffffe000", "8192", "alloc 8192\nalloc 1\nfree 1\n",
+        "slot 1 ffff000000000000ffffffffffffe000 0x0 0x10000000000000000\nslot 2 ffff00000001b005ffffffffffffe000 0xffffffffffffe000 0x10000000000000000\npool 2 0xffffffffffffe000 0x10000000000000000\nobject 1 slot 3 ffff00000001b005ffffffffffffe000 0xffffffffffffe000 0x10000000000000000 held 8192\nerror 20 noroom\nfreed 1 revoked 1 held 0\n", true),
+];
+
+/// Plans a row in pieces of these sizes, with a source that fails at a call, and answers how it ended.
+fn plan(
+    rt: &impl Abort,
+    machine: &mut Machine,
+    row: &Row,
+    pieces: (usize, usize),
+    fail_at: Option<u32>,
+    room: &mut [u8],
+) -> (Result<Summary, ScriptFault>, usize) {
+    let (base, length, script, _, _) = *row;
+    let mut source = SliceSource::new(script.as_bytes(), pieces.0.max(1), fail_at);
+    let mut sink = SliceSink::new(room, pieces.1.max(1), None);
+    let Ok((base, length)) = plan_numbers(base.as_bytes(), length.as_bytes()) else {
+        panic!(rt; "{base} {length}");
+    };
+    let answer = plan_script(machine, base, length, &mut source, &mut sink);
+    (answer, sink.taken())
+}
+
+#[test]
+fn plans_are_answered(rt: HostRuntime) -> Result<(), Fail> {
+    for row in &ROWS {
+        for sizes in [(1usize, 1usize), (7, 200), (4096, 4096)] {
+            let mut machine = Machine::with_limit(rt.alloc(), 4096)?;
+            let mut room = [0u8; 2048];
+            let (answer, taken) = plan(&rt, &mut machine, row, sizes, None, &mut room);
+            assert_eq!(rt; answer, Ok(Summary { any_error: row.4 }), "{}", row.0);
+            assert_eq!(rt; room.get(..taken), Some(row.3.as_bytes()), "{}", row.0);
+        }
+    }
+    Ok(())
+}
+
+#[test]
+fn pool_is_made_before_the_first_read(rt: HostRuntime) -> Result<(), Fail> {
+    let mut machine = Machine::with_limit(rt.alloc(), 4096)?;
+    let mut room = [0u8; 2048];
+    let (answer, taken) = plan(&rt, &mut machine, &ROWS[0], (1, 200), Some(1), &mut room);
+    assert_eq!(rt; answer, Err(ScriptFault::Read));
+    assert_eq!(rt; room.get(..taken), Some(ROWS[0].3.as_bytes()));
+    assert_eq!(rt; machine.slots(), 3);
+    Ok(())
+}
+
+#[test]
+fn full_sink_ends_a_plan(rt: HostRuntime) -> Result<(), Fail> {
+    // the first reply and its line feed have 64 bytes
+    for (size, slots) in [(0usize, 2), (63, 2), (64, 3), (65, 3)] {
+        let mut machine = Machine::with_limit(rt.alloc(), 4096)?;
+        let mut room = [0u8; 128];
+        let (answer, taken) = plan(
+            &rt,
+            &mut machine,
+            &ROWS[0],
+            (1, 200),
+            None,
+            room.split_at_mut(size).0,
+        );
+        assert_eq!(rt; answer, Err(ScriptFault::Write), "{size}");
+        assert_eq!(rt; taken, size);
+        assert_eq!(rt; room.get(..size), ROWS[0].3.as_bytes().get(..size));
+        assert_eq!(rt; machine.slots(), slots, "{size}");
+    }
+    Ok(())
+}
+
+#[test]
+fn faults_of_the_numbers(rt: HostRuntime) {
+    let table = [
+        ("q", "1", Refusal::Syntax),
+        ("1", "q", Refusal::Syntax),
+        ("0x10000000000000000", "q", Refusal::Syntax),
+        ("q", "0x10000000000000001", Refusal::Syntax),
+        ("0", "0x10000000000000001", Refusal::OutOfRange),
+        ("0x10000000000000000", "1", Refusal::OutOfRange),
+        (
+            "0x10000000000000000",
+            "0x10000000000000001",
+            Refusal::OutOfRange,
+        ),
+        ("", "", Refusal::Syntax),
+        ("-1", "1", Refusal::Syntax),
+        ("1 ", "1", Refusal::Syntax),
+    ];
+    for (base, length, refusal) in table {
+        let numbers = plan_numbers(base.as_bytes(), length.as_bytes());
+        assert!(rt; numbers == Err(refusal), "{base} {length}");
+    }
+}
+
+#[test]
+fn numbers_of_a_pool(rt: HostRuntime) {
+    let table = [
+        ("0", "0", 0, 0),
+        ("0x10", "0020", 16, 20),
+        (
+            "0xFFFFFFFFFFFFFFFF",
+            "0x10000000000000000",
+            u64::MAX,
+            1 << 64,
+        ),
+    ];
+    for (base, length, address, bytes) in table {
+        match plan_numbers(base.as_bytes(), length.as_bytes()) {
+            Ok(numbers) => {
+                assert_eq!(rt; numbers.0, address, "{base}");
+                assert_eq!(rt; numbers.1.get(), bytes, "{length}");
+            }
+            Err(_) => panic!(rt; "{base} {length}"),
+        }
+    }
+}
