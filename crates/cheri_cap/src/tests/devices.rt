@@ -1,7 +1,7 @@
 //! Sinks that fail, and sinks over writers.
 use super::rows::{NULL_LISTING, NULL_WORD};
 use crate::listing::show_word;
-use cc_script::{Failed, FromWriter, ScriptFault, Sink, SliceSink, Summary, write_all};
+use cc_script::{Failed, FromWriter, ScriptFault, Sink, SliceSink, Summary};
 use std::io::{self, Write};
 
 /// Each call of the sink fails in turn, the flush too, and then no call does.

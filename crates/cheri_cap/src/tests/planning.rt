@@ -9,9 +9,13 @@ use std::test::Fail;
 /// A pool's base and length, a script, and what is written.
 type Row<'a> = (&'a str, &'a str, &'a str, &'a str, bool);
 
+/// A pool and no script.
+#[rattlefmt::skip]
+const POOL: Row = ("0x10000", "0x10000", "", "slot 1 ffff0000000000000000000000010000 0x0 0x10000000000000000\nslot 2 ffff0000000190000000000000010000 0x10000 0x20000\npool 2 0x10000 0x20000\n", false);
+
 #[rattlefmt::skip]
 const ROWS: [Row; 5] = [
-    ("0x10000", "0x10000", "", "slot 1 ffff0000000000000000000000010000 0x0 0x10000000000000000\nslot 2 ffff0000000190000000000000010000 0x10000 0x20000\npool 2 0x10000 0x20000\n", false),
+    POOL,
     ("1", "4096", "", "slot 1 ffff0000000000000000000000000001 0x0 0x10000000000000000\nerror 10 inexact\nerror 5 slot\n", true),
     ("65536", "65536", "alloc 100\naddr 0 5\naddr 3 0x10001\nfree 1\nshow 4\nbounds 5 1\nalloc 100\n",
         "slot 1 ffff0000000000000000000000010000 0x0 0x10000000000000000\nslot 2 ffff0000000190000000000000010000 0x10000 0x20000\npool 2 0x10000 0x20000\nobject 1 slot 3 ffff0000041880040000000000010000 0x10000 0x10064 held 100\nslot 4 ffff0000000000000000000000000005 0x0 0x10000000000000000\nslot 5 ffff0000041880040000000000010001 0x10000 0x10064\nfreed 1 revoked 2 held 0\ncap ffff0000000000000000000000000005 0x0 0x10000000000000000 ffff 0 3ffff 0\nerror 6 revoked\nobject 2 slot 6 ffff0000041880040000000000010000 0x10000 0x10064 held 100\n", true),
@@ -21,34 +25,38 @@ const ROWS: [Row; 5] = [
         "slot 1 ffff000000000000ffffffffffffe000 0x0 0x10000000000000000\nslot 2 ffff00000001b005ffffffffffffe000 0xffffffffffffe000 0x10000000000000000\npool 2 0xffffffffffffe000 0x10000000000000000\nobject 1 slot 3 ffff00000001b005ffffffffffffe000 0xffffffffffffe000 0x10000000000000000 held 8192\nerror 20 noroom\nfreed 1 revoked 1 held 0\n", true),
 ];
 
-/// Plans a row in pieces of these sizes, with a source that fails at a call, and answers how it ended.
-fn plan(
+/// Plans a row in pieces of these sizes, into room of a size, and compares how it ended and what was
+/// written.
+fn assert_planned(
     rt: &impl Abort,
     machine: &mut Machine,
     row: &Row,
     pieces: (usize, usize),
     fail_at: Option<u32>,
-    room: &mut [u8],
-) -> (Result<Summary, ScriptFault>, usize) {
-    let (base, length, script, _, _) = *row;
+    size: usize,
+    answer: Result<Summary, ScriptFault>,
+) {
+    let (base, length, script, output, _) = *row;
+    let mut room = [0u8; 2048];
     let mut source = SliceSource::new(script.as_bytes(), pieces.0.max(1), fail_at);
-    let mut sink = SliceSink::new(room, pieces.1.max(1), None);
+    let mut sink = SliceSink::new(room.split_at_mut(size.min(2048)).0, pieces.1.max(1), None);
     let Ok((base, length)) = plan_numbers(base.as_bytes(), length.as_bytes()) else {
         panic!(rt; "{base} {length}");
     };
-    let answer = plan_script(machine, base, length, &mut source, &mut sink);
-    (answer, sink.taken())
+    let ended = plan_script(machine, base, length, &mut source, &mut sink);
+    let taken = sink.taken();
+    assert!(rt; ended == answer);
+    assert!(rt; taken == output.len().min(size));
+    assert!(rt; room.get(..taken) == output.as_bytes().get(..taken));
 }
 
 #[test]
 fn plans_are_answered(rt: HostRuntime) -> Result<(), Fail> {
     for row in &ROWS {
-        for sizes in [(1usize, 1usize), (7, 200), (4096, 4096)] {
+        for pieces in [(1usize, 1usize), (7, 200), (4096, 4096)] {
             let mut machine = Machine::with_limit(rt.alloc(), 4096)?;
-            let mut room = [0u8; 2048];
-            let (answer, taken) = plan(&rt, &mut machine, row, sizes, None, &mut room);
-            assert_eq!(rt; answer, Ok(Summary { any_error: row.4 }), "{}", row.0);
-            assert_eq!(rt; room.get(..taken), Some(row.3.as_bytes()), "{}", row.0);
+            let answer = Ok(Summary { any_error: row.4 });
+            assert_planned(&rt, &mut machine, row, pieces, None, 2048, answer);
         }
     }
     Ok(())
@@ -57,11 +65,9 @@ fn plans_are_answered(rt: HostRuntime) -> Result<(), Fail> {
 #[test]
 fn pool_is_made_before_the_first_read(rt: HostRuntime) -> Result<(), Fail> {
     let mut machine = Machine::with_limit(rt.alloc(), 4096)?;
-    let mut room = [0u8; 2048];
-    let (answer, taken) = plan(&rt, &mut machine, &ROWS[0], (1, 200), Some(1), &mut room);
-    assert_eq!(rt; answer, Err(ScriptFault::Read));
-    assert_eq!(rt; room.get(..taken), Some(ROWS[0].3.as_bytes()));
-    assert_eq!(rt; machine.slots(), 3);
+    let answer = Err(ScriptFault::Read);
+    assert_planned(&rt, &mut machine, &POOL, (1, 200), Some(1), 2048, answer);
+    assert!(rt; machine.slots() == 3);
     Ok(())
 }
 
@@ -70,19 +76,9 @@ fn full_sink_ends_a_plan(rt: HostRuntime) -> Result<(), Fail> {
     // the first reply and its line feed have 64 bytes
     for (size, slots) in [(0usize, 2), (63, 2), (64, 3), (65, 3)] {
         let mut machine = Machine::with_limit(rt.alloc(), 4096)?;
-        let mut room = [0u8; 128];
-        let (answer, taken) = plan(
-            &rt,
-            &mut machine,
-            &ROWS[0],
-            (1, 200),
-            None,
-            room.split_at_mut(size).0,
-        );
-        assert_eq!(rt; answer, Err(ScriptFault::Write), "{size}");
-        assert_eq!(rt; taken, size);
-        assert_eq!(rt; room.get(..size), ROWS[0].3.as_bytes().get(..size));
-        assert_eq!(rt; machine.slots(), slots, "{size}");
+        let answer = Err(ScriptFault::Write);
+        assert_planned(&rt, &mut machine, &POOL, (1, 200), None, size, answer);
+        assert!(rt; machine.slots() == slots, "{size}");
     }
     Ok(())
 }
