@@ -1,36 +1,123 @@
 -- Which command lines clap takes for the program: those that name one of its commands and give it its texts.
-use Rattle.std.proofs.Common.{◌≡◌, ◌||◌, Bool, true, false, cond, List, [], ◌∷◌, Option, Some, None, is_some, refl, sym, ◌∙◌, ap, ap₂, codes, get_or, option_map}
-use Rattle.std.specs.Prelude.{◌&&◌, IsSome, not, Box}
+use Rattle.std.proofs.Common.{◌≡◌, ◌==◌, ◌∙◌, ℕ, Bool, true, false, List, [], ◌∷◌, Option, Some, None, arith, is_some, refl, subst, sym, ap, ap₂, codes, get_or, if◌then◌else◌, option_map}
+use Rattle.std.specs.Prelude.{⊤, ◌&&◌, IfSome, IsSome, Result, Ok, Err, find, not, Box, pos, unwrap_or}
 use Rattle.std.specs.Box.{box_value}
 use Rattle.std.specs.List.{list_any}
-use Rattle.std.specs.Str.{bytes_eq}
 use Rattle.std.specs.Option.{option_map_or}
+use Rattle.std.specs.Str.{bytes_eq}
+use Rattle.std.specs.Str.Parse.{ParsesUnsigned, starts_with_minus}
+use Rattle.std.proofs.lemmas.Int.{ints}
+use Rattle.std.proofs.lemmas.Slice.Eq.{bytes_eq-Decides}
 use Rattle.clap.specs.Kinds.{check_kinds}
-use Rattle.clap.specs.Walk.{Row, Rule, Text, first_of, nothing_held, reading_by, rows_after, rows_of, walk}
-use Rattle.clap.specs.Simple.{Shape, argument_words, built, entered, filled, help_rule, help_shape, names_of, rows_at, subcommand_of, subcommand_rows, subcommand_rows_of, with_index}
+use Rattle.clap.specs.Lexer.{without_minus}
+use Rattle.clap.specs.Walk.{Row, Rule, Text, answers_to, arg_by_id, first_of, nothing_held, one_of, rows_after, rows_of, walk}
+use Rattle.clap.specs.Simple.{Shape, argument_words, built, entered, filled, help_rule, help_shape, label_of, names_of, rows_at, subcommand_of, subcommand_rows, subcommand_rows_of}
 use Rattle.clap.specs.Faults.{check_fault, entered_fault, fault_of, level_fault}
 use Rattle.clap.specs.Facts.{explicit_source}
-use Rattle.clap.specs.Matches.{first_value, subcommand_name_of}
+use Rattle.clap.specs.Matches.{ReadsOne, first_value, subcommand_name_of}
 use Rattle.clap.specs.Takes.{is_given}
+use Rattle.clap.specs.Values.{IsSignedIn}
+use Rattle.clap.specs.declared.builder.value_parser.ValueParser.TheVariants.{Signed}
 use Rattle.clap.specs.declared.parser.matches.ArgMatches.{ArgMatches}
 use Rattle.clap.specs.declared.parser.matches.ArgMatches.TheViews.{out-ArgMatches, out-SubCommand}
 use Rattle.clap.specs.declared.parser.matches.Found.{Found}
 use Rattle.clap.specs.declared.parser.matches.SubCommand.{SubCommand}
-use Rattle.clap.specs.declared.parser.matches.ValueSource.TheVariants.{CommandLine}
+use Rattle.clap.proofs.ValueTestLemmas.{accepts-Accepts}
 use Rattle.clap.proofs.WalkLemmas.{first_value-rows}
-use Rattle.cheri_cap.specs.Invocation.{HasItsTexts, program, wanted_argument}
-use Rattle.cheri_cap.specs.declared.invocation.Invocation.TheVariants.{Show, Round}
-use Rattle.cheri_cap.proofs.GivenLemmas.{GivesValue, HasText, level_parts, required_given, set-given}
+use Rattle.cheri_cap.specs.Invocation.{HasItsTexts, HasLimit, HasText, IsLimit, IsLimitText, IsWhole, decimal_value, program, slots_option}
+use Rattle.cheri_cap.proofs.GivenLemmas.{GiveValues, GivesValue, IsTaken, level-given, level_parts, required_given, set_gives, taken}
 
--- ---- the rules of the commands
+-- ---- numbers
 
-wanted_gives : (name : Text) → GivesValue (with_index 1 (filled (wanted_argument name)))
-wanted_gives name again [] rows e given = cc e
-wanted_gives name again (v ∷ vs) rows e given = set-given name (reading_by (filled (wanted_argument name))) CommandLine v vs rows given
+without_minus-plain : (text : Text) → starts_with_minus text ≡ false → without_minus text ≡ text
+without_minus-plain [] e = refl
+without_minus-plain (x ∷ xs) e = go (x == 45) e
+  where
+    go : (b : Bool) → b ≡ false → unwrap_or (if b then Some xs else None) (x ∷ xs) ≡ x ∷ xs
+    go true e = cc e
+    go false e = refl
 
--- a call for help is a fault, and no row's
-help_gives : GivesValue (with_index 2 (filled help_rule))
-help_gives again values rows e given = given
+-- a number from 1 up has no minus
+signed_limit : (text : Text) → IsSignedIn (pos 1) (pos 65536) text → (without_minus text ≡ text) × IsLimitText text
+signed_limit text passed = go (starts_with_minus text) refl
+  where
+    go : (b : Bool) → starts_with_minus text ≡ b → (without_minus text ≡ text) × IsLimitText text
+    go true minus =
+        let low = rw minus at passed.2 in
+        absurd (omega (arith, ints))
+    go false minus =
+        let numeral = rw minus at passed.0 in
+        let low = rw minus at passed.2 in
+        let high = rw minus at passed.3 in
+        (without_minus-plain text minus, record { numeral = numeral; from_one = omega (arith, ints); at_most = omega (arith, ints) })
+
+has_limit : (rows : List Row) → IsTaken (filled slots_option) (first_of (codes "slots") rows) (one_of (codes "slots") rows) → HasLimit rows
+has_limit rows taken =
+    let limit = go (first_of (codes "slots") rows) (one_of (codes "slots") rows) taken in
+    record { read = limit.0; limit = limit.1 }
+  where
+    go : (given read : Option Text) → IsTaken (filled slots_option) given read → (read ≡ given) × IfSome given IsLimitText
+    go None read is = (is, tt)
+    go (Some text) read is =
+        let limit = signed_limit text (accepts-Accepts false (Signed (pos 1) (pos 65536)) text is.1) in
+        (is.0 ∙ ap Some limit.0, limit.1)
+
+-- what `get_one` reads of a limit
+pub limit_read : {E : Type 0} (gives : Text → Result ℕ E → Type 0) (given : Option Text) (read : Option ℕ) → IfSome given IsLimitText → (given ≡ None → read ≡ None)
+    → ((text : Text) → given ≡ Some text → ReadsOne gives text read) → ((text : Text) (r : Result ℕ E) → gives text r → ParsesUnsigned 32 10 text r) → IsLimit given (unwrap_or read 4096)
+limit_read gives None read limit none some parses = rw (none refl) (record { value = refl; from_one = omega arith; at_most = omega arith })
+limit_read gives (Some text) read limit none some parses = go read (some text refl)
+  where
+    go : (o : Option ℕ) → ReadsOne gives text o → IsLimit (Some text) (unwrap_or o 4096)
+    go (Some n) h =
+        let same : n ≡ decimal_value text = (parses text (Ok n) h).1 in
+        record { value = same; from_one = rw same limit.from_one; at_most = rw same limit.at_most }
+    go None h = absurd (parses text (Err h.0) h.1 (limit.numeral, omega (arith, limit.at_most)))
+
+-- ---- what the commands want
+
+-- two names that the test tells apart
+other : (a b : Text) → bytes_eq a b ≡ false → a ≡ b → ⊥
+other a b differ same =
+    let equal : bytes_eq a b ≡ true = (bytes_eq-Decides a b).1 same in
+    let bad : false ≡ true = sym differ ∙ equal in
+    cc bad
+
+show_whole : (rows : List Row) → HasText (codes "word") rows → IsWhole (codes "show") rows
+show_whole rows text = record {
+  known = refl;
+  show = λ _. text;
+  round = λ same. absurd (other (codes "show") (codes "round") refl same);
+  run = λ same. absurd (other (codes "show") (codes "run") refl same);
+  plan = λ same. absurd (other (codes "show") (codes "plan") refl same);
+}
+
+round_whole : (rows : List Row) → HasText (codes "length") rows → IsWhole (codes "round") rows
+round_whole rows text = record {
+  known = refl;
+  show = λ same. absurd (other (codes "round") (codes "show") refl same);
+  round = λ _. text;
+  run = λ same. absurd (other (codes "round") (codes "run") refl same);
+  plan = λ same. absurd (other (codes "round") (codes "plan") refl same);
+}
+
+run_whole : (rows : List Row) → HasLimit rows → IsWhole (codes "run") rows
+run_whole rows limit = record {
+  known = refl;
+  show = λ same. absurd (other (codes "run") (codes "show") refl same);
+  round = λ same. absurd (other (codes "run") (codes "round") refl same);
+  run = λ _. limit;
+  plan = λ same. absurd (other (codes "run") (codes "plan") refl same);
+}
+
+plan_whole : (rows : List Row) → HasText (codes "base") rows → HasText (codes "length") rows → HasLimit rows → IsWhole (codes "plan") rows
+plan_whole rows base size limit = record {
+  known = refl;
+  show = λ same. absurd (other (codes "plan") (codes "show") refl same);
+  round = λ same. absurd (other (codes "plan") (codes "round") refl same);
+  run = λ same. absurd (other (codes "plan") (codes "run") refl same);
+  plan = λ _. (base, size, limit);
+}
 
 -- ---- the commands, as building leaves them
 
@@ -40,15 +127,75 @@ show = get_or (built program).subs 0 help_shape
 abbrev round : Shape
 round = get_or (built program).subs 1 help_shape
 
-show_found : (words : List Text) → level_fault show [] nothing_held words false [] ≡ [] → HasItsTexts (Some (rows_at show words))
-show_found words e =
-    let text = (required_given show words (wanted_gives (codes "word"), (help_gives, tt)) e).0 refl in
-    (Show (record { ref_ptr = (0, 0); now = text.0 }), (rows_after show.rules [] words, refl, text.1))
+abbrev run : Shape
+run = get_or (built program).subs 2 help_shape
 
-round_found : (words : List Text) → level_fault round [] nothing_held words false [] ≡ [] → HasItsTexts (Some (rows_at round words))
-round_found words e =
-    let text = (required_given round words (wanted_gives (codes "length"), (help_gives, tt)) e).0 refl in
-    (Round (record { ref_ptr = (0, 0); now = text.0 }), (rows_after round.rules [] words, refl, text.1))
+abbrev plan : Shape
+plan = get_or (built program).subs 3 help_shape
+
+-- a call for help is a fault, and no row's
+help_gives : (c : List Rule) → GivesValue c (filled help_rule)
+help_gives c = record { no_default = refl; uses = λ again values rows e given. given }
+
+show_gives : GiveValues show.rules show.rules
+show_gives = (set_gives show.rules _ refl refl refl refl, (help_gives show.rules, tt))
+
+round_gives : GiveValues round.rules round.rules
+round_gives = (set_gives round.rules _ refl refl refl refl, (help_gives round.rules, tt))
+
+run_gives : GiveValues run.rules run.rules
+run_gives = (set_gives run.rules _ refl refl refl refl, (set_gives run.rules _ refl refl refl refl, (help_gives run.rules, tt)))
+
+plan_gives : GiveValues plan.rules plan.rules
+plan_gives = (
+  set_gives plan.rules _ refl refl refl refl,
+  (
+    set_gives plan.rules _ refl refl refl refl,
+    (
+      set_gives plan.rules _ refl refl refl refl,
+      (set_gives plan.rules _ refl refl refl refl, (help_gives plan.rules, tt)),
+    ),
+  ),
+)
+
+-- a command whose words have no fault has what it wants
+abbrev Serves : Shape → Type 0
+Serves s = (words : List Text) → level_fault s [] nothing_held words false [] ≡ [] → HasItsTexts (Some (rows_at s words))
+
+show_serves : Serves show
+show_serves words e =
+    let rows = rows_after show.rules [] words in
+    (codes "show", rows, refl, show_whole rows ((required_given show words show_gives e).0 refl))
+
+round_serves : Serves round
+round_serves words e =
+    let rows = rows_after round.rules [] words in
+    (codes "round", rows, refl, round_whole rows ((required_given round words round_gives e).0 refl))
+
+-- the value of `--slots`
+limit_served : (s : Shape) (words : List Text) → GiveValues s.rules s.rules → arg_by_id s.rules (codes "slots") ≡ Some (filled slots_option)
+    → level_fault s [] nothing_held words false [] ≡ [] → HasLimit (rows_after s.rules [] words)
+limit_served s words gives own e =
+    let rows = rows_after s.rules [] words in
+    has_limit rows (taken s.rules (codes "slots") (filled slots_option) rows (level-given s [] words false [] gives e) own)
+
+run_serves : Serves run
+run_serves words e =
+    let rows = rows_after run.rules [] words in
+    (codes "run", rows, refl, run_whole rows (limit_served run words run_gives refl e))
+
+plan_serves : Serves plan
+plan_serves words e =
+    let rows = rows_after plan.rules [] words in
+    let texts = required_given plan words plan_gives e in
+    (codes "plan", rows, refl, plan_whole rows (texts.1.0 refl) (texts.1.1.0 refl) (limit_served plan words plan_gives refl e))
+
+abbrev AllServe : List Shape → Type 0
+AllServe [] = ⊤
+AllServe (s ∷ rest) = Serves s × AllServe rest
+
+all_serve : AllServe (built program).subs
+all_serve = (show_serves, (round_serves, (run_serves, (plan_serves, tt))))
 
 -- ---- the program
 
@@ -62,18 +209,26 @@ wanted rows e =
     wanted_by (not (list_any (λ (r : Row). explicit_source r.source) rows))
     (list_any (λ (a : Rule). a.required && not (is_given a.id rows)) (built program).top.rules) e
 
-by_name : (words : List Text) (rows : List Row) (is_show is_round : Bool)
-    → option_map_or (λ s. level_fault s [] nothing_held words false []) (cond is_show (Some show) (cond is_round (Some round) None)) [] ≡ []
-    → check_fault (built program).top rows (is_some (option_map (λ s. rows_at s words) (cond is_show (Some show) (cond is_round (Some round) None)))) ≡ []
-    → HasItsTexts (option_map (λ s. rows_at s words) (cond is_show (Some show) (cond is_round (Some round) None)))
-by_name words rows true is_round below e = show_found words below
-by_name words rows false true below e = round_found words below
-by_name words rows false false below e = absurd (wanted rows e)
+by_name : (is_named : Shape → Bool) (commands : List Shape) (words : List Text) (rows : List Row) → AllServe commands
+    → option_map_or (λ s. level_fault s [] nothing_held words false []) (find is_named commands) [] ≡ []
+    → check_fault (built program).top rows (is_some (option_map (λ s. rows_at s words) (find is_named commands))) ≡ []
+    → HasItsTexts (option_map (λ s. rows_at s words) (find is_named commands))
+by_name is_named [] words rows all below e = absurd (wanted rows e)
+by_name is_named (s ∷ rest) words rows all below e = go (is_named s) below e (by_name is_named rest words rows all.1)
+  where
+    go : (b : Bool) → option_map_or (λ s. level_fault s [] nothing_held words false []) (if b then Some s else find is_named rest) [] ≡ []
+        → check_fault (built program).top rows (is_some (option_map (λ s. rows_at s words) (if b then Some s else find is_named rest))) ≡ []
+        → (option_map_or (λ s. level_fault s [] nothing_held words false []) (find is_named rest) [] ≡ []
+        → check_fault (built program).top rows (is_some (option_map (λ s. rows_at s words) (find is_named rest))) ≡ []
+        → HasItsTexts (option_map (λ s. rows_at s words) (find is_named rest)))
+        → HasItsTexts (option_map (λ s. rows_at s words) (if b then Some s else find is_named rest))
+    go true below e later = all.0 words below
+    go false below e later = later below e
 
 by_stop : (stop : Option (Text × List Text)) (rows : List Row) → entered_fault (built program) stop ≡ []
     → check_fault (built program).top rows (is_some (entered (built program) stop)) ≡ [] → HasItsTexts (entered (built program) stop)
 by_stop None rows below e = absurd (wanted rows e)
-by_stop (Some p) rows below e = by_name p.1 rows (bytes_eq (codes "show") p.0 || false) (bytes_eq (codes "round") p.0 || false) below e
+by_stop (Some p) rows below e = by_name (λ s. answers_to p.0 (label_of s)) (built program).subs p.1 rows all_serve below e
 
 -- words without a fault name a command and give it its texts
 pub found : (words : List Text) → fault_of program words ≡ [] → HasItsTexts (subcommand_of program words)
@@ -102,26 +257,12 @@ pub command_is : (m : ArgMatches) (name : Text) (rows : List Row) → Some name 
     → subcommand_rows_of m ≡ Some (name, rows)
 command_is m name rows named told = met_is (subcommand_rows_of m) name rows (named ∙ named_rows (out-ArgMatches m).subcommand) told
 
--- a command is met once
-one_name : (met : Option (Text × List Row)) (a b : Text) (rows given : List Row) → met ≡ Some (a, rows) → met ≡ Some (b, given) → a ≡ b
-one_name met a b rows given is told =
-    let same : Some a ≡ Some b = ap (option_map (λ (p : Text × List Row). p.0)) (sym is ∙ told) in
-    cc same
-
-text_met : (met : Option (Text × List Row)) (name argument text : Text) (rows given : List Row) → met ≡ Some (name, rows) → met ≡ Some (name, given)
-    → first_of argument given ≡ Some text → HasText argument rows
-text_met met name argument text rows given is told gives =
-    let both : Some rows ≡ Some given = ap (option_map (λ (p : Text × List Row). p.1)) (sym is ∙ told) in
-    let same : rows ≡ given = cc both in
-    (text, ap (first_of argument) same ∙ gives)
-
-pub show_text : (met : Option (Text × List Row)) (rows : List Row) → met ≡ Some (codes "show", rows) → HasItsTexts met → HasText (codes "word") rows
-show_text met rows is (Show word, (given, told, text)) = text_met met (codes "show") (codes "word") word.now rows given is told text
-show_text met rows is (Round size, (given, told, text)) = let bad = one_name met (codes "show") (codes "round") rows given is told in cc bad
-
-pub round_text : (met : Option (Text × List Row)) (rows : List Row) → met ≡ Some (codes "round", rows) → HasItsTexts met → HasText (codes "length") rows
-round_text met rows is (Show word, (given, told, text)) = let bad = one_name met (codes "round") (codes "show") rows given is told in cc bad
-round_text met rows is (Round size, (given, told, text)) = text_met met (codes "round") (codes "length") size.now rows given is told text
+-- what was found has what its command wants
+pub whole : (met : Option (Text × List Row)) (name : Text) (rows : List Row) → met ≡ Some (name, rows) → HasItsTexts met → IsWhole name rows
+whole met name rows is (named, given, told, has) =
+    let both : Some (named, given) ≡ Some (name, rows) = sym told ∙ is in
+    let same : (named, given) ≡ (name, rows) = cc both in
+    subst (λ (p : Text × List Row). IsWhole p.0 p.1) same has
 
 -- the text as `get_str` gives it
 pub has_text : (f : Found) (id : Text) → HasText id (rows_of f) → IsSome (first_value f id)

@@ -1,13 +1,32 @@
 -- What a command line asks for.
-use Rattle.std.specs.Prelude.{◌≡◌, true, List, Option, Some, codes}
-use Rattle.clap.specs.Words.{App, Row, Rule, Text, first_of, new_app, new_rule, with_rule, with_subcommand}
+use Rattle.std.specs.Prelude.{◌≡◌, ◌+◌, ◌≤◌, ℕ, Bool, true, pos, List, [], ◌∷◌, Option, Some, None, IfSome, codes, option_map}
+use Rattle.std.specs.Borrow.{Bor}
+use Rattle.std.specs.List.{list_any}
+use Rattle.std.specs.Option.{option_map_or}
+use Rattle.std.specs.Str.{bytes_eq}
+use Rattle.std.specs.Str.Parse.{IsNumeral, digits_value, without_leading_plus}
+use Rattle.clap.specs.Words.{App, Row, Rule, Text, first_of, new_app, new_rule, one_of, with_rule, with_subcommand}
 use Rattle.clap.specs.declared.builder.action.ArgAction.TheVariants.{Set}
+use Rattle.clap.specs.declared.builder.value_parser.ValueParser.TheVariants.{Signed}
 use Rattle.cheri_cap.specs.declared.invocation.Invocation.{Invocation}
-use Rattle.cheri_cap.specs.declared.invocation.Invocation.TheVariants.{Show, Round}
+use Rattle.cheri_cap.specs.declared.invocation.Invocation.TheVariants.{Plan, Round, Run, Show}
 
--- an argument that is wanted and has one value
+-- ---- the program as clap reads it
+
+-- an argument that may be left out, and has one value
+abbrev pub optional_argument : Text → Rule
+optional_argument name = record (new_rule name) { action = Some Set; value_names = 1 }
+
+-- an argument that is wanted
 abbrev pub wanted_argument : Text → Rule
-wanted_argument name = record (new_rule name) { action = Some Set; value_names = 1; required = true }
+wanted_argument name = record (optional_argument name) { required = true }
+
+-- the option `--slots N`, whose value is a number from 1 to 65536
+abbrev pub slots_option : Rule
+slots_option = record (optional_argument (codes "slots")) {
+  long = Some (codes "slots");
+  parser = Some (Signed (pos 1) (pos 65536));
+}
 
 -- the command `show WORD`
 abbrev pub show_command : App
@@ -16,6 +35,17 @@ show_command = with_rule (new_app (codes "show")) (wanted_argument (codes "word"
 -- the command `round N`
 abbrev pub round_command : App
 round_command = with_rule (new_app (codes "round")) (wanted_argument (codes "length"))
+
+-- the command `run [--slots N] [FILE]`
+abbrev pub run_command : App
+run_command = with_rule (with_rule (new_app (codes "run")) slots_option) (optional_argument (codes "file"))
+
+-- the command `plan [--slots N] BASE LENGTH [FILE]`
+abbrev pub plan_command : App
+plan_command =
+    let slots = with_rule (new_app (codes "plan")) slots_option in
+    let pool = with_rule (with_rule slots (wanted_argument (codes "base"))) (wanted_argument (codes "length")) in
+    with_rule pool (optional_argument (codes "file"))
 
 -- a program that wants one of its commands and has a version, before its commands are added
 abbrev pub bare_program : App
@@ -30,17 +60,70 @@ bare_program = let bare = new_app (codes "cheri-cap") in record bare {
 
 -- the program as clap reads it
 abbrev pub program : App
-program = with_subcommand (with_subcommand bare_program show_command.top) round_command.top
+program =
+    let words = with_subcommand (with_subcommand bare_program show_command.top) round_command.top in
+    with_subcommand (with_subcommand words run_command.top) plan_command.top
 
--- what clap found is this command, with this text as the value of this argument
-abbrev pub Gives : (found : Option (Text × List Row)) (command argument text : Text) → Type 0
-Gives found command argument text = (rows : List Row) × (found ≡ Some (command, rows)) × (first_of argument rows ≡ Some text)
+-- ---- what clap found, and what it asks for
+
+-- the number that decimal digits say, where a plus may stand before them
+abbrev pub decimal_value : Text → ℕ
+decimal_value text = digits_value 10 (without_leading_plus text)
+
+-- the limit is the number that the value of `--slots` says, or 4096 where it is not given, and a
+-- machine can have it
+pub record IsLimit (given : Option Text) (limit : ℕ) : Type 0 where
+  pub value : limit ≡ option_map_or decimal_value given 4096
+  pub from_one : 1 ≤ limit
+  pub at_most : limit ≤ 65536
+
+-- the name of the command
+abbrev pub command_of : Invocation → Text
+command_of (Show word) = codes "show"
+command_of (Round size) = codes "round"
+command_of (Run limit file) = codes "run"
+command_of (Plan limit base size file) = codes "plan"
+
+-- each text of the command is the value of its name, and none where the name has no value
+abbrev pub HasValues : List Row → Invocation → Type 0
+HasValues rows (Show word) = first_of (codes "word") rows ≡ Some word.now
+HasValues rows (Round size) = first_of (codes "length") rows ≡ Some size.now
+HasValues rows (Run limit file) =
+    IsLimit (first_of (codes "slots") rows) limit × (first_of (codes "file") rows ≡ option_map (λ text. text.now) file)
+HasValues rows (Plan limit base size file) =
+    IsLimit (first_of (codes "slots") rows) limit
+    × (first_of (codes "base") rows ≡ Some base.now) × (first_of (codes "length") rows ≡ Some size.now)
+    × (first_of (codes "file") rows ≡ option_map (λ text. text.now) file)
 
 -- the command is the subcommand that clap found, and each text is the value that it gives to its name
 abbrev pub IsInvocation : Option (Text × List Row) → Invocation → Type 0
-IsInvocation found (Show word) = Gives found (codes "show") (codes "word") word.now
-IsInvocation found (Round size) = Gives found (codes "round") (codes "length") size.now
+IsInvocation found invocation = (rows : List Row) × (found ≡ Some (command_of invocation, rows)) × HasValues rows invocation
 
--- a command was found that has its texts; only a private contract cites this
+-- ---- what only private contracts cite
+
+-- the name has a value
+abbrev pub HasText : Text → List Row → Type 0
+HasText name rows = (text : Text) × (first_of name rows ≡ Some text)
+
+-- a number from 1 to 65536
+pub record IsLimitText (text : Text) : Type 0 where
+  pub numeral : IsNumeral 10 (without_leading_plus text)
+  pub from_one : 1 ≤ decimal_value text
+  pub at_most : decimal_value text ≤ 65536
+
+-- the value of `--slots`, where it has one, is a number from 1 to 65536, and is read as it is written
+pub record HasLimit (rows : List Row) : Type 0 where
+  pub read : one_of (codes "slots") rows ≡ first_of (codes "slots") rows
+  pub limit : IfSome (first_of (codes "slots") rows) IsLimitText
+
+-- the command of this name is one of the program's, and has what it wants
+pub record IsWhole (name : Text) (rows : List Row) : Type 0 where
+  pub known : list_any (λ command. bytes_eq command name) (codes "show" ∷ codes "round" ∷ codes "run" ∷ codes "plan" ∷ []) ≡ true
+  pub show : name ≡ codes "show" → HasText (codes "word") rows
+  pub round : name ≡ codes "round" → HasText (codes "length") rows
+  pub run : name ≡ codes "run" → HasLimit rows
+  pub plan : name ≡ codes "plan" → HasText (codes "base") rows × HasText (codes "length") rows × HasLimit rows
+
+-- a command was found that has what it wants
 abbrev pub HasItsTexts : Option (Text × List Row) → Type 0
-HasItsTexts found = (invocation : Invocation) × IsInvocation found invocation
+HasItsTexts found = (name : Text) × (rows : List Row) × (found ≡ Some (name, rows)) × IsWhole name rows

@@ -1,12 +1,12 @@
 //! The command line.
-ghost use Rattle.std.specs.Prelude.{◌≡◌, IfErr, IfOk, IsSome, Some, false, true};
+ghost use Rattle.std.specs.Prelude.{◌≡◌, IfErr, IfOk, IsSome, Some, codes, false, true};
 ghost use Rattle.clap.specs.Walk.{texts};
-ghost use Rattle.clap.specs.Words.{app_of, first_value, found_of, kind_of, new_app, rule_of, subcommand_of, subcommand_rows_of, takes};
+ghost use Rattle.clap.specs.Words.{app_of, first_of, first_value, found_of, kind_of, new_app, rows_of, rule_of, subcommand_of, subcommand_rows_of, takes};
 ghost use Rattle.clap.specs.declared.builder.command.Command.TheViews.{out-Command};
-ghost use Rattle.cheri_cap.specs.Invocation.{HasItsTexts, IsInvocation, bare_program, program, round_command, show_command, wanted_argument};
+ghost use Rattle.cheri_cap.specs.Invocation.{HasItsTexts, HasLimit, IsInvocation, IsLimit, bare_program, optional_argument, plan_command, program, round_command, run_command, show_command, slots_option, wanted_argument};
 
 use clap::error::ErrorKind;
-use clap::{Arg, ArgAction, ArgMatches, Command, Error};
+use clap::{Arg, ArgAction, ArgMatches, Command, Error, value_parser};
 use std::alloc::{AllocError, Global};
 
 /// What the program is asked to do.
@@ -22,20 +22,42 @@ pub enum Invocation<'a> {
         /// The text that stands for `N`, which may be none.
         length: &'a str,
     },
+    /// `run [--slots N] [FILE]`: the replies to a script.
+    Run {
+        /// The most slots, and the most objects, that the machine can have: from 1 to 65536.
+        limit: u32,
+        /// The script's file. Standard input where there is none, or where it is `-`.
+        file: Option<&'a str>,
+    },
+    /// `plan [--slots N] BASE LENGTH [FILE]`: the replies to a script, on a machine with a pool.
+    Plan {
+        /// The most slots, and the most objects, that the machine can have: from 1 to 65536.
+        limit: u32,
+        /// The text that stands for the pool's first address, which may be none.
+        base: &'a str,
+        /// The text that stands for the pool's length, which may be none.
+        length: &'a str,
+        /// The script's file. Standard input where there is none, or where it is `-`.
+        file: Option<&'a str>,
+    },
 }
 
+/// The most slots and objects of a machine where `--slots` is not given.
+const DEFAULT_LIMIT: u32 = 4096;
+
 const ABOUT: &str =
-    "Shows what 128-bit CHERI Concentrate capability words hold, and which bounds they can have";
+    "Shows and derives 128-bit CHERI Concentrate capabilities, and plans who gets which bytes of a pool";
 
 const AFTER_HELP: &str = "\
-Try it with the word of a capability that grants the 512 bytes from 0x1000:
-  cheri-cap show ffff0000048190040000000000001000
+Try it with a first plan: 100 bytes, from a pool of the 65536 bytes from 0x10000
+  echo alloc 100 | cheri-cap plan 0x10000 65536
 
-or with a length that such a capability can only grant rounded up:
-  cheri-cap round 8191
+and then look at the word of the capability for them that the last line of the answer has:
+  cheri-cap show ffff0000041880040000000000010000
 
 The exit status is 0, or 1 where an answer is an error, 2 for a command line that is not
-understood, and 3 where the program ran out of memory or its output failed.";
+understood, and 3 where the program ran out of memory, a file cannot be opened, or its input or
+output failed.";
 
 const SHOW_ABOUT: &str = "Shows the fields of a capability word, one on each line";
 
@@ -69,6 +91,59 @@ Example:
   cheri-cap round 8191
   round 0x2000 0x10 0xfffffffffffffff0";
 
+const RUN_ABOUT: &str = "Runs a script on a new machine, and prints a reply for each of its lines";
+
+const RUN_AFTER_HELP: &str = "\
+Slot 0 of the machine holds the capability for the whole address space. Each command that derives
+a capability puts it into the next slot:
+  addr S V, inc S V            another address, or one further on
+  bounds S N, exact S N        N bytes from the address, rounded up or refused where it has to be
+  perms S NAMES, flag S F      fewer permissions, another flag
+  seal S A, unseal S A         sealed or unsealed by the authority in slot A
+  rebuild A WORD               a word again, as far as slot A grants it
+  pool S, alloc N, free J      a pool, an object of N bytes in it, and its end
+  show S, round N              shows a slot, or what a length is rounded to
+A line that is no command, or that is refused, is answered by `error`, a code and a name, and the
+next line is run.
+
+The exit status is 0, or 1 where a reply is an error, 2 for a command line that is not understood,
+and 3 where the program ran out of memory, FILE cannot be opened, or its input or output failed.
+
+Example:
+  printf 'addr 0 0x1000\\nbounds 1 512\\n' | cheri-cap run
+  slot 1 ffff0000000000000000000000001000 0x0 0x10000000000000000
+  slot 2 ffff0000048190040000000000001000 0x1000 0x1200";
+
+const PLAN_ABOUT: &str =
+    "Runs a script on a machine whose pool of memory is the LENGTH bytes from BASE";
+
+const BASE_HELP: &str = "\
+The first address of the pool: decimal digits, or 0x and hexadecimal digits of either case";
+
+const POOL_LENGTH_HELP: &str = "The pool's length in bytes, at most 2^64, written as BASE is";
+
+const PLAN_AFTER_HELP: &str = "\
+The machine is opened by `addr 0 BASE`, `exact 1 LENGTH` and `pool 2`, whose three replies stand
+first. They are errors where no capability has exactly these bounds, and the machine then has no
+pool; `cheri-cap round LENGTH` tells which length and alignment are exact. The script is then run
+as `cheri-cap run` does.
+
+For a BASE or LENGTH that is no number the answer is `error 1 syntax`, and for one that is too
+large it is `error 4 range`, both with exit status 1, and no script is run.
+
+Example:
+  printf 'alloc 100\\nfree 1\\n' | cheri-cap plan 0x10000 65536
+  slot 1 ffff0000000000000000000000010000 0x0 0x10000000000000000
+  slot 2 ffff0000000190000000000000010000 0x10000 0x20000
+  pool 2 0x10000 0x20000
+  object 1 slot 3 ffff0000041880040000000000010000 0x10000 0x10064 held 100
+  freed 1 revoked 1 held 0";
+
+const SLOTS_HELP: &str = "\
+How many slots the machine can have, and how many objects, from 1 to 65536 [default: 4096]";
+
+const FILE_HELP: &str = "The script's file; standard input where it is `-` or left out";
+
 /// Reads the program's words, its own name first.
 ///
 /// An error is a mistake in the words, a request for help or for the version, or want of memory; its
@@ -91,7 +166,9 @@ fn program<'a>(alloc: Global) -> Result<Command<'a>, AllocError>
 {
     bare_program(alloc)?
         .subcommand(show_command(alloc)?)?
-        .subcommand(round_command(alloc)?)
+        .subcommand(round_command(alloc)?)?
+        .subcommand(run_command(alloc)?)?
+        .subcommand(plan_command(alloc)?)
 }
 
 /// `show WORD`.
@@ -110,6 +187,32 @@ fn round_command<'a>(alloc: Global) -> Result<Command<'a>, AllocError>
 {
     let length = wanted_argument(alloc, "length", "N", LENGTH_HELP);
     bare_command(alloc, "round", ROUND_ABOUT, ROUND_AFTER_HELP).arg(length)
+}
+
+/// `run [--slots N] [FILE]`.
+fn run_command<'a>(alloc: Global) -> Result<Command<'a>, AllocError>
+    ensures shape { IfOk result (λ command. app_of command ≡ run_command) }
+    ensures local { IfOk result (λ command. (out-Command command).has_globals ≡ false) }
+{
+    let file = optional_argument(alloc, "file", "FILE", FILE_HELP);
+    bare_command(alloc, "run", RUN_ABOUT, RUN_AFTER_HELP)
+        .arg(slots_option(alloc))?
+        .arg(file)
+}
+
+/// `plan [--slots N] BASE LENGTH [FILE]`.
+fn plan_command<'a>(alloc: Global) -> Result<Command<'a>, AllocError>
+    ensures shape { IfOk result (λ command. app_of command ≡ plan_command) }
+    ensures local { IfOk result (λ command. (out-Command command).has_globals ≡ false) }
+{
+    let base = wanted_argument(alloc, "base", "BASE", BASE_HELP);
+    let length = wanted_argument(alloc, "length", "LENGTH", POOL_LENGTH_HELP);
+    let file = optional_argument(alloc, "file", "FILE", FILE_HELP);
+    bare_command(alloc, "plan", PLAN_ABOUT, PLAN_AFTER_HELP)
+        .arg(slots_option(alloc))?
+        .arg(base)?
+        .arg(length)?
+        .arg(file)
 }
 
 /// The program without its commands.
@@ -143,16 +246,38 @@ fn bare_command<'a>(
         .after_help(after_help)
 }
 
-/// An argument that is wanted and has one value.
+/// An argument that is wanted.
 fn wanted_argument<'a>(alloc: Global, name: &'a str, placeholder: &'a str, help: &'a str) -> Arg<'a>
     ensures rule { rule_of result ≡ wanted_argument name.now }
+    ensures local { result.global ≡ false }
+{
+    optional_argument(alloc, name, placeholder, help).required(true)
+}
+
+/// An argument that may be left out, and has one value.
+fn optional_argument<'a>(
+    alloc: Global,
+    name: &'a str,
+    placeholder: &'a str,
+    help: &'a str,
+) -> Arg<'a>
+    ensures rule { rule_of result ≡ optional_argument name.now }
     ensures local { result.global ≡ false }
 {
     Arg::new(alloc, name)
         .value_name(placeholder)
         .help(help)
-        .required(true)
         .action(ArgAction::Set)
+}
+
+/// The option `--slots N`.
+fn slots_option<'a>(alloc: Global) -> Arg<'a>
+    ensures rule { rule_of result ≡ slots_option }
+    ensures local { result.global ≡ false }
+{
+    optional_argument(alloc, "slots", "N", SLOTS_HELP)
+        .long("slots")
+        .value_parser(value_parser!(u32).range(1..=65_536))
 }
 
 /// What the command that clap found asks for.
@@ -167,6 +292,16 @@ fn invocation_of<'a>(matches: &ArgMatches<'a>) -> Invocation<'a>
         Some(("round", round)) => Invocation::Round {
             length: wanted_text(round, "length"),
         },
+        Some(("run", run)) => Invocation::Run {
+            limit: limit_of(run),
+            file: run.get_str("file"),
+        },
+        Some(("plan", plan)) => Invocation::Plan {
+            limit: limit_of(plan),
+            base: wanted_text(plan, "base"),
+            length: wanted_text(plan, "length"),
+            file: plan.get_str("file"),
+        },
         _ => unreachable!(),
     }
 }
@@ -180,4 +315,12 @@ fn wanted_text<'a>(matches: &ArgMatches<'a>, name: &str) -> &'a str
         Some(text) => text,
         None => unreachable!(),
     }
+}
+
+/// The value of `--slots`, or the default.
+fn limit_of(matches: &ArgMatches<'_>) -> u32
+    requires { HasLimit (rows_of (found_of matches.now)) }
+    ensures { IsLimit (first_of (codes "slots") (rows_of (found_of matches.now))) result }
+{
+    matches.get_one("slots").unwrap_or(DEFAULT_LIMIT)
 }
