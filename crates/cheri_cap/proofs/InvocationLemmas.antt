@@ -24,7 +24,7 @@ use Rattle.clap.specs.declared.parser.matches.Found.{Found}
 use Rattle.clap.specs.declared.parser.matches.SubCommand.{SubCommand}
 use Rattle.clap.proofs.ValueTestLemmas.{accepts-Accepts}
 use Rattle.clap.proofs.WalkLemmas.{first_value-rows}
-use Rattle.cheri_cap.specs.Invocation.{HasItsTexts, HasLimit, HasText, IsLimit, IsLimitText, IsWhole, number_of, program, slots_option}
+use Rattle.cheri_cap.specs.Invocation.{HasItsTexts, HasLimit, HasText, IsLimit, IsLimitText, IsWhole, decimal_value, program, slots_option}
 use Rattle.cheri_cap.proofs.GivenLemmas.{GiveValues, GivesValue, IsTaken, level-given, level_parts, required_given, set_gives, taken}
 
 -- ---- numbers
@@ -70,7 +70,7 @@ limit_read gives (Some text) read limit none some parses = go read (some text re
   where
     go : (o : Option ℕ) → ReadsOne gives text o → IsLimit (Some text) (unwrap_or o 4096)
     go (Some n) h =
-        let same : n ≡ number_of text = (parses text (Ok n) h).1 in
+        let same : n ≡ decimal_value text = (parses text (Ok n) h).1 in
         record { value = same; from_one = rw same limit.from_one; at_most = rw same limit.at_most }
     go None h = absurd (parses text (Err h.0) h.1 (limit.numeral, omega (arith, limit.at_most)))
 

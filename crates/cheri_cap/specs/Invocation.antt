@@ -67,13 +67,13 @@ program =
 -- ---- what clap found, and what it asks for
 
 -- the number that decimal digits say, where a plus may stand before them
-abbrev pub number_of : Text → ℕ
-number_of text = digits_value 10 (without_leading_plus text)
+abbrev pub decimal_value : Text → ℕ
+decimal_value text = digits_value 10 (without_leading_plus text)
 
 -- the limit is the number that the value of `--slots` says, or 4096 where it is not given, and a
 -- machine can have it
 pub record IsLimit (given : Option Text) (limit : ℕ) : Type 0 where
-  pub value : limit ≡ option_map_or number_of given 4096
+  pub value : limit ≡ option_map_or decimal_value given 4096
   pub from_one : 1 ≤ limit
   pub at_most : limit ≤ 65536
 
@@ -108,8 +108,8 @@ HasText name rows = (text : Text) × (first_of name rows ≡ Some text)
 -- a number from 1 to 65536
 pub record IsLimitText (text : Text) : Type 0 where
   pub numeral : IsNumeral 10 (without_leading_plus text)
-  pub from_one : 1 ≤ number_of text
-  pub at_most : number_of text ≤ 65536
+  pub from_one : 1 ≤ decimal_value text
+  pub at_most : decimal_value text ≤ 65536
 
 -- the value of `--slots`, where it has one, is a number from 1 to 65536, and is read as it is written
 pub record HasLimit (rows : List Row) : Type 0 where

@@ -46,7 +46,7 @@ pub enum Invocation<'a> {
 const DEFAULT_LIMIT: u32 = 4096;
 
 const ABOUT: &str =
-    "Shows what 128-bit CHERI Concentrate capability words hold, and which bounds they can have";
+    "Shows and derives 128-bit CHERI Concentrate capabilities, and plans who gets which bytes of a pool";
 
 const AFTER_HELP: &str = "\
 Try it with a first plan: 100 bytes, from a pool of the 65536 bytes from 0x10000
@@ -95,8 +95,16 @@ const RUN_ABOUT: &str = "Runs a script on a new machine, and prints a reply for 
 
 const RUN_AFTER_HELP: &str = "\
 Slot 0 of the machine holds the capability for the whole address space. Each command that derives
-a capability puts it into the next slot. A line that is no command, or one that is refused, is
-answered by `error`, a code and a name, and the next line is run.
+a capability puts it into the next slot:
+  addr S V, inc S V            another address, or one further on
+  bounds S N, exact S N        N bytes from the address, rounded up or refused where it has to be
+  perms S NAMES, flag S F      fewer permissions, another flag
+  seal S A, unseal S A         sealed or unsealed by the authority in slot A
+  rebuild A WORD               a word again, as far as slot A grants it
+  pool S, alloc N, free J      a pool, an object of N bytes in it, and its end
+  show S, round N              shows a slot, or what a length is rounded to
+A line that is no command, or that is refused, is answered by `error`, a code and a name, and the
+next line is run.
 
 The exit status is 0, or 1 where a reply is an error, 2 for a command line that is not understood,
 and 3 where the program ran out of memory, FILE cannot be opened, or its input or output failed.

@@ -1,2 +1,88 @@
-use Rattle.std.proofs.Common.{rules}
+use Rattle.std.proofs.Common.{◌∙◌, ap, codes, refl, sym, Some}
+use Rattle.clap.specs.Words.{found_of, rows_of}
+use Rattle.clap.proofs.WalkLemmas.{first_value-rows}
+use Rattle.cheri_cap.proofs.InvocationLemmas.{command_is, has_text, whole}
 use Rattle.cheri_cap.proofs.invocation.invocation_of.Goals as goal
+
+pub wanted_text-requires : goal.wanted_text-requires
+wanted_text-requires c =
+    let here = c.in-Some-show-default in
+    let f = found_of here.show.now in
+    let is = command_is c.args.matches.now (codes "show") (rows_of f) (sym (ap Some here.is-show) ∙ here.ensures.name) here.ensures.rows in
+    has_text f (codes "word") ((whole _ (codes "show") (rows_of f) is c.requires).show refl)
+
+pub wanted_text-requires-in-Some-round-default : goal.wanted_text-requires-in-Some-round-default
+wanted_text-requires-in-Some-round-default c =
+    let here = c.in-Some-round-default in
+    let f = found_of here.round.now in
+    let is = command_is c.args.matches.now (codes "round") (rows_of f) (sym (ap Some here.is-round) ∙ here.ensures.name) here.ensures.rows in
+    has_text f (codes "length") ((whole _ (codes "round") (rows_of f) is c.requires).round refl)
+
+pub limit_of-requires : goal.limit_of-requires
+limit_of-requires c =
+    let here = c.in-Some-run-default in
+    let rows = rows_of (found_of here.run'.now) in
+    let is = command_is c.args.matches.now (codes "run") rows (sym (ap Some here.is-run) ∙ here.ensures.name) here.ensures.rows in
+    (whole _ (codes "run") rows is c.requires).run refl
+
+pub limit_of-requires-in-Some-plan-default : goal.limit_of-requires-in-Some-plan-default
+limit_of-requires-in-Some-plan-default c =
+    let here = c.in-Some-plan-default in
+    let rows = rows_of (found_of here.plan.now) in
+    let is = command_is c.args.matches.now (codes "plan") rows (sym (ap Some here.is-plan) ∙ here.ensures.name) here.ensures.rows in
+    ((whole _ (codes "plan") rows is c.requires).plan refl).2
+
+pub wanted_text-requires-in-Some-plan-default : goal.wanted_text-requires-in-Some-plan-default
+wanted_text-requires-in-Some-plan-default c =
+    let here = c.in-Some-plan-default in
+    let f = found_of here.plan.now in
+    let is = command_is c.args.matches.now (codes "plan") (rows_of f) (sym (ap Some here.is-plan) ∙ here.ensures.name) here.ensures.rows in
+    has_text f (codes "base") ((whole _ (codes "plan") (rows_of f) is c.requires).plan refl).0
+
+pub wanted_text-requires-in-Some-plan-default-2 : goal.wanted_text-requires-in-Some-plan-default-2
+wanted_text-requires-in-Some-plan-default-2 c =
+    let here = c.in-Some-plan-default in
+    let f = found_of here.plan.now in
+    let is = command_is c.args.matches.now (codes "plan") (rows_of f) (sym (ap Some here.is-plan) ∙ here.ensures.name) here.ensures.rows in
+    has_text f (codes "length") ((whole _ (codes "plan") (rows_of f) is c.requires).plan refl).1
+
+pub returns-in-Some-show-default : goal.returns-in-Some-show-default
+returns-in-Some-show-default c =
+    let here = c.in-Some-show-default in
+    let f = found_of here.show.now in (
+      rows_of f,
+      command_is c.args.matches.now (codes "show") (rows_of f) (sym (ap Some here.is-show) ∙ here.ensures.name) here.ensures.rows,
+      sym (first_value-rows f (codes "word")) ∙ c.wanted_text.ensures,
+    )
+
+pub returns-in-Some-round-default : goal.returns-in-Some-round-default
+returns-in-Some-round-default c =
+    let here = c.in-Some-round-default in
+    let f = found_of here.round.now in (
+      rows_of f,
+      command_is c.args.matches.now (codes "round") (rows_of f) (sym (ap Some here.is-round) ∙ here.ensures.name) here.ensures.rows,
+      sym (first_value-rows f (codes "length")) ∙ c.wanted_text-in-Some-round-default.ensures,
+    )
+
+pub returns-in-Some-run-default : goal.returns-in-Some-run-default
+returns-in-Some-run-default c =
+    let here = c.in-Some-run-default in
+    let f = found_of here.run'.now in (
+      rows_of f,
+      command_is c.args.matches.now (codes "run") (rows_of f) (sym (ap Some here.is-run) ∙ here.ensures.name) here.ensures.rows,
+      (c.limit_of.ensures, sym (first_value-rows f (codes "file")) ∙ sym c.get_str.ensures),
+    )
+
+pub returns-in-Some-plan-default : goal.returns-in-Some-plan-default
+returns-in-Some-plan-default c =
+    let here = c.in-Some-plan-default in
+    let f = found_of here.plan.now in (
+      rows_of f,
+      command_is c.args.matches.now (codes "plan") (rows_of f) (sym (ap Some here.is-plan) ∙ here.ensures.name) here.ensures.rows,
+      (
+        c.limit_of-in-Some-plan-default.ensures,
+        sym (first_value-rows f (codes "base")) ∙ c.wanted_text-in-Some-plan-default.ensures,
+        sym (first_value-rows f (codes "length")) ∙ c.wanted_text-in-Some-plan-default-2.ensures,
+        sym (first_value-rows f (codes "file")) ∙ sym c.get_str-in-Some-plan-default.ensures,
+      ),
+    )

@@ -1,2 +1,17 @@
 use Rattle.std.proofs.Common.{rules}
 use Rattle.cheri_cap.proofs.invocation.program.Goals as goal
+
+pub returns : goal.returns
+returns c =
+    let with_show =
+    c.in_ok-subcommand.ensures.shape c.in_ok-show_command.ensures.local
+    ∙ ap₂ with_subcommand c.in_ok-bare_program.ensures (ap (λ (a : App). a.top) c.in_ok-show_command.ensures.shape) in
+    let with_round =
+    c.in_ok-subcommand-2.ensures.shape c.in_ok-round_command.ensures.local
+    ∙ ap₂ with_subcommand with_show (ap (λ (a : App). a.top) c.in_ok-round_command.ensures.shape) in
+    let with_run =
+    c.in_ok-subcommand-3.ensures.shape c.in_ok-run_command.ensures.local
+    ∙ ap₂ with_subcommand with_round (ap (λ (a : App). a.top) c.in_ok-run_command.ensures.shape) in
+    IfOk-weaker c.subcommand-4.result _ _
+    (λ r added. added.shape c.in_ok-plan_command.ensures.local ∙ ap₂ with_subcommand with_run (ap (λ (a : App). a.top) c.in_ok-plan_command.ensures.shape))
+    c.subcommand-4.ensures
