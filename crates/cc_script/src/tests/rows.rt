@@ -69,6 +69,16 @@ fn rows(rt: HostRuntime) -> Result<(), Fail> {
     Ok(())
 }
 
+/// The script `tests/opening` refuses each request for memory after the machines were opened.
+#[test]
+fn no_memory_after_opening(rt: HostRuntime) -> Result<(), Fail> {
+    let mut plan = Machine::with_limit(rt.alloc(), 4096)?;
+    let mut pool = Machine::with_limit(rt.alloc(), 4096)?;
+    run(&rt, &mut plan, &ROWS[18], (7, 5));
+    run(&rt, &mut pool, &ROWS[19], (7, 5));
+    Ok(())
+}
+
 #[test]
 fn device_failures(rt: HostRuntime) -> Result<(), Fail> {
     let script = b"show 0\nsho";
