@@ -1,5 +1,5 @@
--- A run over a source whose bytes are known.
-use Rattle.std.proofs.Common.{◌≡◌, ℕ, ◌+◌, List, [], ◌∷◌, ◌++◌, length, take, refl, sym, ◌∙◌, ap, subst, append_assoc, append-nil, Option, Some, None, IfSome, Result, Ok, Err, inl, inr, not, ◌||◌, ◌==◌}
+-- A run over a source whose bytes are known, and what a run of lines does to the machine.
+use Rattle.std.proofs.Common.{◌≡◌, ℕ, Bool, ◌+◌, List, [], ◌∷◌, ◌++◌, length, take, refl, sym, ◌∙◌, ap, subst, append_assoc, append-nil, Option, Some, None, IfSome, Result, Ok, Err, inl, inr, not, ◌||◌, ◌==◌}
 use Rattle.std.proofs.lemmas.List.{take-append-le}
 use Rattle.std.proofs.Math.Seq.{take-append-add}
 use Rattle.std.specs.Io.KnownBytes.{Appends, Consumes, IsAtEnd}
@@ -8,11 +8,17 @@ use Rattle.cc_machine.specs.declared.reply.Reply.{Reply}
 use Rattle.cc_word.specs.declared.refusal.Refusal.{Refusal}
 use Rattle.cc_machine.specs.declared.op.Op.{Op}
 use Rattle.cc_machine.specs.State.{State}
-use Rattle.cc_machine.specs.Run.{Run}
+use Rattle.cc_machine.specs.Run.{Run, IsReached}
+use Rattle.cc_machine.specs.Confinement.{RunsWithin, IsConfined}
+use Rattle.cc_machine.proofs.TreeLemmas.{Keeps-reached, IsMonotonicTree-reached, HasSealingAuthority-reached}
+use Rattle.cc_machine.proofs.ObjectLawLemmas.{KeepsObjectLaws-reached}
+use Rattle.cc_machine.proofs.ReachLemmas.{ReachesAll-run}
+use Rattle.cc_machine.proofs.ConfinementLemmas.{IsConfined-run}
 use Rattle.cc_script.specs.Commands.{operation_of}
 use Rattle.cc_script.specs.Lines.{lines_of, rest_of}
 use Rattle.cc_script.specs.Replies.{reply_text, is_error}
 use Rattle.cc_script.specs.Output.{Takes, TakesLines, with_line_feed, replies_text, rest_text, with_operation, operations_of, RunsOperations}
+use Rattle.cc_script.specs.Laws.{TakesWithin, TakesLinesWithin, KeepsLaws}
 use Rattle.cc_script.specs.Correct.{StopsInReply, StopsAfterLines, WritesOutput, RunsAfter, RunsScript, HasBeginning, BeginsOutput, RunsWhole}
 use Rattle.cc_script.specs.declared.summary.ScriptFault.{ScriptFault}
 use Rattle.cc_script.specs.declared.summary.ScriptFault.TheVariants.{Read, Write}
@@ -27,7 +33,11 @@ all_given input text (Some rest) h k = (sym (h ∙ ap (λ (l : List ℕ). text +
 -- were the later lines taken too, what was written would be a beginning of the output
 begins_in_reply : (a b : State) (t u : Option (List ℕ)) (input : List ℕ) → StopsInReply a (lines_of input) t u b → BeginsOutput a input t u b
 begins_in_reply a b t u input s = record {
+  earlier = s.earlier ++ s.line ∷ [];
   later = s.later;
+  lines_are = s.lines_are ∙ sym (append_assoc s.earlier (s.line ∷ []) s.later);
+  replies = s.replies ++ s.reply ∷ [];
+  before = takes_further a s.mid b s.earlier (s.line ∷ []) s.replies (s.reply ∷ []) s.before (b, s.last, refl);
   begins = λ more end rest_taken.
       let reply : List ℕ = with_line_feed (reply_text s.reply) in
       let front : List ℕ = replies_text s.replies in
@@ -57,7 +67,11 @@ begins_in_reply a b t u input s = record {
 
 begins_after_lines : (a b : State) (t u : Option (List ℕ)) (input : List ℕ) → StopsAfterLines a input t u b → BeginsOutput a input t u b
 begins_after_lines a b t u input s = record {
+  earlier = lines_of input;
   later = [];
+  lines_are = sym (append-nil (lines_of input));
+  replies = s.replies;
+  before = s.lines;
   begins = after;
 } where
   after : (more : List Reply) (end : State) → TakesLines b [] more end → HasBeginning a input t u end
@@ -131,3 +145,38 @@ lines_run a b (line ∷ lines) [] t = absurd t
 lines_run a b (line ∷ lines) (reply ∷ replies) t =
     let r = runs_line a t.0 b (operation_of line) reply lines t.1 (lines_run t.0 b lines replies t.2) in
     record { replies = r.0; run = r.1 }
+
+-- ---- lines that use only given slots
+
+within_line : (given : ℕ → Bool) (start a b c : State) (line : Result Op Refusal) (reply : Reply) (ops : List Op) (replies : List Reply)
+    → TakesWithin given start a line reply b → RunsWithin given start b ops replies c
+    → (all : List Reply) × RunsWithin given start a (with_operation line ops) all c
+within_line given start a b c (Ok op) reply ops replies t r = (reply ∷ replies, (b, t, r))
+within_line given start a b c (Err refusal) reply ops replies t r =
+    (replies, subst (λ (s : State). RunsWithin given start s ops replies c) t.1 r)
+
+-- lines that are taken so run their operations so
+lines_within : (given : ℕ → Bool) (start a b : State) (lines : List (List ℕ)) (replies : List Reply)
+    → TakesLinesWithin given start a lines replies b → (all : List Reply) × RunsWithin given start a (operations_of lines) all b
+lines_within given start a b [] [] t = ([], t)
+lines_within given start a b [] (reply ∷ replies) t = absurd t
+lines_within given start a b (line ∷ lines) [] t = absurd t
+lines_within given start a b (line ∷ lines) (reply ∷ replies) t =
+    let r = lines_within given start t.0 b lines replies t.2 in
+    within_line given start a t.0 b (operation_of line) reply (operations_of lines) r.0 t.1 r.1
+
+lines_confined : (given : ℕ → Bool) (a b : State) (lines : List (List ℕ)) (replies : List Reply) → IsReached a
+    → TakesLinesWithin given a a lines replies b → IsConfined given a b
+lines_confined given a b lines replies reached t =
+    let r = lines_within given a a b lines replies t in
+    IsConfined-run given a b (operations_of lines) r.0 (Keeps-reached a reached) r.1
+
+-- machines are in reached states, and these keep the laws
+pub laws_kept : (a b : State) → IsReached a → IsReached b → KeepsLaws a b
+laws_kept a b before after = record {
+  tree = IsMonotonicTree-reached b after;
+  sealing = HasSealingAuthority-reached b after;
+  objects = KeepsObjectLaws-reached b after;
+  confined = λ given lines replies within. lines_confined given a b lines replies before within;
+  reaches = λ lines replies run. ReachesAll-run a b (operations_of lines) replies (Keeps-reached a before) run;
+}

@@ -82,10 +82,14 @@ pub record HasBeginning (old : State) (text : List ℕ) (taken taken_now : Optio
   pub count : ℕ
   pub written : Appends taken taken_now (take count output)
 
--- the first of the lines were taken, and were the rest of them taken too, what was written so far would be
--- a beginning of the whole output
+-- the first of the lines of the text were taken, and were the later ones taken too, what was written so far
+-- would be a beginning of the whole output
 pub record BeginsOutput (old : State) (text : List ℕ) (taken taken_now : Option (List ℕ)) (new : State) : Type 0 where
+  pub earlier : List (List ℕ)
   pub later : List (List ℕ)
+  pub lines_are : lines_of text ≡ earlier ++ later
+  pub replies : List Reply
+  pub before : TakesLines old earlier replies new
   pub begins : (more : List Reply) (end : State) → TakesLines new later more end → HasBeginning old text taken taken_now end
 
 -- What a run leaves where the text is all that was to come: the whole output at the end, and else what came

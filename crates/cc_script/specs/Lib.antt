@@ -4,6 +4,7 @@ pub mod Numbers
 pub mod Commands
 pub mod Replies
 pub mod Output
+pub mod Laws
 pub mod Devices
 pub mod Correct
 pub mod Engine

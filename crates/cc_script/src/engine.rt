@@ -5,6 +5,7 @@ ghost use Rattle.cc_script.specs.Lines.{lines_from};
 ghost use Rattle.cc_script.specs.Commands.{operation_of};
 ghost use Rattle.cc_script.specs.Replies.{is_error};
 ghost use Rattle.cc_script.specs.Output.{Takes, rest_text};
+ghost use Rattle.cc_script.specs.Laws.{KeepsLaws};
 ghost use Rattle.cc_script.specs.Devices.{TakesBeginning};
 ghost use Rattle.cc_script.specs.Correct.{StopsInReply, RunsAfter, RunsScript, RunsWhole};
 ghost use Rattle.cc_script.specs.Engine.{AnswersLine, CutsLine, Answers};
@@ -28,6 +29,8 @@ const PIECE: usize = 4096;
 /// before were written, and the machine stands after these. `Write` is answered exactly if the sink failed:
 /// then a beginning of the output was written, and the machine stands after the line whose reply was being
 /// written. Takes no memory of its own.
+///
+/// Whatever it answers, the machine then keeps the laws of every run.
 pub fn run_script<R: Source, W: Sink>(
     machine: &mut Machine,
     source: &mut R,
@@ -40,6 +43,7 @@ pub fn run_script<R: Source, W: Sink>(
     ensures runs { RunsScript machine.old (R.to_come source.old) (R.to_come source.new) (W.taken_bytes sink.old) (W.taken_bytes sink.new) result machine.new }
     ensures read { (result ≡ Err ScriptFault.Read) ↔ (R.has_failed source.new ≡ true) }
     ensures write { (result ≡ Err ScriptFault.Write) ↔ (W.has_failed sink.new ≡ true) }
+    ensures laws { KeepsLaws machine.old machine.new }
 {
     run_script_after(b"", machine, source, sink)
 }
@@ -59,8 +63,13 @@ pub fn run_script_after<R: Source, W: Sink>(
     ensures runs { RunsAfter opening.now machine.old (R.to_come source.old) (R.to_come source.new) (W.taken_bytes sink.old) (W.taken_bytes sink.new) result machine.new }
     ensures read { (result ≡ Err ScriptFault.Read) ↔ (R.has_failed source.new ≡ true) }
     ensures write { (result ≡ Err ScriptFault.Write) ↔ (W.has_failed sink.new ≡ true) }
+    ensures laws { KeepsLaws machine.old machine.new }
 {
-    run_pieces(opening, machine, source, sink)
+    // A machine tells that a run leads to its state: this one tells it of the state before and of that after.
+    let _ = machine.slots();
+    let result = run_pieces(opening, machine, source, sink);
+    let _ = machine.slots();
+    result
 }
 
 /// Runs the script, piece by piece.

@@ -1,5 +1,7 @@
 //! Tests of what no contract says: outside values, by topic.
 
+mod bytes;
+mod cuts;
 mod devices;
 mod lines;
 mod numbers;

@@ -69,6 +69,16 @@ fn rows(rt: HostRuntime) -> Result<(), Fail> {
     Ok(())
 }
 
+/// The script `tests/opening` refuses each request for memory after the machines were opened.
+#[test]
+fn no_memory_after_opening(rt: HostRuntime) -> Result<(), Fail> {
+    let mut plan = Machine::with_limit(rt.alloc(), 4096)?;
+    let mut pool = Machine::with_limit(rt.alloc(), 4096)?;
+    run(&rt, &mut plan, &ROWS[18], (7, 5));
+    run(&rt, &mut pool, &ROWS[19], (7, 5));
+    Ok(())
+}
+
 #[test]
 fn device_failures(rt: HostRuntime) -> Result<(), Fail> {
     let script = b"show 0\nsho";
@@ -91,18 +101,20 @@ fn device_failures(rt: HostRuntime) -> Result<(), Fail> {
 #[test]
 fn room_for_one_reply(rt: HostRuntime) -> Result<(), Fail> {
     let script = b"addr 0 1\naddr 0 2\n";
+    let reply = b"slot 1 ffff0000000000000000000000000001 0x0 0x10000000000000000\n";
     let mut room = [0u8; 64];
     let mut machine = Machine::with_limit(rt.alloc(), 16)?;
     let mut source = SliceSource::new(script, 5, None);
     let mut sink = SliceSink::new(&mut room, 5, None);
     assert!(rt; run_script(&mut machine, &mut source, &mut sink) == Err(ScriptFault::Write));
     assert!(rt; machine.slots() == 3);
-    assert!(rt; room[63] == b'\n');
+    assert!(rt; room == *reply);
     let mut room = [0u8; 63];
     let mut machine = Machine::with_limit(rt.alloc(), 16)?;
     let mut source = SliceSource::new(script, 5, None);
     let mut sink = SliceSink::new(&mut room, 5, None);
     assert!(rt; run_script(&mut machine, &mut source, &mut sink) == Err(ScriptFault::Write));
     assert!(rt; machine.slots() == 2);
+    assert!(rt; room.as_slice() == &reply[..63]);
     Ok(())
 }

@@ -168,7 +168,7 @@ fn write_fails(rt: HostRuntime) -> Result<(), Fail> {
 }
 
 #[test]
-fn flush_fails(rt: HostRuntime) -> Result<(), Fail> {
+fn failed_flush_is_told(rt: HostRuntime) -> Result<(), Fail> {
     let write = Err(ScriptFault::Write);
     run(
         &rt,
