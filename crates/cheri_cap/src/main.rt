@@ -88,7 +88,13 @@ fn answer<R: AllocGlobal + Files + Input + Print>(
     match invocation {
         Invocation::Show { word } => Ok(show_word(word.as_bytes(), &mut output)?),
         Invocation::Round { length } => Ok(show_round(length.as_bytes(), &mut output)?),
-        Invocation::Run { .. } | Invocation::Plan { .. } => Ok(Summary { any_error: false }),
+        Invocation::Run { limit, file } => running::run(rt, limit, file),
+        Invocation::Plan {
+            limit,
+            base,
+            length,
+            file,
+        } => running::plan(rt, limit, base, length, file),
     }
 }
 
