@@ -1,6 +1,7 @@
 //! `plan`: a pool, and a script that allocates from it.
 ghost use Rattle.std.specs.Prelude.{◌≡◌, ◌≤◌, ◌↔◌, ◌++◌, false, length, true, Err, IfSome};
 ghost use Rattle.cc_script.specs.Correct.{RunsAfter, RunsWhole};
+ghost use Rattle.cc_script.specs.Laws.{KeepsLaws};
 ghost use Rattle.cc_script.specs.Replies.{hexadecimal};
 ghost use Rattle.cheri_cap.specs.Planning.{plan_lines, pool_of};
 
@@ -37,7 +38,8 @@ pub fn plan_numbers(base: &[u8], length: &[u8]) -> Result<(u64, Len), Refusal>
 /// they are, and then those of the script.
 ///
 /// The caller has that neither device has failed before; a fault of one is told as
-/// [`run_script`](cc_script::run_script) tells it.
+/// [`run_script`](cc_script::run_script) tells it. Whatever it answers, the machine then keeps the laws of every
+/// run.
 pub fn plan_script<R: Source, W: Sink>(
     machine: &mut Machine,
     base: u64,
@@ -52,6 +54,7 @@ pub fn plan_script<R: Source, W: Sink>(
     ensures runs { RunsAfter (plan_lines base length) machine.old (R.to_come source.old) (R.to_come source.new) (W.taken_bytes sink.old) (W.taken_bytes sink.new) result machine.new }
     ensures read { (result ≡ Err ScriptFault.Read) ↔ (R.has_failed source.new ≡ true) }
     ensures write { (result ≡ Err ScriptFault.Write) ↔ (W.has_failed sink.new ≡ true) }
+    ensures laws { KeepsLaws machine.old machine.new }
 {
     let lines = lines_for_pool(base, length);
     run_script_after(lines.bytes(), machine, source, sink)
