@@ -14,7 +14,8 @@ pub mod SlotLemmas
 pub mod StepLemmas
 pub mod ObjectLemmas
 pub mod ObjectTreeLemmas
-pub mod ObjectStepLemmas
+pub mod ObjectMadeLemmas
+pub mod ObjectFreedLemmas
 pub mod ObjectLawLemmas
 pub mod TreeLemmas
 pub mod WalkLemmas

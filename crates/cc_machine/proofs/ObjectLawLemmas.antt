@@ -19,7 +19,8 @@ use Rattle.cc_machine.proofs.GrowthLemmas.Effect.{stays, grows, gives, makes, fr
 use Rattle.cc_machine.proofs.TreeLemmas.{Keeps, Keeps-initial, Keeps-effect, Keeps-run, Keeps-reached, less-above}
 use Rattle.cc_machine.proofs.WalkLemmas.{ancestor-before, IsParent-one}
 use Rattle.cc_machine.proofs.ObjectTreeLemmas.{KeepsObjects, KeepsObjects-none, KeepsObjects-with_slot, no-objects}
-use Rattle.cc_machine.proofs.ObjectStepLemmas.{KeepsObjects-with_object, KeepsObjects-given, KeepsObjects-freed}
+use Rattle.cc_machine.proofs.ObjectMadeLemmas.{KeepsObjects-with_object, KeepsObjects-given}
+use Rattle.cc_machine.proofs.ObjectFreedLemmas.{KeepsObjects-freed}
 
 -- ---- steps and runs
 

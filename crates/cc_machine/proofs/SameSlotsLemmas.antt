@@ -1,7 +1,9 @@
 -- States whose slots have the same capabilities and the same parents, whatever is revoked.
-use Rattle.std.proofs.Common.{ℕ, ◌≡◌, ◌∙◌, List, length, refl, sym, ap, subst}
+use Rattle.std.proofs.Common.{ℕ, ◌≡◌, ◌∙◌, List, length, refl, sym, ap, subst, inl, inr}
 use Rattle.cc_machine.specs.State.{State, SlotState, IsSlot, IsParent, IsAncestor}
 use Rattle.cc_machine.specs.State.IsAncestor.{parent_of, above_parent}
+use Rattle.cc_machine.specs.declared.object.Object.{Object}
+use Rattle.cc_machine.specs.Objects.{BelongsTo}
 
 -- the slot of this number has the capability and the parent of this one
 pub record SlotLike (state : State) (number : ℕ) (slot : SlotState) : Type 0 where
@@ -41,3 +43,8 @@ IsParent-same {old} {new} {above} {number} same is =
 pub IsAncestor-same : {old new : State} {above number : ℕ} → HaveSameSlots old new → IsAncestor old above number → IsAncestor new above number
 IsAncestor-same same (parent_of is) = parent_of (IsParent-same same is)
 IsAncestor-same same (above_parent is further) = above_parent (IsParent-same same is) (IsAncestor-same same further)
+
+-- what belongs to an object, where the slots are the same
+pub BelongsTo-same : {old new : State} {number : ℕ} (object : Object) → HaveSameSlots old new → BelongsTo old object number → BelongsTo new object number
+BelongsTo-same object same (inl is) = inl is
+BelongsTo-same object same (inr up) = inr (IsAncestor-same same up)
