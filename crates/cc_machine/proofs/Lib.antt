@@ -1,5 +1,6 @@
 pub mod ActionLemmas
 pub mod FreeLemmas
+pub mod OutcomeLemmas
 pub mod ReachLemmas
 pub mod RootLemmas
 pub mod ConfinementLemmas
