@@ -1,6 +1,5 @@
 -- All that lies within a capability is derived from it by five operations.
-use Rattle.std.proofs.Common.{ℕ, suc, Bool, false, ◌≡◌, ◌⊎◌, ◌+◌, ◌-◌, ◌<◌, ◌≤◌, ◌∙◌, List, [], ◌∷◌, Option, Some, Result, Ok, Err, MatchResult, if◌then◌else◌, length, refl, sym, ap, subst, inl, inr, arith}
-use Rattle.std.specs.List.{slice_get}
+use Rattle.std.proofs.Common.{ℕ, suc, Bool, false, ◌≡◌, ◌+◌, ◌-◌, ◌<◌, ◌≤◌, ◌∙◌, List, [], ◌∷◌, Option, Some, Result, Ok, Err, MatchResult, if◌then◌else◌, length, refl, sym, ap, subst, inl, inr, arith}
 use Rattle.std.specs.Int.RustNames.{bit_and}
 use Rattle.cc_word.specs.declared.refusal.Refusal.{Refusal}
 use Rattle.cc_word.specs.declared.refusal.Refusal.TheVariants.{Revoked}
@@ -10,17 +9,17 @@ use Rattle.cc_bounds.specs.Granule.{IsGranted}
 use Rattle.cc_bounds.specs.Window.{Represents}
 use Rattle.cc_bounds.proofs.SoundDecodingLemmas.{inside-Represents}
 use Rattle.cc_cap.specs.Capability.{Capability, IsCapability, IsUnsealed, GrantsNoMore, at_address, with_span, with_permissions, with_flag}
-use Rattle.cc_cap.specs.Derivation.{RefusedUnless, request_of, SetsAddress, SetsExactBounds, MasksPermissions, SetsFlag, Rebuilds}
+use Rattle.cc_cap.specs.Derivation.{request_of, SetsAddress, SetsExactBounds, MasksPermissions, SetsFlag, Rebuilds}
 use Rattle.cc_machine.specs.declared.op.Op.{Op}
 use Rattle.cc_machine.specs.declared.op.Op.TheVariants.{Addr, Exact, Perms, Flag}
 use Rattle.cc_machine.specs.declared.reply.Reply.{Reply}
 use Rattle.cc_machine.specs.State.{State, SlotState, tagged_slot, with_slot, IsSlot}
-use Rattle.cc_machine.specs.Step.{usable, usable_slot, OnSlot, Adds, Derives, Step}
+use Rattle.cc_machine.specs.Step.{usable, usable_slot, Adds, Derives, Step}
 use Rattle.cc_machine.specs.Run.{Run}
 use Rattle.cc_machine.specs.Confinement.{IsRefused}
 use Rattle.cc_machine.specs.Reach.{IsReachable, path_to, EndsWith, ReachesAll}
 use Rattle.cc_machine.proofs.RuleLemmas.{IsKept, passes, IsCapability-kept}
-use Rattle.cc_machine.proofs.SlotLemmas.{length-with_slot, IsSlot-new, IsSlot-same}
+use Rattle.cc_machine.proofs.SlotLemmas.{length-with_slot, IsSlot-new}
 use Rattle.cc_machine.proofs.OutcomeLemmas.{SetsAddress-one, SetsExactBounds-one, MasksPermissions-one, SetsFlag-one}
 use Rattle.cc_machine.proofs.TreeLemmas.{Keeps}
 
