@@ -1,10 +1,8 @@
 -- The planner's calls, as a machine makes them, are the machine's steps.
-use Rattle.std.proofs.Common.{ℕ, zero, suc, Bool, true, false, ◌≡◌, ◌⊎◌, ◌+◌, ◌-◌, ◌<◌, ◌∙◌, List, [], ◌∷◌, ◌++◌, Option, Some, None, IsSome, IsNone, IfSome, IsSomeAnd, IsTrue, Result, Ok, Err, MatchResult, length, map, ok_or, slice_set, set, sum_by, refl, sym, ap, subst, inl, inr, arith, length-append}
-use Rattle.std.specs.List.{slice_get}
-use Rattle.std.proofs.lemmas.Option.{slice_get-map}
+use Rattle.std.proofs.Common.{ℕ, true, ◌≡◌, ◌⊎◌, ◌+◌, ◌<◌, ◌∙◌, List, [], ◌∷◌, ◌++◌, Option, Some, IsSome, IsNone, IfSome, Result, Ok, Err, MatchResult, length, map, sum_by, refl, sym, ap, subst, inl, inr, arith}
 use Rattle.std.proofs.lemmas.List.{length_push}
 use Rattle.cc_word.specs.declared.refusal.Refusal.{Refusal}
-use Rattle.cc_word.specs.declared.refusal.Refusal.TheVariants.{NoObject, NoRoom, Sealed, PoolAlreadySet}
+use Rattle.cc_word.specs.declared.refusal.Refusal.TheVariants.{NoRoom, Sealed, PoolAlreadySet}
 use Rattle.cc_bounds.specs.declared.span.Span.{Span}
 use Rattle.cc_bounds.specs.Span.{length_of}
 use Rattle.cc_bounds.specs.Granule.{padded_size}
@@ -13,18 +11,14 @@ use Rattle.cc_cap.specs.Canonical.{IsWordOf}
 use Rattle.cc_plan.specs.declared.object.ObjectId.{ObjectId}
 use Rattle.cc_plan.specs.declared.object.PlannedObject.{PlannedObject}
 use Rattle.cc_plan.specs.Placement.{IsPlacement, HasNoPlace}
-use Rattle.cc_plan.specs.Plan.{Plan, GivesPool, Allocates as PlanAllocates, Frees as PlanFrees, RefusedUnless as PlanRefusedUnless, MakesObject as PlanMakes, HasNoRoom as PlanHasNoRoom, held_spans as planned_spans, held_bytes_of as planned_bytes, capability_over, span_at, unit_of, object_numbered, IsLive}
-use Rattle.cc_machine.specs.declared.object.Object.{Object}
+use Rattle.cc_plan.specs.Plan.{Plan, GivesPool, Allocates as PlanAllocates, RefusedUnless as PlanRefusedUnless, MakesObject as PlanMakes, HasNoRoom as PlanHasNoRoom, held_spans as planned_spans, held_bytes_of as planned_bytes, capability_over, span_at, unit_of}
 use Rattle.cc_machine.specs.declared.reply.Reply.{Reply}
-use Rattle.cc_machine.specs.declared.reply.Reply.TheVariants.{PoolSet, Allocated, Freed, Refused}
-use Rattle.cc_machine.specs.State.{State, SlotState, tagged_slot, IsSlot, IsParent}
-use Rattle.cc_machine.specs.Objects.{object_at, IsObject, IsLiveObject, held_spans, held_bytes_of, with_object}
-use Rattle.cc_machine.specs.Step.{usable_slot, Refuses, RefusedUnless, OnSlot, SetsPool, Allocates, Frees, EndsObject, RevokesObject, revoked_count}
+use Rattle.cc_machine.specs.declared.reply.Reply.TheVariants.{PoolSet, Allocated, Refused}
+use Rattle.cc_machine.specs.State.{State, SlotState, tagged_slot, IsSlot}
+use Rattle.cc_machine.specs.Objects.{held_spans, held_bytes_of, with_object}
+use Rattle.cc_machine.specs.Step.{usable_slot, Refuses, RefusedUnless, SetsPool, Allocates}
 use Rattle.cc_machine.specs.Run.{IsReached}
 use Rattle.cc_machine.specs.Machine.{objects_in, pool_capability, planned_object, plan_of}
-use Rattle.cc_machine.specs.Revoking.{IsWalked}
-use Rattle.cc_machine.proofs.SlotLemmas.{IsSlot-same}
-use Rattle.cc_machine.proofs.SameSlotsLemmas.{SlotLike}
 use Rattle.cc_machine.proofs.StepLemmas.{usable-is}
 use Rattle.cc_machine.proofs.TreeLemmas.{Keeps, Keeps-reached}
 use Rattle.cc_machine.proofs.ObjectTreeLemmas.{KeepsObjects}

@@ -1,9 +1,8 @@
 -- The planner's free, and the walk that revokes, are the machine's step.
-use Rattle.std.proofs.Common.{ℕ, zero, suc, true, false, ◌≡◌, ◌+◌, ◌-◌, ◌<◌, ◌∙◌, List, Option, Some, None, IfSome, IsSomeAnd, IsTrue, Result, Ok, Err, length, map, ok_or, option_map, slice_index_or, slice_set, set, sum_by, refl, sym, ap, subst, inl, inr, arith}
+use Rattle.std.proofs.Common.{ℕ, zero, suc, true, false, ◌≡◌, ◌+◌, ◌-◌, ◌<◌, ◌∙◌, List, Option, Some, None, IfSome, IsSomeAnd, IsTrue, Ok, length, map, ok_or, option_map, slice_index_or, slice_set, set, sum_by, refl, sym, ap, subst, inl, inr, arith}
 use Rattle.std.specs.List.{slice_get}
 use Rattle.std.proofs.lemmas.List.{length-set, map-set}
 use Rattle.std.proofs.lemmas.Option.{slice_get-map, slice_get_read, slice_get_within}
-use Rattle.cc_word.specs.declared.refusal.Refusal.{Refusal}
 use Rattle.cc_word.specs.declared.refusal.Refusal.TheVariants.{NoObject}
 use Rattle.cc_bounds.specs.declared.span.Span.{Span}
 use Rattle.cc_bounds.specs.Span.{length_of}
@@ -19,7 +18,7 @@ use Rattle.cc_machine.specs.Step.{Frees, RevokesObject, revoked_count}
 use Rattle.cc_machine.specs.Run.{IsReached}
 use Rattle.cc_machine.specs.Machine.{objects_in, planned_object, plan_of}
 use Rattle.cc_machine.specs.Revoking.{IsWalked, ParentsFirst}
-use Rattle.cc_machine.proofs.SlotLemmas.{IsSlot-within, slot_at}
+use Rattle.cc_machine.proofs.SlotLemmas.{slot_at}
 use Rattle.cc_machine.proofs.RevokingLemmas.{RevokesObject-same}
 use Rattle.cc_machine.proofs.WalkLemmas.{walked-revokes}
 use Rattle.cc_machine.proofs.ObjectLemmas.{ok-some}

@@ -1,5 +1,6 @@
 pub mod ActionLemmas
 pub mod FreeLemmas
+pub mod OutcomeLemmas
 pub mod ReachLemmas
 pub mod RootLemmas
 pub mod ConfinementLemmas
@@ -14,7 +15,8 @@ pub mod SlotLemmas
 pub mod StepLemmas
 pub mod ObjectLemmas
 pub mod ObjectTreeLemmas
-pub mod ObjectStepLemmas
+pub mod ObjectMadeLemmas
+pub mod ObjectFreedLemmas
 pub mod ObjectLawLemmas
 pub mod TreeLemmas
 pub mod WalkLemmas

@@ -1,25 +1,24 @@
 -- The laws of objects hold of every state that a run reaches.
-use Rattle.std.proofs.Common.{ℕ, zero, suc, true, false, ◌≡◌, ◌≢◌, ◌⊎◌, ◌<◌, ◌≤◌, ◌∙◌, List, [], ◌∷◌, Option, Some, None, length, refl, sym, ap, subst, inl, inr, arith}
-use Rattle.cc_bounds.specs.declared.span.Span.{Span}
-use Rattle.cc_bounds.specs.Span.{IsWithin, SharesByte}
+use Rattle.std.proofs.Common.{ℕ, zero, suc, false, ◌≡◌, ◌<◌, ◌∙◌, List, [], ◌∷◌, Some, length, refl, sym, subst, inl, inr, arith}
+use Rattle.cc_bounds.specs.Span.{IsWithin}
 use Rattle.cc_cap.specs.Capability.{Capability}
 use Rattle.cc_plan.specs.Plan.{capability_over, span_at}
 use Rattle.cc_machine.specs.declared.object.Object.{Object}
 use Rattle.cc_machine.specs.declared.op.Op.{Op}
 use Rattle.cc_machine.specs.declared.reply.Reply.{Reply}
-use Rattle.cc_machine.specs.State.{State, SlotState, initial_state, with_slot, IsSlot, IsParent, IsAncestor}
+use Rattle.cc_machine.specs.State.{State, SlotState, initial_state, IsSlot, IsParent, IsAncestor}
 use Rattle.cc_machine.specs.State.IsAncestor.{parent_of, above_parent}
-use Rattle.cc_machine.specs.Objects.{IsObject, IsLiveObject, BelongsTo, with_object}
+use Rattle.cc_machine.specs.Objects.{IsObject, BelongsTo}
 use Rattle.cc_machine.specs.ObjectLaws.{HangsFromPool, HasDisjointObjects, KeepsObjectLaws}
-use Rattle.cc_machine.specs.Step.{Step}
 use Rattle.cc_machine.specs.Run.{Run, IsReached}
 use Rattle.cc_machine.proofs.SlotLemmas.{IsSlot-same, IsSlot-within, slot_at}
-use Rattle.cc_machine.proofs.GrowthLemmas.{AddsObject, Effect, Step-effect}
+use Rattle.cc_machine.proofs.GrowthLemmas.{Effect, Step-effect}
 use Rattle.cc_machine.proofs.GrowthLemmas.Effect.{stays, grows, gives, makes, frees}
 use Rattle.cc_machine.proofs.TreeLemmas.{Keeps, Keeps-initial, Keeps-effect, Keeps-run, Keeps-reached, less-above}
 use Rattle.cc_machine.proofs.WalkLemmas.{ancestor-before, IsParent-one}
 use Rattle.cc_machine.proofs.ObjectTreeLemmas.{KeepsObjects, KeepsObjects-none, KeepsObjects-with_slot, no-objects}
-use Rattle.cc_machine.proofs.ObjectStepLemmas.{KeepsObjects-with_object, KeepsObjects-given, KeepsObjects-freed}
+use Rattle.cc_machine.proofs.ObjectMadeLemmas.{KeepsObjects-with_object, KeepsObjects-given}
+use Rattle.cc_machine.proofs.ObjectFreedLemmas.{KeepsObjects-freed}
 
 -- ---- steps and runs
 

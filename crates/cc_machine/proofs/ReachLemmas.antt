@@ -1,6 +1,5 @@
 -- All that lies within a capability is derived from it by five operations.
-use Rattle.std.proofs.Common.{ℕ, suc, Bool, false, ◌≡◌, ◌⊎◌, ◌+◌, ◌-◌, ◌<◌, ◌≤◌, ◌∙◌, List, [], ◌∷◌, Option, Some, Result, Ok, Err, MatchResult, if◌then◌else◌, length, refl, sym, ap, subst, inl, inr, arith}
-use Rattle.std.specs.List.{slice_get}
+use Rattle.std.proofs.Common.{ℕ, suc, Bool, false, ◌≡◌, ◌+◌, ◌-◌, ◌<◌, ◌≤◌, ◌∙◌, List, [], ◌∷◌, Option, Some, Result, Ok, Err, MatchResult, if◌then◌else◌, length, refl, sym, ap, subst, inl, inr, arith}
 use Rattle.std.specs.Int.RustNames.{bit_and}
 use Rattle.cc_word.specs.declared.refusal.Refusal.{Refusal}
 use Rattle.cc_word.specs.declared.refusal.Refusal.TheVariants.{Revoked}
@@ -10,17 +9,18 @@ use Rattle.cc_bounds.specs.Granule.{IsGranted}
 use Rattle.cc_bounds.specs.Window.{Represents}
 use Rattle.cc_bounds.proofs.SoundDecodingLemmas.{inside-Represents}
 use Rattle.cc_cap.specs.Capability.{Capability, IsCapability, IsUnsealed, GrantsNoMore, at_address, with_span, with_permissions, with_flag}
-use Rattle.cc_cap.specs.Derivation.{RefusedUnless, request_of, SetsAddress, SetsExactBounds, MasksPermissions, SetsFlag, Rebuilds}
+use Rattle.cc_cap.specs.Derivation.{request_of, SetsAddress, SetsExactBounds, MasksPermissions, SetsFlag, Rebuilds}
 use Rattle.cc_machine.specs.declared.op.Op.{Op}
 use Rattle.cc_machine.specs.declared.op.Op.TheVariants.{Addr, Exact, Perms, Flag}
 use Rattle.cc_machine.specs.declared.reply.Reply.{Reply}
 use Rattle.cc_machine.specs.State.{State, SlotState, tagged_slot, with_slot, IsSlot}
-use Rattle.cc_machine.specs.Step.{usable, usable_slot, OnSlot, Adds, Derives, Step}
+use Rattle.cc_machine.specs.Step.{usable, usable_slot, Adds, Derives, Step}
 use Rattle.cc_machine.specs.Run.{Run}
 use Rattle.cc_machine.specs.Confinement.{IsRefused}
 use Rattle.cc_machine.specs.Reach.{IsReachable, path_to, EndsWith, ReachesAll}
 use Rattle.cc_machine.proofs.RuleLemmas.{IsKept, passes, IsCapability-kept}
-use Rattle.cc_machine.proofs.SlotLemmas.{length-with_slot, IsSlot-new, IsSlot-same}
+use Rattle.cc_machine.proofs.SlotLemmas.{length-with_slot, IsSlot-new}
+use Rattle.cc_machine.proofs.OutcomeLemmas.{SetsAddress-one, SetsExactBounds-one, MasksPermissions-one, SetsFlag-one}
 use Rattle.cc_machine.proofs.TreeLemmas.{Keeps}
 
 -- a span is that of its length from its base up
@@ -81,34 +81,6 @@ rebuilt-reachable authority cap word is rule =
     let e : cap ≡ second.1.0 = let f = third.1 in cc in
     subst (λ (c : Capability). IsReachable authority c) (sym e)
     (reachable authority second.1.0 (IsCapability-kept authority is) first.0 second.1.1.is_capability third.0.0 third.0.1)
-
--- ---- a rule has one result
-
-one_result : {condition rest rest' : Type 0} {refusal : Refusal} {result result' : Result Capability Refusal}
-    → RefusedUnless condition refusal result rest → RefusedUnless condition refusal result' rest'
-    → (rest → rest' → result ≡ result') → result ≡ result'
-one_result (inl one) (inl other) same = same one.1 other.1
-one_result (inl one) (inr other) same = absurd (other.0 one.0)
-one_result (inr one) (inl other) same = absurd (one.0 other.0)
-one_result (inr one) (inr other) same = one.1 ∙ sym other.1
-
-SetsAddress-one : (cap : Capability) (address : ℕ) (result result' : Result Capability Refusal)
-    → SetsAddress cap address result → SetsAddress cap address result' → result ≡ result'
-SetsAddress-one cap address result result' one other =
-    one_result one other (λ first first'. one_result first first' (λ e e'. e ∙ sym e'))
-
-SetsExactBounds-one : (cap : Capability) (size : ℕ) (result result' : Result Capability Refusal)
-    → SetsExactBounds cap size result → SetsExactBounds cap size result' → result ≡ result'
-SetsExactBounds-one cap size result result' one other =
-    one_result one other (λ first first'. one_result first first' (λ second second'. one_result second second' (λ e e'. e ∙ sym e')))
-
-MasksPermissions-one : (cap : Capability) (mask : ℕ) (result result' : Result Capability Refusal)
-    → MasksPermissions cap mask result → MasksPermissions cap mask result' → result ≡ result'
-MasksPermissions-one cap mask result result' one other = one_result one other (λ e e'. e ∙ sym e')
-
-SetsFlag-one : (cap : Capability) (flag : Bool) (result result' : Result Capability Refusal)
-    → SetsFlag cap flag result → SetsFlag cap flag result' → result ≡ result'
-SetsFlag-one cap flag result result' one other = one_result one other (λ e e'. e ∙ sym e')
 
 -- ---- steps that are not refused
 

@@ -1,5 +1,5 @@
 -- Runs, one step longer.
-use Rattle.std.proofs.Common.{ℕ, ◌≡◌, List, [], ◌∷◌, ◌++◌, refl, sym, subst}
+use Rattle.std.proofs.Common.{List, [], ◌∷◌, ◌++◌, refl, subst}
 use Rattle.cc_machine.specs.declared.op.Op.{Op}
 use Rattle.cc_machine.specs.declared.reply.Reply.{Reply}
 use Rattle.cc_machine.specs.State.{State, initial_state}

@@ -1,5 +1,5 @@
 -- Reachability: all that lies within a capability is derived from it by five operations.
-use Rattle.std.specs.Prelude.{ℕ, Bool, false, ◌≡◌, ◌+◌, ◌≤◌, List, [], ◌∷◌, length, Ok}
+use Rattle.std.specs.Prelude.{ℕ, false, ◌≡◌, ◌+◌, ◌≤◌, List, [], ◌∷◌, length, Ok}
 use Rattle.std.specs.List.{AllByRecursion}
 use Rattle.cc_bounds.specs.Span.{length_of}
 use Rattle.cc_cap.specs.Capability.{Capability, IsCapability, IsUnsealed, GrantsNoMore}
@@ -8,7 +8,6 @@ use Rattle.cc_machine.specs.declared.op.Op.{Op}
 use Rattle.cc_machine.specs.declared.op.Op.TheVariants.{Exact, Addr, Perms, Flag}
 use Rattle.cc_machine.specs.declared.reply.Reply.{Reply}
 use Rattle.cc_machine.specs.State.{State, SlotState, IsSlot}
-use Rattle.cc_machine.specs.Run.{Run}
 use Rattle.cc_machine.specs.Confinement.{IsRefused}
 
 -- Five rules, none of which refuses, derive the capability from an authority: its address becomes the base,

@@ -1,5 +1,5 @@
 -- One walk over the slots that revokes a slot and all below it. No public clause cites this.
-use Rattle.std.specs.Prelude.{ℕ, Bool, true, false, ◌≡◌, ◌<◌, ◌≤◌, ◌||◌, List, Option, Some, None, length, get_or, nat_eq, option_map, slice_get, unwrap_or}
+use Rattle.std.specs.Prelude.{ℕ, Bool, false, ◌≡◌, ◌<◌, ◌≤◌, ◌||◌, List, Option, Some, None, length, get_or, nat_eq, option_map, slice_get, unwrap_or}
 use Rattle.cc_machine.specs.State.{SlotState}
 
 -- the slot of this number is there and is revoked

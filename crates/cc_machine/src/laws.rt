@@ -3,17 +3,27 @@
 //! Each function here is a law: it does nothing, and what it ensures is the claim. The claims are about the
 //! very step and run by which [`Machine::step`](crate::Machine::step) and
 //! [`Machine::run`](crate::Machine::run) say what they do.
-ghost use Rattle.std.specs.Prelude.{ℕ, Bool, List, Ok};
+ghost use Rattle.std.specs.Prelude.{ℕ, Bool, ◌≡◌, List, Ok};
 ghost use Rattle.cc_cap.specs.Capability.{Capability, IsCapability};
 ghost use Rattle.cc_cap.specs.Derivation.{Rebuilds};
 ghost use Rattle.cc_machine.specs.declared.op.Op.{Op};
 ghost use Rattle.cc_machine.specs.declared.reply.Reply.{Reply};
 ghost use Rattle.cc_machine.specs.State.{State};
+ghost use Rattle.cc_machine.specs.Step.{Step};
 ghost use Rattle.cc_machine.specs.Run.{Run, IsReached};
 ghost use Rattle.cc_machine.specs.Laws.{IsMonotonicTree, HasSealingAuthority};
 ghost use Rattle.cc_machine.specs.ObjectLaws.{HangsFromPool, HasExactObjects, HasDisjointObjects, IsRevokedExactly};
 ghost use Rattle.cc_machine.specs.Confinement.{RunsWithin, IsConfined};
 ghost use Rattle.cc_machine.specs.Reach.{IsReachable, ReachesAll};
+
+/// A step has one outcome, and so has a run: from one state the same operations give the same replies and
+/// lead to the same state.
+pub fn one_outcome()
+    ensures step { (old new other : State) (op : Op) (reply other_reply : Reply)
+        → Step old op reply new → Step old op other_reply other → (reply ≡ other_reply) × (new ≡ other) }
+    ensures run { (old new other : State) (ops : List Op) (replies other_replies : List Reply)
+        → Run old ops replies new → Run old ops other_replies other → (replies ≡ other_replies) × (new ≡ other) }
+{}
 
 /// The slots of every state that a run leads to are a monotonic derivation tree: a parent has a smaller
 /// number than its child, and no slot, tagged or revoked, grants a byte or a permission that one of its

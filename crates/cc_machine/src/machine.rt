@@ -60,7 +60,7 @@ impl Machine {
     /// A machine with room for `limit` slots, of which one is made: slot 0, the root.
     ///
     /// The caller has `limit` from 1 to 65,536. All memory that the machine ever uses is taken here; where
-    /// it is refused, what was taken before is given back.
+    /// it is refused, what was taken before is given back and the answer is `AllocError`.
     pub fn with_limit(alloc: Global, limit: u32) -> Result<Machine, AllocError>
         requires from_one { 1 ≤ limit }
         requires at_most { limit ≤ 65536 }
@@ -94,9 +94,10 @@ impl Machine {
         self.slots.len() as u32
     }
 
-    /// The capability of a slot.
+    /// The capability of a tagged slot.
     ///
-    /// Refusals in order: `NoSlot`, where no slot has this number; `Revoked`.
+    /// Refusals in order: `NoSlot`, where no slot has this number; `Revoked`, where it belongs to a freed
+    /// object.
     pub fn slot(&self, number: u32) -> Result<Cap, Refusal>
         ensures { result ≡ capability_at self.now.slots number }
     {
@@ -113,9 +114,9 @@ impl Machine {
         Ok(slot.parent)
     }
 
-    /// The object of a number, live or freed.
+    /// The object of a number, live or freed. The first has the number 1.
     ///
-    /// Refusals: `NoObject`, where the number was never given.
+    /// Refusals: `NoObject`, where the number was never given, as 0.
     pub fn object(&self, number: u32) -> Result<Object, Refusal>
         ensures { result ≡ object_at self.now.objects number }
     {
@@ -130,7 +131,8 @@ impl Machine {
         })
     }
 
-    /// How many bytes the live objects hold: the sum of the lengths of their bounds.
+    /// How many bytes the live objects hold, at most 2^64: the sum of the lengths of their bounds, padding
+    /// counted.
     pub fn held_bytes(&self) -> u128
         ensures { result ≡ held_bytes_of self.now }
     {
@@ -146,9 +148,9 @@ impl Machine {
 
     /// Does one operation.
     ///
-    /// A refused operation leaves the machine as it was. What is made goes into a new slot, the last, and is
-    /// refused with `Full` where there are as many slots as the limit: after every other check, save that an
-    /// object is looked a place for only then.
+    /// A refused operation leaves the machine as it was; [`Op`] says when each refusal comes. What is made goes
+    /// into a new slot, the last, and is refused with `Full` where there are as many slots as the limit: after
+    /// every other check, save that a place for an object is looked for only then.
     pub fn step(&mut self, op: &Op) -> Reply
         ensures step { Step self.old op.now result self.new }
         ensures refused { IsRefused result → self.new ≡ self.old }

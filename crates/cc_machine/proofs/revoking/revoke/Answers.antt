@@ -1,8 +1,8 @@
-use Rattle.std.proofs.Common.{rules, arith, ℕ, ◌≡◌, ◌+◌, ◌<◌, ◌≤◌, ◌||◌, ◌∙◌, Bool, true, false, nat_eq, not, length, set, List, refl, sym, ap, subst}
+use Rattle.std.proofs.Common.{arith, ◌≡◌, ◌≤◌, ◌||◌, ◌∙◌, Bool, true, false, nat_eq, not, set, List, refl, sym, ap}
 use Rattle.std.proofs.lemmas.Bool.{eq-eqb, ne_eqb}
 use Rattle.cc_machine.specs.State.{SlotState}
 use Rattle.cc_machine.specs.Step.{revoked_count}
-use Rattle.cc_machine.specs.Revoking.{is_revoked_at, IsWalked}
+use Rattle.cc_machine.specs.Revoking.{is_revoked_at}
 use Rattle.cc_machine.proofs.WalkLemmas.{walk-revokes, walk-keeps}
 use Rattle.cc_machine.proofs.revoking.revoke.Goals as goal
 use Rattle.cc_machine.proofs.revoking.revoke.Goals.{then-number-first, else-number-first, then-below+then-not-slot, else-below, else-below-via-then-below+else-not-slot, else-below-via-else-below}

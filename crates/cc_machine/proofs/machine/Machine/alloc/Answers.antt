@@ -1,12 +1,12 @@
-use Rattle.std.proofs.Common.{ℕ, ◌≡◌, ◌+◌, ◌<◌, ◌≤◌, ◌∙◌, List, [], ◌∷◌, ◌++◌, length, Option, Some, Result, Ok, Err, arith, rules, refl, sym, ap, subst}
+use Rattle.std.proofs.Common.{ℕ, ◌≡◌, ◌<◌, ◌∙◌, [], ◌∷◌, ◌++◌, length, Some, Result, Ok, Err, arith, ap, subst}
 use Rattle.cc_word.specs.declared.refusal.Refusal.{Refusal}
 use Rattle.cc_cap.specs.Capability.{Capability}
 use Rattle.cc_plan.specs.declared.object.ObjectId.{ObjectId}
-use Rattle.cc_plan.specs.Plan.{Plan, Allocates as PlanAllocates}
+use Rattle.cc_plan.specs.Plan.{Allocates as PlanAllocates}
 use Rattle.cc_machine.specs.declared.op.Op.TheVariants.{Alloc}
 use Rattle.cc_machine.specs.declared.reply.Reply.{Reply}
 use Rattle.cc_machine.specs.declared.reply.Reply.TheVariants.{Allocated, Refused}
-use Rattle.cc_machine.specs.State.{State, SlotState, tagged_slot, IsSlot}
+use Rattle.cc_machine.specs.State.{State}
 use Rattle.cc_machine.specs.Step.{Allocates}
 use Rattle.cc_machine.specs.declared.machine.Machine.TheInside.{Inside}
 use Rattle.cc_machine.specs.Machine.{IsMachine, state_of}

@@ -1,9 +1,8 @@
-use Rattle.std.proofs.Common.{ℕ, ◌≡◌, ◌+◌, ◌<◌, ◌∙◌, List, length, Option, Some, Result, Ok, arith, refl, sym, ap, subst}
+use Rattle.std.proofs.Common.{◌≡◌, ◌+◌, ◌<◌, ◌∙◌, List, length, Result, Ok, sym, ap, subst}
 use Rattle.std.specs.Vec.{with_items}
 use Rattle.std.proofs.lemmas.List.{with_items_is}
 use Rattle.cc_word.specs.declared.refusal.Refusal.{Refusal}
-use Rattle.cc_plan.specs.Plan.{Plan, Frees as PlanFrees}
-use Rattle.cc_machine.specs.declared.machine.Machine.TheInside.{Inside}
+use Rattle.cc_plan.specs.Plan.{Frees as PlanFrees}
 use Rattle.cc_machine.specs.declared.op.Op.TheVariants.{Free}
 use Rattle.cc_machine.specs.declared.reply.Reply.{Reply}
 use Rattle.cc_machine.specs.declared.reply.Reply.TheVariants.{Freed}

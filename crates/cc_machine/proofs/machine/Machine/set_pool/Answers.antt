@@ -1,12 +1,10 @@
-use Rattle.std.proofs.Common.{ℕ, ◌≡◌, ◌∙◌, List, Option, Some, Result, Ok, Err, refl, sym, ap, subst}
+use Rattle.std.proofs.Common.{◌≡◌, ◌∙◌, List, Some, Result, Ok, sym, ap, subst}
 use Rattle.cc_word.specs.declared.refusal.Refusal.{Refusal}
-use Rattle.cc_cap.specs.Capability.{Capability}
 use Rattle.cc_plan.specs.Plan.{Plan, GivesPool}
 use Rattle.cc_machine.specs.declared.op.Op.TheVariants.{Pool}
 use Rattle.cc_machine.specs.declared.reply.Reply.TheVariants.{PoolSet}
 use Rattle.cc_machine.specs.State.{State, SlotState}
 use Rattle.cc_machine.specs.Step.{usable_slot, SetsPool}
-use Rattle.cc_machine.specs.Run.{IsReached}
 use Rattle.cc_machine.specs.Machine.{IsMachine, state_of}
 use Rattle.cc_machine.proofs.RunLemmas.{IsReached-step}
 use Rattle.cc_machine.proofs.ActionLemmas.{state_with, SetsPoolTo, give-refused, give-sets}

@@ -1,7 +1,7 @@
 use Rattle.std.proofs.Common.{ℕ, ◌≡◌, List, [], ◌∷◌, ◌++◌, None, length, refl, arith}
 use Rattle.cc_cap.specs.Capability.{Capability, root_capability}
 use Rattle.cc_plan.specs.Plan.{Plan, initial_plan}
-use Rattle.cc_machine.specs.State.{SlotState, State, tagged_slot, initial_state}
+use Rattle.cc_machine.specs.State.{SlotState, tagged_slot, initial_state}
 use Rattle.cc_machine.specs.Run.{IsReached}
 use Rattle.cc_machine.specs.Machine.{objects_in, plan_of}
 use Rattle.cc_machine.proofs.ActionLemmas.{state_with}

@@ -1,209 +1,22 @@
--- What making an object, giving the pool and freeing an object keep of the objects.
-use Rattle.std.proofs.Common.{ℕ, zero, suc, Bool, true, false, ◌≡◌, ◌≢◌, ◌⊎◌, ◌↔◌, ◌+◌, ◌-◌, ◌<◌, ◌∙◌, List, [], ◌∷◌, Option, Some, None, Ok, Contains, length, refl, sym, ap, subst, inl, inr, arith, length-append}
+-- What freeing an object keeps of the objects.
+use Rattle.std.proofs.Common.{ℕ, true, false, ◌≡◌, ◌≢◌, ◌⊎◌, ◌↔◌, ◌-◌, ◌<◌, ◌∙◌, List, length, refl, sym, ap, subst, inl, inr, arith}
 use Rattle.std.proofs.lemmas.List.{length-set}
 use Rattle.std.proofs.lemmas.Bool.{cases_eq}
-use Rattle.cc_bounds.specs.declared.span.Span.{Span}
 use Rattle.cc_bounds.specs.Span.{SharesByte}
 use Rattle.cc_cap.specs.Capability.{Capability}
-use Rattle.cc_plan.specs.Placement.{IsApartFrom}
 use Rattle.cc_plan.specs.Plan.{HasExactBounds}
 use Rattle.cc_machine.specs.declared.object.Object.{Object}
 use Rattle.cc_machine.specs.declared.reply.Reply.{Reply}
-use Rattle.cc_machine.specs.State.{State, SlotState, tagged_slot, with_slot, IsSlot, IsParent, IsAncestor}
-use Rattle.cc_machine.specs.Objects.{IsObject, IsLiveObject, IsPool, BelongsTo, held_spans, span_of_slot, with_object}
+use Rattle.cc_machine.specs.State.{State, SlotState, IsSlot, IsParent}
+use Rattle.cc_machine.specs.Objects.{IsObject, IsLiveObject, IsPool, BelongsTo}
 use Rattle.cc_machine.specs.ObjectLaws.{IsChildOfPool, BelongsToFreed}
 use Rattle.cc_machine.specs.Step.{RevokesIf, EndsObject}
-use Rattle.cc_machine.proofs.SlotLemmas.{length-with_slot, IsSlot-same, IsSlot-within, slot_at, IsSlot-stays, IsSlot-new, IsParent-new}
-use Rattle.cc_machine.proofs.SameSlotsLemmas.{HaveSameSlots, HaveSameSlots-sym, HaveSameSlots-list, IsSlot-along, IsParent-same, IsAncestor-same}
-use Rattle.cc_machine.proofs.ObjectLemmas.{IsObject-some, IsObject-same, contains-passing, object_at-push, object_at-append, object_at-set, object_at-other, span_of_slot-is}
+use Rattle.cc_machine.proofs.SlotLemmas.{IsSlot-within, slot_at}
+use Rattle.cc_machine.proofs.SameSlotsLemmas.{HaveSameSlots, HaveSameSlots-sym, IsParent-same, IsAncestor-same, BelongsTo-same}
+use Rattle.cc_machine.proofs.ObjectLemmas.{IsObject-same, object_at-set, object_at-other}
 use Rattle.cc_machine.proofs.RevokingLemmas.{RevokesObject-same}
 use Rattle.cc_machine.proofs.WalkLemmas.{ancestor-before}
-use Rattle.cc_machine.proofs.ObjectTreeLemmas.{KeepsObjects, KeepsObjects-none, object-within}
-
-SharesByte-sym : {one other : Span} → SharesByte one other → SharesByte other one
-SharesByte-sym shares = record { byte = shares.byte; in_one = shares.in_other; in_other = shares.in_one }
-
--- what belongs to an object, where the slots are the same
-pub BelongsTo-same : {old new : State} {number : ℕ} (object : Object) → HaveSameSlots old new → BelongsTo old object number → BelongsTo new object number
-BelongsTo-same object same (inl is) = inl is
-BelongsTo-same object same (inr up) = inr (IsAncestor-same same up)
-
--- ---- one more object, in the last slot
-
-module _ (old : State) (capability : Capability) (pool size : ℕ) (above : SlotState) (is_pool : IsPool old pool above)
-    (exact : HasExactBounds (record { size = size; span = capability.span; live = true }))
-    (apart : IsApartFrom (held_spans old) capability.span)
-    (keeps : KeepsObjects old) (keeps_slot : KeepsObjects (with_slot old capability pool)) where
-  abbrev mid : State
-  mid = with_slot old capability pool
-
-  abbrev new : State
-  new = with_object old capability pool size
-
-  abbrev made : Object
-  made = record { size = size; slot = length old.slots; live = true }
-
-  same : HaveSameSlots mid new
-  same = HaveSameSlots-list mid new refl
-
-  was_slot : {number : ℕ} {slot : SlotState} → IsSlot new number slot → IsSlot mid number slot
-  was_slot is = record { found = is.found }
-
-  split : (number : ℕ) (object : Object) → IsObject new number object
-      → IsObject old number object ⊎ ((number ≡ length old.objects + 1) × (object ≡ made))
-  split number object is = elim (object_at-push old.objects made number object is.found) [
-    | inl there ↦ inl (record { found = there })
-    | inr last ↦ inr last
-  ]
-
-  in_mid : {number : ℕ} {object : Object} → IsObject old number object → IsObject mid number object
-  in_mid is = record { found = is.found }
-
-  in_new : {number : ℕ} {object : Object} → IsObject old number object → IsObject new number object
-  in_new {number} {object} is = record { found = object_at-append old.objects made number object is.found }
-
-  child-made : IsChildOfPool new made
-  child-made = record {
-    pool = pool;
-    slot = above;
-    is_pool = record { is_pool = is_pool.is_pool; is_slot = IsSlot-along refl (IsSlot-stays old capability pool is_pool.is_slot) };
-    is_parent = IsParent-same same (IsParent-new old capability pool);
-  }
-
-  child-more : (number : ℕ) (object : Object) → IsObject new number object → IsChildOfPool new object
-  child-more number object is = elim (split number object is) [
-    | inl there ↦
-        let child = keeps_slot.child number object (in_mid there) in
-        record {
-          pool = child.pool;
-          slot = child.slot;
-          is_pool = record { is_pool = child.is_pool.is_pool; is_slot = IsSlot-along refl child.is_pool.is_slot };
-          is_parent = IsParent-same same child.is_parent;
-        }
-    | inr last ↦ subst (λ (o : Object). IsChildOfPool new o) (sym last.1) child-made
-  ]
-
-  -- the slots of the other objects come before
-  early : (number : ℕ) (object : Object) → IsObject old number object → object.slot ≡ length old.slots → ⊥
-  early number object is at = absurd (omega (arith, object-within old keeps number object is, at))
-
-  differ-more : (one other : ℕ) (first second : Object) → IsObject new one first → IsObject new other second
-      → first.slot ≡ second.slot → one ≡ other
-  differ-more one other first second is also at = elim (split one first is) [
-    | inl there ↦ elim (split other second also) [
-      | inl too ↦ keeps.differ one other first second there too at
-      | inr last ↦ absurd (early one first there (at ∙ ap (λ (o : Object). o.slot) last.1))
-    ]
-    | inr last ↦ elim (split other second also) [
-      | inl too ↦ absurd (early other second too (sym at ∙ ap (λ (o : Object). o.slot) last.1))
-      | inr also_last ↦ last.0 ∙ sym also_last.0
-    ]
-  ]
-
-  -- the last slot
-  is_made : {slot : SlotState} {object : Object} → object ≡ made → IsSlot new object.slot slot → slot.capability ≡ capability
-  is_made {slot} {object} is at =
-      let last : IsSlot mid (length old.slots) slot =
-      subst (λ (o : Object). IsSlot mid o.slot slot) is (was_slot at) in
-      ap (λ (s : SlotState). s.capability) (IsSlot-same last (IsSlot-new old capability pool))
-
-  exact-more : (number : ℕ) (object : Object) (slot : SlotState) → IsObject new number object → IsSlot new object.slot slot
-      → HasExactBounds (record { size = object.size; span = slot.capability.span; live = object.live })
-  exact-more number object slot is at = elim (split number object is) [
-    | inl there ↦ keeps_slot.exact.exact number object slot (in_mid there) (was_slot at)
-    | inr last ↦
-        subst (λ (c : Capability). HasExactBounds (record { size = object.size; span = c.span; live = object.live })) (sym (is_made last.1 at))
-        (subst (λ (o : Object). HasExactBounds (record { size = o.size; span = capability.span; live = o.live })) (sym last.1) exact)
-  ]
-
-  -- the span of another live object is held
-  held : (number : ℕ) (object : Object) (slot : SlotState) → IsObject old number object → object.live ≡ true → IsSlot new object.slot slot
-      → ¬ SharesByte capability.span slot.capability.span
-  held number object slot is live at =
-      let there = slot_at old object.slot (object-within old keeps number object is) in
-      let one : slot ≡ there.slot = IsSlot-same (was_slot at) (IsSlot-stays old capability pool there.is_slot) in
-      let has : Contains (held_spans old) (span_of_slot old.slots object.slot) =
-      contains-passing (λ o. o.live) (λ o. span_of_slot old.slots o.slot) old.objects (number - 1) object (IsObject-some old number object is) live in
-      let at_slot : span_of_slot old.slots object.slot ≡ slot.capability.span =
-      span_of_slot-is old object.slot there.slot there.is_slot ∙ ap (λ (s : SlotState). s.capability.span) (sym one) in
-      apart slot.capability.span (subst (λ (s : Span). Contains (held_spans old) s) at_slot has)
-
-  apart-more : (one other : ℕ) (first second : Object) (slot beside : SlotState)
-      → IsLiveObject new one first → IsLiveObject new other second → one ≢ other
-      → IsSlot new first.slot slot → IsSlot new second.slot beside → ¬ SharesByte slot.capability.span beside.capability.span
-  apart-more one other first second slot beside is also differ at and_at shares = elim (split one first is.is_object) [
-    | inl there ↦ elim (split other second also.is_object) [
-      | inl too ↦
-          keeps_slot.apart one other first second slot beside (record { is_object = in_mid there; live = is.live })
-          (record { is_object = in_mid too; live = also.live }) differ (was_slot at) (was_slot and_at) shares
-      | inr last ↦
-          held one first slot there is.live at
-          (SharesByte-sym (subst (λ (c : Capability). SharesByte slot.capability.span c.span) (is_made last.1 and_at) shares))
-    ]
-    | inr last ↦ elim (split other second also.is_object) [
-      | inl too ↦
-          held other second beside too also.live and_at
-          (subst (λ (c : Capability). SharesByte c.span beside.capability.span) (is_made last.1 at) shares)
-      | inr also_last ↦ absurd (differ (last.0 ∙ sym also_last.0))
-    ]
-  ]
-
-  freed-more : (number : ℕ) → BelongsToFreed mid number → BelongsToFreed new number
-  freed-more number it = record {
-    number = it.number;
-    object = it.object;
-    is_object = in_new (record { found = it.is_object.found });
-    freed = it.freed;
-    belongs = BelongsTo-same it.object same it.belongs;
-  }
-
-  freed-was : (number : ℕ) → BelongsToFreed new number → BelongsToFreed mid number
-  freed-was number it = elim (split it.number it.object it.is_object) [
-    | inl there ↦ record {
-      number = it.number;
-      object = it.object;
-      is_object = in_mid there;
-      freed = it.freed;
-      belongs = BelongsTo-same it.object (HaveSameSlots-sym same) it.belongs;
-    }
-    | inr last ↦
-        let live : it.object.live ≡ true = ap (λ (o : Object). o.live) last.1 in
-        let freed = it.freed in
-        cc
-  ]
-
-  pub KeepsObjects-with_object : KeepsObjects new
-  KeepsObjects-with_object = record {
-    fewer = omega (arith, keeps.fewer, length-append old.objects (made ∷ []), length-with_slot old capability pool);
-    child = child-more;
-    differ = differ-more;
-    exact = record { exact = exact-more };
-    apart = apart-more;
-    revoked = record {
-      revoked = λ number slot is.
-          let law = keeps_slot.revoked.revoked number slot (was_slot is) in
-          (λ revoked. freed-more number (law.0 revoked), λ it. law.1 (freed-was number it));
-      pool_stays = λ number slot is.
-          keeps_slot.revoked.pool_stays number slot (record { is_pool = is.is_pool; is_slot = was_slot is.is_slot });
-    };
-  }
-
--- ---- the pool
-
--- before there is a pool there is no object, and so no slot is revoked
-pub KeepsObjects-given : (old : State) (number : ℕ) → old.pool ≡ None → KeepsObjects old → KeepsObjects (record old { pool = Some number })
-KeepsObjects-given old number no_pool keeps =
-    KeepsObjects-none (record old { pool = Some number }) (λ n object is. none n object (record { found = is.found }))
-    (λ n slot is. tagged n slot (record { found = is.found }) slot.revoked refl) keeps.fewer
-  where
-    none : (n : ℕ) (object : Object) → IsObject old n object → ⊥
-    none n object is = let e = (keeps.child n object is).is_pool.is_pool in cc
-
-    tagged : (n : ℕ) (slot : SlotState) → IsSlot old n slot → (b : Bool) → slot.revoked ≡ b → slot.revoked ≡ false
-    tagged n slot is false mark = mark
-    tagged n slot is true mark = let it = (keeps.revoked.revoked n slot is).0 mark in absurd (none it.number it.object it.is_object)
-
--- ---- one object less
+use Rattle.cc_machine.proofs.ObjectTreeLemmas.{KeepsObjects}
 
 module _ (old new : State) (number : ℕ) (reply : Reply) (ends : EndsObject old number reply new)
     (order : (above below : ℕ) → IsParent old above below → above < below) (keeps : KeepsObjects old) where
