@@ -117,7 +117,8 @@ impl Line {
 }
 
 impl Line {
-    /// Writes the line and its line feed, in one piece where the sink takes it as one.
+    /// Writes the line and its line feed, in one piece where the sink takes it as one. Where the sink
+    /// fails, a beginning of them was taken.
     pub fn write<W: Sink>(mut self, sink: &mut W) -> Result<(), Failed>
         requires { W.has_failed sink.old ≡ false }
         ensures ok { OnOk result (Appends (W.taken_bytes sink.old) (W.taken_bytes sink.new) (self ++ 10 ∷ [])) }
