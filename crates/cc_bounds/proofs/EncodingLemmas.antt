@@ -1,7 +1,7 @@
 -- What a `Set` stores: the exponent and the fields of a sound span.
-use Rattle.std.proofs.Common.{subst, ◌≡◌, ℕ, ◌+◌, ◌-◌, ◌*◌, ◌<◌, ◌≤◌, ◌/◌, ◌%◌, ◌^◌, sym, ◌∙◌, ap, arith, inl, inr, nat_lt, bit_and}
+use Rattle.std.proofs.Common.{subst, ◌≡◌, ℕ, ◌+◌, ◌-◌, ◌*◌, ◌<◌, ◌≤◌, ◌/◌, ◌%◌, ◌^◌, sym, ◌∙◌, ap, arith, inl, inr, nat_lt}
 use Rattle.std.proofs.Math.Nat.{mul-le-mul_right}
-use Rattle.std.proofs.lemmas.Nat.{pow_pos, pow-add, shl-shr, and_mask}
+use Rattle.std.proofs.lemmas.Nat.{pow_pos, pow-add, shl-shr}
 use Rattle.std.proofs.lemmas.Bool.{cases_lt}
 use Rattle.cc_bounds.specs.declared.span.Span.{Span}
 use Rattle.cc_bounds.specs.Span.{IsSpan, length_of}
@@ -98,12 +98,11 @@ sound-fit span is_span sound =
 -- ---- what a `Set` stores
 
 -- what is stored of a granted span, as it is computed
-pub encoded : (request granted : Span) (power e : ℕ) → IsSpan request → granted ≡ rounded_to (2 ^ power) request
+pub encoded : (request granted : Span) (power e t b : ℕ) → IsSpan request → granted ≡ rounded_to (2 ^ power) request
     → IsGranule request (2 ^ power) → (length_of request < 4096 → power ≡ 0) → (4096 ≤ length_of request → 3 ≤ power)
-    → e ≡ power - 3
-    → IsEncoding granted e (nat_lt 0 power)
-    (bit_and (granted.top / 2 ^ e) 4095 + e / 8) (bit_and (granted.base / 2 ^ e) 16383 + bit_and e 7)
-encoded request granted power e is_span is_rounded is_granule small large is =
+    → e ≡ power - 3 → t ≡ granted.top / 2 ^ e % 2 ^ 12 + e / 8 → b ≡ granted.base / 2 ^ e % 2 ^ 14 + e % 8
+    → IsEncoding granted e (nat_lt 0 power) t b
+encoded request granted power e t b is_span is_rounded is_granule small large is stored_t stored_b =
     let grant = granted-sound request granted is_span is_granted in
     let exponent : IsExponent request e = subst (λ (n : ℕ). IsExponent request n) (sym is) (power-exponent request power is_granule small large) in
     let own = grant.exponent e exponent in
@@ -122,13 +121,11 @@ encoded request granted power e is_span is_rounded is_granule small large is =
       b_fits = rw (b_is e_is) fit.b_fits;
     }
   where
-    t_is : e ≡ exponent_of granted → bit_and (granted.top / 2 ^ e) 4095 + e / 8 ≡ t_of granted
-    t_is e_is = ap (λ (n : ℕ). n + e / 8) (and_mask (granted.top / 2 ^ e) 12) ∙ ap (λ (n : ℕ). granted.top / 2 ^ n % 2 ^ 12 + n / 8) e_is
+    t_is : e ≡ exponent_of granted → t ≡ t_of granted
+    t_is e_is = stored_t ∙ ap (λ (n : ℕ). granted.top / 2 ^ n % 2 ^ 12 + n / 8) e_is
 
-    b_is : e ≡ exponent_of granted → bit_and (granted.base / 2 ^ e) 16383 + bit_and e 7 ≡ b_of granted
-    b_is e_is =
-        ap (λ (n : ℕ). n + bit_and e 7) (and_mask (granted.base / 2 ^ e) 14) ∙ ap (λ (n : ℕ). granted.base / 2 ^ e % 2 ^ 14 + n) (and_mask e 3)
-        ∙ ap (λ (n : ℕ). granted.base / 2 ^ n % 2 ^ 14 + n % 8) e_is
+    b_is : e ≡ exponent_of granted → b ≡ b_of granted
+    b_is e_is = stored_b ∙ ap (λ (n : ℕ). granted.base / 2 ^ n % 2 ^ 14 + n % 8) e_is
 
     is_granted : IsGranted request granted
     is_granted = record { granule = 2 ^ power; is_granule = is_granule; is_rounded = is_rounded }

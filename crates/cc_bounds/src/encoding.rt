@@ -1,5 +1,5 @@
 //! The encoding of a sound span, and setting bounds.
-ghost use Rattle.std.specs.Prelude.{◌≡◌, ◌+◌, ◌^◌, ◌<◌, ◌≤◌, ◌↔◌, IsTrue, true, IfSome};
+ghost use Rattle.std.specs.Prelude.{◌≡◌, ◌+◌, ◌/◌, ◌%◌, ◌^◌, ◌<◌, ◌≤◌, ◌↔◌, IsTrue, true, IfSome};
 ghost use Rattle.cc_bounds.specs.Span.{IsSpan, span_from, length_of};
 ghost use Rattle.cc_bounds.specs.Granule.{IsExponent, IsGranted, IsSound, IsExact, exponent_of};
 ghost use Rattle.cc_bounds.specs.Encoding.{HasBoundsFields, StoresSpan, ie_of, t_of, b_of};
@@ -157,6 +157,22 @@ fn has_fields(set: &Set, fields: &Fields) -> bool
     (fields.ie, fields.t, fields.b) == (set.ie, set.t, set.b)
 }
 
+/// The T field of a granted span: its top in units of 2^exponent bytes, with the exponent's high digit.
+fn t_field(granted: &Span, exponent: u32) -> u16
+    requires { exponent ≤ 52 }
+    ensures { result ≡ granted.now.top / 2 ^ exponent % 2 ^ 12 + exponent / 8 }
+{
+    ((granted.top >> exponent) & 0xfff) as u16 + (exponent >> 3) as u16
+}
+
+/// The B field of a granted span: its base in units of 2^exponent bytes, with the exponent's low digit.
+fn b_field(granted: &Span, exponent: u32) -> u16
+    requires { exponent ≤ 52 }
+    ensures { result ≡ granted.now.base / 2 ^ exponent % 2 ^ 14 + exponent % 8 }
+{
+    ((granted.base >> exponent) & 0x3fff) as u16 + (exponent & 0x7) as u16
+}
+
 /// The encoding of what a request is granted.
 fn encode(request: &Span) -> Set
     requires { IsSpan request.now }
@@ -169,8 +185,8 @@ fn encode(request: &Span) -> Set
     Set {
         exponent: exponent as u8,
         ie: power > 0,
-        t: ((granted.top >> exponent) & 0xfff) as u16 + (exponent >> 3) as u16,
-        b: ((granted.base >> exponent) & 0x3fff) as u16 + (exponent & 0x7) as u16,
+        t: t_field(&granted, exponent),
+        b: b_field(&granted, exponent),
         granted,
         exact: granted == *request,
     }

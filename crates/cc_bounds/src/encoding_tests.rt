@@ -9,9 +9,11 @@ use std::process::Abort;
 const LAP: u128 = 1 << 64;
 
 /// A length, its representable length, its granule and its alignment mask.
-const LENGTHS: [(u128, u128, u64, u64); 9] = [
+const LENGTHS: [(u128, u128, u64, u64); 11] = [
     (0, 0, 1, 0xffff_ffff_ffff_ffff),
     (0xfff, 0xfff, 1, 0xffff_ffff_ffff_ffff),
+    (0x1000, 0x1000, 8, 0xffff_ffff_ffff_fff8),
+    (0x1001, 0x1008, 8, 0xffff_ffff_ffff_fff8),
     (0x1ff8, 0x1ff8, 8, 0xffff_ffff_ffff_fff8),
     (0x1ff9, 0x2000, 0x10, 0xffff_ffff_ffff_fff0),
     (0x1fff, 0x2000, 0x10, 0xffff_ffff_ffff_fff0),
@@ -38,6 +40,32 @@ fn lengths(rt: HostRuntime) {
         assert_eq!(rt; round_length(len), rounded, "length {len}");
         assert_eq!(rt; granule(len), unit, "length {len}");
         assert_eq!(rt; alignment_mask(len), mask, "length {len}");
+    }
+}
+
+/// At 1,023 granules a length is counted in granules of 2^power bytes, and one byte more in twice as
+/// large ones, 512 of them.
+#[test]
+fn granules_on_both_sides_of_each_growth(rt: HostRuntime) {
+    for power in 3..55_u32 {
+        let small = 1_u64 << power;
+        let large = small << 1;
+        let last = 1023_u128 << power;
+        assert!(rt; last < LAP);
+        assert_eq!(rt; granule(last), small, "power {power}");
+        assert_eq!(rt; round_length(last), last, "power {power}");
+        assert_eq!(rt;
+            alignment_mask(last),
+            0_u64.wrapping_sub(small),
+            "power {power}"
+        );
+        assert_eq!(rt; granule(last + 1), large, "power {power}");
+        assert_eq!(rt; round_length(last + 1), 1024_u128 << power, "power {power}");
+        assert_eq!(rt;
+            alignment_mask(last + 1),
+            0_u64.wrapping_sub(large),
+            "power {power}"
+        );
     }
 }
 

@@ -24,8 +24,7 @@ fn is_representable(base: u64, exponent: u8, address: u64) -> bool
 /// to these bounds at this address.
 ///
 /// Every address within the bounds is, and so is their top where it is below 2^64. From exponent 50 on
-/// every address is. The
-/// standard: UCAM-CL-TR-987, the representable region; Woodruff et al. 2019.
+/// every address is. The standard: UCAM-CL-TR-987, the representable region; Woodruff et al. 2019.
 pub fn represents(set: &Set, address: u64) -> bool
     ensures window { IsTrue result ↔ Represents set.now.granted address }
     ensures decodes { (fields : FieldsSpec) → HasBoundsFields set.now.granted fields.ie fields.t fields.b

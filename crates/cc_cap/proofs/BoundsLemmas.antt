@@ -1,7 +1,7 @@
 -- The encodings that a `Cap` keeps.
-use Rattle.std.proofs.Common.{ℕ, true, ◌≡◌, ◌+◌, ◌^◌, ◌≤◌, ◌↔◌, IsTrue, refl, inr, sym, subst, arith}
+use Rattle.std.proofs.Common.{ℕ, ◌≡◌, ◌+◌, ◌^◌, ◌≤◌, ◌↔◌, IsTrue, refl, inr, subst, arith}
 use Rattle.cc_bounds.specs.declared.span.Span.{Span}
-use Rattle.cc_bounds.specs.Span.{IsSpan, IsWithin, span_from, from_zero}
+use Rattle.cc_bounds.specs.Span.{IsSpan, IsWithin, from_zero}
 use Rattle.cc_bounds.specs.Granule.{IsGranted, IsExact, IsSound, granted_span}
 use Rattle.cc_bounds.specs.Encoding.{Encoding}
 use Rattle.cc_bounds.proofs.GranuleLemmas.{granted_same}
@@ -9,22 +9,10 @@ use Rattle.cc_bounds.proofs.SoundLemmas.{same_span, granted-sound}
 use Rattle.cc_bounds.proofs.SoundDecodingLemmas.{inside-Represents}
 use Rattle.cc_bounds.proofs.ComputingLemmas.{granted_span-is}
 use Rattle.cc_bounds.proofs.TightestLemmas.{granted-tight}
-use Rattle.cc_cap.specs.Bounds.{encoding_of}
 use Rattle.cc_cap.specs.Cap.{IsEncodingFor}
 use Rattle.cc_cap.specs.Capability.{Capability, IsCapability, IsUnsealed, root_capability}
 use Rattle.cc_cap.specs.Derivation.{request_of}
 use Rattle.cc_cap.proofs.DerivationLemmas.{IsGranted-within}
-
--- the encoding of a request for a sound span is that of the span
-pub encoding_of-sound : (span : Span) (base length : ℕ) (set : Encoding) → base ≡ span.base → base + length ≡ span.top
-    → IsSound span → IsGranted (span_from base length) set.granted
-    → (IsTrue set.exact ↔ IsExact (span_from base length)) → set ≡ encoding_of span
-encoding_of-sound span base length set is_base is_top sound granted exact =
-    let whole : span_from base length ≡ span = λ i. record { base = is_base i; top = is_top i } in
-    let granted' : IsGranted span set.granted = subst (λ (asked : Span). IsGranted asked set.granted) whole granted in
-    let same : set.granted ≡ span = granted_same span set.granted span granted' sound in
-    let is_exact : set.exact ≡ true = exact.1 (subst (λ (asked : Span). IsExact asked) (sym whole) sound) in
-    λ i. record { granted = same i; exact = is_exact i }
 
 -- what the encoding of a request within the bounds of a capability is
 pub IsEncodingFor-made : (cap : Capability) (length : ℕ) (set : Encoding) → IsCapability cap → IsUnsealed cap

@@ -1,25 +1,21 @@
 -- The word of a capability: there is one, and no other capability has it.
-use Rattle.std.proofs.Common.{ℕ, Bool, ◌≡◌, ◌==◌, ◌∙◌, ◌-◌, ◌^◌, ◌<◌, inl, inr, refl, sym, ap, subst, arith}
+use Rattle.std.proofs.Common.{ℕ, Bool, ◌≡◌, ◌∙◌, ◌-◌, ◌^◌, ◌<◌, sym, ap, subst}
 use Rattle.cc_word.specs.declared.fields.Fields.{Fields}
 use Rattle.cc_word.specs.Word.{bit_of, turned, layout_of, word_of}
-use Rattle.cc_word.proofs.WordLemmas.{cut-word_of, same_fields, test-bit_of}
+use Rattle.cc_word.proofs.WordLemmas.{word_of-same}
 use Rattle.cc_bounds.specs.Window.{Represents}
 use Rattle.cc_bounds.specs.Encoding.{StoresSpan, ie_of, t_of, b_of}
 use Rattle.cc_bounds.proofs.DecodingLemmas.{DecodesTo-same}
 use Rattle.cc_bounds.proofs.SoundDecodingLemmas.{sound-decodes}
-use Rattle.cc_bounds.proofs.ComputingLemmas.{bounds_fields-is, bounds_fields-are}
+use Rattle.cc_bounds.proofs.ComputingLemmas.{bounds_fields-are}
 use Rattle.cc_cap.specs.ObjType.{IsObjType}
 use Rattle.cc_cap.specs.Capability.{Capability, IsCapability}
 use Rattle.cc_cap.specs.Canonical.{IsFieldsOf, IsWordOf, word_of_capability}
 
 -- ---- the word of a capability
 
--- a type of a capability has 18 bits
-IsObjType-fits : (otype : ℕ) → IsObjType otype → otype < 2 ^ 18
-IsObjType-fits otype is_type = elim is_type [ inl sealing ↦ omega arith | inr unsealed ↦ omega arith ]
-
 -- the word of fields that are a capability's
-pub layout-word_of_capability : (cap : Capability) (perms : ℕ) (flag : Bool) (otype : ℕ) (ie : Bool) (t b address : ℕ)
+layout-word_of_capability : (cap : Capability) (perms : ℕ) (flag : Bool) (otype : ℕ) (ie : Bool) (t b address : ℕ)
     → perms ≡ cap.permissions → flag ≡ cap.flag → otype ≡ cap.otype → ie ≡ ie_of cap.span → t ≡ t_of cap.span
     → b ≡ b_of cap.span → address ≡ cap.address
     → layout_of perms 0 (bit_of flag) (0x3ffff - otype) (1 - bit_of ie) (turned 2 (turned 1 t)) (turned 2 b) address
@@ -28,39 +24,6 @@ unfolding word_of_capability
 layout-word_of_capability cap perms flag otype ie t b address is_perms is_flag is_otype is_ie is_t is_b is_address =
     λ i. layout_of (is_perms i) 0 (bit_of (is_flag i)) (0x3ffff - is_otype i) (1 - bit_of (is_ie i))
     (turned 2 (turned 1 (is_t i))) (turned 2 (is_b i)) (is_address i)
-
--- the computing form is the word
-pub IsWordOf-made : (cap : Capability) (word : ℕ) → IsCapability cap → t_of cap.span < 2 ^ 12 → b_of cap.span < 2 ^ 14
-    → word ≡ word_of_capability cap → IsWordOf cap word
-unfolding word_of_capability
-IsWordOf-made cap word is_cap t_fits b_fits is_word = record {
-  is_capability = is_cap;
-  fields = record {
-    perms = cap.permissions;
-    reserved = 0;
-    flag = cap.flag;
-    otype = cap.otype;
-    ie = ie_of cap.span;
-    t = t_of cap.span;
-    b = b_of cap.span;
-    address = cap.address;
-    perms_fit = is_cap.permissions_fit;
-    reserved_fits = omega arith;
-    otype_fits = IsObjType-fits cap.otype is_cap.is_type;
-    t_fits = t_fits;
-    b_fits = b_fits;
-    address_fits = is_cap.address_fits;
-  };
-  is_fields = record {
-    permissions = refl;
-    reserved = refl;
-    flag = refl;
-    otype = refl;
-    bounds = bounds_fields-is cap.span is_cap.is_span;
-    address = refl;
-  };
-  is_word = is_word;
-}
 
 -- a capability has one word
 pub IsWordOf-word_of_capability : (cap : Capability) (word : ℕ) → IsWordOf cap word → word ≡ word_of_capability cap
@@ -78,17 +41,6 @@ IsWordOf-word_of_capability cap word is_word_of =
     own.permissions own.flag own.otype bounds.is_ie bounds.is_t bounds.is_b own.address
 
 -- ---- the capability of a word
-
--- a word has one set of fields
-word_of-same : (one other : Fields) (word : ℕ) → word_of one ≡ word → word_of other ≡ word → one ≡ other
-word_of-same one other word is_one is_other =
-    let cut = cut-word_of one word is_one in
-    let also = cut-word_of other word is_other in
-    same_fields one other (sym cut.cut_perms ∙ also.cut_perms) (sym cut.cut_reserved ∙ also.cut_reserved)
-    (sym (ap (λ (n : ℕ). n == 1) cut.cut_flag ∙ test-bit_of one.flag) ∙ (ap (λ (n : ℕ). n == 1) also.cut_flag ∙ test-bit_of other.flag))
-    (sym cut.cut_otype ∙ also.cut_otype)
-    (sym (ap (λ (n : ℕ). n == 1) cut.cut_ie ∙ test-bit_of one.ie) ∙ (ap (λ (n : ℕ). n == 1) also.cut_ie ∙ test-bit_of other.ie))
-    (sym cut.cut_t ∙ also.cut_t) (sym cut.cut_b ∙ also.cut_b) (sym cut.cut_address ∙ also.cut_address)
 
 -- fields are those of one capability
 IsFieldsOf-same : (one other : Capability) (fields : Fields) → IsCapability one → IsCapability other

@@ -1,6 +1,6 @@
 -- A derived capability grants no more than the one that it is derived from.
-use Rattle.std.proofs.Common.{ℕ, true, false, ◌==◌, ◌∙◌, ◌≤◌, if◌then◌else◌, sym, ap, arith}
-use Rattle.std.proofs.lemmas.Nat.{and_assoc, and_le_l}
+use Rattle.std.proofs.Common.{ℕ, true, false, ◌==◌, ◌∙◌, if◌then◌else◌, sym, ap, arith}
+use Rattle.std.proofs.lemmas.Nat.{and_assoc}
 use Rattle.std.specs.Int.Bits.{and_self}
 use Rattle.std.specs.Int.RustNames.{bit_and}
 use Rattle.cc_bounds.specs.declared.span.Span.{Span}
@@ -26,10 +26,6 @@ HasAll-unsealed permissions authority =
     [ true ↦ and_self permissions | false ↦ HasAll-masked permissions 65534 ]
 
 pub ruleset permissions_stay = (HasAll-masked, HasAll-unsealed)
-
--- a set that another has all of is no larger
-pub HasAll-fits : (permissions others : ℕ) → HasAll permissions others → others ≤ permissions
-HasAll-fits permissions others has = omega (arith, and_le_l permissions others, has)
 
 -- what a set has all of has all that this has
 HasAll-chain : (one two three : ℕ) → HasAll one two → HasAll two three → HasAll one three

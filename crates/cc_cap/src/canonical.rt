@@ -5,6 +5,9 @@ ghost use Rattle.cc_cap.specs.Canonical.{IsCanonical};
 use crate::cap::Cap;
 
 /// Whether the word is canonical: the word of some capability, sealed or not.
+///
+/// It is not where a reserved bit is set, the type is reserved, or the bounds fields and the address are
+/// those of no sound span: another exponent field or other mantissas may decode to the same bounds.
 pub fn is_canonical(word: u128) -> bool
     ensures { IsTrue result ↔ IsCanonical word }
 {

@@ -64,6 +64,7 @@ impl Eq for Cap {
 
 impl Cap {
     ghost use Rattle.std.specs.Prelude.{ℕ, false, ◌≡◌, ◌↔◌, ◌≤◌, ◌^◌, IsTrue, IfOk, MatchOption, MatchResult};
+    ghost use Rattle.cc_bounds.specs.Encoding.{ie_of, t_of, b_of};
     ghost use Rattle.cc_cap.specs.Cap.{IsEncodingFor, IsRefusedBounds, ChecksAuthority};
     ghost use Rattle.cc_cap.specs.Permissions.{bits_of};
     ghost use Rattle.cc_cap.specs.Capability.{Capability, IsCapability, IsSealed, IsUnsealed, GrantsNoMore, root_capability};
@@ -243,14 +244,75 @@ impl Cap {
         Ok(cap)
     }
 
-    /// The capability's word, which is canonical, and which no other capability has.
+    /// The capability's word, which is canonical, and which no other capability has. The standard:
+    /// UCAM-CL-TR-987, the compressed capability encoding.
     pub fn word(&self) -> u128
         ensures word { IsWordOf self.now result }
         ensures computed { result ≡ word_of_capability self.now }
         ensures one_word { (word : ℕ) → IsWordOf self.now word → word ≡ result }
         ensures one_capability { (other : Capability) → IsWordOf other result → other ≡ self.now }
     {
-        pack(&Fields {
+        pack(&self.fields())
+    }
+
+    /// The bounds. They are sound, and the address is representable for them. The instructions CGetBase and
+    /// CGetLen.
+    pub fn span(&self) -> Span
+        ensures span { result ≡ self.now.span }
+        ensures is_capability { IsCapability self.now }
+    {
+        self.set.granted()
+    }
+
+    /// The capability's own address, in its bounds or not. The instruction CGetAddr.
+    pub fn address(&self) -> u64
+        ensures { result ≡ self.now.address }
+    {
+        self.address
+    }
+
+    /// The permissions. The instruction CGetPerm.
+    pub fn perms(&self) -> Perms
+        ensures { bits_of result ≡ self.now.permissions }
+    {
+        self.perms
+    }
+
+    /// The flag: whether code runs in capability mode. The instruction CGetFlags.
+    pub fn flag(&self) -> bool
+        ensures { result ≡ self.now.flag }
+    {
+        self.flag
+    }
+
+    /// The object type. The instruction CGetType, which answers -1 for the unsealed type.
+    pub fn otype(&self) -> ObjType
+        ensures { result ≡ self.now.otype }
+    {
+        self.otype
+    }
+
+    /// Whether the capability is sealed. The instruction CGetSealed.
+    pub fn is_sealed(&self) -> bool
+        ensures sealed { IsTrue result ↔ IsSealed self.now }
+        ensures unsealed { (result ≡ false) ↔ IsUnsealed self.now }
+    {
+        ObjType::is_sealed(self.otype)
+    }
+
+    // The fields of the capability's word.
+    fn fields(&self) -> Fields
+        ensures permissions { result.perms ≡ self.now.permissions }
+        ensures reserved { result.reserved ≡ 0 }
+        ensures flag { result.flag ≡ self.now.flag }
+        ensures otype { result.otype ≡ self.now.otype }
+        ensures ie { result.ie ≡ ie_of self.now.span }
+        ensures t { result.t ≡ t_of self.now.span }
+        ensures b { result.b ≡ b_of self.now.span }
+        ensures address { result.address ≡ self.now.address }
+        ensures is_capability { IsCapability self.now }
+    {
+        Fields {
             perms: self.perms.bits(),
             reserved: 0,
             flag: self.flag,
@@ -259,51 +321,7 @@ impl Cap {
             t: self.set.t(),
             b: self.set.b(),
             address: self.address,
-        })
-    }
-
-    /// The bounds. They are sound, and the address is representable for them.
-    pub fn span(&self) -> Span
-        ensures span { result ≡ self.now.span }
-        ensures is_capability { IsCapability self.now }
-    {
-        self.set.granted()
-    }
-
-    /// The capability's own address, in its bounds or not.
-    pub fn address(&self) -> u64
-        ensures { result ≡ self.now.address }
-    {
-        self.address
-    }
-
-    /// The permissions.
-    pub fn perms(&self) -> Perms
-        ensures { bits_of result ≡ self.now.permissions }
-    {
-        self.perms
-    }
-
-    /// The flag.
-    pub fn flag(&self) -> bool
-        ensures { result ≡ self.now.flag }
-    {
-        self.flag
-    }
-
-    /// The object type.
-    pub fn otype(&self) -> ObjType
-        ensures { result ≡ self.now.otype }
-    {
-        self.otype
-    }
-
-    /// Whether the capability is sealed.
-    pub fn is_sealed(&self) -> bool
-        ensures sealed { IsTrue result ↔ IsSealed self.now }
-        ensures unsealed { (result ≡ false) ↔ IsUnsealed self.now }
-    {
-        ObjType::is_sealed(self.otype)
+        }
     }
 
     // The encoding of the bounds of `len` bytes from the address on, where they may be asked for.

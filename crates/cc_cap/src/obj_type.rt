@@ -4,7 +4,7 @@ ghost use Rattle.cc_cap.specs.ObjType.{IsObjType, last_sealing_type};
 
 use std::marker::Model;
 
-/// The last type that sealing gives. The sixteen types above it are reserved.
+/// The last type that sealing gives. Of the sixteen above it the last is unsealed, the others are reserved.
 pub(crate) const LAST_SEALING_TYPE: u32 = 0x3ffef;
 
 /// The type of an unsealed capability.
@@ -35,7 +35,8 @@ impl ObjType {
         bits: UNSEALED_TYPE,
     };
 
-    /// The type that sealing gives for this number, and `None` for a number above 0x3ffef.
+    /// The type that sealing gives for this number, an authority's address, and `None` for a number above
+    /// 0x3ffef.
     pub fn sealing(number: u64) -> Option<ObjType>
         ensures found { IsSome result ↔ (number ≤ last_sealing_type) }
         ensures value { IfSome result (λ otype. otype ≡ number) }
@@ -61,7 +62,7 @@ impl ObjType {
         }
     }
 
-    /// The type's 18 bits.
+    /// The type's 18 bits: from 0 to 0x3ffef, or 0x3ffff.
     pub fn bits(self) -> u32
         ensures value { result ≡ self }
         ensures allowed { IsObjType self }

@@ -1,7 +1,7 @@
 -- The digits of words, over the bytes that stand between.
 use Rattle.std.proofs.Common.{◌-◌, ◌<◌, ◌≤◌, inl, inr, ◌≡◌, ℕ, zero, suc, ◌+◌, ◌*◌, ◌/◌, ◌%◌, ◌^◌, List, [], ◌∷◌, length, Option, Some, None, Result, Ok, Err, refl, sym, ◌∙◌, ap, arith}
 use Rattle.std.proofs.Math.Nat.{pow-suc, div-div-eq-div-mul, div-one}
-use Rattle.std.specs.Int.{w128, byte_at, bytes_high_first, from_be_bytes}
+use Rattle.std.specs.Int.{w128, to_be_bytes, byte_at, bytes_high_first, from_be_bytes}
 use Rattle.hex.specs.Hex.{decode_sized, encode_with, lower_digits, decode_pairs, pair_value, value_at, digit_or_error, hex_digit_value, ◌>>=◌}
 use Rattle.hex.specs.declared.error.FromHexError.{FromHexError}
 use Rattle.hex.proofs.HexLemmas.{decode_sized-ok, decode_sized-twice, decode_of-even}
@@ -39,11 +39,14 @@ byte-low : (k n : ℕ) → byte_at k n % 16 ≡ n / 16 ^ twice k % 16
 byte-low k n = rw (byte_at-is k n, ← pow-twice k) (omega arith)
 
 -- the text of the bytes of a number
-pub encode-bytes_high_first : (k n : ℕ) → encode_with lower_digits (bytes_high_first k n) ≡ digits_of (twice k) n
+encode-bytes_high_first : (k n : ℕ) → encode_with lower_digits (bytes_high_first k n) ≡ digits_of (twice k) n
 unfolding encode_with digits_of
 encode-bytes_high_first zero n = refl
 encode-bytes_high_first (suc k) n =
     rw (byte-high k n, byte-low k n, encode-bytes_high_first k n) refl
+
+pub encode-to_be_bytes : (word : ℕ) → encode_with lower_digits (to_be_bytes w128 word) ≡ digits_of 32 word
+encode-to_be_bytes word = encode-bytes_high_first 16 word
 
 -- ---- reading
 
@@ -149,7 +152,7 @@ decode_pairs-value before i (high ∷ low ∷ rest) bytes h =
     )
 
 -- sixteen bytes in the order of `from_be_bytes`
-pub from_be_bytes-value : (xs : List ℕ) → length xs ≡ 16 → from_be_bytes w128 xs ≡ bytes_value_after 0 xs
+from_be_bytes-value : (xs : List ℕ) → length xs ≡ 16 → from_be_bytes w128 xs ≡ bytes_value_after 0 xs
 unfolding bytes_value_after
 from_be_bytes-value (b0 ∷ b1 ∷ b2 ∷ b3 ∷ b4 ∷ b5 ∷ b6 ∷ b7 ∷ b8 ∷ b9 ∷ b10 ∷ b11 ∷ b12 ∷ b13 ∷ b14 ∷ b15 ∷ []) h = omega arith
 from_be_bytes-value _ h = absurd (omega arith)
@@ -165,7 +168,7 @@ twice-is zero = refl
 twice-is (suc n) = let e = twice-is n in omega (arith, e)
 
 -- a text of 2 * n digits has the number of its n bytes
-pub decode_sized-value : (n : ℕ) (text bytes : List ℕ) → decode_sized text n ≡ Ok bytes
+decode_sized-value : (n : ℕ) (text bytes : List ℕ) → decode_sized text n ≡ Ok bytes
     → (digits_value 16 text ≡ bytes_value_after 0 bytes) × (length bytes ≡ n)
 decode_sized-value n text bytes h =
     let len = decode_sized-ok text n bytes h in
@@ -174,3 +177,9 @@ decode_sized-value n text bytes h =
     let v = decode_pairs-value 0 0 text bytes pairs in
     let l : twice (length bytes) ≡ 2 * n = sym v.1 ∙ len in
     (v.0, length-twice (length bytes) n (l ∙ sym (twice-is n)))
+
+-- the word of the bytes that a text spells
+pub decode_sized-word : (text bytes : List ℕ) → decode_sized text 16 ≡ Ok bytes → from_be_bytes w128 bytes ≡ digits_value 16 text
+decode_sized-word text bytes h =
+    let v = decode_sized-value 16 text bytes h in
+    from_be_bytes-value bytes v.1 ∙ sym v.0

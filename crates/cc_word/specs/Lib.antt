@@ -2,3 +2,4 @@
 pub mod Refusal
 pub mod Word
 pub mod WordText
+pub mod Layout

@@ -1,45 +1,103 @@
 //! Words from fields and fields from words.
-ghost use Rattle.std.specs.Prelude.{◌≡◌};
-ghost use Rattle.cc_word.specs.Word.{word_of};
+ghost use Rattle.std.specs.Prelude.{◌≡◌, ◌+◌, ◌*◌, ◌/◌, ◌%◌, ◌^◌, ◌<◌, ◌≤◌};
+ghost use Rattle.std.specs.Int.RustNames.{bit_xor};
+ghost use Rattle.cc_word.specs.Word.{bit_of, word_of};
+ghost use Rattle.cc_word.specs.Layout.{plain_layout_of, null_layout};
 ghost use Rattle.cc_word.specs.declared.fields.Fields.{Fields as FieldsSpec};
 
 use crate::fields::Fields;
 
-/// The null capability before the exclusive-or: type 0x3ffff, IE, T field 6, B field 4. A word in
-/// memory is its fields' layout with these bits turned, so that null is all zeros.
-const NULL_MASK: u128 = 0x0000_1fff_fc01_8004_0000_0000_0000_0000;
+/// The layout of the null capability: type 0x3ffff, IE, T field 6, B field 4. A word in memory is its
+/// fields' layout with these bits turned, so that null is all zeros.
+const NULL_LAYOUT: u128 = 0x0000_1fff_fc01_8004_0000_0000_0000_0000;
+
+/// A layout from a word, and a word from a layout: the bits of the null capability turned.
+#[tactic(auto, using(crate::proofs::WordLemmas::turned_twice))]
+fn turned(number: u128) -> u128
+    ensures turned { result ≡ bit_xor number null_layout }
+    ensures back { bit_xor result null_layout ≡ number }
+{
+    number ^ NULL_LAYOUT
+}
+
+/// The `width` bits of a layout from bit `low` up.
+#[tactic(auto, using(crate::proofs::WordLemmas::masked))]
+fn bits(layout: u128, low: u32, width: u32) -> u128
+    requires low_fits { low < 128 }
+    requires width_fits { width < 128 }
+    ensures { result ≡ layout / 2 ^ low % 2 ^ width }
+{
+    (layout >> low) & ((1 << width) - 1)
+}
+
+/// The bit of a layout at `low`.
+fn bit(layout: u128, low: u32) -> bool
+    requires { low < 128 }
+    ensures { bit_of result ≡ layout / 2 ^ low % 2 }
+{
+    bits(layout, low, 1) == 1
+}
+
+/// The fields of a layout.
+#[tactic(auto, unfolding(crate::specs::Layout::plain_layout_of))]
+fn fields_of_layout(layout: u128) -> Fields
+    ensures { plain_layout_of result ≡ layout }
+{
+    Fields {
+        perms: bits(layout, 112, 16) as u16,
+        reserved: bits(layout, 110, 2) as u8,
+        flag: bit(layout, 109),
+        otype: bits(layout, 91, 18) as u32,
+        ie: bit(layout, 90),
+        t: bits(layout, 78, 12) as u16,
+        b: bits(layout, 64, 14) as u16,
+        address: bits(layout, 0, 64) as u64,
+    }
+}
+
+/// The bits of `high`, followed by `width` bits of `low`.
+#[tactic(auto, using(crate::proofs::WordLemmas::or_below))]
+fn followed(high: u128, low: u128, width: u32) -> u128
+    requires low_fits { low < 2 ^ width }
+    requires width_fits { width < 128 }
+    requires all_fit { high * 2 ^ width + low < 2 ^ 128 }
+    ensures { result ≡ high * 2 ^ width + low }
+{
+    (high << width) | low
+}
+
+/// The layout of fields.
+#[tactic(auto, unfolding(crate::specs::Layout::plain_layout_of))]
+fn layout(fields: &Fields) -> u128
+    ensures { result ≡ plain_layout_of fields.now }
+{
+    let layout = u128::from(fields.perms);
+    let layout = followed(layout, u128::from(fields.reserved), 2);
+    let layout = followed(layout, u128::from(fields.flag), 1);
+    let layout = followed(layout, u128::from(fields.otype), 18);
+    let layout = followed(layout, u128::from(fields.ie), 1);
+    let layout = followed(layout, u128::from(fields.t), 12);
+    let layout = followed(layout, u128::from(fields.b), 14);
+    followed(layout, u128::from(fields.address), 64)
+}
 
 /// The fields of a word.
 ///
-/// Every one of the 2^128 words has fields, canonical or not, and no other fields have that word.
+/// Every one of the 2^128 words has fields, canonical or not, and no other fields have that word. The
+/// standard: UCAM-CL-TR-987, the compressed capability encoding.
+#[tactic(auto, using(crate::proofs::WordLemmas::layout_turned))]
 pub fn unpack(word: u128) -> Fields
     ensures word { word_of result ≡ word }
     ensures only { (fields : FieldsSpec) → word_of fields ≡ word → fields ≡ result }
 {
-    let plain = word ^ NULL_MASK;
-    Fields {
-        perms: (plain >> 112) as u16,
-        reserved: ((plain >> 110) & 0x3) as u8,
-        flag: (plain >> 109) & 1 == 1,
-        otype: ((plain >> 91) & 0x3ffff) as u32,
-        ie: (plain >> 90) & 1 == 1,
-        t: ((plain >> 78) & 0xfff) as u16,
-        b: ((plain >> 64) & 0x3fff) as u16,
-        address: (plain & 0xffff_ffff_ffff_ffff) as u64,
-    }
+    fields_of_layout(turned(word))
 }
 
-/// The word of fields: the inverse of [`unpack`].
+/// The word of fields: the inverse of [`unpack`]. The standard: UCAM-CL-TR-987, the compressed capability
+/// encoding.
+#[tactic(auto, using(crate::proofs::WordLemmas::layout_turned))]
 pub fn pack(fields: &Fields) -> u128
     ensures { result ≡ word_of fields.now }
 {
-    let plain = (u128::from(fields.perms) << 112)
-        | (u128::from(fields.reserved) << 110)
-        | (u128::from(fields.flag) << 109)
-        | (u128::from(fields.otype) << 91)
-        | (u128::from(fields.ie) << 90)
-        | (u128::from(fields.t) << 78)
-        | (u128::from(fields.b) << 64)
-        | u128::from(fields.address);
-    plain ^ NULL_MASK
+    turned(layout(fields))
 }

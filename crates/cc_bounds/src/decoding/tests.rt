@@ -32,6 +32,17 @@ const KNOWN_WORDS: [&str; 24] = [
     "ffffffffffffffffffffffffffffffff 0 fffffffffffffffb 10000000000000ff9", // all ones
 ];
 
+/// One set of fields at the first and the last address of a window, between them, and just below and
+/// above; and a window that crosses the end of the address space. Found as `SEARCHED_WORDS` were.
+const ONE_WINDOW: [&str; 6] = [
+    "ffff00000001bf050000000000020010 1 1fe00 22000",
+    "ffff00000001bf05000000000001e000 1 1fe00 22000",
+    "ffff00000001bf050000000000025fff 1 1fe00 22000",
+    "ffff00000001bf05000000000001dfff 1 17e00 1a000",
+    "ffff00000001bf050000000000026000 1 27e00 2a000",
+    "ffff000004818004fffffffffffff800 0 0 200",
+];
+
 /// Words drawn at random for what they cover. Their bounds were found by searching the integers, negative
 /// ones too, for the window, the places in it and the top that the definitions ask for, and by no rule on
 /// bits. First each exponent field from 0 to 63, then words without IE. Among them are addresses at both
@@ -140,6 +151,11 @@ fn assert_decoded(rt: &impl Abort, rows: &[&str]) -> Result<(), Fail> {
 #[test]
 fn known_words(rt: HostRuntime) -> Result<(), Fail> {
     assert_decoded(&rt, &KNOWN_WORDS)
+}
+
+#[test]
+fn one_window(rt: HostRuntime) -> Result<(), Fail> {
+    assert_decoded(&rt, &ONE_WINDOW)
 }
 
 #[test]

@@ -1,25 +1,28 @@
-use Rattle.std.proofs.Common.{ℕ, ◌≡◌, ◌∙◌, ◌<◌, ◌^◌, refl, ap, subst, sym}
-use Rattle.cc_cap.specs.Cap.{value_of}
-use Rattle.cc_cap.specs.Capability.{Capability}
+use Rattle.std.proofs.Common.{◌≡◌, ◌∙◌, sym}
+use Rattle.cc_bounds.proofs.LawLemmas.{fields_law}
 use Rattle.cc_cap.specs.Canonical.{IsWordOf, word_of_capability}
-use Rattle.cc_cap.proofs.CanonicalLemmas.{IsWordOf-made, IsWordOf-same, IsWordOf-word_of_capability, layout-word_of_capability}
+use Rattle.cc_cap.proofs.CanonicalLemmas.{IsWordOf-same, IsWordOf-word_of_capability}
 use Rattle.cc_cap.proofs.cap.Cap.word.Goals as goal
-
--- the word that is packed, of the capability that is kept
-packed : (c : goal.After-pack) → c.pack.result ≡ word_of_capability (value_of c.self.inside)
-packed c =
-    c.pack.ensures ∙ layout-word_of_capability (value_of c.self.inside) _ _ _ _ _ _ _ c.bits.ensures refl
-    c.bits-2.ensures.value c.ie.ensures.computed c.t.ensures.computed c.b.ensures.computed refl
-
-computed : (c : goal.After-pack) → c.pack.result ≡ word_of_capability c.args.self.now
-computed c = packed c ∙ ap word_of_capability c.self.view_is
 
 is_word : (c : goal.After-pack) → IsWordOf c.args.self.now c.pack.result
 is_word c =
-    let t_fits = subst (λ (n : ℕ). n < 2 ^ 12) c.t.ensures.computed c.t.ensures.fits in
-    let b_fits = subst (λ (n : ℕ). n < 2 ^ 14) c.b.ensures.computed c.b.ensures.fits in
-    subst (λ (cap : Capability). IsWordOf cap c.pack.result) c.self.view_is
-    (IsWordOf-made (value_of c.self.inside) c.pack.result c.self.invariant.is_capability t_fits b_fits (packed c))
+    let own = c.fields.ensures in
+    record {
+      is_capability = own.is_capability;
+      fields = c.fields.result;
+      is_fields = record {
+        permissions = own.permissions;
+        reserved = own.reserved;
+        flag = own.flag;
+        otype = own.otype;
+        bounds = (fields_law c.args.self.now.span _ _ _ own.is_capability.is_span).1 (own.ie, own.t, own.b);
+        address = own.address;
+      };
+      is_word = c.pack.ensures;
+    }
+
+computed : (c : goal.After-pack) → c.pack.result ≡ word_of_capability c.args.self.now
+computed c = IsWordOf-word_of_capability c.args.self.now c.pack.result (is_word c)
 
 pub returns-clause-word : goal.returns-clause-word
 returns-clause-word c = is_word c

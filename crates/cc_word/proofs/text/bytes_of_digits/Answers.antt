@@ -1,8 +1,8 @@
-use Rattle.std.proofs.Common.{◌≡◌, Ok, Err, refl, ◌∙◌, sym}
+use Rattle.std.proofs.Common.{◌≡◌, Ok, Err, refl, sym}
 use Rattle.hex.specs.Hex.{decode_sized}
 use Rattle.hex.proofs.HexLemmas.{IsOk-decode_sized}
-use Rattle.cc_word.proofs.TextLemmas.{decode_sized-value, from_be_bytes-value}
-use Rattle.cc_word.proofs.text.read_word.Goals as goal
+use Rattle.cc_word.proofs.TextLemmas.{decode_sized-word}
+use Rattle.cc_word.proofs.text.bytes_of_digits.Goals as goal
 
 pub returns-in-Ok-clause-found : goal.returns-in-Ok-clause-found
 returns-in-Ok-clause-found c =
@@ -17,7 +17,4 @@ returns-in-Err-clause-found c =
     (λ x. cc x, λ x. rw (← e) at (h x))
 
 pub returns-in-Ok-clause-value : goal.returns-in-Ok-clause-value
-returns-in-Ok-clause-value c =
-    let e : Ok c.in-Ok.bytes ≡ decode_sized c.args.text.now 16 = c.in-Ok.ensures in
-    let v = decode_sized-value 16 c.args.text.now c.in-Ok.bytes (sym e) in
-    c.from_be_bytes.ensures ∙ from_be_bytes-value c.in-Ok.bytes v.1 ∙ sym v.0
+returns-in-Ok-clause-value c = decode_sized-word c.args.text.now c.in-Ok.bytes (sym c.in-Ok.ensures)
