@@ -1,0 +1,232 @@
+// Times each call of the library, and the plain C body for it, over the same seeded inputs, and holds
+// the checksums of all results against each other.
+//
+//   calls COUNT ROUNDS [NAME]   a line for each call, or for the one: name, ns of the library, ns of C, checksum
+#define _POSIX_C_SOURCE 200809L
+
+#include "plain.h"
+#include <inttypes.h>
+#include <stdio.h>
+#include <stdlib.h>
+#include <string.h>
+#include <time.h>
+
+// How many inputs are timed at once: few enough to stay in a processor's cache.
+#define BLOCK ((size_t)4096)
+
+// The inputs, each kind by itself.
+static cheri_cap_u128 *randoms, *canonicals, *lengths;
+static uint64_t *bases, *requests, *addresses;
+static cheri_cap_fields *fields;
+static char (*texts)[32];
+
+// A seeded generator, splitmix64.
+static uint64_t next_random(void)
+{
+    static uint64_t state = UINT64_C(0x5eed5eed5eed5eed);
+    uint64_t number = state += UINT64_C(0x9e3779b97f4a7c15);
+    number = (number ^ number >> 30) * UINT64_C(0xbf58476d1ce4e5b9);
+    number = (number ^ number >> 27) * UINT64_C(0x94d049bb133111eb);
+    return number ^ number >> 31;
+}
+
+// A number with a random count of bits.
+static uint64_t next_length(void)
+{
+    uint64_t number = next_random();
+    return number >> next_random() % 64;
+}
+
+// Fields with the bounds that the request is granted, at an address within it.
+static cheri_cap_fields next_fields(uint64_t base, uint64_t request)
+{
+    cheri_cap_granted set = plain_set_bounds(base, 0, request);
+    uint64_t otype = next_random() & 0x3ffff;
+    return (cheri_cap_fields){
+        .address = base + (request != 0 ? next_random() % request : 0),
+        .otype = otype <= CHERI_CAP_OTYPE_LAST_SEALING && next_random() % 2 ? (uint32_t)otype : CHERI_CAP_OTYPE_UNSEALED,
+        .perms = (uint16_t)next_random(),
+        .t = set.t,
+        .b = set.b,
+        .flag = next_random() % 2,
+        .ie = set.ie,
+    };
+}
+
+static void make_input(size_t i)
+{
+    randoms[i] = (cheri_cap_u128){next_random(), next_random()};
+    lengths[i] = (cheri_cap_u128){0, next_length()};
+    requests[i] = next_length();
+    bases[i] = next_random();
+    if (requests[i] != 0 && bases[i] > -requests[i])
+        bases[i] -= requests[i];
+    fields[i] = next_fields(bases[i], requests[i]);
+    canonicals[i] = plain_pack(fields[i]);
+    // About half of these addresses are in the window.
+    unsigned exponent = plain_decode(canonicals[i].high, canonicals[i].low).exponent;
+    addresses[i] = bases[i] + (next_random() >> (exponent < 50 ? 49 - exponent : 0));
+    plain_write_word(randoms[i].high, randoms[i].low, texts[i]);
+}
+
+// Room for so many values of a kind.
+static void *room(size_t count, size_t size)
+{
+    void *made = calloc(count, size);
+    if (made == NULL) {
+        fputs("no memory\n", stderr);
+        exit(2);
+    }
+    return made;
+}
+
+static void make_inputs(size_t count)
+{
+    randoms = room(count, sizeof *randoms);
+    canonicals = room(count, sizeof *canonicals);
+    lengths = room(count, sizeof *lengths);
+    requests = room(count, sizeof *requests);
+    bases = room(count, sizeof *bases);
+    addresses = room(count, sizeof *addresses);
+    fields = room(count, sizeof *fields);
+    texts = room(count, sizeof *texts);
+    for (size_t i = 0; i < count; i++)
+        make_input(i);
+}
+
+static uint64_t fold_fields(cheri_cap_fields it)
+{
+    return it.address + it.otype + ((uint64_t)it.perms << 8) + ((uint64_t)it.t << 16) + ((uint64_t)it.b << 24)
+        + ((uint64_t)it.reserved << 32) + ((uint64_t)it.flag << 40) + ((uint64_t)it.ie << 48);
+}
+
+static uint64_t fold_granted(cheri_cap_granted it)
+{
+    return it.base + 3 * it.top_low + it.top_high + ((uint64_t)it.t << 8) + ((uint64_t)it.b << 24) + it.exponent
+        + ((uint64_t)it.ie << 40) + ((uint64_t)it.exact << 41) + ((uint64_t)it.in_range << 42);
+}
+
+static uint64_t fold_text(const char *text)
+{
+    uint64_t words[4];
+    memcpy(words, text, sizeof words);
+    return words[0] + 3 * words[1] + 5 * words[2] + 7 * words[3];
+}
+
+// The checksum of the results of one body of a call, from that of the results before.
+#define LOOP(name, body, setup, result, folded)                                                                        \
+    static uint64_t name##_by_##body(size_t first, size_t end, uint64_t checksum)                                      \
+    {                                                                                                                  \
+        for (size_t i = first; i < end; i++) {                                                                         \
+            setup;                                                                                                     \
+            result;                                                                                                    \
+            checksum = checksum * 31 + (folded);                                                                       \
+        }                                                                                                              \
+        return checksum;                                                                                               \
+    }
+
+#define CALL(name, type, call, arguments, folded)                                                                      \
+    LOOP(name, library, , type r = cheri_cap_##call arguments, folded)                                                 \
+    LOOP(name, plain, , type r = plain_##call arguments, folded)
+
+CALL(unpack, cheri_cap_fields, unpack, (randoms[i].high, randoms[i].low), fold_fields(r))
+CALL(pack, cheri_cap_u128, pack, (fields[i]), r.high + 3 * r.low)
+CALL(decode_random, cheri_cap_bounds, decode, (randoms[i].high, randoms[i].low), r.base + 3 * r.top_low + r.top_high + r.exponent)
+CALL(decode_canonical, cheri_cap_bounds, decode, (canonicals[i].high, canonicals[i].low), r.base + 3 * r.top_low + r.top_high + r.exponent)
+CALL(set_bounds, cheri_cap_granted, set_bounds, (bases[i], 0, requests[i]), fold_granted(r))
+CALL(represents, bool, represents, (canonicals[i].high, canonicals[i].low, addresses[i]), r)
+CALL(granule, uint64_t, granule, (lengths[i].high, lengths[i].low), r)
+CALL(round_length, cheri_cap_u128, round_length, (lengths[i].high, lengths[i].low), r.high + 3 * r.low)
+CALL(alignment_mask, uint64_t, alignment_mask, (lengths[i].high, lengths[i].low), r)
+CALL(is_canonical_random, bool, is_canonical, (randoms[i].high, randoms[i].low), r)
+CALL(is_canonical_canonical, bool, is_canonical, (canonicals[i].high, canonicals[i].low), r)
+CALL(read_word, cheri_cap_read, read_word, (texts[i], 32), r.high + 3 * r.low + r.found)
+LOOP(write_word, library, char text[32], cheri_cap_write_word(randoms[i].high, randoms[i].low, text), fold_text(text))
+LOOP(write_word, plain, char text[32], plain_write_word(randoms[i].high, randoms[i].low, text), fold_text(text))
+
+typedef uint64_t loop(size_t first, size_t end, uint64_t checksum);
+
+#define ROW(name) {#name, name##_by_library, name##_by_plain}
+
+static const struct {
+    const char *name;
+    loop *library, *plain;
+} rows[] = {
+    ROW(unpack),
+    ROW(pack),
+    ROW(decode_random),
+    ROW(decode_canonical),
+    ROW(set_bounds),
+    ROW(represents),
+    ROW(granule),
+    ROW(round_length),
+    ROW(alignment_mask),
+    ROW(is_canonical_random),
+    ROW(is_canonical_canonical),
+    ROW(read_word),
+    ROW(write_word),
+};
+
+static double now(void)
+{
+    struct timespec time;
+    clock_gettime(CLOCK_MONOTONIC, &time);
+    return (double)time.tv_sec * 1e9 + (double)time.tv_nsec;
+}
+
+// The nanoseconds that a body takes for the inputs of a block, and their checksum.
+typedef struct {
+    double least, sum;
+    uint64_t before, after;
+} measurement;
+
+static void measure(loop *body, size_t first, size_t end, measurement *of)
+{
+    double start = now();
+    of->after = body(first, end, of->before);
+    double taken = now() - start;
+    if (taken < of->least)
+        of->least = taken;
+}
+
+// Adds the least time of a block to the sum, and goes on to the next.
+static void next_block(measurement *of)
+{
+    of->sum += of->least;
+    of->least = 1e99;
+    of->before = of->after;
+}
+
+// Prints the row of a call, and answers whether the two bodies' results are the same.
+static bool compare(const char *name, loop *library_body, loop *plain_body, size_t count, size_t rounds)
+{
+    measurement library = {1e99, 0, 0, 0}, plain = {1e99, 0, 0, 0};
+    for (size_t first = 0; first < count; first += BLOCK) {
+        size_t end = first + BLOCK < count ? first + BLOCK : count;
+        for (size_t round = 0; round < rounds; round++) {
+            measure(library_body, first, end, &library);
+            measure(plain_body, first, end, &plain);
+        }
+        next_block(&library);
+        next_block(&plain);
+    }
+    bool same = library.after == plain.after;
+    printf("%s %.2f %.2f %016" PRIx64 "%s\n", name, library.sum / (double)count, plain.sum / (double)count, library.after,
+        same ? "" : " DIFFERS");
+    return same;
+}
+
+int main(int argc, char **argv)
+{
+    if (argc < 3) {
+        fputs("usage: calls COUNT ROUNDS [NAME]\n", stderr);
+        return 2;
+    }
+    size_t count = strtoul(argv[1], NULL, 10), rounds = strtoul(argv[2], NULL, 10);
+    make_inputs(count);
+    bool same = true;
+    for (size_t i = 0; i < sizeof rows / sizeof *rows; i++)
+        if (argc < 4 || strcmp(argv[3], rows[i].name) == 0)
+            same &= compare(rows[i].name, rows[i].library, rows[i].plain, count, rounds);
+    return same ? 0 : 1;
+}

@@ -1,0 +1,20 @@
+// Plain C bodies for the calls of cheri_cap.h: what the library is measured against. They are tested only
+// in that the benchmark compares their answers with the library's.
+#ifndef PLAIN_H
+#define PLAIN_H
+
+#include <cheri_cap.h>
+
+cheri_cap_fields plain_unpack(uint64_t high, uint64_t low);
+cheri_cap_u128 plain_pack(cheri_cap_fields fields);
+bool plain_is_canonical(uint64_t high, uint64_t low);
+cheri_cap_bounds plain_decode(uint64_t high, uint64_t low);
+cheri_cap_granted plain_set_bounds(uint64_t base, uint64_t length_high, uint64_t length_low);
+bool plain_represents(uint64_t high, uint64_t low, uint64_t address);
+uint64_t plain_granule(uint64_t length_high, uint64_t length_low);
+cheri_cap_u128 plain_round_length(uint64_t length_high, uint64_t length_low);
+uint64_t plain_alignment_mask(uint64_t length_high, uint64_t length_low);
+cheri_cap_read plain_read_word(const char *text, size_t length);
+void plain_write_word(uint64_t high, uint64_t low, char *text);
+
+#endif

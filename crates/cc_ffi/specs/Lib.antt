@@ -1,0 +1,4 @@
+-- In reading order.
+pub mod Numbers
+pub mod Words
+pub mod Bounds

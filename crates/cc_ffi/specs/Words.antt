@@ -1,0 +1,31 @@
+-- The fields of a word, as C has them.
+use Rattle.std.specs.Prelude.{ℕ, ◌≡◌, ◌%◌, ◌^◌}
+use Rattle.cc_word.specs.Word.{word_of}
+use Rattle.cc_word.specs.declared.fields.Fields.{Fields}
+use Rattle.cc_ffi.specs.declared.structs.WordFields.{WordFields}
+
+-- The fields of the word have the property. Each word is that of some fields, and of no others.
+abbrev pub OfFields : (word : ℕ) (P : Fields → Type 0) → Type 0
+OfFields word P = (fields : Fields) → word_of fields ≡ word → P fields
+
+-- C's fields are these
+pub record IsSame (given : WordFields) (fields : Fields) : Type 0 where
+  pub perms : given.perms ≡ fields.perms
+  pub reserved : given.reserved ≡ fields.reserved
+  pub flag : given.flag ≡ fields.flag
+  pub otype : given.otype ≡ fields.otype
+  pub ie : given.ie ≡ fields.ie
+  pub t : given.t ≡ fields.t
+  pub b : given.b ≡ fields.b
+  pub address : given.address ≡ fields.address
+
+-- the fields are C's, of which each number is cut to the width of its field
+pub record IsCut (given : WordFields) (fields : Fields) : Type 0 where
+  pub perms : fields.perms ≡ given.perms
+  pub reserved : fields.reserved ≡ given.reserved % 2 ^ 2
+  pub flag : fields.flag ≡ given.flag
+  pub otype : fields.otype ≡ given.otype % 2 ^ 18
+  pub ie : fields.ie ≡ given.ie
+  pub t : fields.t ≡ given.t % 2 ^ 12
+  pub b : fields.b ≡ given.b % 2 ^ 14
+  pub address : fields.address ≡ given.address

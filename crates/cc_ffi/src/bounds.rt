@@ -1,0 +1,103 @@
+//! Bounds: what a word decodes to, what a request is granted, and where an address may go.
+ghost use Rattle.std.specs.Prelude.{false, ◌≡◌, ◌+◌, ◌^◌, ◌≤◌, ◌↔◌, IsTrue};
+ghost use Rattle.cc_ffi.specs.Numbers.{number_of};
+ghost use Rattle.cc_ffi.specs.Words.{OfFields};
+ghost use Rattle.cc_ffi.specs.Bounds.{IsDecoded, IsRequestGranted, IsNothing, IsToldOf, StoresNone};
+ghost use Rattle.cc_bounds.specs.Span.{span_from};
+ghost use Rattle.cc_bounds.specs.Decoding.{stored_exponent};
+ghost use Rattle.cc_bounds.specs.Window.{Represents};
+ghost use Rattle.cc_bounds.specs.Encoding.{StoresSpan};
+ghost use Rattle.cc_bounds.specs.declared.span.Span.{Span as SpanSpec};
+
+use crate::halves::{halves, number};
+use crate::structs::{Bounds, GrantedBounds};
+use cc_bounds::{Set, decode, exponent, represents, set_bounds};
+use cc_word::unpack;
+
+/// How many bytes the address space has.
+const ADDRESS_SPACE: u128 = 1 << 64;
+
+/// The base, the top and the exponent of a word, for every word.
+#[unsafe(no_mangle)]
+pub extern "C" fn cheri_cap_decode(high: u64, low: u64) -> Bounds
+    ensures { OfFields (number_of high low) (λ fields. IsDecoded fields result) }
+{
+    let fields = unpack(number(high, low));
+    let span = decode(&fields);
+    let top = halves(span.top);
+    Bounds {
+        base: span.base,
+        top_high: top.high,
+        top_low: top.low,
+        exponent: exponent(&fields),
+    }
+}
+
+/// The exponent of a word, from 0 to 52, for every word.
+#[unsafe(no_mangle)]
+pub extern "C" fn cheri_cap_exponent(high: u64, low: u64) -> u8
+    ensures { OfFields (number_of high low) (λ fields. result ≡ stored_exponent fields) }
+{
+    exponent(&unpack(number(high, low)))
+}
+
+/// What a request is granted that ends at 2^64 or below.
+fn granted(set: &Set) -> GrantedBounds
+    ensures { IsToldOf set.now result }
+{
+    let span = set.granted();
+    let top = halves(span.top);
+    GrantedBounds {
+        base: span.base,
+        top_high: top.high,
+        top_low: top.low,
+        t: set.t(),
+        b: set.b(),
+        exponent: set.e(),
+        ie: set.ie(),
+        exact: set.exact(),
+        in_range: true,
+    }
+}
+
+/// What a request for bounds is granted: `length` bytes from `base` on. Where it ends above 2^64, nothing.
+#[unsafe(no_mangle)]
+pub extern "C" fn cheri_cap_set_bounds(
+    base: u64,
+    length_high: u64,
+    length_low: u64,
+) -> GrantedBounds
+    ensures granted { base + number_of length_high length_low ≤ 2 ^ 64
+        → IsRequestGranted (span_from base (number_of length_high length_low)) result }
+    ensures refused { (¬ base + number_of length_high length_low ≤ 2 ^ 64) → IsNothing result }
+{
+    let length = number(length_high, length_low);
+    if length > ADDRESS_SPACE - u128::from(base) {
+        return GrantedBounds {
+            base: 0,
+            top_high: 0,
+            top_low: 0,
+            t: 0,
+            b: 0,
+            exponent: 0,
+            ie: false,
+            exact: false,
+            in_range: false,
+        };
+    }
+    granted(&set_bounds(base, length))
+}
+
+/// Whether a word's bounds are those of a capability, and the address is representable for them. The
+/// reserved bits and the type are not looked at.
+#[unsafe(no_mangle)]
+pub extern "C" fn cheri_cap_represents(high: u64, low: u64, address: u64) -> bool
+    ensures stored { OfFields (number_of high low) (λ fields.
+        (span : SpanSpec) → StoresSpan fields span → (IsTrue result ↔ Represents span address)) }
+    ensures none { OfFields (number_of high low) (λ fields. StoresNone fields → result ≡ false) }
+{
+    match Set::of_fields(&unpack(number(high, low))) {
+        Some(set) => represents(&set, address),
+        None => false,
+    }
+}

@@ -1,0 +1,51 @@
+//! Lengths: the granule, the representable length and the alignment mask.
+ghost use Rattle.std.specs.Prelude.{◌≡◌, ◌-◌, ◌^◌, ◌<◌, ◌≤◌};
+ghost use Rattle.cc_ffi.specs.Numbers.{number_of, value_of};
+ghost use Rattle.cc_bounds.specs.Span.{from_zero};
+ghost use Rattle.cc_bounds.specs.Granule.{IsGranule, granule_of, padded_size};
+
+use crate::halves::{halves, number};
+use crate::structs::Halves;
+
+/// The longest length: that of the whole address space.
+const MAX_LENGTH: u128 = 1 << 64;
+
+/// The granule of a length, and 0 for a length above 2^64.
+#[unsafe(no_mangle)]
+pub extern "C" fn cheri_cap_granule(length_high: u64, length_low: u64) -> u64
+    ensures granule { number_of length_high length_low ≤ 2 ^ 64 → IsGranule (from_zero (number_of length_high length_low)) result }
+    ensures too_long { 2 ^ 64 < number_of length_high length_low → result ≡ 0 }
+{
+    let length = number(length_high, length_low);
+    if length > MAX_LENGTH {
+        return 0;
+    }
+    cc_bounds::granule(length)
+}
+
+/// The representable length: the length rounded up to a multiple of its granule. All ones for a length
+/// above 2^64.
+#[unsafe(no_mangle)]
+pub extern "C" fn cheri_cap_round_length(length_high: u64, length_low: u64) -> Halves
+    ensures rounded { number_of length_high length_low ≤ 2 ^ 64 → value_of result ≡ padded_size (number_of length_high length_low) }
+    ensures too_long { 2 ^ 64 < number_of length_high length_low → value_of result ≡ 2 ^ 128 - 1 }
+{
+    let length = number(length_high, length_low);
+    if length > MAX_LENGTH {
+        return halves(u128::MAX);
+    }
+    halves(cc_bounds::round_length(length))
+}
+
+/// The representable alignment mask of a length, and 0 for a length above 2^64.
+#[unsafe(no_mangle)]
+pub extern "C" fn cheri_cap_alignment_mask(length_high: u64, length_low: u64) -> u64
+    ensures mask { number_of length_high length_low ≤ 2 ^ 64 → result ≡ 2 ^ 64 - granule_of (from_zero (number_of length_high length_low)) }
+    ensures too_long { 2 ^ 64 < number_of length_high length_low → result ≡ 0 }
+{
+    let length = number(length_high, length_low);
+    if length > MAX_LENGTH {
+        return 0;
+    }
+    cc_bounds::alignment_mask(length)
+}

@@ -1,0 +1,83 @@
+//! The structs that cross to C, with the fields in the order in which the header has them.
+
+/// A number of 128 bits: a word or a length.
+#[derive(Clone, Copy)]
+#[repr(C)]
+pub struct Halves {
+    /// The upper 64 bits.
+    pub high: u64,
+    /// The lower 64 bits.
+    pub low: u64,
+}
+
+/// The fields of a word, in C's types. Nothing keeps them within their widths.
+#[derive(Clone, Copy)]
+#[repr(C)]
+pub struct WordFields {
+    /// The capability's own address.
+    pub address: u64,
+    /// The object type, of 18 bits.
+    pub otype: u32,
+    /// The permissions.
+    pub perms: u16,
+    /// The T field as stored, of 12 bits.
+    pub t: u16,
+    /// The B field as stored, of 14 bits.
+    pub b: u16,
+    /// The reserved bits, of which there are two.
+    pub reserved: u8,
+    /// The flag.
+    pub flag: bool,
+    /// The internal exponent.
+    pub ie: bool,
+}
+
+/// What a word decodes to.
+#[derive(Clone, Copy)]
+#[repr(C)]
+pub struct Bounds {
+    /// The base.
+    pub base: u64,
+    /// The top's bits from 64 up.
+    pub top_high: u64,
+    /// The top's lower 64 bits.
+    pub top_low: u64,
+    /// The exponent, from 0 to 52.
+    pub exponent: u8,
+}
+
+/// What a request for bounds is granted.
+#[derive(Clone, Copy)]
+#[repr(C)]
+pub struct GrantedBounds {
+    /// The granted base.
+    pub base: u64,
+    /// The granted top's bits from 64 up.
+    pub top_high: u64,
+    /// The granted top's lower 64 bits.
+    pub top_low: u64,
+    /// The T field that stores them, of 12 bits.
+    pub t: u16,
+    /// The B field that stores them, of 14 bits.
+    pub b: u16,
+    /// The exponent, from 0 to 52.
+    pub exponent: u8,
+    /// The internal exponent.
+    pub ie: bool,
+    /// Whether the request is granted as it is.
+    pub exact: bool,
+    /// Whether the request ends at 2^64 or below. If not, nothing is granted and all else is zero.
+    pub in_range: bool,
+}
+
+/// The word that a text spells, if it spells one.
+#[derive(Clone, Copy)]
+#[repr(C)]
+pub struct ReadWord {
+    /// The word's upper 64 bits, or 0.
+    pub high: u64,
+    /// The word's lower 64 bits, or 0.
+    pub low: u64,
+    /// Whether the text spells a word.
+    pub found: bool,
+}

@@ -1,0 +1,42 @@
+//! Words as text.
+ghost use Rattle.std.specs.Prelude.{◌≡◌, ◌↔◌, length, IsTrue};
+ghost use Rattle.std.specs.List.{AllPass};
+ghost use Rattle.std.specs.Str.Parse.{digits_value};
+ghost use Rattle.hex.specs.Hex.{is_hex_digit};
+ghost use Rattle.cc_word.specs.WordText.{digits_of};
+ghost use Rattle.cc_ffi.specs.Numbers.{number_of};
+
+use crate::halves::{halves, number};
+use crate::structs::ReadWord;
+
+/// The word that 32 hexadecimal digits of either case spell. Any other text spells none.
+#[unsafe(no_mangle)]
+pub extern "C" fn cheri_cap_read_word(text: &[u8]) -> ReadWord
+    ensures found { IsTrue result.found ↔ ((length text.now ≡ 32) × AllPass is_hex_digit text.now) }
+    ensures value { IsTrue result.found → number_of result.high result.low ≡ digits_value 16 text.now }
+    ensures none { (¬ IsTrue result.found) → number_of result.high result.low ≡ 0 }
+{
+    match cc_word::read_word(text) {
+        Some(word) => {
+            let word = halves(word);
+            ReadWord {
+                high: word.high,
+                low: word.low,
+                found: true,
+            }
+        }
+        None => ReadWord {
+            high: 0,
+            low: 0,
+            found: false,
+        },
+    }
+}
+
+/// Writes the 32 hexadecimal digits of a word, in lower case, and no zero byte after them.
+#[unsafe(no_mangle)]
+pub extern "C" fn cheri_cap_write_word(high: u64, low: u64, text: &mut [u8; 32])
+    ensures { text.new ≡ digits_of 32 (number_of high low) }
+{
+    *text = cc_word::write_word(number(high, low));
+}

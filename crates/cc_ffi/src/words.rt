@@ -1,0 +1,85 @@
+//! Words: their fields, and whether a capability has them.
+ghost use Rattle.std.specs.Prelude.{◌≡◌, ◌↔◌, IsTrue};
+ghost use Rattle.cc_ffi.specs.Numbers.{number_of, value_of};
+ghost use Rattle.cc_ffi.specs.Words.{OfFields, IsSame, IsCut};
+ghost use Rattle.cc_word.specs.Word.{word_of};
+ghost use Rattle.cc_word.specs.declared.fields.Fields.{Fields as FieldsSpec};
+ghost use Rattle.cc_cap.specs.Canonical.{IsCanonical};
+
+use crate::halves::{halves, number};
+use crate::structs::{Halves, WordFields};
+use cc_word::{Fields, pack, unpack};
+
+/// The fields of a word, for every word.
+#[unsafe(no_mangle)]
+pub extern "C" fn cheri_cap_unpack(high: u64, low: u64) -> WordFields
+    ensures { OfFields (number_of high low) (λ fields. IsSame result fields) }
+{
+    let fields = unpack(number(high, low));
+    WordFields {
+        address: fields.address,
+        otype: fields.otype,
+        perms: fields.perms,
+        t: fields.t,
+        b: fields.b,
+        reserved: fields.reserved,
+        flag: fields.flag,
+        ie: fields.ie,
+    }
+}
+
+/// The permissions of a word, GLOBAL the lowest bit.
+#[unsafe(no_mangle)]
+pub extern "C" fn cheri_cap_perms(high: u64, low: u64) -> u16
+    ensures { OfFields (number_of high low) (λ fields. result ≡ fields.perms) }
+{
+    unpack(number(high, low)).perms
+}
+
+/// The object type of a word, of 18 bits.
+#[unsafe(no_mangle)]
+pub extern "C" fn cheri_cap_otype(high: u64, low: u64) -> u32
+    ensures { OfFields (number_of high low) (λ fields. result ≡ fields.otype) }
+{
+    unpack(number(high, low)).otype
+}
+
+/// The flag of a word.
+#[unsafe(no_mangle)]
+pub extern "C" fn cheri_cap_flag(high: u64, low: u64) -> bool
+    ensures { OfFields (number_of high low) (λ fields. result ≡ fields.flag) }
+{
+    unpack(number(high, low)).flag
+}
+
+/// The fields with each number cut to its width, its lowest bits kept.
+fn cut(given: WordFields) -> Fields
+    ensures { IsCut given result }
+{
+    Fields {
+        perms: given.perms,
+        reserved: given.reserved & 0x3,
+        flag: given.flag,
+        otype: given.otype & 0x3ffff,
+        ie: given.ie,
+        t: given.t & 0xfff,
+        b: given.b & 0x3fff,
+        address: given.address,
+    }
+}
+
+/// The word of fields. Of a number that is wider than its field the lowest bits count.
+#[unsafe(no_mangle)]
+pub extern "C" fn cheri_cap_pack(given: WordFields) -> Halves
+    ensures { (fields : FieldsSpec) → IsCut given fields → word_of fields ≡ value_of result }
+{
+    halves(pack(&cut(given)))
+}
+
+/// Whether the word is canonical: the word of some capability, sealed or not.
+#[unsafe(no_mangle)]
+pub extern "C" fn cheri_cap_is_canonical(high: u64, low: u64) -> bool
+    ensures { IsTrue result ↔ IsCanonical (number_of high low) }
+{
+    cc_cap::is_canonical(number(high, low))
+}

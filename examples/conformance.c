@@ -1,0 +1,181 @@
+// Holds the header and the library against the conformance table, a file of rows with fifteen words, and
+// against some lengths. What the table says was not made by the library.
+#include <cheri_cap.h>
+#include <stdio.h>
+#include <stdlib.h>
+#include <string.h>
+
+enum { NAME, WORD, PERMS, RESERVED, FLAG, TYPE, IE, T, B, ADDRESS, EXPONENT, BASE, TOP, CANONICAL, REBUILD, COLUMNS };
+
+static unsigned failures;
+
+static void expect(bool holds, const char *row, const char *what)
+{
+    if (!holds) {
+        fprintf(stderr, "%s: %s\n", row, what);
+        failures++;
+    }
+}
+
+// A number of up to 128 bits in hexadecimal digits, with or without 0x.
+static cheri_cap_u128 hexadecimal(const char *text)
+{
+    cheri_cap_u128 number = {0, 0};
+    for (text += strncmp(text, "0x", 2) == 0 ? 2 : 0; *text != 0; text++) {
+        const char digit[] = {*text, 0};
+        number.high = number.high << 4 | number.low >> 60;
+        number.low = number.low << 4 | strtoull(digit, NULL, 16);
+    }
+    return number;
+}
+
+static bool is_number(const char *text, uint64_t high, uint64_t low)
+{
+    cheri_cap_u128 number = hexadecimal(text);
+    return number.high == high && number.low == low;
+}
+
+static void check_fields(char **row, cheri_cap_u128 word)
+{
+    cheri_cap_fields fields = cheri_cap_unpack(word.high, word.low);
+    cheri_cap_u128 packed = cheri_cap_pack(fields);
+    expect(is_number(row[PERMS], 0, fields.perms), row[NAME], "perms");
+    expect(is_number(row[RESERVED], 0, fields.reserved), row[NAME], "reserved");
+    expect(is_number(row[FLAG], 0, fields.flag), row[NAME], "flag");
+    expect(is_number(row[TYPE], 0, fields.otype), row[NAME], "type");
+    expect(is_number(row[IE], 0, fields.ie), row[NAME], "ie");
+    expect(is_number(row[T], 0, fields.t), row[NAME], "t");
+    expect(is_number(row[B], 0, fields.b), row[NAME], "b");
+    expect(is_number(row[ADDRESS], 0, fields.address), row[NAME], "address");
+    expect(packed.high == word.high && packed.low == word.low, row[NAME], "pack");
+    expect(cheri_cap_perms(word.high, word.low) == fields.perms, row[NAME], "the function of perms");
+    expect(cheri_cap_otype(word.high, word.low) == fields.otype, row[NAME], "the function of type");
+    expect(cheri_cap_flag(word.high, word.low) == fields.flag, row[NAME], "the function of flag");
+    fields.otype |= 0xfffc0000u, fields.t |= 0xf000u, fields.b |= 0xc000u, fields.reserved |= 0xfcu;
+    packed = cheri_cap_pack(fields);
+    expect(packed.high == word.high && packed.low == word.low, row[NAME], "pack of fields that are too wide");
+}
+
+static void check_bounds(char **row, cheri_cap_u128 word)
+{
+    cheri_cap_bounds bounds = cheri_cap_decode(word.high, word.low);
+    bool canonical = cheri_cap_is_canonical(word.high, word.low);
+    unsigned exponent = (unsigned)strtoul(row[EXPONENT], NULL, 10);
+    expect(is_number(row[BASE], 0, bounds.base), row[NAME], "base");
+    expect(is_number(row[TOP], bounds.top_high, bounds.top_low), row[NAME], "top");
+    expect(bounds.exponent == exponent, row[NAME], "exponent");
+    expect(cheri_cap_exponent(word.high, word.low) == exponent, row[NAME], "the function of exponent");
+    expect(canonical == (strcmp(row[CANONICAL], "yes") == 0), row[NAME], "canonical");
+    if (!canonical)
+        return;
+    // A canonical word's bounds are granted as they are, and stored in its own fields.
+    cheri_cap_fields fields = cheri_cap_unpack(word.high, word.low);
+    uint64_t length = bounds.top_low - bounds.base;
+    cheri_cap_granted set = cheri_cap_set_bounds(bounds.base, bounds.top_high - (bounds.top_low < bounds.base), length);
+    expect(set.in_range && set.exact && set.base == bounds.base, row[NAME], "granted base");
+    expect(set.top_high == bounds.top_high && set.top_low == bounds.top_low, row[NAME], "granted top");
+    expect(set.exponent == bounds.exponent && set.ie == fields.ie, row[NAME], "granted exponent");
+    expect(set.t == fields.t && set.b == fields.b, row[NAME], "granted fields");
+    expect(cheri_cap_represents(word.high, word.low, fields.address), row[NAME], "its own address");
+    expect(cheri_cap_represents(word.high, word.low, bounds.base), row[NAME], "its base as an address");
+}
+
+static void check_text(char **row, cheri_cap_u128 word)
+{
+    char text[33] = {0};
+    cheri_cap_write_word(word.high, word.low, text);
+    expect(strcmp(text, row[WORD]) == 0, row[NAME], "written word");
+    expect(!cheri_cap_read_word(text, 31).found, row[NAME], "31 digits read");
+    uint8_t little[16], big[16];
+    for (int i = 0; i < 16; i++) {
+        big[i] = (uint8_t)((i < 8 ? word.high : word.low) >> (56 - 8 * (i % 8)));
+        little[15 - i] = big[i];
+    }
+    cheri_cap_u128 one = cheri_cap_word_from_bytes(little, false), other = cheri_cap_word_from_bytes(big, true);
+    expect(one.high == word.high && one.low == word.low, row[NAME], "little-endian bytes");
+    expect(other.high == word.high && other.low == word.low, row[NAME], "big-endian bytes");
+}
+
+// The fifteen words of a line, or fewer or more.
+static int split(char *line, char **row)
+{
+    int count = 0;
+    for (char *word = strtok(line, " \t\n"); word != NULL; word = strtok(NULL, " \t\n"))
+        if (count++ < COLUMNS)
+            row[count - 1] = word;
+    return count;
+}
+
+static unsigned check_table(FILE *table)
+{
+    char line[512], *row[COLUMNS];
+    unsigned rows = 0;
+    while (fgets(line, sizeof line, table) != NULL) {
+        if (split(line, row) != COLUMNS)
+            continue;
+        cheri_cap_read word = cheri_cap_read_word(row[WORD], strlen(row[WORD]));
+        if (!word.found) {
+            expect(rows == 0 && strcmp(row[WORD], "word") == 0, row[NAME], "no word");
+            continue;
+        }
+        cheri_cap_u128 halves = {word.high, word.low};
+        check_fields(row, halves);
+        check_bounds(row, halves);
+        check_text(row, halves);
+        rows++;
+    }
+    return rows;
+}
+
+static void check_lengths(void)
+{
+    static const struct { const char *length, *rounded, *granule, *mask; } rows[] = {
+        {"0x0", "0x0", "0x1", "0xffffffffffffffff"},
+        {"0xfff", "0xfff", "0x1", "0xffffffffffffffff"},
+        {"0x1000", "0x1000", "0x8", "0xfffffffffffffff8"},
+        {"0x1ff8", "0x1ff8", "0x8", "0xfffffffffffffff8"},
+        {"0x1ff9", "0x2000", "0x10", "0xfffffffffffffff0"},
+        {"0x1fff", "0x2000", "0x10", "0xfffffffffffffff0"},
+        {"0x10000000000000000", "0x10000000000000000", "0x80000000000000", "0xff80000000000000"},
+        {"0x10000000000000001", "0xffffffffffffffffffffffffffffffff", "0x0", "0x0"},
+    };
+    for (size_t i = 0; i < sizeof rows / sizeof *rows; i++) {
+        cheri_cap_u128 length = hexadecimal(rows[i].length), rounded = cheri_cap_round_length(length.high, length.low);
+        expect(is_number(rows[i].rounded, rounded.high, rounded.low), rows[i].length, "representable length");
+        expect(is_number(rows[i].granule, 0, cheri_cap_granule(length.high, length.low)), rows[i].length, "granule");
+        expect(is_number(rows[i].mask, 0, cheri_cap_alignment_mask(length.high, length.low)), rows[i].length, "mask");
+    }
+}
+
+static void check_requests(void)
+{
+    cheri_cap_granted set = cheri_cap_set_bounds(1, 0, 8184);
+    expect(set.in_range && !set.exact && set.base == 0 && set.top_low == 0x2000, "8184 bytes from 1", "granted");
+    set = cheri_cap_set_bounds(1, 0, UINT64_MAX);
+    expect(set.in_range && set.top_high == 1 && set.top_low == 0, "all bytes from 1", "granted");
+    set = cheri_cap_set_bounds(1, 1, 0);
+    expect(!set.in_range && set.top_high == 0 && set.top_low == 0 && set.t == 0 && set.b == 0, "2^64 bytes from 1", "refused");
+    set = cheri_cap_set_bounds(0, 0, UINT64_C(1) << 61);
+    cheri_cap_fields fields = {0, CHERI_CAP_OTYPE_UNSEALED, 0xffff, set.t, set.b, 0, false, set.ie};
+    cheri_cap_u128 word = cheri_cap_pack(fields);
+    expect(cheri_cap_represents(word.high, word.low, UINT64_C(0x6fffffffffffffff)), "2^61 bytes", "the window's last address");
+    expect(!cheri_cap_represents(word.high, word.low, UINT64_C(0x7000000000000000)), "2^61 bytes", "the address after it");
+    expect(cheri_cap_represents(word.high, word.low, UINT64_C(0xf000000000000000)), "2^61 bytes", "the window's first address");
+    expect(!cheri_cap_represents(word.high, word.low, UINT64_C(0xefffffffffffffff)), "2^61 bytes", "the address before it");
+}
+
+int main(int argc, char **argv)
+{
+    FILE *table = argc == 2 ? fopen(argv[1], "r") : NULL;
+    if (table == NULL) {
+        fputs("usage: conformance TABLE\n", stderr);
+        return 2;
+    }
+    expect(cheri_cap_version() == CHERI_CAP_VERSION, "version", "header and library");
+    unsigned rows = check_table(table);
+    expect(rows >= 24, argv[1], "too few rows");
+    check_lengths();
+    check_requests();
+    printf("%u rows, %u failures\n", rows, failures);
+    return failures != 0;
+}

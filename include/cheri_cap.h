@@ -1,0 +1,202 @@
+/*
+ * cheri_cap.h: the calls of Sorrelgable for C11 and C++17.
+ *
+ * CHERI Concentrate, the compressed 128-bit capabilities of CHERI-RISC-V for 64-bit addresses (CHERI
+ * ISA version 9): fields, decoding, setting bounds, representable addresses and lengths, canonical words.
+ * The functions are those of the static library libcc_ffi.a. Each is proved to return what its contract
+ * in crates/cc_ffi says; the comments here say the same in words. The inline functions at the end are
+ * plain C: they are tested and not proved.
+ *
+ * Version: CHERI_CAP_VERSION is that of this header, cheri_cap_version() that of the library. They are
+ * equal where the two belong together.
+ *
+ * Words: a word has 128 bits and goes in and out as two halves. `high` has its bits 127 to 64, with the
+ * permissions at the top; `low` has bits 63 to 0, the address. In memory a little-endian processor has
+ * the low half first, and a big-endian one the high half; see cheri_cap_word_from_bytes. A word is as
+ * it stands in memory: null is all zeros.
+ *
+ * Units: addresses, bases, tops, lengths and granules are bytes. Bounds are [base, top): the top is the
+ * address after the last byte. A top or a length may be 2^64, which needs 65 bits, so these have two
+ * halves as well, and for 2^64 the high half is 1 and the low half 0.
+ *
+ * Ranges: every function takes every value of its parameters' types, and says what it answers for
+ * values out of range. A `bool` has to be 0 or 1, as C and C++ make it.
+ *
+ * Threads: no function has a state, allocates, blocks, or calls another library. Any number of threads
+ * may call any of them at once, and a signal handler too.
+ */
+#ifndef CHERI_CAP_H
+#define CHERI_CAP_H
+
+#include <stdbool.h>
+#include <stddef.h>
+#include <stdint.h>
+
+#ifdef __cplusplus
+extern "C" {
+#endif
+
+/* The version of this header. */
+#define CHERI_CAP_VERSION 1u
+
+/* The permissions, as bits of `perms`. */
+#define CHERI_CAP_PERM_GLOBAL 0x0001u
+#define CHERI_CAP_PERM_EXECUTE 0x0002u
+#define CHERI_CAP_PERM_LOAD 0x0004u
+#define CHERI_CAP_PERM_STORE 0x0008u
+#define CHERI_CAP_PERM_LOAD_CAP 0x0010u
+#define CHERI_CAP_PERM_STORE_CAP 0x0020u
+#define CHERI_CAP_PERM_STORE_LOCAL_CAP 0x0040u
+#define CHERI_CAP_PERM_SEAL 0x0080u
+#define CHERI_CAP_PERM_CINVOKE 0x0100u
+#define CHERI_CAP_PERM_UNSEAL 0x0200u
+#define CHERI_CAP_PERM_SYSTEM_REGS 0x0400u
+#define CHERI_CAP_PERM_SET_CID 0x0800u
+#define CHERI_CAP_PERM_USER0 0x1000u
+#define CHERI_CAP_PERM_USER1 0x2000u
+#define CHERI_CAP_PERM_USER2 0x4000u
+#define CHERI_CAP_PERM_USER3 0x8000u
+
+/* Object types: sealing gives 0 to the last sealing type; the types between the two are reserved. */
+#define CHERI_CAP_OTYPE_LAST_SEALING 0x3ffefu
+#define CHERI_CAP_OTYPE_UNSEALED 0x3ffffu
+
+/* A number of 128 bits: high * 2^64 + low. */
+typedef struct cheri_cap_u128 {
+    uint64_t high;
+    uint64_t low;
+} cheri_cap_u128;
+
+/* The fields of a word, with the exclusive-or of the null capability taken away. */
+typedef struct cheri_cap_fields {
+    uint64_t address;
+    uint32_t otype;   /* the object type, 18 bits */
+    uint16_t perms;   /* the permissions, 16 bits */
+    uint16_t t;       /* the T field as stored, 12 bits */
+    uint16_t b;       /* the B field as stored, 14 bits */
+    uint8_t reserved; /* 2 bits, zero in every capability */
+    bool flag;        /* whether code runs in capability mode */
+    bool ie;          /* the internal exponent: the low three bits of t and b hold the exponent */
+} cheri_cap_fields;
+
+/* What a word decodes to. */
+typedef struct cheri_cap_bounds {
+    uint64_t base;
+    uint64_t top_high; /* 0 or 1 */
+    uint64_t top_low;
+    uint8_t exponent; /* 0 to 52 */
+} cheri_cap_bounds;
+
+/* What a request for bounds is granted, and the fields that store it. */
+typedef struct cheri_cap_granted {
+    uint64_t base;
+    uint64_t top_high; /* 0 or 1 */
+    uint64_t top_low;
+    uint16_t t;
+    uint16_t b;
+    uint8_t exponent; /* 0 to 52 */
+    bool ie;
+    bool exact;    /* the request was granted as it is */
+    bool in_range; /* the request ends at 2^64 or below */
+} cheri_cap_granted;
+
+/* The word that a text spells, if it spells one. */
+typedef struct cheri_cap_read {
+    uint64_t high;
+    uint64_t low;
+    bool found;
+} cheri_cap_read;
+
+/* ---- The library */
+
+/* The version of the library. */
+uint32_t cheri_cap_version(void);
+
+/* The fields of a word, for every word. */
+cheri_cap_fields cheri_cap_unpack(uint64_t high, uint64_t low);
+
+/* One field of a word, for every word. */
+uint16_t cheri_cap_perms(uint64_t high, uint64_t low);
+uint32_t cheri_cap_otype(uint64_t high, uint64_t low);
+bool cheri_cap_flag(uint64_t high, uint64_t low);
+
+/* The word of fields. Of a number that is wider than its field the lowest bits count. */
+cheri_cap_u128 cheri_cap_pack(cheri_cap_fields fields);
+
+/* Whether the word is the word of some capability, sealed or not. */
+bool cheri_cap_is_canonical(uint64_t high, uint64_t low);
+
+/*
+ * The base, the top and the exponent of a word, for every word. Those of a word that is not canonical
+ * may have the top below the base, or above 2^64 (but below 2^65).
+ */
+cheri_cap_bounds cheri_cap_decode(uint64_t high, uint64_t low);
+
+/* The exponent of a word, 0 to 52, for every word. */
+uint8_t cheri_cap_exponent(uint64_t high, uint64_t low);
+
+/*
+ * The bounds that a request for `length` bytes from `base` on is granted: the least that any word can
+ * store and that cover the request. Where base + length is above 2^64, `in_range` is false, and all else
+ * is zero.
+ */
+cheri_cap_granted cheri_cap_set_bounds(uint64_t base, uint64_t length_high, uint64_t length_low);
+
+/*
+ * Whether a capability with the bounds of this word could have this address: whether the word with that
+ * address decodes to the same bounds. False for a word whose bounds no capability has. The permissions,
+ * the reserved bits, the flag and the type are not looked at.
+ */
+bool cheri_cap_represents(uint64_t high, uint64_t low, uint64_t address);
+
+/*
+ * The granule of a length: the unit to which bounds of that length are rounded. 1 below 4096 bytes, else
+ * a power of two from 8 to 2^55. 0 for a length above 2^64.
+ */
+uint64_t cheri_cap_granule(uint64_t length_high, uint64_t length_low);
+
+/*
+ * The representable length (CRRL): the length rounded up to a multiple of its granule, at most 2^64. All
+ * ones in both halves for a length above 2^64.
+ */
+cheri_cap_u128 cheri_cap_round_length(uint64_t length_high, uint64_t length_low);
+
+/*
+ * The representable alignment mask (CRAM): an address "and" the mask is a multiple of the granule. 0 for
+ * a length above 2^64.
+ */
+uint64_t cheri_cap_alignment_mask(uint64_t length_high, uint64_t length_low);
+
+/*
+ * The word that `length` bytes of text spell: 32 hexadecimal digits of either case and nothing else. For
+ * any other text `found` is false and the halves are 0. `text` may not be null, not even for length 0.
+ */
+cheri_cap_read cheri_cap_read_word(const char *text, size_t length);
+
+/* Writes the 32 hexadecimal digits of a word, in lower case, and no zero byte after them. */
+void cheri_cap_write_word(uint64_t high, uint64_t low, char *text /* room for 32 bytes */);
+
+/* ---- Plain C over the library, which no proof covers */
+
+/* The word of 16 bytes of memory, in the byte order of the memory. */
+static inline cheri_cap_u128 cheri_cap_word_from_bytes(const uint8_t bytes[16], bool big_endian)
+{
+    cheri_cap_u128 word = {0, 0};
+    for (int i = 0; i < 8; i++) {
+        word.high = word.high << 8 | bytes[big_endian ? i : 15 - i];
+        word.low = word.low << 8 | bytes[big_endian ? 8 + i : 7 - i];
+    }
+    return word;
+}
+
+/* Whether the bounds hold the byte at the address. */
+static inline bool cheri_cap_bounds_hold(const cheri_cap_bounds *bounds, uint64_t address)
+{
+    return bounds->base <= address && (bounds->top_high != 0 || address < bounds->top_low);
+}
+
+#ifdef __cplusplus
+}
+#endif
+
+#endif
