@@ -4,20 +4,21 @@
 It uses nothing of the library: the rules of decoding are written here from the public standard (UCAM-CL-TR-987;
 Woodruff et al. 2019), and what is canonical from the definition of a sound span. docs/CONFORMANCE.md describes the table.
 
-    generate.py            compares the table in the repository with the one that it works out; status 1 where they differ
-    generate.py --write    writes the table
-    generate.py --print    prints the rows alone
+    generate.py            compares the two tables in the repository with what it works out; status 1 where they differ
+    generate.py --write    writes them: conformance.tsv, and the one that the library's test reads
 """
 
 import sys
 from pathlib import Path
 
-TABLE = Path(__file__).resolve().parent.parent / "crates/cheri_cap/src/tests/conformance_table.rt"
+HERE = Path(__file__).resolve().parent
+TABLE = HERE / "conformance.tsv"
+TEST_TABLE = HERE.parent / "crates/cheri_cap/src/tests/conformance_table.rt"
 
 HEAD = '''//! The conformance set: words, and what each of them means (docs/CONFORMANCE.md).
 //!
-//! conformance/generate.py writes this file, and conformance/conformance.txt is a link to it. Other programs read the
-//! lines of fifteen words.
+//! conformance/generate.py writes this file, and with it conformance/conformance.tsv, which other programs read.
+//! The gate compares the lines of fifteen words.
 
 pub const TABLE: &str = "\\
 '''
@@ -200,27 +201,35 @@ def window_rows():
         yield expect(row, address=address, base=base, top=top, canonical="yes")
 
 
-def table_lines():
-    """The rows below the columns' names, in columns of one width."""
+def table():
+    """The names of the columns, and then the rows, as lists of cells."""
     rows = [*worked_rows(), *exponent_rows(), *reserved_rows(), *window_rows()]
-    table = [COLUMNS, *([row[column] for column in COLUMNS] for row in rows)]
-    widths = [max(map(len, cells)) for cells in zip(*table)]
-    return "".join(" ".join(map(str.ljust, cells, widths)).rstrip() + "\n" for cells in table)
+    return [COLUMNS, *([row[column] for column in COLUMNS] for row in rows)]
+
+
+def with_tabs(lines):
+    return "".join("\t".join(cells) + "\n" for cells in lines)
+
+
+def in_columns(lines):
+    """The lines in columns of one width: no source file may have a tab."""
+    widths = [max(map(len, cells)) for cells in zip(*lines)]
+    return "".join(" ".join(map(str.ljust, cells, widths)).rstrip() + "\n" for cells in lines)
 
 
 def main(arguments):
     frame = [line for line in (HEAD + TAIL).splitlines() if len(line.split()) == len(COLUMNS)]
     if frame:
-        sys.exit(f"a reader would take this for a row: {frame[0]}")
-    table = HEAD + table_lines() + TAIL
-    if arguments == ["--print"]:
-        sys.stdout.write(table_lines())
-    elif arguments == ["--write"]:
-        TABLE.write_text(table)
+        sys.exit(f"the gate would take this for a row: {frame[0]}")
+    files = {TABLE: with_tabs(table()), TEST_TABLE: HEAD + in_columns(table()) + TAIL}
+    if arguments == ["--write"]:
+        for path, text in files.items():
+            path.write_text(text)
     elif arguments:
         sys.exit(__doc__)
-    elif TABLE.read_text() != table:
-        sys.exit(f"{TABLE} is not the table that the generator works out")
+    for path, text in files.items():
+        if path.read_text() != text:
+            sys.exit(f"{path} is not the table that the generator works out")
 
 
 if __name__ == "__main__":

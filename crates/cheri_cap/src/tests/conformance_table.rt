@@ -1,7 +1,7 @@
 //! The conformance set: words, and what each of them means (docs/CONFORMANCE.md).
 //!
-//! conformance/generate.py writes this file, and conformance/conformance.txt is a link to it. Other programs read the
-//! lines of fifteen words.
+//! conformance/generate.py writes this file, and with it conformance/conformance.tsv, which other programs read.
+//! The gate compares the lines of fifteen words.
 
 pub const TABLE: &str = "\
 name                      word                             perms reserved flag type  ie t   b    address            exponent base               top                 canonical rebuild
