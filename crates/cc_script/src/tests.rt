@@ -1,6 +1,7 @@
 //! Tests of what no contract says: outside values, by topic.
 
 mod devices;
+mod interruptions;
 mod lines;
 mod numbers;
 mod replies;
