@@ -3,6 +3,7 @@
 mod bytes;
 mod cuts;
 mod devices;
+mod interruptions;
 mod lines;
 mod numbers;
 mod replies;
