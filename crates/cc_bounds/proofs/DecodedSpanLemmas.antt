@@ -22,7 +22,7 @@ top-above exponent base place length top small fits is_base is_top =
     omega arith
 
 -- a length in units fits 63 bits below exponent 51
-length-fits : (exponent length : ℕ) → length < 2 ^ 13 → exponent < 51 → length * 2 ^ exponent < 2 ^ 63
+pub length-fits : (exponent length : ℕ) → length < 2 ^ 13 → exponent < 51 → length * 2 ^ exponent < 2 ^ 63
 length-fits exponent length fits small =
     let below : exponent ≤ 50 = omega arith in
     let power = pow_mono below in

@@ -2,7 +2,7 @@
 use Rattle.std.proofs.Common.{subst, ◌≡◌, ℕ, zero, suc, ◌+◌, ◌-◌, ◌*◌, ◌<◌, ◌≤◌, ◌/◌, ◌^◌, refl, sym, ◌∙◌, ap, arith, inl, inr}
 use Rattle.std.specs.Int.{div_ceil}
 use Rattle.std.specs.Int.Count.{count_leading_zeros}
-use Rattle.std.proofs.Math.Nat.{div-mul-le_self, lt-div-mul-add, le_of_mul-le-mul_right, lt_of_mul-lt-mul_right, pow-suc}
+use Rattle.std.proofs.Math.Nat.{add-div_right, mul-le-mul_left, div-mul-le_self, lt-div-mul-add, le_of_mul-le-mul_right, lt_of_mul-lt-mul_right, pow-suc}
 use Rattle.std.proofs.Math.Pow.{pow_mono}
 use Rattle.std.proofs.lemmas.Nat.{pow_pos, pow-add, le-div, leading_length}
 use Rattle.std.proofs.lemmas.Nat.Bits.{and_high_mask}
@@ -50,6 +50,26 @@ div_ceil_by_sum n g rest pos is =
 -- the same, of a power of two
 pub div_ceil_shifted : (n power rest : ℕ) → rest ≡ 2 ^ power - 1 → (n + rest) / 2 ^ power ≡ div_ceil n (2 ^ power)
 div_ceil_shifted n power rest is = div_ceil_by_sum n (2 ^ power) rest (pow_pos power) is
+
+-- the granule of the last byte, counted from 1
+pub last_granule : (top power : ℕ) → 0 < top → (top - 1) / 2 ^ power + 1 ≡ div_ceil top (2 ^ power)
+last_granule top power some =
+    let pos = pow_pos power in
+    let sum : top - 1 + 2 ^ power ≡ top + (2 ^ power - 1) = omega (arith, some, pos) in
+    sym (add-div_right (top - 1) pos) ∙ ap (λ (n : ℕ). n / 2 ^ power) sum ∙ div_ceil_shifted top power (2 ^ power - 1) refl
+
+-- of a request of at least one byte, the first byte's granule is not past the last one's
+pub first_granule_within : (base top power : ℕ) → base < top → base / 2 ^ power ≤ (top - 1) / 2 ^ power
+first_granule_within base top power some =
+    let down = div-mul-le_self base (2 ^ power) in
+    le-div (base / 2 ^ power) (top - 1) (2 ^ power) (pow_pos power) (omega (arith, down, some))
+
+-- granules of eight bytes and more are so few that one more fits
+pub last_granule_fits : (top power : ℕ) → top ≤ 2 ^ 64 → 3 ≤ power → (top - 1) / 2 ^ power + 1 < 2 ^ 64
+last_granule_fits top power fits coarse =
+    let eight = mul-le-mul_left ((top - 1) / 2 ^ power) (pow_mono coarse) in
+    let down = div-mul-le_self (top - 1) (2 ^ power) in
+    omega (arith, eight, down, fits)
 
 -- and so does clearing the low bits of that sum
 pub rounded_up_masked : (n power rest : ℕ) → n ≤ 2 ^ 64 → power ≤ 55 → rest ≡ 2 ^ power - 1

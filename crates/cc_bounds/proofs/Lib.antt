@@ -1,8 +1,10 @@
 pub mod PlaceLemmas
 pub mod DecodingLemmas
 pub mod StandingLemmas
+pub mod DecodedBaseLemmas
 pub mod DecodedSpanLemmas
 pub mod ExactlyOneLemmas
+pub mod DecodedTopLemmas
 pub mod GranuleLemmas
 pub mod SoundLemmas
 pub mod ComputingLemmas

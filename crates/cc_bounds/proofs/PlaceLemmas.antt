@@ -120,23 +120,3 @@ module _ (fields : Fields) where
           in_window = record { from_start = standing.at_least; below_end = standing.below };
           scaled = standing.scaled;
         })
-
-    -- the shifts lose no bit, and their sum fits 128 bits
-    pub record Kept : Type 0 where
-      pub upper_kept : upper * 2 ^ (stored_exponent fields + 14) % 2 ^ 128 ≡ upper * 2 ^ (stored_exponent fields + 14)
-      pub mantissa_kept : mantissa * 2 ^ stored_exponent fields % 2 ^ 128 ≡ mantissa * 2 ^ stored_exponent fields
-      pub sum_fits : upper * 2 ^ (stored_exponent fields + 14) + mantissa * 2 ^ stored_exponent fields < 2 ^ 128
-
-    pub kept : Kept
-    kept =
-        let facts = section_is in
-        let place = placed in
-        let end = place.in_window.below_end in
-        let holds = place.is_window.holds_address.from_start in
-        let address_fits = fields.address_fits in
-        let sum : upper * 2 ^ (stored_exponent fields + 14) + mantissa * 2 ^ stored_exponent fields < 2 ^ 128 = omega (arith, end, holds, facts.fits, address_fits) in
-        record {
-          upper_kept = mod-eq_of_lt (omega (arith, sum));
-          mantissa_kept = mod-eq_of_lt (omega (arith, sum));
-          sum_fits = sum;
-        }

@@ -62,6 +62,7 @@ impl Set {
     /// which their address is representable. That span is granted, and exact.
     ///
     /// The permissions, the reserved bits, the flag and the type are not looked at.
+    #[inline(always)]
     pub fn of_fields(fields: &Fields) -> Option<Set>
         ensures found { IfSome result (λ set. StoresSpan fields.now set.granted) }
         ensures only { (span : SpanSpec) → StoresSpan fields.now span
@@ -174,6 +175,7 @@ fn b_field(granted: &Span, exponent: u32) -> u16
 }
 
 /// The encoding of what a request is granted.
+#[inline(always)]
 fn encode(request: &Span) -> Set
     requires { IsSpan request.now }
     ensures granted { IsGranted request.now result.granted }

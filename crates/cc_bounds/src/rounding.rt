@@ -10,27 +10,30 @@ use crate::span::Span;
 const FIRST_COARSE_LENGTH: u128 = 4096;
 
 /// The most granules that a request of that length may touch: the most that ten bits count.
-const MAX_GRANULES: u128 = 1023;
+const MAX_GRANULES: u64 = 1023;
 
 /// The power of two of the largest granule.
 const MAX_POWER: u32 = 55;
 
 /// The bits below bit `power`.
-fn low_bits(power: u32) -> u128
+fn low_bits(power: u32) -> u64
     requires { power ≤ MAX_POWER }
     ensures { result ≡ 2 ^ power - 1 }
 {
     (1 << power) - 1
 }
 
-/// How many granules of 2^power bytes the request touches.
-#[tactic(auto, using(crate::proofs::GranuleLemmas::div_ceil_shifted))]
-fn granules_touched(request: &Span, power: u32) -> u128
+/// How many granules of 2^power bytes the request touches: from that of its first byte to that of its last.
+#[tactic(auto, using(crate::proofs::GranuleLemmas::last_granule, crate::proofs::GranuleLemmas::first_granule_within, crate::proofs::GranuleLemmas::last_granule_fits))]
+fn granules_touched(request: &Span, power: u32) -> u64
     requires is_span { IsSpan request.now }
+    requires some { request.now.base < request.now.top }
+    requires coarse { 3 ≤ power }
     requires fits { power ≤ MAX_POWER }
     ensures { result ≡ granule_count request.now (2 ^ power) }
 {
-    ((request.top + low_bits(power)) >> power) - (u128::from(request.base) >> power)
+    let last_byte = (request.top - 1) as u64;
+    (last_byte >> power) + 1 - (request.base >> power)
 }
 
 /// The power of two of the granules of which a length of 4096 bytes or more has at least 512, and less
@@ -78,7 +81,7 @@ fn round_up(number: u128, power: u32) -> u128
     requires power_fits { power ≤ MAX_POWER }
     ensures { result ≡ div_ceil number (2 ^ power) * 2 ^ power }
 {
-    let low_bits = low_bits(power);
+    let low_bits = u128::from(low_bits(power));
     (number + low_bits) & !low_bits
 }
 

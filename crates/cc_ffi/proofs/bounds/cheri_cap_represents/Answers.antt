@@ -1,6 +1,5 @@
-use Rattle.std.proofs.Common.{◌≡◌, IsTrue, ◌↔◌, Option, Some, None, ◌∙◌, sym, ap, subst}
+use Rattle.std.proofs.Common.{IsTrue, ◌↔◌, Option, Some, None, ◌∙◌, sym, ap, subst}
 use Rattle.cc_word.specs.declared.fields.Fields.{Fields}
-use Rattle.cc_bounds.specs.declared.span.Span.{Span}
 use Rattle.cc_bounds.specs.Window.{Represents}
 use Rattle.cc_bounds.specs.Encoding.{Encoding, StoresSpan}
 use Rattle.cc_ffi.proofs.bounds.cheri_cap_represents.Goals as goal

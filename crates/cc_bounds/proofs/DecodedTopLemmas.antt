@@ -1,0 +1,57 @@
+-- The top of a word, found from its base and how far T stands above B.
+use Rattle.std.proofs.Common.{◌≡◌, ℕ, ◌+◌, ◌*◌, ◌<◌, ◌≤◌, ◌%◌, ◌^◌, ◌∙◌, arith, inl, inr}
+use Rattle.std.proofs.lemmas.Bool.{cases_lt}
+use Rattle.cc_word.specs.declared.fields.Fields.{Fields}
+use Rattle.cc_bounds.specs.declared.span.Span.{Span}
+use Rattle.cc_bounds.specs.Decoding.{stored_exponent, base_mantissa, IsTopMantissa, IsDecodedBase, IsDecodedTop, DecodesTo}
+use Rattle.cc_bounds.proofs.PlaceLemmas.{stored_exponent-le}
+use Rattle.cc_bounds.proofs.DecodingLemmas.{IsTopMantissa-same, IsDecodedBase-same}
+use Rattle.cc_bounds.proofs.StandingLemmas.{mantissa_length, base_mantissa-fits, standing}
+use Rattle.cc_bounds.proofs.DecodedSpanLemmas.{top-above, length-fits}
+use Rattle.cc_bounds.proofs.ExactlyOneLemmas.{one-span}
+
+-- from exponent 51 up the window is so large that 65 bits of a place are those of its mantissa
+mantissa_kept : (exponent mantissa sum place : ℕ) → 51 ≤ exponent → exponent ≤ 52
+    → place % (8 * 2 ^ (exponent + 11)) ≡ mantissa * 2 ^ exponent → mantissa ≡ sum % 2 ^ 14
+    → place % 2 ^ 65 ≡ sum * 2 ^ exponent % 2 ^ 65
+mantissa_kept exponent mantissa sum place large small scaled is_mantissa =
+    elim (cases_lt exponent 52) [
+      | inl below ↦ let is_exponent : exponent ≡ 51 = omega arith in let at_51 = rw is_exponent at scaled in rw is_exponent (omega arith)
+      | inr above ↦ let is_exponent : exponent ≡ 52 = omega arith in let at_52 = rw is_exponent at scaled in rw is_exponent (omega arith)
+    ]
+
+module _ (fields : Fields) (base length : ℕ) (is_base : IsDecodedBase fields base) (fits : length < 2 ^ 13)
+    (is_mantissa : IsTopMantissa fields ((base_mantissa fields + length) % 2 ^ 14)) where
+  -- the one span of these fields, which has this base and this length
+  abbrev span : Span
+  span = (one-span fields).value
+
+  decoded : DecodesTo fields span
+  decoded = (one-span fields).has
+
+  base_is : span.base ≡ base
+  base_is = IsDecodedBase-same fields span.base base decoded.is_base is_base
+
+  mantissa_is : decoded.is_top.mantissa ≡ (base_mantissa fields + length) % 2 ^ 14
+  mantissa_is = IsTopMantissa-same fields decoded.is_top.mantissa _ decoded.is_top.is_mantissa is_mantissa
+
+  -- below exponent 51 the top is so far above the base
+  pub small_top : stored_exponent fields < 51 → IsDecodedTop fields base (base + length * 2 ^ stored_exponent fields)
+  small_top small =
+      let below = base_mantissa-fits fields in
+      let length_is : mantissa_length (base_mantissa fields) decoded.is_top.mantissa ≡ length = omega (arith, mantissa_is, fits, below) in
+      let beside = rw (standing fields span decoded).top_is at decoded.is_top.is_top in
+      let bytes_fit = length-fits (stored_exponent fields) length fits small in
+      let above =
+      top-above (stored_exponent fields) span.base decoded.is_base.place (length * 2 ^ stored_exponent fields) span.top small
+      bytes_fit decoded.is_base.kept (rw length_is at beside) in
+      rw (above, base_is) at decoded.is_top
+
+  -- from exponent 51 up the top's 65 bits are those of the mantissa
+  pub large_top : 51 ≤ stored_exponent fields
+      → IsDecodedTop fields base ((base_mantissa fields + length) * 2 ^ stored_exponent fields % 2 ^ 65)
+  large_top large =
+      let kept =
+      mantissa_kept (stored_exponent fields) decoded.is_top.mantissa (base_mantissa fields + length) decoded.is_top.place large
+      (stored_exponent-le fields) decoded.is_top.is_place.scaled mantissa_is in
+      rw (decoded.is_top.is_top.large large ∙ kept, base_is) at decoded.is_top
