@@ -14,7 +14,8 @@ ghost use Rattle.cc_machine.specs.Run.{Run, IsReached};
 ghost use Rattle.cc_machine.specs.Laws.{IsMonotonicTree, HasSealingAuthority};
 ghost use Rattle.cc_machine.specs.ObjectLaws.{HangsFromPool, HasExactObjects, HasDisjointObjects, IsRevokedExactly};
 ghost use Rattle.cc_machine.specs.Confinement.{RunsWithin, IsConfined};
-ghost use Rattle.cc_machine.specs.Reach.{IsReachable, ReachesAll};
+ghost use Rattle.cc_cap.specs.Reach.{IsReachable};
+ghost use Rattle.cc_machine.specs.Reach.{ReachesAll};
 
 /// A step has one outcome, and so has a run: from one state the same operations give the same replies and
 /// lead to the same state.
@@ -23,6 +24,12 @@ pub fn one_outcome()
         → Step old op reply new → Step old op other_reply other → (reply ≡ other_reply) × (new ≡ other) }
     ensures run { (old new other : State) (ops : List Op) (replies other_replies : List Reply)
         → Run old ops replies new → Run old ops other_replies other → (replies ≡ other_replies) × (new ≡ other) }
+{}
+
+/// A run from a state that a run leads to leads to such a state: the laws below hold after every run of a
+/// machine that they hold of.
+pub fn runs_join()
+    ensures { (old new : State) (ops : List Op) (replies : List Reply) → IsReached old → Run old ops replies new → IsReached new }
 {}
 
 /// The slots of every state that a run leads to are a monotonic derivation tree: a parent has a smaller

@@ -16,7 +16,7 @@ mod tests;
 
 pub use laws::{
     confinement, disjoint_objects, exact_objects, exact_revocation, monotonic_tree,
-    objects_from_pool, one_outcome, reachability, sealing_authority,
+    objects_from_pool, one_outcome, reachability, runs_join, sealing_authority,
 };
 pub use len::Len;
 pub use machine::Machine;

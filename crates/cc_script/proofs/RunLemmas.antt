@@ -10,6 +10,7 @@ use Rattle.cc_machine.specs.declared.op.Op.{Op}
 use Rattle.cc_machine.specs.State.{State}
 use Rattle.cc_machine.specs.Run.{Run, IsReached}
 use Rattle.cc_machine.specs.Confinement.{RunsWithin, IsConfined}
+use Rattle.cc_machine.proofs.RunLemmas.{IsReached-run}
 use Rattle.cc_machine.proofs.TreeLemmas.{Keeps-reached, IsMonotonicTree-reached, HasSealingAuthority-reached}
 use Rattle.cc_machine.proofs.ObjectLawLemmas.{KeepsObjectLaws-reached}
 use Rattle.cc_machine.proofs.ReachLemmas.{ReachesAll-run}
@@ -17,7 +18,7 @@ use Rattle.cc_machine.proofs.ConfinementLemmas.{IsConfined-run}
 use Rattle.cc_script.specs.Commands.{operation_of}
 use Rattle.cc_script.specs.Lines.{lines_of, rest_of}
 use Rattle.cc_script.specs.Replies.{reply_text, is_error}
-use Rattle.cc_script.specs.Output.{Takes, TakesLines, with_line_feed, replies_text, rest_text, with_operation, operations_of, RunsOperations}
+use Rattle.cc_script.specs.Output.{Takes, TakesLines, with_line_feed, replies_text, rest_text, with_operation, with_reply, operations_of, operation_replies}
 use Rattle.cc_script.specs.Laws.{TakesWithin, TakesLinesWithin, KeepsLaws}
 use Rattle.cc_script.specs.Correct.{StopsInReply, StopsAfterLines, WritesOutput, RunsAfter, RunsScript, HasBeginning, BeginsOutput, RunsWhole}
 use Rattle.cc_script.specs.declared.summary.ScriptFault.{ScriptFault}
@@ -132,19 +133,26 @@ runs_whole a b opening (Some input) left t u result r =
 
 -- ---- the operations of lines
 
-runs_line : (a b c : State) (line : Result Op Refusal) (reply : Reply) (lines : List (List ℕ))
-    → Takes a line reply b → RunsOperations b lines c → (replies : List Reply) × Run a (with_operation line (operations_of lines)) replies c
-runs_line a b c (Ok op) reply lines t r = (reply ∷ r.replies, (b, t, r.run))
-runs_line a b c (Err refusal) reply lines t r = (r.replies, subst (λ (s : State). Run s (operations_of lines) r.replies c) t.1 r.run)
+-- a line that is taken, and then a run
+runs_line : (a b c : State) (line : Result Op Refusal) (reply : Reply) (ops : List Op) (replies : List Reply)
+    → Takes a line reply b → Run b ops replies c → Run a (with_operation line ops) (with_reply line reply replies) c
+runs_line a b c (Ok op) reply ops replies t r = (b, t, r)
+runs_line a b c (Err refusal) reply ops replies t r = subst (λ (s : State). Run s ops replies c) t.1 r
 
 -- lines that are taken run their operations
-pub lines_run : (a b : State) (lines : List (List ℕ)) (replies : List Reply) → TakesLines a lines replies b → RunsOperations a lines b
-lines_run a b [] [] t = record { replies = []; run = t }
+pub lines_run : (a b : State) (lines : List (List ℕ)) (replies : List Reply) → TakesLines a lines replies b
+    → Run a (operations_of lines) (operation_replies lines replies) b
+lines_run a b [] [] t = t
 lines_run a b [] (reply ∷ replies) t = absurd t
 lines_run a b (line ∷ lines) [] t = absurd t
 lines_run a b (line ∷ lines) (reply ∷ replies) t =
-    let r = runs_line a t.0 b (operation_of line) reply lines t.1 (lines_run t.0 b lines replies t.2) in
-    record { replies = r.0; run = r.1 }
+    runs_line a t.0 b (operation_of line) reply (operations_of lines) (operation_replies lines replies) t.1
+    (lines_run t.0 b lines replies t.2)
+
+-- and lead from a reached state to a reached state
+pub lines_reach : (a b : State) (lines : List (List ℕ)) (replies : List Reply) → IsReached a → TakesLines a lines replies b → IsReached b
+lines_reach a b lines replies reached t =
+    IsReached-run a b (operations_of lines) (operation_replies lines replies) reached (lines_run a b lines replies t)
 
 -- ---- lines that use only given slots
 

@@ -8,7 +8,6 @@ use Rattle.cc_machine.specs.declared.reply.Reply.{Reply}
 use Rattle.cc_machine.specs.declared.reply.Reply.TheVariants.{Refused}
 use Rattle.cc_machine.specs.State.{State}
 use Rattle.cc_machine.specs.Step.{Step}
-use Rattle.cc_machine.specs.Run.{Run}
 use Rattle.cc_script.specs.Lines.{lines_of, rest_of}
 use Rattle.cc_script.specs.Commands.{operation_of}
 use Rattle.cc_script.specs.Replies.{reply_text, refusal_text, is_error}
@@ -57,7 +56,14 @@ abbrev pub operations_of : (lines : List (List ℕ)) → List Op
 operations_of [] = []
 operations_of (line ∷ lines) = with_operation (operation_of line) (operations_of lines)
 
--- the machine's run of the operations of the lines leads from the old state to the new
-pub record RunsOperations (old : State) (lines : List (List ℕ)) (new : State) : Type 0 where
-  pub replies : List Reply
-  pub run : Run old (operations_of lines) replies new
+-- the reply first, where the line has an operation
+abbrev pub with_reply : Result Op Refusal → Reply → List Reply → List Reply
+with_reply (Ok op) reply replies = reply ∷ replies
+with_reply (Err refusal) reply replies = replies
+
+-- the replies to those lines that have an operation
+abbrev pub operation_replies : (lines : List (List ℕ)) → List Reply → List Reply
+operation_replies [] replies = []
+operation_replies (line ∷ lines) [] = []
+operation_replies (line ∷ lines) (reply ∷ replies) =
+    with_reply (operation_of line) reply (operation_replies lines replies)

@@ -48,14 +48,14 @@ impl Line {
     /// The bytes of the text.
     pub fn bytes(&self) -> &[u8]
         ensures value { result.now ≡ self.now }
-        ensures fits { length result.now ≤ ROOM }
+        ensures fits { length result.now ≤ 192 }
     {
         &self.room[..self.len]
     }
 
     /// Appends bytes as they are.
     pub fn push(&mut self, bytes: &[u8])
-        requires { length self.old + length bytes.now ≤ ROOM }
+        requires { length self.old + length bytes.now ≤ 192 }
         ensures { self.new ≡ self.old ++ bytes.now }
     {
         let end = self.len + bytes.len();
@@ -65,7 +65,7 @@ impl Line {
 
     /// Appends the number of a slot or of an object in decimal digits.
     pub fn push_index(&mut self, number: u32)
-        requires { length self.old + 10 ≤ ROOM }
+        requires { length self.old + 10 ≤ 192 }
         ensures value { self.new ≡ self.old ++ decimal number }
         ensures fits { length self.new ≤ length self.old + 10 }
     {
@@ -75,7 +75,7 @@ impl Line {
 
     /// Appends a number in decimal digits.
     pub fn push_decimal(&mut self, number: u128)
-        requires { length self.old + 40 ≤ ROOM }
+        requires { length self.old + 40 ≤ 192 }
         ensures value { self.new ≡ self.old ++ decimal number }
         ensures fits { length self.new ≤ length self.old + 40 }
     {
@@ -86,7 +86,7 @@ impl Line {
     /// Appends the last `count` hexadecimal digits of a number.
     pub fn push_digits(&mut self, number: u128, count: usize)
         requires digits { count ≤ 32 }
-        requires room { length self.old + count ≤ ROOM }
+        requires room { length self.old + count ≤ 192 }
         ensures value { self.new ≡ self.old ++ digits_of count number }
         ensures fits { length self.new ≡ length self.old + count }
     {
@@ -95,7 +95,7 @@ impl Line {
 
     /// Appends `0x` and a number's hexadecimal digits without leading zeros.
     pub fn push_hexadecimal(&mut self, number: u128)
-        requires { length self.old + 34 ≤ ROOM }
+        requires { length self.old + 34 ≤ 192 }
         ensures value { self.new ≡ self.old ++ hexadecimal number }
         ensures fits { length self.new ≤ length self.old + 34 }
     {
