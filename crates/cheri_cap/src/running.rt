@@ -6,40 +6,24 @@ use crate::outcome::Fault;
 use crate::planning::{plan_numbers, plan_script};
 use cc_machine::Machine;
 use cc_script::{FromReader, FromWriter, Summary, run_script};
-use std::fs;
-use std::io::{self, Read};
+use either::{Either, Left, Right};
 use std::rt::Files;
-
-/// Where a script comes from.
-#[derive(Drop)]
-enum Script<F, I> {
-    File(F),
-    Input(I),
-}
-
-impl<F: Read, I: Read> Read for Script<F, I> {
-    fn read(&mut self, buf: &mut [u8]) -> io::Result<usize> {
-        match self {
-            Script::File(file) => file.read(buf),
-            Script::Input(input) => input.read(buf),
-        }
-    }
-}
+use std::{fs, io};
 
 /// Opens a machine of this limit, and then the script: standard input where the file is `-` or not named.
 fn open<R: AllocGlobal + Files + Input>(
     rt: &R,
     limit: u32,
     file: Option<&str>,
-) -> Result<(Machine, Script<R::File, R::Reader>), Fault>
+) -> Result<(Machine, Either<R::File, R::Reader>), Fault>
     requires from_one { 1 ≤ limit }
     requires at_most { limit ≤ 65536 }
 {
     let machine = Machine::with_limit(rt.alloc(), limit)?;
     let script = match file {
-        None | Some("-") => Script::Input(rt.reader()),
+        None | Some("-") => Right(rt.reader()),
         Some(path) => match fs::open(rt, path) {
-            Ok(file) => Script::File(file),
+            Ok(file) => Left(file),
             Err(_) => return Err(Fault::Open),
         },
     };
