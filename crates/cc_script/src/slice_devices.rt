@@ -1,7 +1,12 @@
 //! Devices over lent slices, with a chosen size of pieces and a chosen call that fails.
-ghost use Rattle.std.specs.Prelude.{◌≡◌, ◌≤◌, ◌<◌, Some, take, length, false, [], option_map};
+ghost use Rattle.std.specs.Prelude.{◌≡◌, ◌⊎◌, ◌+◌, ◌-◌, ◌<◌, ◌↔◌, Some, length, true, false, [], min, IfOk, OnOk, OnErr, IsErr};
+ghost use Rattle.std.specs.Option.{unwrap_or};
+ghost use Rattle.std.specs.Io.{ReadsAtMost, WritesAtMost};
+ghost use Rattle.std.specs.Io.KnownBytes.{ReadConsumes, WriteAppends};
+ghost use Rattle.cc_script.specs.Devices.{FailsNext};
 
 use crate::devices::{Failed, Sink, Source};
+use std::marker::Model;
 
 /// Gives the bytes of a slice.
 #[derive(Drop)]
@@ -11,7 +16,17 @@ pub struct SliceSource<'a> {
     // the calls up to the one that fails, or 0
     calls_left: u32,
     has_failed: bool,
-    ghost some: { 0 < piece },
+}
+
+impl<'a> Model for SliceSource<'a> {
+    ghost use Rattle.std.specs.Prelude.{◌<◌};
+    ghost use Rattle.cc_script.specs.Devices.{SourceState};
+
+    ghost Value = { SourceState };
+
+    ghost view = { λ s. record { rest = s.rest.now; piece = s.piece; calls_left = s.calls_left; has_failed = s.has_failed } };
+
+    ghost invariant = { λ s. 0 < s.piece };
 }
 
 impl<'a> SliceSource<'a> {
@@ -19,9 +34,7 @@ impl<'a> SliceSource<'a> {
     /// counted from 1; 0 or `None` names no call.
     pub fn new(bytes: &'a [u8], piece: usize, fail_at: Option<u32>) -> Self
         requires { 0 < piece }
-        ensures to_come { ⟦<SliceSource<'a> as Source>⟧.to_come result ≡ Some bytes.now }
-        ensures most_to_come { ⟦<SliceSource<'a> as Source>⟧.most_to_come result ≡ length bytes.now }
-        ensures failed { ⟦<SliceSource<'a> as Source>⟧.has_failed result ≡ false }
+        ensures { result ≡ record { rest = bytes.now; piece = piece; calls_left = unwrap_or fail_at 0; has_failed = false } }
     {
         SliceSource {
             rest: bytes,
@@ -33,13 +46,23 @@ impl<'a> SliceSource<'a> {
 }
 
 impl<'a> Source for SliceSource<'a> {
-    ghost to_come = { λ s. Some s.rest.now };
+    ghost to_come = { λ s. Some s.rest };
 
-    ghost most_to_come = { λ s. length s.rest.now };
+    ghost most_to_come = { λ s. length s.rest };
 
     ghost has_failed = { λ s. s.has_failed };
 
-    fn read(&mut self, room: &mut [u8]) -> Result<usize, Failed> {
+    fn read(&mut self, room: &mut [u8]) -> Result<usize, Failed>
+        ensures count { ReadsAtMost result room.new }
+        ensures gives { ReadConsumes (Some self.old.rest) (Some self.new.rest) result room.new }
+        ensures shrinks { IfOk result (λ count. length self.new.rest + count ≡ length self.old.rest) }
+        ensures kept { OnErr result (length self.new.rest ≡ length self.old.rest) }
+        ensures fails { IsErr result ↔ (self.new.has_failed ≡ true) }
+        ensures stays { self.old.has_failed ≡ true → self.new.has_failed ≡ true }
+        ensures planned { IsErr result ↔ FailsNext self.old.calls_left self.old.has_failed }
+        ensures pieces { IfOk result (λ count. count ≡ min (min self.old.piece (length room.old)) (length self.old.rest)) }
+        ensures counted { OnOk result ((self.new.calls_left ≡ self.old.calls_left - 1) × (self.new.piece ≡ self.old.piece)) }
+    {
         if self.has_failed || self.calls_left == 1 {
             self.has_failed = true;
             return Err(Failed);
@@ -62,8 +85,23 @@ pub struct SliceSink<'a> {
     // the calls up to the one that fails, or 0
     calls_left: u32,
     has_failed: bool,
-    ghost within: { taken ≤ length room.now },
-    ghost some: { 0 < piece },
+}
+
+impl<'a> Model for SliceSink<'a> {
+    ghost use Rattle.std.specs.Prelude.{◌<◌, ◌≤◌, length, take};
+    ghost use Rattle.cc_script.specs.Devices.{SinkState};
+
+    ghost Value = { SinkState };
+
+    ghost view = { λ s. record {
+      taken = take s.taken s.room.now;
+      room = length s.room.now;
+      piece = s.piece;
+      calls_left = s.calls_left;
+      has_failed = s.has_failed;
+    } };
+
+    ghost invariant = { λ s. record { within : s.taken ≤ length s.room.now; some : 0 < s.piece } };
 }
 
 impl<'a> SliceSink<'a> {
@@ -72,8 +110,7 @@ impl<'a> SliceSink<'a> {
     /// and so fails.
     pub fn new(room: &'a mut [u8], piece: usize, fail_at: Option<u32>) -> Self
         requires { 0 < piece }
-        ensures taken { ⟦<SliceSink<'a> as Sink>⟧.taken_bytes result ≡ Some [] }
-        ensures failed { ⟦<SliceSink<'a> as Sink>⟧.has_failed result ≡ false }
+        ensures { result ≡ record { taken = []; room = length room.old; piece = piece; calls_left = unwrap_or fail_at 0; has_failed = false } }
     {
         SliceSink {
             room,
@@ -86,18 +123,30 @@ impl<'a> SliceSink<'a> {
 
     /// The number of bytes taken.
     pub fn taken(&self) -> usize
-        ensures { option_map length (⟦<SliceSink<'a> as Sink>⟧.taken_bytes self.now) ≡ Some result }
+        ensures { result ≡ length self.now.taken }
     {
         self.taken
     }
 }
 
 impl<'a> Sink for SliceSink<'a> {
-    ghost taken_bytes = { λ s. Some (take s.taken s.room.now) };
+    ghost taken_bytes = { λ s. Some s.taken };
 
     ghost has_failed = { λ s. s.has_failed };
 
-    fn write(&mut self, piece: &[u8]) -> Result<usize, Failed> {
+    fn write(&mut self, piece: &[u8]) -> Result<usize, Failed>
+        ensures count { WritesAtMost result piece.now }
+        ensures takes { WriteAppends (Some self.old.taken) (Some self.new.taken) result piece.now }
+        ensures some { IfOk result (λ count. 0 < length piece.now → 0 < count) }
+        ensures fails { IsErr result ↔ (self.new.has_failed ≡ true) }
+        ensures stays { self.old.has_failed ≡ true → self.new.has_failed ≡ true }
+        ensures planned { IsErr result ↔ (FailsNext self.old.calls_left self.old.has_failed
+            ⊎ ((length self.old.taken ≡ self.old.room) × (0 < length piece.now))) }
+        ensures pieces { IfOk result (λ count.
+            count ≡ min (min self.old.piece (length piece.now)) (self.old.room - length self.old.taken)) }
+        ensures counted { OnOk result ((self.new.calls_left ≡ self.old.calls_left - 1)
+            × (self.new.piece ≡ self.old.piece) × (self.new.room ≡ self.old.room)) }
+    {
         let start = self.taken;
         let is_full = start == self.room.len() && !piece.is_empty();
         if self.has_failed || is_full || self.calls_left == 1 {
@@ -112,7 +161,14 @@ impl<'a> Sink for SliceSink<'a> {
         Ok(count)
     }
 
-    fn flush(&mut self) -> Result<(), Failed> {
+    fn flush(&mut self) -> Result<(), Failed>
+        ensures keeps { self.new.taken ≡ self.old.taken }
+        ensures fails { IsErr result ↔ (self.new.has_failed ≡ true) }
+        ensures stays { self.old.has_failed ≡ true → self.new.has_failed ≡ true }
+        ensures planned { IsErr result ↔ FailsNext self.old.calls_left self.old.has_failed }
+        ensures counted { OnOk result ((self.new.calls_left ≡ self.old.calls_left - 1)
+            × (self.new.piece ≡ self.old.piece) × (self.new.room ≡ self.old.room)) }
+    {
         if self.has_failed || self.calls_left == 1 {
             self.has_failed = true;
             return Err(Failed);
