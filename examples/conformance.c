@@ -78,6 +78,11 @@ static void check_bounds(char **row, cheri_cap_u128 word)
     expect(set.t == fields.t && set.b == fields.b, row[NAME], "granted fields");
     expect(cheri_cap_represents(word.high, word.low, fields.address), row[NAME], "its own address");
     expect(cheri_cap_represents(word.high, word.low, bounds.base), row[NAME], "its base as an address");
+    bool is_empty = bounds.top_high == 0 && bounds.top_low == bounds.base;
+    expect(cheri_cap_bounds_hold(&bounds, bounds.base) != is_empty, row[NAME], "its base held");
+    expect(cheri_cap_bounds_hold(&bounds, bounds.top_low - 1) != is_empty, row[NAME], "its last byte held");
+    expect(bounds.top_high || !cheri_cap_bounds_hold(&bounds, bounds.top_low), row[NAME], "its top held");
+    expect(bounds.base == 0 || !cheri_cap_bounds_hold(&bounds, bounds.base - 1), row[NAME], "the byte before held");
 }
 
 static void check_text(char **row, cheri_cap_u128 word)

@@ -19,8 +19,8 @@
  * address after the last byte. A top or a length may be 2^64, which needs 65 bits, so these have two
  * halves as well, and for 2^64 the high half is 1 and the low half 0.
  *
- * Ranges: every function takes every value of its parameters' types, and says what it answers for
- * values out of range. A `bool` has to be 0 or 1, as C and C++ make it.
+ * Ranges: every function takes every value of its parameters' types, but for the pointers of the two text
+ * calls, which have to be good, and says what it answers for values out of range. A `bool` has to be 0 or 1, as C and C++ make it.
  *
  * Threads: no function has a state, allocates, blocks, or calls another library. Any number of threads
  * may call any of them at once, and a signal handler too.
@@ -143,15 +143,15 @@ uint8_t cheri_cap_exponent(uint64_t high, uint64_t low);
 cheri_cap_granted cheri_cap_set_bounds(uint64_t base, uint64_t length_high, uint64_t length_low);
 
 /*
- * Whether a capability with the bounds of this word could have this address: whether the word with that
- * address decodes to the same bounds. False for a word whose bounds no capability has. The permissions,
- * the reserved bits, the flag and the type are not looked at.
+ * Whether a capability that stores its bounds as this word does could have this address: whether the word
+ * with that address decodes to the same bounds. False for a word that does not store its bounds as
+ * setting bounds stores them. The permissions, the reserved bits, the flag and the type are not looked at.
  */
 bool cheri_cap_represents(uint64_t high, uint64_t low, uint64_t address);
 
 /*
- * The granule of a length: the unit to which bounds of that length are rounded. 1 below 4096 bytes, else
- * a power of two from 8 to 2^55. 0 for a length above 2^64.
+ * The granule of a length: the unit in which the bounds of that many bytes from address 0 up are stored. 1
+ * below 4096 bytes, else a power of two from 8 to 2^55. 0 for a length above 2^64.
  */
 uint64_t cheri_cap_granule(uint64_t length_high, uint64_t length_low);
 

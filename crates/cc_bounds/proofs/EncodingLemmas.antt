@@ -1,7 +1,7 @@
 -- What a `Set` stores: the exponent and the fields of a sound span.
-use Rattle.std.proofs.Common.{subst, ◌≡◌, ℕ, ◌+◌, ◌-◌, ◌*◌, ◌<◌, ◌≤◌, ◌/◌, ◌%◌, ◌^◌, sym, ◌∙◌, ap, arith, inl, inr, nat_lt}
-use Rattle.std.proofs.Math.Nat.{mul-le-mul_right}
-use Rattle.std.proofs.lemmas.Nat.{pow_pos, pow-add, shl-shr}
+use Rattle.std.proofs.Common.{subst, ◌≡◌, ℕ, ◌+◌, ◌-◌, ◌*◌, ◌<◌, ◌≤◌, ◌/◌, ◌%◌, ◌^◌, sym, ◌∙◌, ap, arith, inl, inr, nat_lt, bit_and}
+use Rattle.std.proofs.Math.Nat.{div-add-mod', mul-le-mul_right, mul-add-div_right, mul-add-mod_self_right}
+use Rattle.std.proofs.lemmas.Nat.{pow_pos, pow-add, shl-shr, and_mask}
 use Rattle.std.proofs.lemmas.Bool.{cases_lt}
 use Rattle.cc_bounds.specs.declared.span.Span.{Span}
 use Rattle.cc_bounds.specs.Span.{IsSpan, length_of}
@@ -137,3 +137,21 @@ encoded request granted power e t b is_span is_rounded is_granule small large is
           | inl short ↦ let z = small short in let s = grant.as_short short in grind (arith, z, s)
           | inr long ↦ let z = large long in let s = grant.as_long long in grind (arith, z, s)
         ]
+
+-- of a number of 64 bits and more, so shifted, the low twelve bits are those of its low 64
+low_bits_shifted : (n exponent : ℕ) → exponent ≤ 52 → n % 2 ^ 64 / 2 ^ exponent % 2 ^ 12 ≡ n / 2 ^ exponent % 2 ^ 12
+low_bits_shifted n exponent fits =
+    let upper : ℕ = n / 2 ^ 64 * 2 ^ (52 - exponent) in
+    let sum : 52 - exponent + 12 + exponent ≡ 64 = omega arith in
+    let power = sym (pow-add 2 (52 - exponent + 12) exponent) ∙ ap (λ (k : ℕ). 2 ^ k) sum in
+    let twelve = pow-add 2 (52 - exponent) 12 in
+    let whole : 2 ^ (52 - exponent) * 2 ^ 12 * 2 ^ exponent ≡ 2 ^ 64 = sym (ap (λ (k : ℕ). k * 2 ^ exponent) twelve) ∙ power in
+    let scaled = ap (λ (k : ℕ). n / 2 ^ 64 * k) whole in
+    let regroup : n ≡ upper * 2 ^ 12 * 2 ^ exponent + n % 2 ^ 64 = omega (arith, scaled, div-add-mod' n (2 ^ 64)) in
+    sym (ap (λ (k : ℕ). k / 2 ^ exponent % 2 ^ 12) regroup
+    ∙ ap (λ (k : ℕ). k % 2 ^ 12) (mul-add-div_right (pow_pos exponent) (upper * 2 ^ 12) (n % 2 ^ 64))
+    ∙ mul-add-mod_self_right upper (2 ^ 12) (n % 2 ^ 64 / 2 ^ exponent))
+
+-- the same, as masks
+pub low_bits_masked : (n exponent : ℕ) → exponent ≤ 52 → bit_and (bit_and n (2 ^ 64 - 1) / 2 ^ exponent) (2 ^ 12 - 1) ≡ n / 2 ^ exponent % 2 ^ 12
+low_bits_masked n exponent fits = rw (and_mask _ 12, and_mask n 64) (low_bits_shifted n exponent fits)

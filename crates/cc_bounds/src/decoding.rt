@@ -20,13 +20,10 @@ const SECTION_WIDTH: u32 = 11;
 pub fn exponent(fields: &Fields) -> u8
     ensures { result ≡ stored_exponent fields.now }
 {
-    if fields.ie {
-        let high = fields.t & 0x7;
-        let low = fields.b & 0x7;
-        (((high << 3) | low) as u8).min(MAX_EXPONENT)
-    } else {
-        0
-    }
+    let high = fields.t & 0x7;
+    let low = fields.b & 0x7;
+    let stored = (((high << 3) | low) as u8).min(MAX_EXPONENT);
+    if fields.ie { stored } else { 0 }
 }
 
 /// The B field without the exponent's bits.

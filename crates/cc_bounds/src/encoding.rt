@@ -159,11 +159,15 @@ fn has_fields(set: &Set, fields: &Fields) -> bool
 }
 
 /// The T field of a granted span: its top in units of 2^exponent bytes, with the exponent's high digit.
+///
+/// No bit of the field comes from the top's bit 64.
+#[tactic(auto, using(crate::proofs::EncodingLemmas::low_bits_masked))]
 fn t_field(granted: &Span, exponent: u32) -> u16
     requires { exponent ≤ 52 }
     ensures { result ≡ granted.now.top / 2 ^ exponent % 2 ^ 12 + exponent / 8 }
 {
-    ((granted.top >> exponent) & 0xfff) as u16 + (exponent >> 3) as u16
+    let top = (granted.top & 0xffff_ffff_ffff_ffff) as u64;
+    ((top >> exponent) & 0xfff) as u16 + (exponent >> 3) as u16
 }
 
 /// The B field of a granted span: its base in units of 2^exponent bytes, with the exponent's low digit.

@@ -88,7 +88,7 @@ pub extern "C" fn cheri_cap_set_bounds(
     granted(&set_bounds(base, length))
 }
 
-/// Whether a word's bounds are those of a capability, and the address is representable for them. The
+/// Whether a word stores its bounds as setting bounds stores them, and the address is representable for them. The
 /// reserved bits and the type are not looked at.
 #[unsafe(no_mangle)]
 pub extern "C" fn cheri_cap_represents(high: u64, low: u64, address: u64) -> bool
