@@ -1,7 +1,7 @@
 -- Where B stands, found in 64 bits from the section of the address.
-use Rattle.std.proofs.Common.{◌≡◌, ℕ, ◌+◌, ◌-◌, ◌*◌, ◌<◌, ◌≤◌, ◌/◌, ◌%◌, ◌^◌, sym, ◌∙◌, ap, arith}
+use Rattle.std.proofs.Common.{◌≡◌, ℕ, ◌+◌, ◌-◌, ◌*◌, ◌<◌, ◌≤◌, ◌/◌, ◌%◌, ◌^◌, sym, ◌∙◌, ap, arith, bit_and}
 use Rattle.std.proofs.Math.Nat.{add-mul-div_right}
-use Rattle.std.proofs.lemmas.Nat.{pow-add, mul-mod_first}
+use Rattle.std.proofs.lemmas.Nat.{pow-add, and_mask, mul-mod_first}
 use Rattle.cc_word.specs.declared.fields.Fields.{Fields}
 use Rattle.cc_bounds.specs.Window.{section_of}
 use Rattle.cc_bounds.specs.Decoding.{stored_exponent, base_mantissa, raised, first_section, IsDecodedBase}
@@ -112,3 +112,12 @@ module _ (fields : Fields) where
         is_place = is_place;
         kept = laps_dropped (base_units address mantissa) laps other _ unit kept_other whole place;
       }
+
+-- the same, with the masks that keep the low bits
+pub decoded_base_masked : (fields : Fields) (scale mantissa : ℕ) → scale ≡ stored_exponent fields → mantissa ≡ base_mantissa fields
+    → let address : ℕ = fields.address / 2 ^ (scale + 11) in
+    let above : ℕ = bit_and ((address + (2 ^ 64 - (mantissa / 2048 + (2 ^ 64 - 1)) % 2 ^ 64)) % 2 ^ 64) 7 in
+    let section : ℕ = ((address + (2 ^ 64 - above)) % 2 ^ 64 + 1) % 2 ^ 64 in
+    IsDecodedBase fields ((section * 2048 % 2 ^ 64 + bit_and mantissa 2047) * 2 ^ scale % 2 ^ 64)
+decoded_base_masked fields scale mantissa is_scale is_mantissa =
+    rw (is_scale, is_mantissa, and_mask _ 3, and_mask _ 11) (decoded_base-is fields)

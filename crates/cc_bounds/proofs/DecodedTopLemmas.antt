@@ -1,5 +1,7 @@
 -- The top of a word, found from its base and how far T stands above B.
-use Rattle.std.proofs.Common.{◌≡◌, ℕ, ◌+◌, ◌*◌, ◌<◌, ◌≤◌, ◌%◌, ◌^◌, ◌∙◌, arith, inl, inr}
+use Rattle.std.proofs.Common.{◌≡◌, ℕ, ◌+◌, ◌-◌, ◌*◌, ◌<◌, ◌≤◌, ◌%◌, ◌^◌, ◌∙◌, arith, inl, inr, bit_and}
+use Rattle.std.proofs.Math.Nat.{mod-eq_of_lt}
+use Rattle.std.proofs.lemmas.Nat.{and_mask}
 use Rattle.std.proofs.lemmas.Bool.{cases_lt}
 use Rattle.cc_word.specs.declared.fields.Fields.{Fields}
 use Rattle.cc_bounds.specs.declared.span.Span.{Span}
@@ -55,3 +57,23 @@ module _ (fields : Fields) (base length : ℕ) (is_base : IsDecodedBase fields b
       mantissa_kept (stored_exponent fields) decoded.is_top.mantissa (base_mantissa fields + length) decoded.is_top.place large
       (stored_exponent-le fields) decoded.is_top.is_place.scaled mantissa_is in
       rw (decoded.is_top.is_top.large large ∙ kept, base_is) at decoded.is_top
+
+-- the same, of numbers that are the base, the length and the exponent; the shift loses no bit
+pub small_top_shifted : (fields : Fields) (base length scale wide narrow shifted : ℕ) → IsDecodedBase fields base → length < 2 ^ 13
+    → IsTopMantissa fields ((base_mantissa fields + length) % 2 ^ 14) → scale ≡ stored_exponent fields → scale < 51
+    → wide ≡ base → narrow ≡ length → shifted ≡ narrow * 2 ^ scale % 2 ^ 64 → IsDecodedTop fields base (wide + shifted)
+small_top_shifted fields base length scale wide narrow shifted is_base fits is_mantissa is_scale small is_wide is_narrow is_shifted =
+    let small_exponent : stored_exponent fields < 51 = rw is_scale at small in
+    let bytes_fit = length-fits (stored_exponent fields) length fits small_exponent in
+    let kept : length * 2 ^ stored_exponent fields % 2 ^ 64 ≡ length * 2 ^ stored_exponent fields = mod-eq_of_lt (omega (arith, bytes_fit)) in
+    rw (is_wide, is_shifted, is_narrow, is_scale, kept) (small_top fields base length is_base fits is_mantissa small_exponent)
+
+-- and of 128 bits of a sum the mask keeps 65
+pub large_top_masked : (fields : Fields) (base length scale sum : ℕ) → IsDecodedBase fields base → length < 2 ^ 13
+    → IsTopMantissa fields ((base_mantissa fields + length) % 2 ^ 14) → scale ≡ stored_exponent fields → 51 ≤ scale
+    → sum ≡ base_mantissa fields + length
+    → IsDecodedTop fields base (bit_and (sum * 2 ^ scale % 2 ^ 128) (2 ^ 65 - 1))
+large_top_masked fields base length scale sum is_base fits is_mantissa is_scale large is_sum =
+    let top : ℕ = (base_mantissa fields + length) * 2 ^ stored_exponent fields in
+    let kept : top % 2 ^ 128 % 2 ^ 65 ≡ top % 2 ^ 65 = omega arith in
+    rw (and_mask _ 65, is_sum, is_scale, kept) (large_top fields base length is_base fits is_mantissa (rw is_scale at large))

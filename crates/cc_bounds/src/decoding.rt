@@ -50,6 +50,7 @@ fn mantissa_length(fields: &Fields) -> u16
 ///
 /// The window begins with the section below that of B, and the address stands at most seven above it. B
 /// stands in the next one.
+#[tactic(auto, using(crate::proofs::DecodedBaseLemmas::decoded_base_masked))]
 fn decoded_base(fields: &Fields) -> u64
     ensures { IsDecodedBase fields.now result }
 {
@@ -63,6 +64,7 @@ fn decoded_base(fields: &Fields) -> u64
 }
 
 /// The top of the bounds with this base: T stands as far above B as the mantissas are apart.
+#[tactic(auto, using(crate::proofs::DecodedTopLemmas::small_top_shifted, crate::proofs::DecodedTopLemmas::large_top_masked))]
 fn top_above(fields: &Fields, base: u64) -> u128
     requires { IsDecodedBase fields.now base }
     ensures { IsDecodedTop fields.now base result }
