@@ -2,9 +2,10 @@
 //! what a machine of capabilities replies to a script.
 #![tactic(auto)]
 
-ghost use Rattle.std.specs.Prelude.{List, Option};
+ghost use Rattle.std.specs.Prelude.{◌≡◌, List, Option};
 ghost use Rattle.clap.specs.Words.{Row, Text};
 ghost use Rattle.cheri_cap.specs.Invocation.{IsInvocation};
+ghost use Rattle.cheri_cap.specs.Outcome.{status_of};
 
 mod answers;
 mod invocation;
@@ -99,7 +100,9 @@ fn answer<R: AllocGlobal + Files + Input + Print>(
 }
 
 /// Tells a fault on standard error, and answers the exit status.
-fn finish<R: Eprint>(rt: &R, outcome: &Result<Summary, Fault>) -> u8 {
+fn finish<R: Eprint>(rt: &R, outcome: &Result<Summary, Fault>) -> u8
+    ensures { result ≡ status_of outcome.now }
+{
     if let Err(fault) = outcome {
         let _ = eprintln!(rt; "{fault}");
     }
