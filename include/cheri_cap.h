@@ -20,7 +20,8 @@
  * halves as well, and for 2^64 the high half is 1 and the low half 0.
  *
  * Ranges: every function takes every value of its parameters' types, but for the pointers of the two text
- * calls, which have to be good, and says what it answers for values out of range. A `bool` has to be 0 or 1, as C and C++ make it.
+ * calls, which have to be good, and says what it answers for values out of range. A `bool` has to be 0
+ * or 1, as C and C++ make it.
  *
  * Threads: no function has a state, allocates, blocks, or calls another library. Any number of threads
  * may call any of them at once, and a signal handler too.

@@ -88,8 +88,8 @@ pub extern "C" fn cheri_cap_set_bounds(
     granted(&set_bounds(base, length))
 }
 
-/// Whether a word stores its bounds as setting bounds stores them, and the address is representable for them. The
-/// reserved bits and the type are not looked at.
+/// Whether a word stores its bounds as setting bounds stores them, and the address is representable for
+/// them. The reserved bits and the type are not looked at.
 #[unsafe(no_mangle)]
 pub extern "C" fn cheri_cap_represents(high: u64, low: u64, address: u64) -> bool
     ensures stored { OfFields (number_of high low) (λ fields.

@@ -55,7 +55,7 @@ canonical yes
 ";
 
 /// Shows the text into ample room, and compares what was written and how it ended.
-pub fn assert_shown(rt: &impl Abort, text: &str, answer: &str, any_error: bool) {
+pub(crate) fn assert_shown(rt: &impl Abort, text: &str, answer: &str, any_error: bool) {
     let mut room = [0; 512];
     let mut sink = SliceSink::new(&mut room, 200, None);
     let outcome = show_word(text.as_bytes(), &mut sink);
