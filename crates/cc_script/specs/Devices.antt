@@ -16,7 +16,8 @@ pub record SourceState : Type 0 where
   pub calls_left : ℕ
   pub has_failed : Bool
 
--- The state of a sink over a slice: the bytes taken, how many the slice has room for, and the same of its calls.
+-- The state of a sink over a slice: the bytes taken, how many the slice has room for, how many it takes in a
+-- call at most, and how many calls are left, as above.
 pub record SinkState : Type 0 where
   pub taken : List ℕ
   pub room : ℕ
