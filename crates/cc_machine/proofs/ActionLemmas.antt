@@ -1,5 +1,5 @@
 -- The planner's calls, as a machine makes them, are the machine's steps.
-use Rattle.std.proofs.Common.{ℕ, true, ◌≡◌, ◌⊎◌, ◌+◌, ◌<◌, ◌∙◌, List, [], ◌∷◌, ◌++◌, Option, Some, IsSome, IsNone, IfSome, Result, Ok, Err, MatchResult, length, map, sum_by, refl, sym, ap, subst, inl, inr, arith}
+use Rattle.std.proofs.Common.{ℕ, ◌≡◌, ◌⊎◌, ◌+◌, ◌<◌, ◌∙◌, List, [], ◌∷◌, ◌++◌, Option, Some, None, IsSome, IsNone, IfSome, Result, Ok, Err, MatchResult, length, map, sum_by, refl, sym, ap, subst, inl, inr, arith}
 use Rattle.std.proofs.lemmas.List.{length_push}
 use Rattle.cc_word.specs.declared.refusal.Refusal.{Refusal}
 use Rattle.cc_word.specs.declared.refusal.Refusal.TheVariants.{NoRoom, Sealed, PoolAlreadySet}
@@ -9,6 +9,7 @@ use Rattle.cc_bounds.specs.Granule.{padded_size}
 use Rattle.cc_cap.specs.Capability.{Capability, IsUnsealed}
 use Rattle.cc_cap.specs.Canonical.{IsWordOf}
 use Rattle.cc_plan.specs.declared.object.ObjectId.{ObjectId}
+use Rattle.cc_plan.specs.declared.object.ObjectState.TheVariants.{Live}
 use Rattle.cc_plan.specs.declared.object.PlannedObject.{PlannedObject}
 use Rattle.cc_plan.specs.Placement.{IsPlacement, HasNoPlace}
 use Rattle.cc_plan.specs.Plan.{Plan, GivesPool, Allocates as PlanAllocates, RefusedUnless as PlanRefusedUnless, MakesObject as PlanMakes, HasNoRoom as PlanHasNoRoom, held_spans as planned_spans, held_bytes_of as planned_bytes, capability_over, span_at, unit_of}
@@ -18,8 +19,11 @@ use Rattle.cc_machine.specs.State.{State, SlotState, tagged_slot, IsSlot}
 use Rattle.cc_machine.specs.Objects.{held_spans, held_bytes_of, with_object}
 use Rattle.cc_machine.specs.Step.{usable_slot, Refuses, RefusedUnless, SetsPool, Allocates}
 use Rattle.cc_machine.specs.Run.{IsReached}
+use Rattle.cc_machine.specs.Owners.{TellsOwners}
 use Rattle.cc_machine.specs.Machine.{objects_in, pool_capability, planned_object, plan_of}
+use Rattle.cc_machine.proofs.SlotLemmas.{IsSlot-within}
 use Rattle.cc_machine.proofs.StepLemmas.{usable-is}
+use Rattle.cc_machine.proofs.OwnerLemmas.{TellsOwners-first}
 use Rattle.cc_machine.proofs.TreeLemmas.{Keeps, Keeps-reached}
 use Rattle.cc_machine.proofs.ObjectTreeLemmas.{KeepsObjects}
 use Rattle.cc_machine.proofs.ObjectLawLemmas.{KeepsObjects-reached}
@@ -45,6 +49,19 @@ pub give-refused : (old new : Plan) (pool : Capability) (refusal : Refusal) → 
 give-refused old new pool refusal (inr sealed) = sealed.2
 give-refused old new pool refusal (inl (_, inr given)) = given.2
 give-refused old new pool refusal (inl (_, inl (_, (answer, _)))) = let e = answer in cc
+
+-- a refused object leaves the plan
+pub alloc-refused : (old new : Plan) (size : ℕ) (refusal : Refusal) → PlanAllocates old size (Err refusal) new → new ≡ old
+alloc-refused old new size refusal (inr none) = none.2
+alloc-refused old new size refusal (inl (_, inr nothing)) = nothing.2
+alloc-refused old new size refusal (inl (_, inl (_, inr full))) = full.2
+alloc-refused old new size refusal (inl (some, inl (_, inl (_, decided)))) = by_pool old.pool some decided
+  where
+    by_pool : (pool : Option Capability) → IsSome pool
+        → IfSome pool (λ cap. PlanMakes old cap size (Err refusal) new ⊎ PlanHasNoRoom old cap size (Err refusal) new) → new ≡ old
+    by_pool None some decided = let e = some in cc
+    by_pool (Some above) some (inl made) = let e = made.answer in cc
+    by_pool (Some above) some (inr none) = none.stays
 
 -- setting the pool, of what was found
 abbrev SetsPoolFrom : Result SlotState Refusal → State → ℕ → Reply → State → Type 0
@@ -78,6 +95,8 @@ module _ (limit : ℕ) (slots : List SlotState) (pool : Option ℕ) (plan : Plan
     pub sets : SetsPool state number reply (state_with limit slots (Some number) new_plan own)
     pub is_plan : new_plan ≡ plan_of (state_with limit slots (Some number) new_plan own)
     pub as_many : length own ≡ length new_plan.objects
+    pub same_objects : new_plan.objects ≡ plan.objects
+    pub same_state : state_with limit slots (Some number) new_plan own ≡ record state { pool = Some number }
 
   pub give-sets : (number : ℕ) (slot : SlotState) (span : Span) (answer : Unit {0}) (new_plan : Plan) → usable_slot slots number ≡ Ok slot
       → span ≡ slot.capability.span → GivesPool plan slot.capability (Ok answer) new_plan → SetsPoolTo number (PoolSet number span) new_plan
@@ -103,6 +122,8 @@ module _ (limit : ℕ) (slots : List SlotState) (pool : Option ℕ) (plan : Plan
             (inl (first.0, inl (none, (replied, same))));
         is_plan = is_new ∙ plan_is ∙ ap plan_of (sym same);
         as_many = each_has_slot ∙ ap (λ (p : Plan). length p.objects) (sym is_new);
+        same_objects = ap (λ (p : Plan). p.objects) is_new;
+        same_state = same;
       }
 
   -- ---- making an object
@@ -111,6 +132,9 @@ module _ (limit : ℕ) (slots : List SlotState) (pool : Option ℕ) (plan : Plan
     pub makes : Allocates state size reply (state_with limit new_slots pool new_plan new_own)
     pub is_plan : new_plan ≡ plan_of (state_with limit new_slots pool new_plan new_own)
     pub as_many : length new_own ≡ length new_plan.objects
+    pub tells_now :
+        (owners : List ℕ) → TellsOwners owners state
+        → TellsOwners (owners ++ (length plan.objects + 1) ∷ []) (state_with limit new_slots pool new_plan new_own)
 
   limit-of : plan.limit ≡ limit
   limit-of = ap (λ (p : Plan). p.limit) planned
@@ -142,7 +166,7 @@ module _ (limit : ℕ) (slots : List SlotState) (pool : Option ℕ) (plan : Plan
         let new : State = state_with limit new_slots pool new_plan new_own in
         let all_slots : new_slots ≡ slots ++ tagged_slot cap (Some number) ∷ [] =
         slots_are ∙ ap (λ (c : Capability). slots ++ tagged_slot c (Some number) ∷ []) is_cap in
-        let q : PlannedObject = record { size = size; span = bytes; live = true } in
+        let q : PlannedObject = record { size = size; span = bytes; state = Live } in
         let all_objects : objects_in new_plan.objects new_own ≡ state.objects ++ with_own q (length slots) ∷ [] =
         ap (λ (p : Plan). objects_in p.objects new_own) m.made
         ∙ ap (λ (o : List ℕ). objects_in (plan.objects ++ q ∷ []) o) own_is
@@ -185,6 +209,10 @@ module _ (limit : ℕ) (slots : List SlotState) (pool : Option ℕ) (plan : Plan
           as_many =
               ap (λ (o : List ℕ). length o) own_is ∙ length_push own (length slots) ∙ ap (λ (n : ℕ). n + 1) each_has_slot
               ∙ sym (ap (λ (p : Plan). length p.objects) m.made ∙ length_push plan.objects q);
+          tells_now = λ owners tells.
+              subst (λ (s : State). TellsOwners (owners ++ (length plan.objects + 1) ∷ []) s) (sym same)
+              (TellsOwners-first owners state cap number tells (IsSlot-within at) keeps.parent_first objects is_pool size (length plan.objects + 1)
+              (omega (arith, count-of)));
         }
 
     -- what the planner decides of its pool
@@ -198,6 +226,27 @@ module _ (limit : ℕ) (slots : List SlotState) (pool : Option ℕ) (plan : Plan
     decides answer new_plan (inl (_, inl (_, inl (_, decided)))) =
         subst (λ (p : Option Capability). IfSome p (λ cap. PlanMakes plan cap size answer new_plan ⊎ PlanHasNoRoom plan cap size answer new_plan))
         (pool-of number slot is_pool at) decided
+
+    -- the object that the planner made
+    pub record PlansObject (made : ObjectId × Capability) (new_plan : Plan) : Type 0 where
+      pub is_number : made.0.0 ≡ length plan.objects + 1
+      pub more : PlannedObject
+      pub live : more.state ≡ Live
+      pub objects_are : new_plan.objects ≡ plan.objects ++ more ∷ []
+
+    pub alloc-plans : (made : ObjectId × Capability) (new_plan : Plan) → PlanAllocates plan size (Ok made) new_plan → PlansObject made new_plan
+    alloc-plans made new_plan allocates = elim (decides (Ok made) new_plan allocates) [
+      | inl m ↦
+          let answer = m.answer in
+          let is_made : made ≡ (record { 0 = length plan.objects + 1 }, capability_over (span_at m.start size) slot.capability) = cc in
+          record {
+            is_number = ap (λ (p : ObjectId × Capability). p.0.0) is_made;
+            more = record { size = size; span = span_at m.start size; state = Live };
+            live = refl;
+            objects_are = ap (λ (p : Plan). p.objects) m.made;
+          }
+      | inr none ↦ let e = none.answer in cc
+    ]
 
     pub alloc-allocates : (made : ObjectId × Capability) (new_plan : Plan) (word held : ℕ) (span : Span) (new_slots : List SlotState) (new_own : List ℕ)
         → PlanAllocates plan size (Ok made) new_plan → IsWordOf made.1 word → span ≡ made.1.span → held ≡ planned_bytes new_plan.objects

@@ -1,6 +1,10 @@
 pub mod ActionLemmas
+pub mod AddLemmas
 pub mod FreeLemmas
+pub mod SweepLemmas
 pub mod OutcomeLemmas
+pub mod OwnerLemmas
+pub mod KeptSlotLemmas
 pub mod ReachLemmas
 pub mod RootLemmas
 pub mod ConfinementLemmas
@@ -16,7 +20,8 @@ pub mod StepLemmas
 pub mod ObjectLemmas
 pub mod ObjectTreeLemmas
 pub mod ObjectMadeLemmas
+pub mod ObjectMarkedLemmas
 pub mod ObjectFreedLemmas
+pub mod ObjectSweptLemmas
 pub mod ObjectLawLemmas
 pub mod TreeLemmas
-pub mod WalkLemmas

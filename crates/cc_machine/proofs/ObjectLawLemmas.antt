@@ -11,14 +11,14 @@ use Rattle.cc_machine.specs.State.IsAncestor.{parent_of, above_parent}
 use Rattle.cc_machine.specs.Objects.{IsObject, BelongsTo}
 use Rattle.cc_machine.specs.ObjectLaws.{HangsFromPool, HasDisjointObjects, KeepsObjectLaws}
 use Rattle.cc_machine.specs.Run.{Run, IsReached}
-use Rattle.cc_machine.proofs.SlotLemmas.{IsSlot-same, IsSlot-within, slot_at}
+use Rattle.cc_machine.proofs.SlotLemmas.{IsSlot-same, IsSlot-within, slot_at, ancestor-before, IsParent-one}
 use Rattle.cc_machine.proofs.GrowthLemmas.{Effect, Step-effect}
-use Rattle.cc_machine.proofs.GrowthLemmas.Effect.{stays, grows, gives, makes, frees}
+use Rattle.cc_machine.proofs.GrowthLemmas.Effect.{stays, grows, gives, makes, frees, sweeps}
 use Rattle.cc_machine.proofs.TreeLemmas.{Keeps, Keeps-initial, Keeps-effect, Keeps-run, Keeps-reached, less-above}
-use Rattle.cc_machine.proofs.WalkLemmas.{ancestor-before, IsParent-one}
 use Rattle.cc_machine.proofs.ObjectTreeLemmas.{KeepsObjects, KeepsObjects-none, KeepsObjects-with_slot, no-objects}
 use Rattle.cc_machine.proofs.ObjectMadeLemmas.{KeepsObjects-with_object, KeepsObjects-given}
 use Rattle.cc_machine.proofs.ObjectFreedLemmas.{KeepsObjects-freed}
+use Rattle.cc_machine.proofs.ObjectSweptLemmas.{KeepsObjects-swept}
 
 -- ---- steps and runs
 
@@ -50,7 +50,9 @@ KeepsObjects-effect old new op reply keeps objects (makes made) =
     subst (λ (s : State). KeepsObjects s) (sym made.is_new)
     (KeepsObjects-with_object old cap made.pool made.size made.above made.is_pool made.exact made.placement.place.apart objects mid)
 KeepsObjects-effect old new op reply keeps objects (frees freed) =
-    KeepsObjects-freed old new freed.number reply freed.ends keeps.parent_first objects
+    KeepsObjects-freed old new freed.number reply freed.frees objects
+KeepsObjects-effect old new op reply keeps objects (sweeps swept) =
+    KeepsObjects-swept old new reply swept keeps.parent_first objects
 
 KeepsObjects-run : (old new : State) (ops : List Op) (replies : List Reply) → Keeps old → KeepsObjects old → Run old ops replies new → KeepsObjects new
 KeepsObjects-run old new [] [] keeps objects run = subst (λ (s : State). KeepsObjects s) (sym run) objects

@@ -1,15 +1,19 @@
 -- A step from what its operation makes.
 use Rattle.std.specs.List.{slice_get}
-use Rattle.std.proofs.Common.{ℕ, Bool, true, false, ap, ◌≡◌, List, Option, Some, None, Result, Ok, Err, MatchResult, sym, subst}
+use Rattle.std.specs.Result.{result_map_both}
+use Rattle.std.proofs.Common.{ℕ, Bool, true, false, ap, ◌≡◌, ◌∙◌, List, Option, Some, None, Result, Ok, Err, MatchResult, sym, subst}
 use Rattle.cc_word.specs.declared.refusal.Refusal.{Refusal}
 use Rattle.cc_cap.specs.Permissions.{bits_of}
 use Rattle.cc_cap.specs.Capability.{Capability}
 use Rattle.cc_cap.specs.Derivation.{SetsAddress, Increments, SetsBounds, SetsExactBounds, MasksPermissions, SetsFlag, Seals, Unseals, Rebuilds}
 use Rattle.cc_machine.specs.declared.op.Op.{Op}
-use Rattle.cc_machine.specs.declared.op.Op.TheVariants.{Show, Bounds, Exact, Addr, Inc, Perms, Flag, Seal, Unseal, Rebuild, Round, Pool, Alloc, Free}
+use Rattle.cc_machine.specs.declared.op.Op.TheVariants.{Show, Bounds, Exact, Addr, Inc, Perms, Flag, Seal, Unseal, Rebuild, Round, Pool, Alloc, Free, Sweep}
 use Rattle.cc_machine.specs.declared.reply.Reply.{Reply}
-use Rattle.cc_machine.specs.State.{State, SlotState}
+use Rattle.cc_machine.specs.declared.slot.Slot.{Slot}
+use Rattle.cc_machine.specs.State.{State, SlotState, tagged_slot, IsSlot}
 use Rattle.cc_machine.specs.Step.{usable, usable_slot, OnSlot, Adds, Step}
+use Rattle.cc_machine.specs.Making.{Makes}
+use Rattle.cc_machine.proofs.GrowthLemmas.{OnSlot-usable_slot}
 
 -- a rule that holds of the capability of a usable slot
 pub OnSlot-usable : (slots : List SlotState) (number : ℕ) (result : Result Capability Refusal) (slot : SlotState)
@@ -18,6 +22,14 @@ OnSlot-usable slots number result slot Rule is_usable holds =
     let P : Result SlotState Refusal → Type 0 =
     λ usable. MatchResult usable (λ s. Rule s.capability) (λ refusal. result ≡ Err refusal) in
     subst P (sym is_usable) holds
+
+-- what a look-up found
+pub usable-told : (slots : List SlotState) (number : ℕ) (found : Result Slot Refusal) (slot : Slot)
+    → usable_slot slots number ≡ result_map_both (λ s. tagged_slot s.capability s.parent) (λ refusal. refusal) found → found ≡ Ok slot
+    → usable_slot slots number ≡ Ok (tagged_slot slot.capability slot.parent)
+usable-told slots number found slot told is =
+    told
+    ∙ ap (λ (result : Result Slot Refusal). result_map_both (λ (s : Slot). tagged_slot s.capability s.parent) (λ (refusal : Refusal). refusal) result) is
 
 -- a slot that can be used is there
 pub usable-is : (slots : List SlotState) (number : ℕ) (slot : SlotState) → usable_slot slots number ≡ Ok slot → slice_get slots number ≡ Some slot
@@ -30,23 +42,6 @@ usable-is slots number slot is = by_found (slice_get slots number) is
     by_found : (found : Option SlotState) → usable found ≡ Ok slot → found ≡ Some slot
     by_found None is = cc
     by_found (Some found) is = ap (λ (s : SlotState). Some s) (by_tag found found.revoked is)
-
--- what an operation that derives makes of the slots, and the parent of what it makes
-abbrev pub Makes : List SlotState → Op → ℕ → Result Capability Refusal → Type 0
-Makes slots (Show number) parent result = ⊥
-Makes slots (Bounds number size) parent result = (parent ≡ number) × OnSlot slots number result (λ cap. SetsBounds cap size result)
-Makes slots (Exact number size) parent result = (parent ≡ number) × OnSlot slots number result (λ cap. SetsExactBounds cap size result)
-Makes slots (Addr number address) parent result = (parent ≡ number) × OnSlot slots number result (λ cap. SetsAddress cap address result)
-Makes slots (Inc number amount) parent result = (parent ≡ number) × OnSlot slots number result (λ cap. Increments cap amount result)
-Makes slots (Perms number mask) parent result = (parent ≡ number) × OnSlot slots number result (λ cap. MasksPermissions cap (bits_of mask) result)
-Makes slots (Flag number flag) parent result = (parent ≡ number) × OnSlot slots number result (λ cap. SetsFlag cap flag result)
-Makes slots (Seal number authority) parent result = (parent ≡ number) × OnSlot slots number result (λ cap. OnSlot slots authority result (λ by. Seals cap by result))
-Makes slots (Unseal number authority) parent result = (parent ≡ number) × OnSlot slots number result (λ cap. OnSlot slots authority result (λ by. Unseals cap by result))
-Makes slots (Rebuild authority word) parent result = (parent ≡ authority) × OnSlot slots authority result (λ by. Rebuilds by word result)
-Makes slots (Round size) parent result = ⊥
-Makes slots (Pool number) parent result = ⊥
-Makes slots (Alloc size) parent result = ⊥
-Makes slots (Free number) parent result = ⊥
 
 -- the same, of what equals them
 pub Makes-along : {slots slots' : List SlotState} {op op' : Op} {pair pair' : ℕ × Result Capability Refusal}
@@ -65,6 +60,7 @@ Makes-Step old (Round size) parent result reply new makes adds = absurd makes
 Makes-Step old (Pool number) parent result reply new makes adds = absurd makes
 Makes-Step old (Alloc size) parent result reply new makes adds = absurd makes
 Makes-Step old (Free number) parent result reply new makes adds = absurd makes
+Makes-Step old Sweep parent result reply new makes adds = absurd makes
 Makes-Step old (Bounds number size) parent result reply new makes adds =
     let P : ℕ → Type 0 = λ n. Adds old n result reply new in
     record { result = result; made = makes.1; added = subst P makes.0 adds }
@@ -92,3 +88,43 @@ Makes-Step old (Unseal number authority) parent result reply new makes adds =
 Makes-Step old (Rebuild authority word) parent result reply new makes adds =
     let P : ℕ → Type 0 = λ n. Adds old n result reply new in
     record { result = result; made = makes.1; added = subst P makes.0 adds }
+
+-- a slot that is there, and tagged
+pub record IsTagged (state : State) (number : ℕ) : Type 0 where
+  pub slot : SlotState
+  pub is_slot : IsSlot state number slot
+  pub tagged : slot.revoked ≡ false
+
+-- a rule makes something only of a tagged slot
+of-tagged : (state : State) (number parent : ℕ) (cap : Capability) (Rule : Capability → Type 0) → parent ≡ number
+    → OnSlot state.slots number (Ok cap) Rule → IsTagged state parent
+of-tagged state number parent cap Rule same on =
+    let used = OnSlot-usable_slot state number cap Rule on in
+    subst (λ (n : ℕ). IsTagged state n) (sym same) (record { slot = used.slot; is_slot = used.is_slot; tagged = used.tagged })
+
+-- the parent of what is made is tagged
+pub Makes-tagged : (state : State) (op : Op) (parent : ℕ) (cap : Capability) → Makes state.slots op parent (Ok cap) → IsTagged state parent
+Makes-tagged state (Show number) parent cap makes = absurd makes
+Makes-tagged state (Round size) parent cap makes = absurd makes
+Makes-tagged state (Pool number) parent cap makes = absurd makes
+Makes-tagged state (Alloc size) parent cap makes = absurd makes
+Makes-tagged state (Free number) parent cap makes = absurd makes
+Makes-tagged state Sweep parent cap makes = absurd makes
+Makes-tagged state (Bounds number size) parent cap makes =
+    of-tagged state number parent cap (λ c. SetsBounds c size (Ok cap)) makes.0 makes.1
+Makes-tagged state (Exact number size) parent cap makes =
+    of-tagged state number parent cap (λ c. SetsExactBounds c size (Ok cap)) makes.0 makes.1
+Makes-tagged state (Addr number address) parent cap makes =
+    of-tagged state number parent cap (λ c. SetsAddress c address (Ok cap)) makes.0 makes.1
+Makes-tagged state (Inc number amount) parent cap makes =
+    of-tagged state number parent cap (λ c. Increments c amount (Ok cap)) makes.0 makes.1
+Makes-tagged state (Perms number mask) parent cap makes =
+    of-tagged state number parent cap (λ c. MasksPermissions c (bits_of mask) (Ok cap)) makes.0 makes.1
+Makes-tagged state (Flag number flag) parent cap makes =
+    of-tagged state number parent cap (λ c. SetsFlag c flag (Ok cap)) makes.0 makes.1
+Makes-tagged state (Seal number authority) parent cap makes =
+    of-tagged state number parent cap (λ c. OnSlot state.slots authority (Ok cap) (λ by. Seals c by (Ok cap))) makes.0 makes.1
+Makes-tagged state (Unseal number authority) parent cap makes =
+    of-tagged state number parent cap (λ c. OnSlot state.slots authority (Ok cap) (λ by. Unseals c by (Ok cap))) makes.0 makes.1
+Makes-tagged state (Rebuild number word) parent cap makes =
+    of-tagged state number parent cap (λ c. Rebuilds c word (Ok cap)) makes.0 makes.1

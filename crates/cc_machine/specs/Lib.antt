@@ -7,5 +7,6 @@ pub mod Laws
 pub mod ObjectLaws
 pub mod Confinement
 pub mod Reach
-pub mod Revoking
+pub mod Owners
+pub mod Making
 pub mod Machine

@@ -8,19 +8,20 @@ use Rattle.cc_machine.specs.declared.machine.Machine.TheInside.{Inside}
 use Rattle.cc_machine.specs.declared.object.Object.{Object}
 use Rattle.cc_machine.specs.State.{State, SlotState}
 use Rattle.cc_machine.specs.Objects.{span_of_slot}
+use Rattle.cc_machine.specs.Owners.{slot_state, CountsSlots, TellsOwners}
 use Rattle.cc_machine.specs.Run.{IsReached}
 
 -- the objects of a planner with their slots
 unfoldable pub objects_in : List PlannedObject → List ℕ → List Object
 objects_in (planned ∷ rest) (slot ∷ slots) =
-    record { size = planned.size; slot = slot; live = planned.live } ∷ objects_in rest slots
+    record { size = planned.size; slot = slot; state = planned.state } ∷ objects_in rest slots
 objects_in _ _ = []
 
 -- the state that the fields are
 abbrev pub state_of : Inside → State
 state_of machine = record {
   limit = machine.limit;
-  slots = machine.slots.items;
+  slots = map (slot_state machine.planner.objects) machine.slots.items;
   pool = machine.pool;
   objects = objects_in machine.planner.objects machine.object_slots.items;
 }
@@ -35,7 +36,7 @@ abbrev pub planned_object : List SlotState → Object → PlannedObject
 planned_object slots object = record {
   size = object.size;
   span = span_of_slot slots object.slot;
-  live = object.live;
+  state = object.state;
 }
 
 -- what a planner knows of a state
@@ -46,13 +47,17 @@ plan_of state = record {
   objects = map (planned_object state.slots) state.objects;
 }
 
--- There is room for as many slots and objects as the limit, each planned object has a slot, the planner knows
--- what the state says of the pool and the objects, and the state is one that a run leads to.
+-- There is room for as many slots, objects and counts as the limit, each planned object has a slot, the planner
+-- knows what the state says of the pool and the objects, owners and counts are right, and the state is one that a
+-- run leads to.
 pub record IsMachine (machine : Inside) : Type 0 where
   pub limit_fits : machine.limit ≤ 65536
   pub within_limit : vec_len machine.slots ≤ machine.limit
   pub has_room : machine.limit ≤ vec_capacity machine.slots
   pub has_object_room : machine.limit ≤ vec_capacity machine.object_slots
+  pub has_count_room : machine.limit ≤ vec_capacity machine.slot_counts
   pub each_has_slot : length machine.object_slots.items ≡ length machine.planner.objects
   pub planned : machine.planner ≡ plan_of (state_of machine)
+  pub owned : TellsOwners (map (λ slot. slot.owner) machine.slots.items) (state_of machine)
+  pub counted : CountsSlots machine.planner.objects machine.slots.items machine.slot_counts.items machine.freed_slots
   pub reached : IsReached (state_of machine)

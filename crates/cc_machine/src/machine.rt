@@ -2,14 +2,14 @@
 use crate::len::Len;
 use crate::object::Object;
 use crate::op::Op;
+use crate::owners::{is_freed, is_swept};
 use crate::reply::Reply;
-use crate::revoking::revoke;
 use crate::rules::{
     rebuilt, sealed, unsealed, with_address, with_bounds, with_exact_bounds, with_flag,
     with_increment, with_perms,
 };
 use crate::slot::Slot;
-use crate::stepping::{add, round, show, usable};
+use crate::stepping::round;
 use cc_cap::Cap;
 use cc_plan::{ObjectId, Planner, SortedPlacer};
 use cc_word::Refusal;
@@ -20,15 +20,23 @@ use std::marker::Model;
 ///
 /// Slot 0 has the root capability. Every other slot has a capability that was derived from an earlier slot,
 /// its parent. One slot may be made the pool, in whose bounds objects are made: each object is a slot below
-/// the pool's, and when it is freed, that slot and all that was derived from it is revoked. All memory is
-/// taken when the machine is opened.
+/// the pool's. When the object is freed, it holds its bytes until the next sweep, which revokes that slot and
+/// all that was derived from it. All memory is taken when the machine is opened.
+///
+/// A sweep touches no slot: each slot has the number of the object that it belongs to, and is revoked exactly if
+/// that object was swept.
 #[derive(Drop)]
 pub struct Machine {
     limit: u32,
     slots: Vec<Slot>,
     pool: Option<u32>,
     planner: Planner<SortedPlacer>,
+    /// The slot of each object, in the order of their numbers.
     object_slots: Vec<u32>,
+    /// How many slots belong to no object, and then how many to each, in the order of their numbers.
+    slot_counts: Vec<u32>,
+    /// How many slots belong to objects that were freed and not swept.
+    freed_slots: u32,
 }
 
 impl Model for Machine {
@@ -47,10 +55,13 @@ impl Machine {
     ghost use Rattle.std.specs.Prelude.{ℕ, Bool, ◌≡◌, ◌≤◌, IfOk, length};
     ghost use Rattle.cc_plan.specs.Placement.{HaveSameSpans};
     ghost use Rattle.cc_plan.specs.Plan.{held_spans as planned_spans};
-    ghost use Rattle.cc_machine.specs.declared.op.Op.TheVariants.{Pool, Alloc, Free};
-    ghost use Rattle.cc_machine.specs.State.{initial_state};
+    ghost use Rattle.std.specs.Result.{result_map_both};
+    ghost use Rattle.cc_machine.specs.declared.op.Op.{Op};
+    ghost use Rattle.cc_machine.specs.declared.op.Op.TheVariants.{Pool, Alloc, Free, Sweep};
+    ghost use Rattle.cc_machine.specs.State.{initial_state, tagged_slot};
     ghost use Rattle.cc_machine.specs.Objects.{object_at, held_bytes_of, held_spans};
-    ghost use Rattle.cc_machine.specs.Step.{capability_at, parent_at, Step};
+    ghost use Rattle.cc_machine.specs.Step.{capability_at, parent_at, usable_slot, Shows, Step};
+    ghost use Rattle.cc_machine.specs.Making.{IsMade, Makes};
     ghost use Rattle.cc_machine.specs.Run.{Run, IsReached};
     ghost use Rattle.cc_machine.specs.Laws.{IsMonotonicTree, HasSealingAuthority};
     ghost use Rattle.cc_machine.specs.ObjectLaws.{KeepsObjectLaws};
@@ -69,17 +80,21 @@ impl Machine {
         let mut slots = Vec::with_capacity(alloc, limit as usize)?;
         slots.push_reserved(Slot {
             capability: Cap::root(),
-            revoked: false,
             parent: None,
+            owner: 0,
         });
         let planner = Planner::with_limit(alloc, limit)?;
         let object_slots = Vec::with_capacity(alloc, limit as usize)?;
+        let mut slot_counts = Vec::with_capacity(alloc, limit as usize)?;
+        slot_counts.push_reserved(1);
         Ok(Machine {
             limit,
             slots,
             pool: None,
             planner,
             object_slots,
+            slot_counts,
+            freed_slots: 0,
         })
     }
 
@@ -96,12 +111,24 @@ impl Machine {
 
     /// The capability of a tagged slot.
     ///
-    /// Refusals in order: `NoSlot`, where no slot has this number; `Revoked`, where it belongs to a freed
+    /// Refusals in order: `NoSlot`, where no slot has this number; `Revoked`, where it belongs to a swept
     /// object.
     pub fn slot(&self, number: u32) -> Result<Cap, Refusal>
         ensures { result ≡ capability_at self.now.slots number }
     {
-        Ok(usable(&self.slots, number)?.capability)
+        Ok(self.usable(number)?.capability)
+    }
+
+    /// The slot of this number. Refusals in order: `NoSlot`, `Revoked`.
+    pub(crate) fn usable(&self, number: u32) -> Result<Slot, Refusal>
+        ensures { usable_slot self.now.slots number
+            ≡ result_map_both (λ slot. tagged_slot slot.capability slot.parent) (λ refusal. refusal) result }
+    {
+        let slot = self.slots.get(number as usize).ok_or(Refusal::NoSlot)?;
+        if is_swept(&self.planner, slot.owner) {
+            return Err(Refusal::Revoked);
+        }
+        Ok(*slot)
     }
 
     /// The slot that a slot was derived from, and `None` for slot 0. Revoked slots have a parent too.
@@ -114,7 +141,7 @@ impl Machine {
         Ok(slot.parent)
     }
 
-    /// The object of a number, live or freed. The first has the number 1.
+    /// The object of a number, live, freed or swept. The first has the number 1.
     ///
     /// Refusals: `NoObject`, where the number was never given, as 0.
     pub fn object(&self, number: u32) -> Result<Object, Refusal>
@@ -127,11 +154,11 @@ impl Machine {
         Ok(Object {
             size: planned.size,
             slot: self.object_slots[number as usize - 1],
-            live: planned.live,
+            state: planned.state,
         })
     }
 
-    /// How many bytes the live objects hold, at most 2^64: the sum of the lengths of their bounds, padding
+    /// How many bytes are held, at most 2^64: the sum of the lengths of the bounds of the held objects, padding
     /// counted.
     pub fn held_bytes(&self) -> u128
         ensures { result ≡ held_bytes_of self.now }
@@ -139,7 +166,7 @@ impl Machine {
         self.planner.held_bytes()
     }
 
-    /// The planner, which holds the bounds of the live objects.
+    /// The planner, which holds the bounds of the held objects.
     pub fn planner(&self) -> &Planner<SortedPlacer>
         ensures { HaveSameSpans (planned_spans result.now.objects) (held_spans self.now) }
     {
@@ -158,24 +185,78 @@ impl Machine {
         ensures sealing { HasSealingAuthority self.new }
         ensures objects { KeepsObjectLaws self.new }
     {
-        let slots = &self.slots;
+        self.tell_reached();
         let (parent, made) = match *op {
-            Op::Show(number) => return show(slots, number),
-            Op::Bounds(number, length) => (number, with_bounds(slots, number, length)),
-            Op::Exact(number, length) => (number, with_exact_bounds(slots, number, length)),
-            Op::Addr(number, address) => (number, with_address(slots, number, address)),
-            Op::Inc(number, amount) => (number, with_increment(slots, number, amount)),
-            Op::Perms(number, mask) => (number, with_perms(slots, number, mask)),
-            Op::Flag(number, flag) => (number, with_flag(slots, number, flag)),
-            Op::Seal(number, authority) => (number, sealed(slots, number, authority)),
-            Op::Unseal(number, authority) => (number, unsealed(slots, number, authority)),
-            Op::Rebuild(authority, word) => (authority, rebuilt(slots, authority, word)),
+            Op::Show(number) => return self.show(number),
+            Op::Bounds(number, length) => (number, with_bounds(self, number, length)),
+            Op::Exact(number, length) => (number, with_exact_bounds(self, number, length)),
+            Op::Addr(number, address) => (number, with_address(self, number, address)),
+            Op::Inc(number, amount) => (number, with_increment(self, number, amount)),
+            Op::Perms(number, mask) => (number, with_perms(self, number, mask)),
+            Op::Flag(number, flag) => (number, with_flag(self, number, flag)),
+            Op::Seal(number, authority) => (number, sealed(self, number, authority)),
+            Op::Unseal(number, authority) => (number, unsealed(self, number, authority)),
+            Op::Rebuild(authority, word) => (authority, rebuilt(self, authority, word)),
             Op::Round(length) => return round(length),
             Op::Pool(number) => return self.set_pool(number),
             Op::Alloc(length) => return self.alloc(length),
             Op::Free(object) => return self.free(object),
+            Op::Sweep => return self.sweep(),
         };
-        add(&mut self.slots, self.limit, parent, made)
+        self.add(parent, made)
+    }
+
+    /// Tells what is true of every machine: its state is one that a run leads to.
+    fn tell_reached(&self)
+        ensures { IsReached self.now }
+    {
+        let _ = &self.slots;
+    }
+
+    /// What a slot holds. Refusals in order: `NoSlot`, `Revoked`.
+    fn show(&self, number: u32) -> Reply
+        ensures { Shows self.now.slots number result }
+    {
+        match self.usable(number) {
+            Ok(slot) => Reply::Shown {
+                word: slot.capability.word(),
+                span: slot.capability.span(),
+                perms: slot.capability.perms(),
+                flag: slot.capability.flag(),
+                otype: slot.capability.otype(),
+                parent: slot.parent,
+            },
+            Err(refusal) => Reply::Refused(refusal),
+        }
+    }
+
+    /// Puts what was made into a new slot, the last, where fewer slots than the limit were made. It belongs to
+    /// what its parent belongs to.
+    fn add(&mut self, parent: u32, made: Result<Cap, Refusal>) -> Reply
+        requires { IsMade self.old.slots parent made }
+        ensures { (op : Op) → Makes self.old.slots op parent made → Step self.old op result self.new }
+    {
+        let capability = match made {
+            Ok(capability) => capability,
+            Err(refusal) => return Reply::Refused(refusal),
+        };
+        let number = self.slots.len() as u32;
+        if number == self.limit {
+            return Reply::Refused(Refusal::Full);
+        }
+        let owner = self.slots[parent as usize].owner;
+        self.slots.push_reserved(Slot {
+            capability,
+            parent: Some(parent),
+            owner,
+        });
+        self.slot_counts[owner as usize] += 1;
+        self.freed_slots += u32::from(is_freed(&self.planner, owner));
+        Reply::Made {
+            slot: number,
+            word: capability.word(),
+            span: capability.span(),
+        }
     }
 
     /// Makes the bounds of a slot the pool. Refusals in order: `NoSlot`, `Revoked`, `Sealed`,
@@ -183,7 +264,7 @@ impl Machine {
     fn set_pool(&mut self, number: u32) -> Reply
         ensures { Step self.old (Pool number) result self.new }
     {
-        let pool = match usable(&self.slots, number) {
+        let pool = match self.usable(number) {
             Ok(slot) => slot.capability,
             Err(refusal) => return Reply::Refused(refusal),
         };
@@ -221,10 +302,11 @@ impl Machine {
         };
         self.slots.push_reserved(Slot {
             capability,
-            revoked: false,
             parent: Some(pool),
+            owner: object.0,
         });
         self.object_slots.push_reserved(number);
+        self.slot_counts.push_reserved(1);
         Reply::Allocated {
             object: object.0,
             slot: number,
@@ -234,21 +316,33 @@ impl Machine {
         }
     }
 
-    /// Frees an object, and revokes its slot and all that was derived from it. Refusals: `NoObject`, where
-    /// the number was never given or its object was freed.
+    /// Frees an object, which holds its bytes until the next sweep. Refusals: `NoObject`, where the number was
+    /// never given, or its object was freed or swept.
     fn free(&mut self, object: u32) -> Reply
         ensures { Step self.old (Free object) result self.new }
     {
         if let Err(refusal) = self.planner.free(ObjectId(object)) {
             return Reply::Refused(refusal);
         }
-        let slot = self.object_slots[object as usize - 1];
-        let revoked = revoke(&mut self.slots, slot);
-        let held = self.planner.held_bytes();
+        self.freed_slots += self.slot_counts[object as usize];
         Reply::Freed {
             object,
+            revoked: 0,
+            held: self.planner.held_bytes(),
+        }
+    }
+
+    /// Sweeps the freed objects: gives their bytes back, and so revokes what belongs to them.
+    fn sweep(&mut self) -> Reply
+        ensures { Step self.old Sweep result self.new }
+    {
+        let objects = self.planner.sweep();
+        let revoked = self.freed_slots;
+        self.freed_slots = 0;
+        Reply::Swept {
+            objects,
             revoked,
-            held,
+            held: self.planner.held_bytes(),
         }
     }
 
@@ -265,8 +359,7 @@ impl Machine {
             → RunsWithin given self.old self.old ops.now replies.new self.new → IsConfined given self.old self.new }
         ensures reaches { ReachesAll self.old ops.now replies.new self.new }
     {
-        // What every machine keeps is known of one whose fields are looked at.
-        let _ = &self.slots;
+        self.tell_reached();
         for (index, op) in ops.iter().enumerate() {
             replies[index] = self.step(op);
         }

@@ -1,0 +1,49 @@
+-- Which object each slot belongs to, as a machine keeps it beside its state, and how many slots belong to each.
+-- No public clause cites this.
+use Rattle.std.specs.Prelude.{ℕ, suc, Bool, false, ◌≡◌, ◌≤◌, ◌<◌, ◌↔◌, List, count_by, length, nat_eq, not, option_map, slice_index, unwrap_or}
+use Rattle.cc_plan.specs.declared.object.PlannedObject.{PlannedObject}
+use Rattle.cc_plan.specs.Plan.{is_freed, is_held, object_numbered}
+use Rattle.cc_machine.specs.declared.object.Object.{Object}
+use Rattle.cc_machine.specs.declared.slot.Slot.{Slot}
+use Rattle.cc_machine.specs.State.{State, SlotState}
+use Rattle.cc_machine.specs.Objects.{IsObject, BelongsTo}
+
+-- the object of this number was swept
+abbrev pub is_swept_at : List PlannedObject → ℕ → Bool
+is_swept_at objects number =
+    unwrap_or (option_map (λ object. not (is_held object.state)) (object_numbered objects number)) false
+
+-- the object of this number was freed, and not swept
+abbrev pub is_freed_at : List PlannedObject → ℕ → Bool
+is_freed_at objects number =
+    unwrap_or (option_map (λ object. is_freed object.state) (object_numbered objects number)) false
+
+-- what a slot is in the state: it is revoked exactly if the object that it belongs to was swept
+abbrev pub slot_state : List PlannedObject → Slot → SlotState
+slot_state objects slot = record {
+  capability = slot.capability;
+  revoked = is_swept_at objects slot.owner;
+  parent = slot.parent;
+}
+
+-- how many slots have this owner
+abbrev pub owned_count : ℕ → List Slot → ℕ
+owned_count owner slots = count_by (λ slot. nat_eq slot.owner owner) slots
+
+-- how many slots have an owner that was freed, and not swept
+abbrev pub freed_slot_count : List PlannedObject → List Slot → ℕ
+freed_slot_count objects slots = count_by (λ slot. is_freed_at objects slot.owner) slots
+
+-- each slot's owner is the number of the object that it belongs to
+pub record TellsOwners (owners : List ℕ) (state : State) : Type 0 where
+  pub as_many : length owners ≡ length state.slots
+  pub fits : (slot : ℕ) → slice_index owners slot ≤ length state.objects
+  pub each :
+      (slot number : ℕ) (object : Object) → slot < length state.slots → IsObject state number object
+      → (slice_index owners slot ≡ number) ↔ BelongsTo state object slot
+
+-- the counts are those of the slots of each owner, 0 for those without an object, and of all freed ones
+pub record CountsSlots (objects : List PlannedObject) (slots : List Slot) (counts : List ℕ) (freed : ℕ) : Type 0 where
+  pub as_many : length counts ≡ suc (length objects)
+  pub each : (owner : ℕ) → owner < length counts → slice_index counts owner ≡ owned_count owner slots
+  pub all_freed : freed ≡ freed_slot_count objects slots

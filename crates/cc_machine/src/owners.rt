@@ -1,0 +1,25 @@
+//! What a planner tells of the object that a slot belongs to.
+ghost use Rattle.std.specs.Prelude.{◌≡◌};
+ghost use Rattle.cc_machine.specs.Owners.{is_freed_at, is_swept_at};
+
+use cc_plan::{ObjectId, ObjectState, Placer, Planner};
+
+/// Whether the object of this number was swept. No object has the number 0.
+pub(crate) fn is_swept<P: Placer>(planner: &Planner<P>, owner: u32) -> bool
+    ensures { result ≡ is_swept_at planner.now.objects owner }
+{
+    match planner.object(ObjectId(owner)) {
+        Some(object) => matches!(object.state, ObjectState::Swept),
+        None => false,
+    }
+}
+
+/// Whether the object of this number was freed, and not swept yet. No object has the number 0.
+pub(crate) fn is_freed<P: Placer>(planner: &Planner<P>, owner: u32) -> bool
+    ensures { result ≡ is_freed_at planner.now.objects owner }
+{
+    match planner.object(ObjectId(owner)) {
+        Some(object) => matches!(object.state, ObjectState::Freed),
+        None => false,
+    }
+}
