@@ -79,12 +79,15 @@ module _ (limit : ℕ) (slots : List Slot) (pool : Option ℕ) (plan : Plan) (ow
       let same : new ≡ with_slot state cap parent = λ i. record { limit = limit; slots = all_slots i; pool = pool; objects = state.objects } in
       let count : number ≡ length state.slots = omega (arith, is_number, long) in
       let adds : Adds state parent (Ok cap) (Made number word span) new =
-      inl (omega (arith, left, long), record {
-        word = word;
-        is_word = is_word;
-        replied = λ i. Made (count i) word (is_span i);
-        added = same;
-      }) in
+      inl (
+        omega (arith, left, long),
+        record {
+          word = word;
+          is_word = is_word;
+          replied = λ i. Made (count i) word (is_span i);
+          added = same;
+        },
+      ) in
       let steps : (other : Op) → Makes (map (slot_state plan.objects) slots) other parent (Ok cap) → Step state other (Made number word span) new =
       λ other made. Makes-Step state other parent (Ok cap) (Made number word span) new made adds in
       let owners : map (λ (s : Slot). s.owner) (with_more up) ≡ map (λ (s : Slot). s.owner) slots ++ slice_index (map (λ (s : Slot). s.owner) slots) parent ∷ [] =

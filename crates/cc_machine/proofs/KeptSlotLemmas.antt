@@ -21,7 +21,6 @@ use Rattle.cc_machine.specs.Owners.{is_swept_at, is_freed_at, slot_state, owned_
 abbrev tells : (PlannedObject → Bool) → List PlannedObject → ℕ → Bool
 tells test objects number = unwrap_or (option_map test (object_numbered objects number)) false
 
-
 at-push : (test : PlannedObject → Bool) (objects : List PlannedObject) (more : PlannedObject) → test more ≡ false → (place : ℕ)
     → unwrap_or (option_map test (slice_get (objects ++ more ∷ []) place)) false ≡ unwrap_or (option_map test (slice_get objects place)) false
 at-push test [] more fails zero = fails

@@ -8,7 +8,7 @@ use Rattle.cc_plan.specs.Plan.{is_held}
 use Rattle.cc_machine.specs.declared.object.Object.{Object}
 use Rattle.cc_machine.specs.declared.reply.Reply.{Reply}
 use Rattle.cc_machine.specs.State.{State}
-use Rattle.cc_machine.specs.Objects.{IsObject, BelongsToOne}
+use Rattle.cc_machine.specs.Objects.{IsObject, BelongsToSome}
 use Rattle.cc_machine.specs.Step.{FreesObject}
 use Rattle.cc_machine.proofs.SameSlotsLemmas.{HaveSameSlots, HaveSameSlots-sym, HaveSameSlots-list, BelongsTo-same, IsSlot-along}
 use Rattle.cc_machine.proofs.ObjectLemmas.{IsObject-same, object_at-set, object_at-other}
@@ -60,12 +60,12 @@ module _ (old new : State) (number : ℕ) (reply : Reply) (frees : FreesObject o
   ]
 
   -- what belonged to a swept object still does
-  swept-still : (n : ℕ) → BelongsToOne old Swept n → BelongsToOne new Swept n
+  swept-still : (n : ℕ) → BelongsToSome old Swept n → BelongsToSome new Swept n
   swept-still n it = record {
     number = it.number;
     object = it.object;
     is_object = other_is it.number it.object other it.is_object;
-    is_so = it.is_so;
+    in_state = it.in_state;
     belongs = BelongsTo-same it.object kept it.belongs;
   }
     where
@@ -73,18 +73,18 @@ module _ (old new : State) (number : ℕ) (reply : Reply) (frees : FreesObject o
       other at =
           let one : IsObject old number it.object = subst (λ (m : ℕ). IsObject old m it.object) at it.is_object in
           let e : it.object.state ≡ Live = ap (λ (o : Object). o.state) (IsObject-same one frees.is_live.is_object) ∙ frees.is_live.live in
-          let f = it.is_so in
+          let f = it.in_state in
           cc
 
   -- and only what did belongs to one now
-  swept-before : (n : ℕ) → BelongsToOne new Swept n → BelongsToOne old Swept n
+  swept-before : (n : ℕ) → BelongsToSome new Swept n → BelongsToSome old Swept n
   swept-before n it = elim (split-freed it.number it.object it.is_object) [
-    | inl at ↦ let e : it.object.state ≡ Freed = ap (λ (o : Object). o.state) at.1 in let f = it.is_so in cc
+    | inl at ↦ let e : it.object.state ≡ Freed = ap (λ (o : Object). o.state) at.1 in let f = it.in_state in cc
     | inr other ↦ record {
       number = it.number;
       object = it.object;
       is_object = other.1;
-      is_so = it.is_so;
+      in_state = it.in_state;
       belongs = BelongsTo-same it.object (HaveSameSlots-sym kept) it.belongs;
     }
   ]

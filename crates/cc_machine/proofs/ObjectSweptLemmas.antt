@@ -10,7 +10,7 @@ use Rattle.cc_plan.specs.Plan.{is_freed, is_held}
 use Rattle.cc_machine.specs.declared.object.Object.{Object}
 use Rattle.cc_machine.specs.declared.reply.Reply.{Reply}
 use Rattle.cc_machine.specs.State.{State, SlotState, IsSlot, IsParent, IsAncestor}
-use Rattle.cc_machine.specs.Objects.{object_at, IsObject, IsPool, BelongsTo, BelongsToOne}
+use Rattle.cc_machine.specs.Objects.{object_at, IsObject, IsPool, BelongsTo, BelongsToSome}
 use Rattle.cc_machine.specs.Step.{RevokesIf, Sweeps, swept}
 use Rattle.cc_machine.proofs.SlotLemmas.{IsSlot-within, slot_at}
 use Rattle.cc_machine.proofs.SameSlotsLemmas.{HaveSameSlots, HaveSameSlots-sym, IsAncestor-same}
@@ -117,31 +117,31 @@ module _ (old new : State) (reply : Reply) (sweeps : Sweeps old reply new) where
       inr (subst (λ (m : ℕ). IsAncestor old m n) (is-swept object).same_slot (IsAncestor-same (HaveSameSlots-sym kept) up))
 
   -- what belonged to a freed or a swept object belongs to a swept one
-  to-swept : (of : ObjectState) (n : ℕ) → ((of ≡ Freed) ⊎ (of ≡ Swept)) → BelongsToOne old of n → BelongsToOne new Swept n
+  to-swept : (of : ObjectState) (n : ℕ) → ((of ≡ Freed) ⊎ (of ≡ Swept)) → BelongsToSome old of n → BelongsToSome new Swept n
   to-swept of n so it =
-      let state : (it.object.state ≡ Freed) ⊎ (it.object.state ≡ Swept) = elim so [ inl e ↦ inl (it.is_so ∙ e) | inr e ↦ inr (it.is_so ∙ e) ] in
+      let state : (it.object.state ≡ Freed) ⊎ (it.object.state ≡ Swept) = elim so [ inl e ↦ inl (it.in_state ∙ e) | inr e ↦ inr (it.in_state ∙ e) ] in
       record {
         number = it.number;
         object = swept it.object;
         is_object = record { found = (let e = sweeps.swept_all in let f = swept-of old.objects it.number it.object it.is_object.found in cc) };
-        is_so = (is-swept it.object).to_swept state;
+        in_state = (is-swept it.object).to_swept state;
         belongs = belongs-swept it.object n it.belongs;
       }
 
   -- and what belongs to a swept object belonged to a freed or a swept one
-  of-swept : (n : ℕ) → BelongsToOne new Swept n → BelongsToOne old Freed n ⊎ BelongsToOne old Swept n
+  of-swept : (n : ℕ) → BelongsToSome new Swept n → BelongsToSome old Freed n ⊎ BelongsToSome old Swept n
   of-swept n it =
       let at = before-at it.number it.object it.is_object in
       let belongs = belonged at.before n (subst (λ (o : Object). BelongsTo new o n) at.is it.belongs) in
       let is_object : IsObject old it.number at.before = record { found = at.found } in
-      elim ((is-swept at.before).of_swept (sym (ap (λ (o : Object). o.state) at.is) ∙ it.is_so)) [
-        | inl freed ↦ inl (record { number = it.number; object = at.before; is_object = is_object; is_so = freed; belongs = belongs })
-        | inr gone ↦ inr (record { number = it.number; object = at.before; is_object = is_object; is_so = gone; belongs = belongs })
+      elim ((is-swept at.before).of_swept (sym (ap (λ (o : Object). o.state) at.is) ∙ it.in_state)) [
+        | inl freed ↦ inl (record { number = it.number; object = at.before; is_object = is_object; in_state = freed; belongs = belongs })
+        | inr gone ↦ inr (record { number = it.number; object = at.before; is_object = is_object; in_state = gone; belongs = belongs })
       ]
 
   module _ (order : (above below : ℕ) → IsParent old above below → above < below) (keeps : KeepsObjects old) where
-    revoked-swept : (n : ℕ) (before after : SlotState) → IsSlot old n before → RevokesIf (BelongsToOne old Freed n) before after
-        → (after.revoked ≡ true) ↔ BelongsToOne new Swept n
+    revoked-swept : (n : ℕ) (before after : SlotState) → IsSlot old n before → RevokesIf (BelongsToSome old Freed n) before after
+        → (after.revoked ≡ true) ↔ BelongsToSome new Swept n
     revoked-swept n before after is (inl revoked) =
         (λ _. to-swept Freed n (inl refl) revoked.0, λ _. ap (λ (s : SlotState). s.revoked) revoked.1)
     revoked-swept n before after is (inr stays) =
@@ -151,7 +151,7 @@ module _ (old new : State) (reply : Reply) (sweeps : Sweeps old reply new) where
           λ it. elim (of-swept n it) [ inl freed ↦ absurd (stays.0 freed) | inr gone ↦ same_mark ∙ law.1 gone ],
         )
 
-    pool-swept : (n : ℕ) (before after : SlotState) → IsPool old n before → RevokesIf (BelongsToOne old Freed n) before after
+    pool-swept : (n : ℕ) (before after : SlotState) → IsPool old n before → RevokesIf (BelongsToSome old Freed n) before after
         → after.revoked ≡ false
     pool-swept n before after is (inl revoked) =
         absurd (pool-of-none old order keeps revoked.0.number revoked.0.object n before revoked.0.is_object is revoked.0.belongs)

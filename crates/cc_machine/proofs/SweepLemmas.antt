@@ -11,7 +11,7 @@ use Rattle.cc_machine.specs.declared.object.Object.{Object}
 use Rattle.cc_machine.specs.declared.slot.Slot.{Slot}
 use Rattle.cc_machine.specs.declared.reply.Reply.TheVariants.{Swept as ToldSwept}
 use Rattle.cc_machine.specs.State.{State, SlotState}
-use Rattle.cc_machine.specs.Objects.{IsObject, BelongsToOne, held_bytes_of}
+use Rattle.cc_machine.specs.Objects.{IsObject, BelongsToSome, held_bytes_of}
 use Rattle.cc_machine.specs.Step.{RevokesIf, RevokesFreed, Sweeps, freed_count, swept}
 use Rattle.cc_machine.specs.Run.{IsReached}
 use Rattle.cc_machine.specs.Machine.{planned_object, plan_of}
@@ -54,7 +54,7 @@ module _ (limit : ℕ) (slots : List Slot) (pool : Option ℕ) (plan : Plan) (ow
 
   -- a slot with a freed owner belongs to that object
   belongs-freed : (number : ℕ) (kept : Slot) → slice_get slots number ≡ Some kept → number < length state.slots → is_freed_at plan.objects kept.owner ≡ true
-      → BelongsToOne state Freed number
+      → BelongsToSome state Freed number
   belongs-freed number kept found within is =
       let it = freed-object plan.objects kept.owner is in
       let is_object : IsObject state kept.owner (with_own it.object (slice_index own (kept.owner - 1))) =
@@ -63,18 +63,18 @@ module _ (limit : ℕ) (slots : List Slot) (pool : Option ℕ) (plan : Plan) (ow
         number = kept.owner;
         object = with_own it.object (slice_index own (kept.owner - 1));
         is_object = is_object;
-        is_so = it.freed;
+        in_state = it.freed;
         belongs =
             (tells.each number kept.owner (with_own it.object (slice_index own (kept.owner - 1))) within is_object).0 (owner-of slots number kept found);
       }
 
   -- and one that belongs to a freed object has it as its owner
-  freed-belongs : (number : ℕ) (kept : Slot) → slice_get slots number ≡ Some kept → number < length state.slots → BelongsToOne state Freed number
+  freed-belongs : (number : ℕ) (kept : Slot) → slice_get slots number ≡ Some kept → number < length state.slots → BelongsToSome state Freed number
       → is_freed_at plan.objects kept.owner ≡ true
   freed-belongs number kept found within it =
       let owns : kept.owner ≡ it.number =
       sym (owner-of slots number kept found) ∙ (tells.each number it.number it.object within it.is_object).1 it.belongs in
-      subst (λ (n : ℕ). is_freed_at plan.objects n ≡ true) (sym owns) (planned-freed it.number it.object it.is_object it.is_so)
+      subst (λ (n : ℕ). is_freed_at plan.objects n ≡ true) (sym owns) (planned-freed it.number it.object it.is_object it.in_state)
 
   revokes : RevokesFreed state new
   revokes = record {
@@ -99,7 +99,7 @@ module _ (limit : ℕ) (slots : List Slot) (pool : Option ℕ) (plan : Plan) (ow
       by_mark : (number : ℕ) (before after : SlotState) (kept : Slot) → slice_get slots number ≡ Some kept → number < length state.slots
           → before ≡ slot_state plan.objects kept → after ≡ slot_state (map planned_swept plan.objects) kept
           → is_swept_at (map planned_swept plan.objects) kept.owner ≡ (is_swept_at plan.objects kept.owner || is_freed_at plan.objects kept.owner)
-          → (freed : Bool) → is_freed_at plan.objects kept.owner ≡ freed → RevokesIf (BelongsToOne state Freed number) before after
+          → (freed : Bool) → is_freed_at plan.objects kept.owner ≡ freed → RevokesIf (BelongsToSome state Freed number) before after
       by_mark number before after kept found within was now mark true is =
           let marked : is_swept_at (map planned_swept plan.objects) kept.owner ≡ true =
           mark ∙ ap (λ (b : Bool). is_swept_at plan.objects kept.owner || b) is ∙ either (is_swept_at plan.objects kept.owner) in

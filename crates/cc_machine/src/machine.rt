@@ -137,8 +137,10 @@ impl Machine {
     pub fn parent(&self, number: u32) -> Result<Option<u32>, Refusal>
         ensures { result ≡ parent_at self.now.slots number }
     {
-        let slot = self.slots.get(number as usize).ok_or(Refusal::NoSlot)?;
-        Ok(slot.parent)
+        match self.slots.get(number as usize) {
+            Some(slot) => Ok(slot.parent),
+            None => Err(Refusal::NoSlot),
+        }
     }
 
     /// The object of a number, live, freed or swept. The first has the number 1.
@@ -245,11 +247,12 @@ impl Machine {
             return Reply::Refused(Refusal::Full);
         }
         let owner = self.slots[parent as usize].owner;
-        self.slots.push_reserved(Slot {
+        let slot = Slot {
             capability,
             parent: Some(parent),
             owner,
-        });
+        };
+        self.slots.push_reserved(slot);
         self.slot_counts[owner as usize] += 1;
         self.freed_slots += u32::from(is_freed(&self.planner, owner));
         Reply::Made {

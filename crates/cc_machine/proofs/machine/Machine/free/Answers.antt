@@ -77,7 +77,7 @@ index-requires c =
     omega (
       arith,
       within c.self.inside.planner c.args.object c.free.new.self c.self.inside.slots.items c.self.inside.slot_counts.items c.self.inside.freed_slots it
-      c.self.invariant.counted,
+          c.self.invariant.counted,
     )
 
 pub overflow_add-self : goal.overflow_add-self
