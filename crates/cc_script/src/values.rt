@@ -1,8 +1,8 @@
 //! The values of commands that are no numbers.
-ghost use Rattle.std.specs.Prelude.{◌≡◌, ◌==◌};
+ghost use Rattle.std.specs.Prelude.{◌≡◌, ◌==◌, option_map};
 ghost use Rattle.std.specs.List.{slice_split};
 ghost use Rattle.bitflags.specs.Sets.{find_name};
-ghost use Rattle.cc_cap.specs.Permissions.{permission_table};
+ghost use Rattle.cc_cap.specs.Permissions.{bits_of, permission_table};
 ghost use Rattle.cc_script.specs.Commands.{flag_in, word_in, permissions_in, with_names};
 
 use crate::words::split_at_first;
@@ -63,8 +63,51 @@ fn read_names(text: &[u8]) -> Option<u16>
 fn read_name(name: &[u8]) -> Option<u16>
     ensures { result ≡ find_name permission_table name.now }
 {
-    match std::str::from_utf8(name) {
-        Ok(name) => Perms::from_name(name).map(Perms::bits),
-        Err(_) => None,
+    permission_named(name).map(Perms::bits)
+}
+
+/// The permission of this name. The names stand here once more, so that one is told by its bytes alone.
+#[tactic(auto, unfolding(bitflags::specs::Sets::find_row))]
+fn permission_named(name: &[u8]) -> Option<Perms>
+    ensures { option_map bits_of result ≡ find_name permission_table name.now }
+{
+    if name.is_empty() {
+        return None;
     }
+    let perms = if b"GLOBAL".as_slice() == name {
+        Perms::GLOBAL
+    } else if b"EXECUTE".as_slice() == name {
+        Perms::EXECUTE
+    } else if b"LOAD".as_slice() == name {
+        Perms::LOAD
+    } else if b"STORE".as_slice() == name {
+        Perms::STORE
+    } else if b"LOAD_CAP".as_slice() == name {
+        Perms::LOAD_CAP
+    } else if b"STORE_CAP".as_slice() == name {
+        Perms::STORE_CAP
+    } else if b"STORE_LOCAL_CAP".as_slice() == name {
+        Perms::STORE_LOCAL_CAP
+    } else if b"SEAL".as_slice() == name {
+        Perms::SEAL
+    } else if b"CINVOKE".as_slice() == name {
+        Perms::CINVOKE
+    } else if b"UNSEAL".as_slice() == name {
+        Perms::UNSEAL
+    } else if b"SYSTEM_REGS".as_slice() == name {
+        Perms::SYSTEM_REGS
+    } else if b"SET_CID".as_slice() == name {
+        Perms::SET_CID
+    } else if b"USER0".as_slice() == name {
+        Perms::USER0
+    } else if b"USER1".as_slice() == name {
+        Perms::USER1
+    } else if b"USER2".as_slice() == name {
+        Perms::USER2
+    } else if b"USER3".as_slice() == name {
+        Perms::USER3
+    } else {
+        return None;
+    };
+    Some(perms)
 }
