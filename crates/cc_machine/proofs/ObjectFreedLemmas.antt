@@ -65,7 +65,7 @@ module _ (old new : State) (number : ℕ) (reply : Reply) (frees : FreesObject o
     number = it.number;
     object = it.object;
     is_object = other_is it.number it.object other it.is_object;
-    in_state = it.in_state;
+    has_mark = it.has_mark;
     belongs = BelongsTo-same it.object kept it.belongs;
   }
     where
@@ -73,18 +73,18 @@ module _ (old new : State) (number : ℕ) (reply : Reply) (frees : FreesObject o
       other at =
           let one : IsObject old number it.object = subst (λ (m : ℕ). IsObject old m it.object) at it.is_object in
           let e : it.object.state ≡ Live = ap (λ (o : Object). o.state) (IsObject-same one frees.is_live.is_object) ∙ frees.is_live.live in
-          let f = it.in_state in
+          let f = it.has_mark in
           cc
 
   -- and only what did belongs to one now
   swept-before : (n : ℕ) → BelongsToSome new Swept n → BelongsToSome old Swept n
   swept-before n it = elim (split-freed it.number it.object it.is_object) [
-    | inl at ↦ let e : it.object.state ≡ Freed = ap (λ (o : Object). o.state) at.1 in let f = it.in_state in cc
+    | inl at ↦ let e : it.object.state ≡ Freed = ap (λ (o : Object). o.state) at.1 in let f = it.has_mark in cc
     | inr other ↦ record {
       number = it.number;
       object = it.object;
       is_object = other.1;
-      in_state = it.in_state;
+      has_mark = it.has_mark;
       belongs = BelongsTo-same it.object (HaveSameSlots-sym kept) it.belongs;
     }
   ]

@@ -11,7 +11,8 @@ use Rattle.cc_machine.specs.declared.object.Object.{Object}
 use Rattle.cc_machine.specs.declared.reply.Reply.{Reply}
 use Rattle.cc_machine.specs.State.{State, SlotState, IsSlot, IsParent, IsAncestor}
 use Rattle.cc_machine.specs.Objects.{object_at, IsObject, IsPool, BelongsTo, BelongsToSome}
-use Rattle.cc_machine.specs.Step.{RevokesIf, Sweeps, swept}
+use Rattle.cc_machine.specs.Step.{RevokesIf, Sweeps}
+use Rattle.cc_machine.specs.Objects.{swept}
 use Rattle.cc_machine.proofs.SlotLemmas.{IsSlot-within, slot_at}
 use Rattle.cc_machine.proofs.SameSlotsLemmas.{HaveSameSlots, HaveSameSlots-sym, IsAncestor-same}
 use Rattle.cc_machine.proofs.ObjectLemmas.{ok-some}
@@ -119,12 +120,12 @@ module _ (old new : State) (reply : Reply) (sweeps : Sweeps old reply new) where
   -- what belonged to a freed or a swept object belongs to a swept one
   to-swept : (of : ObjectState) (n : ℕ) → ((of ≡ Freed) ⊎ (of ≡ Swept)) → BelongsToSome old of n → BelongsToSome new Swept n
   to-swept of n so it =
-      let state : (it.object.state ≡ Freed) ⊎ (it.object.state ≡ Swept) = elim so [ inl e ↦ inl (it.in_state ∙ e) | inr e ↦ inr (it.in_state ∙ e) ] in
+      let state : (it.object.state ≡ Freed) ⊎ (it.object.state ≡ Swept) = elim so [ inl e ↦ inl (it.has_mark ∙ e) | inr e ↦ inr (it.has_mark ∙ e) ] in
       record {
         number = it.number;
         object = swept it.object;
         is_object = record { found = (let e = sweeps.swept_all in let f = swept-of old.objects it.number it.object it.is_object.found in cc) };
-        in_state = (is-swept it.object).to_swept state;
+        has_mark = (is-swept it.object).to_swept state;
         belongs = belongs-swept it.object n it.belongs;
       }
 
@@ -134,9 +135,9 @@ module _ (old new : State) (reply : Reply) (sweeps : Sweeps old reply new) where
       let at = before-at it.number it.object it.is_object in
       let belongs = belonged at.before n (subst (λ (o : Object). BelongsTo new o n) at.is it.belongs) in
       let is_object : IsObject old it.number at.before = record { found = at.found } in
-      elim ((is-swept at.before).of_swept (sym (ap (λ (o : Object). o.state) at.is) ∙ it.in_state)) [
-        | inl freed ↦ inl (record { number = it.number; object = at.before; is_object = is_object; in_state = freed; belongs = belongs })
-        | inr gone ↦ inr (record { number = it.number; object = at.before; is_object = is_object; in_state = gone; belongs = belongs })
+      elim ((is-swept at.before).of_swept (sym (ap (λ (o : Object). o.state) at.is) ∙ it.has_mark)) [
+        | inl freed ↦ inl (record { number = it.number; object = at.before; is_object = is_object; has_mark = freed; belongs = belongs })
+        | inr gone ↦ inr (record { number = it.number; object = at.before; is_object = is_object; has_mark = gone; belongs = belongs })
       ]
 
   module _ (order : (above below : ℕ) → IsParent old above below → above < below) (keeps : KeepsObjects old) where

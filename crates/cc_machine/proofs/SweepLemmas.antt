@@ -12,7 +12,8 @@ use Rattle.cc_machine.specs.declared.slot.Slot.{Slot}
 use Rattle.cc_machine.specs.declared.reply.Reply.TheVariants.{Swept as ToldSwept}
 use Rattle.cc_machine.specs.State.{State, SlotState}
 use Rattle.cc_machine.specs.Objects.{IsObject, BelongsToSome, held_bytes_of}
-use Rattle.cc_machine.specs.Step.{RevokesIf, RevokesFreed, Sweeps, freed_count, swept}
+use Rattle.cc_machine.specs.Step.{RevokesIf, RevokesFreed, Sweeps}
+use Rattle.cc_machine.specs.Objects.{freed_count, swept}
 use Rattle.cc_machine.specs.Run.{IsReached}
 use Rattle.cc_machine.specs.Machine.{planned_object, plan_of}
 use Rattle.cc_machine.specs.Owners.{is_swept_at, is_freed_at, slot_state, freed_slot_count, TellsOwners}
@@ -63,7 +64,7 @@ module _ (limit : ℕ) (slots : List Slot) (pool : Option ℕ) (plan : Plan) (ow
         number = kept.owner;
         object = with_own it.object (slice_index own (kept.owner - 1));
         is_object = is_object;
-        in_state = it.freed;
+        has_mark = it.freed;
         belongs =
             (tells.each number kept.owner (with_own it.object (slice_index own (kept.owner - 1))) within is_object).0 (owner-of slots number kept found);
       }
@@ -74,7 +75,7 @@ module _ (limit : ℕ) (slots : List Slot) (pool : Option ℕ) (plan : Plan) (ow
   freed-belongs number kept found within it =
       let owns : kept.owner ≡ it.number =
       sym (owner-of slots number kept found) ∙ (tells.each number it.number it.object within it.is_object).1 it.belongs in
-      subst (λ (n : ℕ). is_freed_at plan.objects n ≡ true) (sym owns) (planned-freed it.number it.object it.is_object it.in_state)
+      subst (λ (n : ℕ). is_freed_at plan.objects n ≡ true) (sym owns) (planned-freed it.number it.object it.is_object it.has_mark)
 
   revokes : RevokesFreed state new
   revokes = record {

@@ -11,7 +11,7 @@ use crate::rules::{
 use crate::slot::Slot;
 use crate::stepping::round;
 use cc_cap::Cap;
-use cc_plan::{ObjectId, Planner, SortedPlacer};
+use cc_plan::{ObjectId, Planner, TreePlacer};
 use cc_word::Refusal;
 use std::alloc::{AllocError, Global};
 use std::marker::Model;
@@ -30,7 +30,7 @@ pub struct Machine {
     limit: u32,
     slots: Vec<Slot>,
     pool: Option<u32>,
-    planner: Planner<SortedPlacer>,
+    planner: Planner<TreePlacer>,
     /// The slot of each object, in the order of their numbers.
     object_slots: Vec<u32>,
     /// How many slots belong to no object, and then how many to each, in the order of their numbers.
@@ -169,7 +169,7 @@ impl Machine {
     }
 
     /// The planner, which holds the bounds of the held objects.
-    pub fn planner(&self) -> &Planner<SortedPlacer>
+    pub fn planner(&self) -> &Planner<TreePlacer>
         ensures { HaveSameSpans (planned_spans result.now.objects) (held_spans self.now) }
     {
         &self.planner
