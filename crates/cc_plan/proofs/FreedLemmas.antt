@@ -8,6 +8,7 @@ use Rattle.std.proofs.Math.Seq.{map-set_same}
 use Rattle.std.specs.Option.{option_to_list}
 use Rattle.cc_bounds.specs.declared.span.Span.{Span}
 use Rattle.cc_cap.specs.Capability.{Capability}
+use Rattle.cc_plan.specs.declared.align.Align.{Align}
 use Rattle.cc_plan.specs.declared.object.ObjectState.{ObjectState}
 use Rattle.cc_plan.specs.declared.object.ObjectState.TheVariants.{Live, Freed, Swept}
 use Rattle.cc_plan.specs.declared.object.PlannedObject.{PlannedObject}
@@ -166,12 +167,12 @@ swept-freed object freed =
 swept-again : (object : PlannedObject) → swept (as_swept object) ≡ as_swept object
 swept-again object = refl
 
-pub sweeps_one : (limit : ℕ) (pool : Option Capability) (objects : List PlannedObject) (position : ℕ)
-    (object : PlannedObject)
+pub sweeps_one : (limit : ℕ) (pool : Option Capability) (align : Align) (objects : List PlannedObject)
+    (position : ℕ) (object : PlannedObject)
     → IsFreedAt objects position → object ≡ get_or objects position object
-    → SweepsOne (record { limit = limit; pool = pool; objects = objects })
-    (record { limit = limit; pool = pool; objects = slice_set objects position (as_swept object) })
-sweeps_one limit pool objects position object at is =
+    → SweepsOne (record { limit = limit; pool = pool; align = align; objects = objects })
+    (record { limit = limit; pool = pool; align = align; objects = slice_set objects position (as_swept object) })
+sweeps_one limit pool align objects position object at is =
     let freed = freed_read objects position object at is in
     record {
       position = position;
@@ -182,6 +183,7 @@ sweeps_one limit pool objects position object at is =
       is_new = λ i. record {
         limit = limit;
         pool = pool;
+        align = align;
         objects = slice_set objects position (sym
             (swept-freed object freed) i);
       };
@@ -191,11 +193,12 @@ sweeps_one limit pool objects position object at is =
 pub record IsSweeping (old now : Plan) (done : ℕ) : Type 0 where
   pub limit : now.limit ≡ old.limit
   pub pool : now.pool ≡ old.pool
+  pub align : now.align ≡ old.align
   pub same : map swept now.objects ≡ map swept old.objects
   pub counted : freed_count now.objects + done ≡ freed_count old.objects
 
 pub sweeping_begins : (old : Plan) → IsSweeping old old 0
-sweeping_begins old = record { limit = refl; pool = refl; same = refl; counted = omega arith }
+sweeping_begins old = record { limit = refl; pool = refl; align = refl; same = refl; counted = omega arith }
 
 pub sweeping_on : (old now new : Plan) (done : ℕ) → IsSweeping old now done → SweepsOne now new
     → IsSweeping old new (done + 1)
@@ -215,6 +218,7 @@ sweeping_on old now new done so_far one =
     record {
       limit = ap (λ (p : Plan). p.limit) one.is_new ∙ so_far.limit;
       pool = ap (λ (p : Plan). p.pool) one.is_new ∙ so_far.pool;
+      align = ap (λ (p : Plan). p.align) one.is_new ∙ so_far.align;
       same =
           ap (λ (os : List PlannedObject). map swept os) objects_are
           ∙ map-set_same swept now.objects one.position (swept one.object) d again ∙ so_far.same;
@@ -245,5 +249,12 @@ pub sweeping_ends : (old now : Plan) (done : ℕ) → IsSweeping old now done �
     → Sweeps old done now
 sweeping_ends old now done so_far all =
     let none : freed_count now.objects ≡ 0 = omega (arith, so_far.counted, all) in
-    let objects_are : now.objects ≡ map swept old.objects = sym (none_swept now.objects none) ∙ so_far.same in
-    (all, λ i. record { limit = so_far.limit i; pool = so_far.pool i; objects = objects_are i })
+    let objects_are : now.objects ≡ map swept old.objects = sym (none_swept now.objects none) ∙ so_far.same in (
+      all,
+      λ i. record {
+        limit = so_far.limit i;
+        pool = so_far.pool i;
+        align = so_far.align i;
+        objects = objects_are i;
+      },
+    )
