@@ -5,14 +5,15 @@ use Rattle.cc_word.specs.declared.refusal.Refusal.{Refusal}
 use Rattle.cc_word.specs.declared.refusal.Refusal.TheVariants.{NoRoom, Sealed, PoolAlreadySet}
 use Rattle.cc_bounds.specs.declared.span.Span.{Span}
 use Rattle.cc_bounds.specs.Span.{length_of}
-use Rattle.cc_bounds.specs.Granule.{padded_size}
 use Rattle.cc_cap.specs.Capability.{Capability, IsUnsealed}
 use Rattle.cc_cap.specs.Canonical.{IsWordOf}
 use Rattle.cc_plan.specs.declared.object.ObjectId.{ObjectId}
 use Rattle.cc_plan.specs.declared.object.ObjectState.TheVariants.{Live}
 use Rattle.cc_plan.specs.declared.object.PlannedObject.{PlannedObject}
+use Rattle.cc_plan.specs.declared.align.Align.{Align}
+use Rattle.cc_plan.specs.Align.{padded_size_for, unit_of}
 use Rattle.cc_plan.specs.Placement.{IsPlacement, HasNoPlace}
-use Rattle.cc_plan.specs.Plan.{Plan, GivesPool, Allocates as PlanAllocates, RefusedUnless as PlanRefusedUnless, MakesObject as PlanMakes, HasNoRoom as PlanHasNoRoom, held_spans as planned_spans, held_bytes_of as planned_bytes, capability_over, span_at, unit_of}
+use Rattle.cc_plan.specs.Plan.{Plan, GivesPool, Allocates as PlanAllocates, RefusedUnless as PlanRefusedUnless, MakesObject as PlanMakes, HasNoRoom as PlanHasNoRoom, held_spans as planned_spans, held_bytes_of as planned_bytes, capability_over, span_at}
 use Rattle.cc_machine.specs.declared.reply.Reply.{Reply}
 use Rattle.cc_machine.specs.declared.reply.Reply.TheVariants.{PoolSet, Allocated, Refused}
 use Rattle.cc_machine.specs.State.{State, SlotState, tagged_slot, IsSlot}
@@ -35,6 +36,7 @@ state_with limit slots pool plan own = record {
   limit = limit;
   slots = slots;
   pool = pool;
+  align = plan.align;
   objects = objects_in plan.objects own;
 }
 
@@ -45,10 +47,10 @@ plan-passes (inl holds) = holds
 plan-passes (inr fails) = let e = fails.1 in cc
 
 -- a refused pool leaves the plan
-pub give-refused : (old new : Plan) (pool : Capability) (refusal : Refusal) → GivesPool old pool (Err refusal) new → new ≡ old
-give-refused old new pool refusal (inr sealed) = sealed.2
-give-refused old new pool refusal (inl (_, inr given)) = given.2
-give-refused old new pool refusal (inl (_, inl (_, (answer, _)))) = let e = answer in cc
+pub give-refused : (old new : Plan) (pool : Capability) (align : Align) (refusal : Refusal) → GivesPool old pool align (Err refusal) new → new ≡ old
+give-refused old new pool align refusal (inr sealed) = sealed.2
+give-refused old new pool align refusal (inl (_, inr given)) = given.2
+give-refused old new pool align refusal (inl (_, inl (_, (answer, _)))) = let e = answer in cc
 
 -- a refused object leaves the plan
 pub alloc-refused : (old new : Plan) (size : ℕ) (refusal : Refusal) → PlanAllocates old size (Err refusal) new → new ≡ old
@@ -64,12 +66,12 @@ alloc-refused old new size refusal (inl (some, inl (_, inl (_, decided)))) = by_
     by_pool (Some above) some (inr none) = none.stays
 
 -- setting the pool, of what was found
-abbrev SetsPoolFrom : Result SlotState Refusal → State → ℕ → Reply → State → Type 0
-SetsPoolFrom found old number reply new =
+abbrev SetsPoolFrom : Result SlotState Refusal → State → ℕ → Align → Reply → State → Type 0
+SetsPoolFrom found old number align reply new =
     MatchResult found (λ slot.
     RefusedUnless (IsUnsealed slot.capability) Sealed old reply new (
     RefusedUnless (IsNone old.pool) PoolAlreadySet old reply new (
-    (reply ≡ PoolSet number slot.capability.span) × (new ≡ record old { pool = Some number }))))
+    (reply ≡ PoolSet number slot.capability.span align) × (new ≡ record old { pool = Some number; align = align }))))
     (λ refusal. Refuses refusal old reply new)
 
 -- a machine's parts, of which the planner knows what the state says
@@ -91,34 +93,35 @@ module _ (limit : ℕ) (slots : List SlotState) (pool : Option ℕ) (plan : Plan
 
   -- ---- giving the pool
 
-  pub record SetsPoolTo (number : ℕ) (reply : Reply) (new_plan : Plan) : Type 0 where
-    pub sets : SetsPool state number reply (state_with limit slots (Some number) new_plan own)
+  pub record SetsPoolTo (number : ℕ) (align : Align) (reply : Reply) (new_plan : Plan) : Type 0 where
+    pub sets : SetsPool state number align reply (state_with limit slots (Some number) new_plan own)
     pub is_plan : new_plan ≡ plan_of (state_with limit slots (Some number) new_plan own)
     pub as_many : length own ≡ length new_plan.objects
     pub same_objects : new_plan.objects ≡ plan.objects
-    pub same_state : state_with limit slots (Some number) new_plan own ≡ record state { pool = Some number }
+    pub same_state : state_with limit slots (Some number) new_plan own ≡ record state { pool = Some number; align = align }
 
-  pub give-sets : (number : ℕ) (slot : SlotState) (span : Span) (answer : Unit {0}) (new_plan : Plan) → usable_slot slots number ≡ Ok slot
-      → span ≡ slot.capability.span → GivesPool plan slot.capability (Ok answer) new_plan → SetsPoolTo number (PoolSet number span) new_plan
-  give-sets number slot span answer new_plan usable is_span given =
+  pub give-sets : (number : ℕ) (align : Align) (slot : SlotState) (span : Span) (answer : Unit {0}) (new_plan : Plan) → usable_slot slots number ≡ Ok slot
+      → span ≡ slot.capability.span → GivesPool plan slot.capability align (Ok answer) new_plan
+      → SetsPoolTo number align (PoolSet number span align) new_plan
+  give-sets number align slot span answer new_plan usable is_span given =
       let first = plan-passes given in
       let second = plan-passes first.1 in
-      let is_new : new_plan ≡ record plan { pool = Some slot.capability } = second.1.1 in
+      let is_new : new_plan ≡ record plan { pool = Some slot.capability; align = align } = second.1.1 in
       let new : State = state_with limit slots (Some number) new_plan own in
-      let same : new ≡ record state { pool = Some number } = ap (λ (p : Plan). state_with limit slots (Some number) p own) is_new in
+      let same : new ≡ record state { pool = Some number; align = align } = ap (λ (p : Plan). state_with limit slots (Some number) p own) is_new in
       let none_planned : IsNone (pool_capability state) = subst (λ (p : Plan). IsNone p.pool) planned second.0 in
       let none : IsNone state.pool = pool_capability-none state keeps none_planned in
-      let at : IsSlot (record state { pool = Some number }) number slot = record { found = usable-is slots number slot usable } in
-      let is_pool : pool_capability (record state { pool = Some number }) ≡ Some slot.capability =
-      pool_capability-is (record state { pool = Some number }) number slot refl at in
-      let replied : PoolSet number span ≡ PoolSet number slot.capability.span = ap (λ (s : Span). PoolSet number s) is_span in
+      let at : IsSlot (record state { pool = Some number; align = align }) number slot = record { found = usable-is slots number slot usable } in
+      let is_pool : pool_capability (record state { pool = Some number; align = align }) ≡ Some slot.capability =
+      pool_capability-is (record state { pool = Some number; align = align }) number slot refl at in
+      let replied : PoolSet number span align ≡ PoolSet number slot.capability.span align = ap (λ (s : Span). PoolSet number s align) is_span in
       let limit_is : plan.limit ≡ limit = ap (λ (p : Plan). p.limit) planned in
       let objects_is : plan.objects ≡ map (planned_object slots) state.objects = ap (λ (p : Plan). p.objects) planned in
-      let plan_is : record plan { pool = Some slot.capability } ≡ plan_of (record state { pool = Some number }) =
-      λ i. record { limit = limit_is i; pool = sym is_pool i; objects = objects_is i } in
+      let plan_is : record plan { pool = Some slot.capability; align = align } ≡ plan_of (record state { pool = Some number; align = align }) =
+      λ i. record { limit = limit_is i; pool = sym is_pool i; align = align; objects = objects_is i } in
       record {
         sets =
-            subst (λ (found : Result SlotState Refusal). SetsPoolFrom found state number (PoolSet number span) new) (sym usable)
+            subst (λ (found : Result SlotState Refusal). SetsPoolFrom found state number align (PoolSet number span align) new) (sym usable)
             (inl (first.0, inl (none, (replied, same))));
         is_plan = is_new ∙ plan_is ∙ ap plan_of (sym same);
         as_many = each_has_slot ∙ ap (λ (p : Plan). length p.objects) (sym is_new);
@@ -157,7 +160,7 @@ module _ (limit : ℕ) (slots : List SlotState) (pool : Option ℕ) (plan : Plan
         → new_slots ≡ slots ++ tagged_slot made.1 (Some number) ∷ [] → new_own ≡ own ++ length slots ∷ []
         → AllocatesTo size (Allocated made.0.0 (length slots) word span held) new_slots new_plan new_own
     alloc-makes made new_plan word held span new_slots new_own m is_word is_span is_held slots_are own_is =
-        let bytes : Span = span_at m.start size in
+        let bytes : Span = span_at plan.align m.start size in
         let cap : Capability = capability_over bytes slot.capability in
         let answer = m.answer in
         let is_made : made ≡ (record { 0 = length plan.objects + 1 }, cap) = cc in
@@ -171,8 +174,9 @@ module _ (limit : ℕ) (slots : List SlotState) (pool : Option ℕ) (plan : Plan
         ap (λ (p : Plan). objects_in p.objects new_own) m.made
         ∙ ap (λ (o : List ℕ). objects_in (plan.objects ++ q ∷ []) o) own_is
         ∙ objects_in-push plan.objects own q (length slots) each_has_slot in
+        let same_align : new_plan.align ≡ plan.align = ap (λ (p : Plan). p.align) m.made in
         let same : new ≡ with_object state cap number size =
-        λ i. record { limit = limit; slots = all_slots i; pool = pool; objects = all_objects i } in
+        λ i. record { limit = limit; slots = all_slots i; pool = pool; align = same_align i; objects = all_objects i } in
         let is_plan : new_plan ≡ plan_of new =
         m.made ∙ ap (λ (p : Plan). with_planned p bytes size) planned
         ∙ sym (plan_of-with_object state cap number size keeps objects) ∙ ap plan_of (sym same) in
@@ -195,7 +199,7 @@ module _ (limit : ℕ) (slots : List SlotState) (pool : Option ℕ) (plan : Plan
                   placed = inl (record {
                     start = m.start;
                     placement =
-                        subst (λ (h : List Span). IsPlacement slot.capability.span h (padded_size size) (unit_of size) m.start) spans m.placement;
+                        subst (λ (h : List Span). IsPlacement slot.capability.span h (padded_size_for plan.align size) (unit_of plan.align size) m.start) spans m.placement;
                     word = word;
                     is_word = subst (λ (c : Capability). IsWordOf c word) is_cap is_word;
                     made = same;
@@ -238,10 +242,10 @@ module _ (limit : ℕ) (slots : List SlotState) (pool : Option ℕ) (plan : Plan
     alloc-plans made new_plan allocates = elim (decides (Ok made) new_plan allocates) [
       | inl m ↦
           let answer = m.answer in
-          let is_made : made ≡ (record { 0 = length plan.objects + 1 }, capability_over (span_at m.start size) slot.capability) = cc in
+          let is_made : made ≡ (record { 0 = length plan.objects + 1 }, capability_over (span_at plan.align m.start size) slot.capability) = cc in
           record {
             is_number = ap (λ (p : ObjectId × Capability). p.0.0) is_made;
-            more = record { size = size; span = span_at m.start size; state = Live };
+            more = record { size = size; span = span_at plan.align m.start size; state = Live };
             live = refl;
             objects_are = ap (λ (p : Plan). p.objects) m.made;
           }
@@ -277,7 +281,7 @@ module _ (limit : ℕ) (slots : List SlotState) (pool : Option ℕ) (plan : Plan
                   is_pool = record { is_pool = is_pool; is_slot = at };
                   placed = inr (record {
                     none =
-                        subst (λ (h : List Span). HasNoPlace slot.capability.span h (padded_size size) (unit_of size))
+                        subst (λ (h : List Span). HasNoPlace slot.capability.span h (padded_size_for plan.align size) (unit_of plan.align size))
                         (held-planned plan state planned) none.none;
                     refused = (is_refusal, ap (λ (p : Plan). state_with limit slots pool p own) none.stays);
                   });

@@ -76,7 +76,7 @@ module _ (limit : ℕ) (slots : List Slot) (pool : Option ℕ) (plan : Plan) (ow
       let new : State = state_with limit (map (slot_state plan.objects) (with_more up)) pool plan own in
       let long = length-map slots (slot_state plan.objects) in
       let all_slots = slots-push plan.objects slots (record { capability = cap; parent = Some parent; owner = up.owner }) (not-swept up found) in
-      let same : new ≡ with_slot state cap parent = λ i. record { limit = limit; slots = all_slots i; pool = pool; objects = state.objects } in
+      let same : new ≡ with_slot state cap parent = λ i. record { limit = limit; slots = all_slots i; pool = pool; align = plan.align; objects = state.objects } in
       let count : number ≡ length state.slots = omega (arith, is_number, long) in
       let adds : Adds state parent (Ok cap) (Made number word span) new =
       inl (

@@ -181,15 +181,16 @@ module _ (limit : ℕ) (slots : List SlotState) (pool : Option ℕ) (plan : Plan
       ∙ ap (λ (p : PlannedObject). set plan.objects i p) gone_is in
       let limit_is : plan.limit ≡ limit = ap (λ (p : Plan). p.limit) planned in
       let pool_is = ap (λ (p : Plan). p.pool) planned in
+      let same_align : new_plan.align ≡ plan.align = ap (λ (p : Plan). p.align) freed.is_new in
       let freed_plan : record plan { objects = slice_set plan.objects i marked } ≡ plan_of new =
-      λ j. record { limit = limit_is j; pool = pool_is j; objects = sym mapped j } in
+      λ j. record { limit = limit_is j; pool = pool_is j; align = sym same_align j; objects = sym mapped j } in
       let is_plan : new_plan ≡ plan_of new = freed.is_new ∙ freed_plan in
       let held_now : held ≡ held_bytes_of new =
       held_is ∙ ap (λ (spans : List Span). sum_by length_of spans) (held-planned new_plan new is_plan) in
       let it : FreesObject state number (ToldFreed number 0 held) new = record {
         object = object;
         is_live = record { is_object = is_object; live = freed.live };
-        is_new = ap (λ (os : List Object). record state { objects = os }) all_objects;
+        is_new = λ j. record { limit = limit; slots = slots; pool = pool; align = same_align j; objects = all_objects j };
         replied = ap (λ (n : ℕ). ToldFreed number 0 n) held_now;
       } in
       record {

@@ -92,15 +92,16 @@ module _ (old new : State) (number : ℕ) (reply : Reply) (frees : FreesObject o
   pub KeepsObjects-freed : KeepsObjects old → KeepsObjects new
   KeepsObjects-freed keeps =
       let pool = ap (λ (s : State). s.pool) frees.is_new in
+      let align = ap (λ (s : State). s.align) frees.is_new in
       record {
         fewer =
             let count = ap (λ (objects : List Object). length objects) objects_are in
             let slots = ap (λ (s : State). length s.slots) frees.is_new in
             omega (arith, keeps.fewer, slots, count, length-set old.objects (number - 1) freed);
-        child = child-marked old new kept pool keeps was-freed;
-        differ = differ-marked old new kept pool keeps was-freed;
-        exact = record { exact = exact-marked old new kept pool keeps was-freed };
-        apart = apart-marked old new kept pool keeps was-freed;
+        child = child-marked old new kept pool align keeps was-freed;
+        differ = differ-marked old new kept pool align keeps was-freed;
+        exact = record { exact = exact-marked old new kept pool align keeps was-freed };
+        apart = apart-marked old new kept pool align keeps was-freed;
         revoked = record {
           revoked = λ n slot is.
               let law = keeps.revoked.revoked n slot (IsSlot-along (sym slots_are) is) in

@@ -2,6 +2,7 @@
 use Rattle.std.proofs.Common.{ℕ, ◌≡◌, ◌≢◌, ◌<◌, ◌∙◌, IsTrue, sym, subst, inl, inr, arith}
 use Rattle.cc_bounds.specs.Span.{SharesByte}
 use Rattle.cc_cap.specs.Capability.{Capability}
+use Rattle.cc_plan.specs.declared.align.Align.{Align}
 use Rattle.cc_plan.specs.Plan.{HasExactBounds, is_held}
 use Rattle.cc_machine.specs.declared.object.Object.{Object}
 use Rattle.cc_machine.specs.State.{State, SlotState, IsSlot, IsParent}
@@ -31,7 +32,7 @@ pool-of-none state order keeps number object n slot is_object is belongs =
       | inr up ↦ let before = ancestor-before state order up in absurd (omega (arith, at, less, before))
     ]
 
-module _ (old new : State) (kept : HaveSameSlots old new) (pool_stays : new.pool ≡ old.pool) (keeps : KeepsObjects old)
+module _ (old new : State) (kept : HaveSameSlots old new) (pool_stays : new.pool ≡ old.pool) (align_stays : new.align ≡ old.align) (keeps : KeepsObjects old)
     (was : (number : ℕ) (object : Object) → IsObject new number object → Was old number object) where
   pub child-marked : (n : ℕ) (object : Object) → IsObject new n object → IsChildOfPool new object
   child-marked n object is =
@@ -53,23 +54,25 @@ module _ (old new : State) (kept : HaveSameSlots old new) (pool_stays : new.pool
       keeps.differ one other it.before too.before it.is_object too.is_object (it.same_slot ∙ at ∙ sym too.same_slot)
 
   pub exact-marked : (n : ℕ) (object : Object) (slot : SlotState) → IsObject new n object → IsSlot new object.slot slot
-      → HasExactBounds (record { size = object.size; span = slot.capability.span; state = object.state })
+      → HasExactBounds new.align (record { size = object.size; span = slot.capability.span; state = object.state })
   exact-marked n object slot is at =
       let it = was n object is in
       let like = kept.back object.slot slot at in
       let old_slot : IsSlot old it.before.slot like.other = subst (λ (m : ℕ). IsSlot old m like.other) (sym it.same_slot) like.is_slot in
       let law = keeps.exact.exact n it.before like.other it.is_object old_slot in
-      let one : HasExactBounds (record { size = it.before.size; span = like.other.capability.span; state = object.state }) = record {
+      let one : HasExactBounds old.align (record { size = it.before.size; span = like.other.capability.span; state = object.state }) = record {
         some = law.some;
         aligned = law.aligned;
+        ends = law.ends;
         is_span = law.is_span;
         sound = law.sound;
         padded = law.padded;
         at_least = law.at_least;
         at_most = law.at_most;
       } in
-      subst (λ (c : Capability). HasExactBounds (record { size = object.size; span = c.span; state = object.state })) like.capability
-      (subst (λ (m : ℕ). HasExactBounds (record { size = m; span = like.other.capability.span; state = object.state })) it.same_size one)
+      subst (λ (a : Align). HasExactBounds a (record { size = object.size; span = slot.capability.span; state = object.state })) (sym align_stays)
+      (subst (λ (c : Capability). HasExactBounds old.align (record { size = object.size; span = c.span; state = object.state })) like.capability
+      (subst (λ (m : ℕ). HasExactBounds old.align (record { size = m; span = like.other.capability.span; state = object.state })) it.same_size one))
 
   pub apart-marked : (one other : ℕ) (first second : Object) (slot beside : SlotState)
       → IsHeldObject new one first → IsHeldObject new other second → one ≢ other

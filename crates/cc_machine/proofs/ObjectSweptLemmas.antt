@@ -163,10 +163,10 @@ module _ (old new : State) (reply : Reply) (sweeps : Sweeps old reply new) where
       fewer =
           let count = ap (λ (objects : List Object). length objects) sweeps.swept_all in
           omega (arith, keeps.fewer, sweeps.revoked.as_many, count, length-map old.objects swept);
-      child = child-marked old new kept sweeps.pool_stays keeps was-swept;
-      differ = differ-marked old new kept sweeps.pool_stays keeps was-swept;
-      exact = record { exact = exact-marked old new kept sweeps.pool_stays keeps was-swept };
-      apart = apart-marked old new kept sweeps.pool_stays keeps was-swept;
+      child = child-marked old new kept sweeps.pool_stays sweeps.align_stays keeps was-swept;
+      differ = differ-marked old new kept sweeps.pool_stays sweeps.align_stays keeps was-swept;
+      exact = record { exact = exact-marked old new kept sweeps.pool_stays sweeps.align_stays keeps was-swept };
+      apart = apart-marked old new kept sweeps.pool_stays sweeps.align_stays keeps was-swept;
       revoked = record {
         revoked = λ n slot is.
             let there = slot_at old n (omega (arith, IsSlot-within is, sweeps.revoked.as_many)) in

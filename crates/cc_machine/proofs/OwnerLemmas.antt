@@ -4,6 +4,7 @@ use Rattle.std.proofs.lemmas.Bool.{cases_lt}
 use Rattle.std.proofs.lemmas.List.{get_or_append_left, get_or_push, length_push}
 use Rattle.std.proofs.lemmas.Option.{slice_get_within}
 use Rattle.cc_cap.specs.Capability.{Capability}
+use Rattle.cc_plan.specs.declared.align.Align.{Align}
 use Rattle.cc_plan.specs.declared.object.ObjectState.TheVariants.{Live}
 use Rattle.cc_machine.specs.declared.object.Object.{Object}
 use Rattle.cc_machine.specs.State.{State, initial_state, with_slot, IsParent, IsAncestor}
@@ -56,9 +57,10 @@ TellsOwners-stays owners old new tells same as_many was = record {
         )
 
 -- another pool
-pub TellsOwners-pool : (owners : List ℕ) (old : State) (pool : Option ℕ) → TellsOwners owners old → TellsOwners owners (record old { pool = pool })
-TellsOwners-pool owners old pool tells =
-    let new : State = record old { pool = pool } in
+pub TellsOwners-pool : (owners : List ℕ) (old : State) (pool : Option ℕ) (align : Align) → TellsOwners owners old
+    → TellsOwners owners (record old { pool = pool; align = align })
+TellsOwners-pool owners old pool align tells =
+    let new : State = record old { pool = pool; align = align } in
     TellsOwners-stays owners old new tells (HaveSameSlots-list old new refl) refl (λ number object is. record {
       before = object;
       is_object = record { found = is.found };

@@ -57,7 +57,7 @@ pub Makes-Step : (old : State) (op : Op) (parent : ℕ) (result : Result Capabil
     → Makes old.slots op parent result → Adds old parent result reply new → Step old op reply new
 Makes-Step old (Show number) parent result reply new makes adds = absurd makes
 Makes-Step old (Round size) parent result reply new makes adds = absurd makes
-Makes-Step old (Pool number) parent result reply new makes adds = absurd makes
+Makes-Step old (Pool number align) parent result reply new makes adds = absurd makes
 Makes-Step old (Alloc size) parent result reply new makes adds = absurd makes
 Makes-Step old (Free number) parent result reply new makes adds = absurd makes
 Makes-Step old Sweep parent result reply new makes adds = absurd makes
@@ -106,7 +106,7 @@ of-tagged state number parent cap Rule same on =
 pub Makes-tagged : (state : State) (op : Op) (parent : ℕ) (cap : Capability) → Makes state.slots op parent (Ok cap) → IsTagged state parent
 Makes-tagged state (Show number) parent cap makes = absurd makes
 Makes-tagged state (Round size) parent cap makes = absurd makes
-Makes-tagged state (Pool number) parent cap makes = absurd makes
+Makes-tagged state (Pool number align) parent cap makes = absurd makes
 Makes-tagged state (Alloc size) parent cap makes = absurd makes
 Makes-tagged state (Free number) parent cap makes = absurd makes
 Makes-tagged state Sweep parent cap makes = absurd makes

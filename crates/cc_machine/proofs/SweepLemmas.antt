@@ -135,7 +135,7 @@ module _ (limit : ℕ) (slots : List Slot) (pool : Option ℕ) (plan : Plan) (ow
       let limit_is : plan.limit ≡ limit = ap (λ (p : Plan). p.limit) planned in
       let pool_is = ap (λ (p : Plan). p.pool) planned ∙ sym (pool-stays state new keeps objects same.there refl) in
       let swept_plan : record plan { objects = map planned_swept plan.objects } ≡ plan_of new =
-      λ j. record { limit = limit_is j; pool = pool_is j; objects = sym mapped j } in
+      λ j. record { limit = limit_is j; pool = pool_is j; align = plan.align; objects = sym mapped j } in
       let is_plan : new_plan ≡ plan_of new = is_new ∙ swept_plan in
       let held_now : held ≡ held_bytes_of new =
       held_is ∙ ap (λ (spans : List Span). sum_by length_of spans) (held-planned new_plan new is_plan) in
@@ -143,6 +143,7 @@ module _ (limit : ℕ) (slots : List Slot) (pool : Option ℕ) (plan : Plan) (ow
       let it : Sweeps state (ToldSwept count freed held) new = record {
         limit_stays = refl;
         pool_stays = refl;
+        align_stays = refl;
         swept_all = all_objects;
         revoked = revokes;
         more = freed;

@@ -23,6 +23,7 @@ state_of machine = record {
   limit = machine.limit;
   slots = map (slot_state machine.planner.objects) machine.slots.items;
   pool = machine.pool;
+  align = machine.planner.align;
   objects = objects_in machine.planner.objects machine.object_slots.items;
 }
 
@@ -44,6 +45,7 @@ abbrev pub plan_of : State → Plan
 plan_of state = record {
   limit = state.limit;
   pool = pool_capability state;
+  align = state.align;
   objects = map (planned_object state.slots) state.objects;
 }
 

@@ -14,7 +14,7 @@ mod stepping;
 #[cfg(test)]
 mod tests;
 
-pub use cc_plan::ObjectState;
+pub use cc_plan::{Align, ObjectState};
 pub use laws::{
     confinement, disjoint_objects, exact_objects, exact_revocation, monotonic_tree,
     objects_from_pool, one_outcome, reachability, runs_join, sealing_authority,

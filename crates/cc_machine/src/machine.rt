@@ -11,7 +11,7 @@ use crate::rules::{
 use crate::slot::Slot;
 use crate::stepping::round;
 use cc_cap::Cap;
-use cc_plan::{ObjectId, Planner, TreePlacer};
+use cc_plan::{Align, ObjectId, Planner, TreePlacer};
 use cc_word::Refusal;
 use std::alloc::{AllocError, Global};
 use std::marker::Model;
@@ -200,7 +200,7 @@ impl Machine {
             Op::Unseal(number, authority) => (number, unsealed(self, number, authority)),
             Op::Rebuild(authority, word) => (authority, rebuilt(self, authority, word)),
             Op::Round(length) => return round(length),
-            Op::Pool(number) => return self.set_pool(number),
+            Op::Pool(number, align) => return self.set_pool(number, align),
             Op::Alloc(length) => return self.alloc(length),
             Op::Free(object) => return self.free(object),
             Op::Sweep => return self.sweep(),
@@ -262,22 +262,23 @@ impl Machine {
         }
     }
 
-    /// Makes the bounds of a slot the pool. Refusals in order: `NoSlot`, `Revoked`, `Sealed`,
+    /// Makes the bounds of a slot the pool, with this alignment. Refusals in order: `NoSlot`, `Revoked`, `Sealed`,
     /// `PoolAlreadySet`.
-    fn set_pool(&mut self, number: u32) -> Reply
-        ensures { Step self.old (Pool number) result self.new }
+    fn set_pool(&mut self, number: u32, align: Align) -> Reply
+        ensures { Step self.old (Pool number align) result self.new }
     {
         let pool = match self.usable(number) {
             Ok(slot) => slot.capability,
             Err(refusal) => return Reply::Refused(refusal),
         };
-        if let Err(refusal) = self.planner.give_pool(pool) {
+        if let Err(refusal) = self.planner.give_pool_aligned(pool, align) {
             return Reply::Refused(refusal);
         }
         self.pool = Some(number);
         Reply::PoolSet {
             slot: number,
             span: pool.span(),
+            align,
         }
     }
 

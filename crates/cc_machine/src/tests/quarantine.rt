@@ -1,7 +1,7 @@
 //! Freed objects stay held until a sweep, which revokes exactly what belongs to them.
 use super::objects::{allocated, freed, shown, swept, with_pool};
 use super::{END, length, made, replies};
-use crate::{Machine, ObjectState, Op, Reply};
+use crate::{Align, Machine, ObjectState, Op, Reply};
 use cc_bounds::Span;
 use cc_cap::Perms;
 use cc_word::Refusal;
@@ -51,7 +51,14 @@ fn sweep_before_any_pool(rt: HostRuntime) -> Result<(), Fail> {
     let all = Span { base: 0, top: END };
     let rows = [
         (Op::Sweep, swept(0, 0, 0)),
-        (Op::Pool(0), Reply::PoolSet { slot: 0, span: all }),
+        (
+            Op::Pool(0, Align::One),
+            Reply::PoolSet {
+                slot: 0,
+                span: all,
+                align: Align::One,
+            },
+        ),
         (Op::Sweep, swept(0, 0, 0)),
     ];
     replies(&rt, &mut machine, &rows);
@@ -133,7 +140,7 @@ fn sweep_leaves_live_objects(rt: HostRuntime) -> Result<(), Fail> {
 #[test]
 fn full_machine_stays_full_after_a_sweep(rt: HostRuntime) -> Result<(), Fail> {
     let mut machine = Machine::with_limit(rt.alloc(), 4)?;
-    machine.step(&Op::Pool(0));
+    machine.step(&Op::Pool(0, Align::One));
     for _ in 0..3u32 {
         machine.step(&Op::Alloc(length(8)?));
     }

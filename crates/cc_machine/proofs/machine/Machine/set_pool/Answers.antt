@@ -20,30 +20,30 @@ use Rattle.cc_machine.proofs.machine.Machine.set_pool.Goals as goal
 -- a refused pool leaves the planner
 pub invariant_of-self : goal.invariant_of-self
 invariant_of-self c =
-    let same : c.give_pool.new.self ≡ c.self.inside.planner =
-    give-refused c.self.inside.planner c.give_pool.new.self c.in-Ok.slot.capability c.in-Err-give_pool.refusal
-    (subst (λ (r : Result (Unit {0}) Refusal). GivesPool c.self.inside.planner c.in-Ok.slot.capability r c.give_pool.new.self)
-    c.in-Err-give_pool.is c.give_pool.ensures) in
+    let same : c.give_pool_aligned.new.self ≡ c.self.inside.planner =
+    give-refused c.self.inside.planner c.give_pool_aligned.new.self c.in-Ok.slot.capability c.args.align c.in-Err-give_pool_aligned.refusal
+    (subst (λ (r : Result (Unit {0}) Refusal). GivesPool c.self.inside.planner c.in-Ok.slot.capability c.args.align r c.give_pool_aligned.new.self)
+    c.in-Err-give_pool_aligned.is c.give_pool_aligned.ensures) in
     subst (λ (plan : Plan). IsMachine (record c.self.inside { planner = plan })) (sym same) c.self.invariant
 
 -- what is set
 sets : (c : goal.After-span) → SetsPoolTo c.self.inside.limit (map (slot_state c.self.inside.planner.objects) c.self.inside.slots.items) c.self.inside.pool
     c.self.inside.planner c.self.inside.object_slots.items c.self.invariant.each_has_slot c.self.invariant.planned c.self.invariant.reached
-    c.args.number (PoolSet c.args.number c.span.result) c.give_pool.new.self
+    c.args.number c.args.align (PoolSet c.args.number c.span.result c.args.align) c.give_pool_aligned.new.self
 sets c =
     give-sets c.self.inside.limit (map (slot_state c.self.inside.planner.objects) c.self.inside.slots.items) c.self.inside.pool
     c.self.inside.planner c.self.inside.object_slots.items c.self.invariant.each_has_slot c.self.invariant.planned c.self.invariant.reached
-    c.args.number (tagged_slot c.in-Ok.slot.capability c.in-Ok.slot.parent) c.span.result c.in_default.field-0 c.give_pool.new.self
+    c.args.number c.args.align (tagged_slot c.in-Ok.slot.capability c.in-Ok.slot.parent) c.span.result c.in_default.field-0 c.give_pool_aligned.new.self
     (ap (λ (s : State). usable_slot s.slots c.args.number) c.self.view_is
     ∙ usable-told c.args.self.now.slots c.args.number c.usable.result c.in-Ok.slot c.usable.ensures c.in-Ok.is)
     c.span.ensures.span
-    (subst (λ (r : Result (Unit {0}) Refusal). GivesPool c.self.inside.planner c.in-Ok.slot.capability r c.give_pool.new.self)
-    c.in_default.is c.give_pool.ensures)
+    (subst (λ (r : Result (Unit {0}) Refusal). GivesPool c.self.inside.planner c.in-Ok.slot.capability c.args.align r c.give_pool_aligned.new.self)
+    c.in_default.is c.give_pool_aligned.ensures)
 
 pub invariant_of-self-2 : goal.invariant_of-self-2
 invariant_of-self-2 c =
     let at : List PlannedObject → State = λ objects.
-    state_with c.self.inside.limit (map (slot_state objects) c.self.inside.slots.items) (Some c.args.number) c.give_pool.new.self c.self.inside.object_slots.items in
+    state_with c.self.inside.limit (map (slot_state objects) c.self.inside.slots.items) (Some c.args.number) c.give_pool_aligned.new.self c.self.inside.object_slots.items in
     let objects = sym (sets c).same_objects in
     let owners : List ℕ = map (λ (s : Slot). s.owner) c.self.inside.slots.items in
     record {
@@ -53,24 +53,24 @@ invariant_of-self-2 c =
       has_object_room = c.self.invariant.has_object_room;
       has_count_room = c.self.invariant.has_count_room;
       each_has_slot = (sets c).as_many;
-      planned = subst (λ (os : List PlannedObject). c.give_pool.new.self ≡ plan_of (at os)) objects (sets c).is_plan;
+      planned = subst (λ (os : List PlannedObject). c.give_pool_aligned.new.self ≡ plan_of (at os)) objects (sets c).is_plan;
       owned =
           subst (λ (os : List PlannedObject). TellsOwners owners (at os)) objects
           (subst (λ (s : State). TellsOwners owners s) (sym (sets c).same_state)
-          (TellsOwners-pool owners (state_of c.self.inside) (Some c.args.number) c.self.invariant.owned));
+          (TellsOwners-pool owners (state_of c.self.inside) (Some c.args.number) c.args.align c.self.invariant.owned));
       counted =
           subst (λ (os : List PlannedObject). CountsSlots os c.self.inside.slots.items c.self.inside.slot_counts.items c.self.inside.freed_slots) objects
           c.self.invariant.counted;
       reached =
           subst (λ (os : List PlannedObject). IsReached (at os)) objects
-          (IsReached-step (state_of c.self.inside) (at c.self.inside.planner.objects) (Pool c.args.number) (PoolSet c.args.number c.span.result)
+          (IsReached-step (state_of c.self.inside) (at c.self.inside.planner.objects) (Pool c.args.number c.args.align) (PoolSet c.args.number c.span.result c.args.align)
           c.self.invariant.reached (sets c).sets);
     }
 
 pub returns : goal.returns
 returns c =
     let at : List PlannedObject → State = λ objects.
-    state_with c.self.inside.limit (map (slot_state objects) c.self.inside.slots.items) (Some c.args.number) c.give_pool.new.self c.self.inside.object_slots.items in
-    let reply : Reply = PoolSet c.args.number c.span.result in
-    subst (λ (old : State). SetsPool old c.args.number reply (at c.give_pool.new.self.objects)) c.self.view_is
-    (subst (λ (os : List PlannedObject). SetsPool (state_of c.self.inside) c.args.number reply (at os)) (sym (sets c).same_objects) (sets c).sets)
+    state_with c.self.inside.limit (map (slot_state objects) c.self.inside.slots.items) (Some c.args.number) c.give_pool_aligned.new.self c.self.inside.object_slots.items in
+    let reply : Reply = PoolSet c.args.number c.span.result c.args.align in
+    subst (λ (old : State). SetsPool old c.args.number c.args.align reply (at c.give_pool_aligned.new.self.objects)) c.self.view_is
+    (subst (λ (os : List PlannedObject). SetsPool (state_of c.self.inside) c.args.number c.args.align reply (at os)) (sym (sets c).same_objects) (sets c).sets)

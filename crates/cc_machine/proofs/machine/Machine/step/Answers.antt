@@ -95,13 +95,13 @@ pub returns-in-Round-clause-objects : goal.returns-in-Round-clause-objects
 returns-in-Round-clause-objects c = KeepsObjectLaws-reached c.args.self.now c.tell_reached.ensures
 
 pub returns-in-Pool-clause-tree : goal.returns-in-Pool-clause-tree
-returns-in-Pool-clause-tree c = (after c.args.self.now c.set_pool.new.self (Pool c.in-Pool.number) c.set_pool.result c.tell_reached.ensures c.set_pool.ensures).0
+returns-in-Pool-clause-tree c = (after c.args.self.now c.set_pool.new.self (Pool c.in-Pool.number c.in-Pool.align) c.set_pool.result c.tell_reached.ensures c.set_pool.ensures).0
 
 pub returns-in-Pool-clause-sealing : goal.returns-in-Pool-clause-sealing
-returns-in-Pool-clause-sealing c = (after c.args.self.now c.set_pool.new.self (Pool c.in-Pool.number) c.set_pool.result c.tell_reached.ensures c.set_pool.ensures).1
+returns-in-Pool-clause-sealing c = (after c.args.self.now c.set_pool.new.self (Pool c.in-Pool.number c.in-Pool.align) c.set_pool.result c.tell_reached.ensures c.set_pool.ensures).1
 
 pub returns-in-Pool-clause-objects : goal.returns-in-Pool-clause-objects
-returns-in-Pool-clause-objects c = (after c.args.self.now c.set_pool.new.self (Pool c.in-Pool.number) c.set_pool.result c.tell_reached.ensures c.set_pool.ensures).2
+returns-in-Pool-clause-objects c = (after c.args.self.now c.set_pool.new.self (Pool c.in-Pool.number c.in-Pool.align) c.set_pool.result c.tell_reached.ensures c.set_pool.ensures).2
 
 pub returns-in-Alloc-clause-tree : goal.returns-in-Alloc-clause-tree
 returns-in-Alloc-clause-tree c = (after c.args.self.now c.alloc.new.self (Alloc c.in-Alloc.length) c.alloc.result c.tell_reached.ensures c.alloc.ensures).0
