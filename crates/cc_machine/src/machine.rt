@@ -11,10 +11,13 @@ use crate::rules::{
 use crate::slot::Slot;
 use crate::stepping::{add, round, show, usable};
 use cc_cap::Cap;
-use cc_plan::{ObjectId, Planner, SortedPlacer};
+use cc_plan::{ObjectId, Planner, TreePlacer};
 use cc_word::Refusal;
 use std::alloc::{AllocError, Global};
 use std::marker::Model;
+
+/// The planner that a machine stands on.
+pub type MachinePlanner = Planner<TreePlacer>;
 
 /// Slots of capabilities, numbered from 0.
 ///
@@ -27,7 +30,7 @@ pub struct Machine {
     limit: u32,
     slots: Vec<Slot>,
     pool: Option<u32>,
-    planner: Planner<SortedPlacer>,
+    planner: MachinePlanner,
     object_slots: Vec<u32>,
 }
 
@@ -72,7 +75,7 @@ impl Machine {
             revoked: false,
             parent: None,
         });
-        let planner = Planner::with_limit(alloc, limit)?;
+        let planner = MachinePlanner::with_limit(alloc, limit)?;
         let object_slots = Vec::with_capacity(alloc, limit as usize)?;
         Ok(Machine {
             limit,
@@ -140,7 +143,7 @@ impl Machine {
     }
 
     /// The planner, which holds the bounds of the live objects.
-    pub fn planner(&self) -> &Planner<SortedPlacer>
+    pub fn planner(&self) -> &MachinePlanner
         ensures { HaveSameSpans (planned_spans result.now.objects) (held_spans self.now) }
     {
         &self.planner
