@@ -1,7 +1,7 @@
 //! Runs a script.
 ghost use Rattle.std.specs.Prelude.{◌≡◌, ℕ, true, false, List, [], ◌∷◌, ◌++◌, take, length, not, ◌==◌, ◌↔◌, Err, IfSome, IfOk, OnOk, OnErr, IsErr};
 ghost use Rattle.std.specs.Io.KnownBytes.{Appends};
-ghost use Rattle.cc_script.specs.Lines.{lines_from};
+ghost use Rattle.cc_script.specs.Lines.{lines_from, IsLine};
 ghost use Rattle.cc_script.specs.Commands.{operation_of};
 ghost use Rattle.cc_script.specs.Replies.{is_error};
 ghost use Rattle.cc_script.specs.Output.{Takes, rest_text};
@@ -11,18 +11,20 @@ ghost use Rattle.cc_script.specs.Correct.{StopsInReply, RunsAfter, RunsScript, R
 ghost use Rattle.cc_script.specs.Engine.{AnswersLine, CutsLine, Answers};
 
 use crate::devices::{Failed, Sink, Source};
-use crate::lines::LineStart;
+use crate::line::Line;
+use crate::lines::{LineStart, split_at_line_feed};
 use crate::parsing::parse_line;
-use crate::printing::{refusal_line, reply_line};
+use crate::printing::{push_reply, refusal_line};
 use crate::summary::{ScriptFault, Summary};
 use cc_machine::{Machine, Reply};
 use cc_word::Refusal;
 
 /// The most bytes that are read at once.
-const PIECE: usize = 4096;
+const PIECE: usize = 32768;
 
 /// Runs the script that the source gives: each line is stepped by the machine, and its reply is written
-/// before the next line is looked at.
+/// before the next line is looked at. Where replies were written since the source was last read, the sink is
+/// told before the next read, and passes on what waits in it.
 ///
 /// The caller has that neither device has failed before. The sink is flushed once, at the end of the
 /// script. `Read` is answered exactly if the source failed: then the replies of the whole lines that came
@@ -43,6 +45,7 @@ pub fn run_script<R: Source, W: Sink>(
     ensures runs { RunsScript machine.old (R.to_come source.old) (R.to_come source.new) (W.taken_bytes sink.old) (W.taken_bytes sink.new) result machine.new }
     ensures read { (result ≡ Err ScriptFault.Read) ↔ (R.has_failed source.new ≡ true) }
     ensures write { (result ≡ Err ScriptFault.Write) ↔ (W.has_failed sink.new ≡ true) }
+    ensures passed { OnOk result (W.waiting_bytes sink.new ≡ []) }
     ensures laws { KeepsLaws machine.old machine.new }
 {
     run_script_after(b"", machine, source, sink)
@@ -63,6 +66,7 @@ pub fn run_script_after<R: Source, W: Sink>(
     ensures runs { RunsAfter opening.now machine.old (R.to_come source.old) (R.to_come source.new) (W.taken_bytes sink.old) (W.taken_bytes sink.new) result machine.new }
     ensures read { (result ≡ Err ScriptFault.Read) ↔ (R.has_failed source.new ≡ true) }
     ensures write { (result ≡ Err ScriptFault.Write) ↔ (W.has_failed sink.new ≡ true) }
+    ensures passed { OnOk result (W.waiting_bytes sink.new ≡ []) }
     ensures laws { KeepsLaws machine.old machine.new }
 {
     // A machine tells that a run leads to its state: this one tells it of the state before and of that after.
@@ -84,10 +88,12 @@ fn run_pieces<R: Source, W: Sink>(
     ensures runs { RunsAfter opening.now machine.old (R.to_come source.old) (R.to_come source.new) (W.taken_bytes sink.old) (W.taken_bytes sink.new) result machine.new }
     ensures read { (result ≡ Err ScriptFault.Read) ↔ (R.has_failed source.new ≡ true) }
     ensures write { (result ≡ Err ScriptFault.Write) ↔ (W.has_failed sink.new ≡ true) }
+    ensures passed { OnOk result (W.waiting_bytes sink.new ≡ []) }
 {
     let mut start = LineStart::new();
+    let mut text = Line::new();
     let mut piece = [0u8; PIECE];
-    let opening_error = match take_piece(machine, &mut start, opening, sink) {
+    let opening_error = match take_piece(machine, &mut start, &mut text, opening, sink) {
         Ok(is_error) => is_error,
         Err(Failed) => return Err(ScriptFault::Write),
     };
@@ -100,7 +106,7 @@ fn run_pieces<R: Source, W: Sink>(
         if count == 0 {
             break;
         }
-        match take_piece(machine, &mut start, &piece[..count], sink) {
+        match take_piece(machine, &mut start, &mut text, &piece[..count], sink) {
             Ok(is_error) => any_error |= is_error,
             Err(Failed) => return Err(ScriptFault::Write),
         }
@@ -113,11 +119,12 @@ fn run_pieces<R: Source, W: Sink>(
     }
 }
 
-/// Answers the lines that end in a piece of the script, and keeps the beginning of the next. Tells whether
-/// a reply was an error.
+/// Answers the lines that end in a piece of the script, and keeps the beginning of the next. Where one ended,
+/// the sink passes on what waits. Tells whether a reply was an error.
 fn take_piece<W: Sink>(
     machine: &mut Machine,
     start: &mut LineStart,
+    text: &mut Line,
     piece: &[u8],
     sink: &mut W,
 ) -> Result<bool, Failed>
@@ -129,34 +136,52 @@ fn take_piece<W: Sink>(
     ensures fails { IsErr result ↔ (W.has_failed sink.new ≡ true) }
 {
     let mut any_error = false;
-    for byte in piece {
-        match take_byte(machine, start, *byte, sink) {
+    let mut has_replied = false;
+    let mut rest = piece;
+    'lines: while let Some((end, after)) = split_at_line_feed(rest) {
+        match end_line(machine, start, text, end, sink) {
             Ok(is_error) => any_error |= is_error,
             Err(Failed) => return Err(Failed),
         }
+        has_replied = true;
+        rest = after;
     }
-    Ok(any_error)
+    start.extend(rest);
+    if has_replied {
+        match sink.before_read() {
+            Ok(()) => Ok(any_error),
+            Err(Failed) => Err(Failed),
+        }
+    } else {
+        Ok(any_error)
+    }
 }
 
-/// Takes one byte of the script, and answers the line that it ends.
-fn take_byte<W: Sink>(
+/// Answers the line that ends with these bytes and a line feed.
+fn end_line<W: Sink>(
     machine: &mut Machine,
     start: &mut LineStart,
-    byte: u8,
+    text: &mut Line,
+    end: &[u8],
     sink: &mut W,
 ) -> Result<bool, Failed>
-    requires { W.has_failed sink.old ≡ false }
+    requires sink { W.has_failed sink.old ≡ false }
+    requires line { IsLine end.now }
     ensures ok { (begun : List ℕ) → start.old ≡ take 129 begun → IfOk result (λ error.
-        Answers machine.old begun (byte ∷ []) start.new (W.taken_bytes sink.old) (W.taken_bytes sink.new) error machine.new) }
+        Answers machine.old begun (end.now ++ 10 ∷ []) start.new (W.taken_bytes sink.old) (W.taken_bytes sink.new) error machine.new) }
     ensures err { (begun : List ℕ) → start.old ≡ take 129 begun → OnErr result (
-        StopsInReply machine.old (lines_from begun (byte ∷ [])) (W.taken_bytes sink.old) (W.taken_bytes sink.new) machine.new) }
+        StopsInReply machine.old (lines_from begun (end.now ++ 10 ∷ [])) (W.taken_bytes sink.old) (W.taken_bytes sink.new) machine.new) }
     ensures fails { IsErr result ↔ (W.has_failed sink.new ≡ true) }
 {
-    if byte != b'\n' {
-        start.push(byte);
-        return Ok(false);
+    if start.is_empty() {
+        // the line stands whole in the piece
+        return match answer_line(machine, text, end, sink) {
+            Ok(is_error) => Ok(is_error),
+            Err(Failed) => Err(Failed),
+        };
     }
-    match answer_line(machine, start.as_slice(), sink) {
+    start.extend(end);
+    match answer_line(machine, text, start.as_slice(), sink) {
         Ok(is_error) => {
             start.clear();
             Ok(is_error)
@@ -166,14 +191,21 @@ fn take_byte<W: Sink>(
 }
 
 /// Takes one line and writes its reply. Tells whether that is an error.
-fn answer_line<W: Sink>(machine: &mut Machine, line: &[u8], sink: &mut W) -> Result<bool, Failed>
+fn answer_line<W: Sink>(
+    machine: &mut Machine,
+    text: &mut Line,
+    line: &[u8],
+    sink: &mut W,
+) -> Result<bool, Failed>
     requires { W.has_failed sink.old ≡ false }
     ensures ok { IfOk result (λ error. AnswersLine machine.old line.now (W.taken_bytes sink.old) (W.taken_bytes sink.new) error machine.new) }
     ensures err { OnErr result (CutsLine machine.old line.now (W.taken_bytes sink.old) (W.taken_bytes sink.new) machine.new) }
     ensures fails { IsErr result ↔ (W.has_failed sink.new ≡ true) }
 {
     let reply = reply_to(machine, line);
-    match reply_line(&reply).write(sink) {
+    text.clear();
+    push_reply(text, &reply);
+    match text.write(sink) {
         Ok(()) => Ok(is_refusal(&reply)),
         Err(Failed) => Err(Failed),
     }
@@ -203,6 +235,7 @@ fn finish<W: Sink>(rest: &[u8], sink: &mut W) -> Result<bool, Failed>
     ensures error { IfOk result (λ error. error ≡ not (length rest.now == 0)) }
     ensures ok { OnOk result (Appends (W.taken_bytes sink.old) (W.taken_bytes sink.new) (rest_text rest.now)) }
     ensures err { OnErr result (TakesBeginning (W.taken_bytes sink.old) (W.taken_bytes sink.new) (rest_text rest.now)) }
+    ensures passed { OnOk result (W.waiting_bytes sink.new ≡ []) }
     ensures fails { IsErr result ↔ (W.has_failed sink.new ≡ true) }
 {
     let is_error = match refuse_rest(rest, sink) {
@@ -226,7 +259,8 @@ fn refuse_rest<W: Sink>(rest: &[u8], sink: &mut W) -> Result<bool, Failed>
     if rest.is_empty() {
         return Ok(false);
     }
-    match refusal_line(Refusal::Unfinished).write(sink) {
+    let mut text = refusal_line(Refusal::Unfinished);
+    match text.write(sink) {
         Ok(()) => Ok(true),
         Err(Failed) => Err(Failed),
     }

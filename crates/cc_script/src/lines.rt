@@ -1,6 +1,8 @@
 //! The line that is coming in.
-ghost use Rattle.std.specs.Prelude.{◌≡◌, ℕ, ◌≤◌, List, [], ◌∷◌, ◌++◌, take};
+ghost use Rattle.std.specs.Prelude.{◌≡◌, ℕ, ◌<◌, ◌≤◌, ◌↔◌, List, [], ◌∷◌, ◌++◌, length, take, IfSome, IfNone, IsTrue};
+ghost use Rattle.cc_script.specs.Lines.{IsLine};
 
+use memchr::memchr;
 use std::marker::Model;
 
 /// One byte more than a line may have, so that one that is too long is told from one that is not.
@@ -32,15 +34,21 @@ impl LineStart {
         }
     }
 
-    /// Adds a byte of the line, and forgets it where 129 came before.
-    #[tactic(auto, using(crate::proofs::LineLemmas::push_room, crate::proofs::LineLemmas::push_full))]
-    pub fn push(&mut self, byte: u8)
-        ensures { self.new ≡ take 129 (self.old ++ byte ∷ []) }
+    /// Whether no byte of the line came yet.
+    pub fn is_empty(&self) -> bool
+        ensures { IsTrue result ↔ (self.now ≡ []) }
     {
-        if self.len < ROOM {
-            self.bytes[self.len] = byte;
-            self.len += 1;
-        }
+        self.len == 0
+    }
+
+    /// Adds bytes of the line, and forgets those before which 129 came.
+    pub fn extend(&mut self, bytes: &[u8])
+        ensures { self.new ≡ take 129 (self.old ++ bytes.now) }
+    {
+        let count = bytes.len().min(ROOM - self.len);
+        let end = self.len + count;
+        self.bytes[self.len..end].copy_from_slice(&bytes[..count]);
+        self.len = end;
     }
 
     /// Goes on to the next line.
@@ -55,5 +63,18 @@ impl LineStart {
         ensures { result.now ≡ self.now }
     {
         &self.bytes[..self.len]
+    }
+}
+
+/// What stands before the first line feed, and what stands after it.
+pub fn split_at_line_feed(text: &[u8]) -> Option<(&[u8], &[u8])>
+    ensures whole { IfSome result (λ parts. text.now ≡ parts.0.now ++ 10 ∷ parts.1.now) }
+    ensures line { IfSome result (λ parts. IsLine parts.0.now) }
+    ensures shorter { IfSome result (λ parts. length parts.1.now < length text.now) }
+    ensures none { IfNone result (IsLine text.now) }
+{
+    match memchr(b'\n', text) {
+        Some(at) => Some((&text[..at], &text[at + 1..])),
+        None => None,
     }
 }

@@ -1,6 +1,6 @@
-//! One script cut after each of its bytes, and with each call of its devices failing in turn. A machine's
-//! state is told by how it goes on.
-use crate::{ScriptFault, SliceSink, SliceSource, Summary, run_script};
+//! One script cut after each of its bytes, and with each call of its devices failing in turn, to a sink that
+//! passes each reply on and to sinks in which replies wait. A machine's state is told by how it goes on.
+use crate::{Buffered, ScriptFault, SliceSink, SliceSource, Summary, run_script};
 use cc_machine::Machine;
 use std::alloc::{AllocError, Global};
 use std::process::Abort;
@@ -78,16 +78,43 @@ fn line_feeds(text: &[u8]) -> usize {
     count
 }
 
+/// The room that the program lends.
+const MOST_ROOM: usize = 32_768;
+
+/// The room in which replies wait, or none where the sink passes each write on.
+const ROOMS: [Option<usize>; 6] = [None, Some(1), Some(2), Some(64), Some(200), Some(MOST_ROOM)];
+
 #[derive(Clone, Copy)]
 struct Devices {
     pieces: (usize, usize),
     fails: (Option<u32>, Option<u32>),
+    room: Option<usize>,
 }
 
 const SOUND: Devices = Devices {
     pieces: (128, 200),
     fails: (None, None),
+    room: None,
 };
+
+/// What the run answers, and how many bytes the slice took.
+fn run_between(
+    machine: &mut Machine,
+    text: &[u8],
+    devices: &Devices,
+    taken: &mut [u8],
+) -> (Result<Summary, ScriptFault>, usize) {
+    let mut source = SliceSource::new(text, devices.pieces.0.max(1), devices.fails.0);
+    let mut sink = SliceSink::new(taken, devices.pieces.1.max(1), devices.fails.1);
+    let Some(room) = devices.room else {
+        let answer = run_script(machine, &mut source, &mut sink);
+        return (answer, sink.taken());
+    };
+    let mut lent = [0u8; MOST_ROOM];
+    let mut sink = Buffered::new(sink, &mut lent[..room.min(MOST_ROOM)]);
+    let answer = run_script(machine, &mut source, &mut sink);
+    (answer, sink.inner().taken())
+}
 
 fn run(
     rt: &impl Abort,
@@ -97,12 +124,11 @@ fn run(
     answer: Result<Summary, ScriptFault>,
     output: &[u8],
 ) {
-    let mut room = [0u8; 2048];
-    let mut source = SliceSource::new(text, devices.pieces.0.max(1), devices.fails.0);
-    let mut sink = SliceSink::new(&mut room, devices.pieces.1.max(1), devices.fails.1);
-    assert!(rt; run_script(machine, &mut source, &mut sink) == answer);
-    assert!(rt; sink.taken() == output.len());
-    assert!(rt; room.starts_with(output));
+    let mut taken = [0u8; 2048];
+    let (answered, count) = run_between(machine, text, devices, &mut taken);
+    assert!(rt; answered == answer);
+    assert!(rt; count == output.len());
+    assert!(rt; taken.starts_with(output));
 }
 
 /// The machine stands after these first lines of the script: it gives the replies to all the others.
@@ -132,20 +158,17 @@ fn script_cut_after_each_byte(rt: HostRuntime) -> Result<(), Fail> {
         let text = &SCRIPT[..cut];
         let (output, any_error) = output_of(rt.alloc(), 0, text, true)?;
         for size in &sizes {
-            let mut machine = Machine::with_limit(rt.alloc(), 16)?;
-            let devices = Devices {
-                pieces: (*size, 200),
-                ..SOUND
-            };
-            run(
-                &rt,
-                &mut machine,
-                text,
-                &devices,
-                Ok(Summary { any_error }),
-                &output,
-            );
-            stands_after(&rt, rt.alloc(), &mut machine, line_feeds(text))?;
+            for room in &ROOMS {
+                let devices = Devices {
+                    pieces: (*size, 200),
+                    room: *room,
+                    ..SOUND
+                };
+                let mut machine = Machine::with_limit(rt.alloc(), 16)?;
+                let answer = Ok(Summary { any_error });
+                run(&rt, &mut machine, text, &devices, answer, &output);
+                stands_after(&rt, rt.alloc(), &mut machine, line_feeds(text))?;
+            }
         }
     }
     Ok(())
@@ -160,26 +183,24 @@ fn each_read_fails(rt: HostRuntime) -> Result<(), Fail> {
             call = call.saturating_add(1);
             let text = &SCRIPT[..given.min(SCRIPT.len())];
             let (output, _) = output_of(rt.alloc(), 0, text, false)?;
-            let devices = Devices {
-                pieces: (*size, 200),
-                fails: (Some(call), None),
-            };
-            let mut machine = Machine::with_limit(rt.alloc(), 16)?;
-            run(
-                &rt,
-                &mut machine,
-                SCRIPT,
-                &devices,
-                Err(ScriptFault::Read),
-                &output,
-            );
-            stands_after(&rt, rt.alloc(), &mut machine, line_feeds(text))?;
+            for room in &ROOMS {
+                let devices = Devices {
+                    pieces: (*size, 200),
+                    fails: (Some(call), None),
+                    room: *room,
+                };
+                let mut machine = Machine::with_limit(rt.alloc(), 16)?;
+                let answer = Err(ScriptFault::Read);
+                run(&rt, &mut machine, SCRIPT, &devices, answer, &output);
+                stands_after(&rt, rt.alloc(), &mut machine, line_feeds(text))?;
+            }
         }
     }
     Ok(())
 }
 
-/// The call of the sink fails when it took this output, and the machine stands after these lines.
+/// The call of the sink fails when it took this output, and the machine stands after these lines, whatever
+/// the room: a piece of seven bytes ends one line at most, whose reply is passed on before the next.
 fn write_fails(
     rt: &impl Abort,
     alloc: Global,
@@ -188,20 +209,18 @@ fn write_fails(
     output: &[u8],
     lines: usize,
 ) -> Result<(), AllocError> {
-    let devices = Devices {
-        pieces: (7, size),
-        fails: (None, Some(call)),
-    };
-    let mut machine = Machine::with_limit(alloc, 16)?;
-    run(
-        rt,
-        &mut machine,
-        SCRIPT,
-        &devices,
-        Err(ScriptFault::Write),
-        output,
-    );
-    stands_after(rt, alloc, &mut machine, lines.min(15))
+    for room in &ROOMS {
+        let devices = Devices {
+            pieces: (7, size),
+            fails: (None, Some(call)),
+            room: *room,
+        };
+        let mut machine = Machine::with_limit(alloc, 16)?;
+        let answer = Err(ScriptFault::Write);
+        run(rt, &mut machine, SCRIPT, &devices, answer, output);
+        stands_after(rt, alloc, &mut machine, lines.min(15))?;
+    }
+    Ok(())
 }
 
 #[test]
@@ -223,19 +242,47 @@ fn each_write_and_the_flush_fail(rt: HostRuntime) -> Result<(), Fail> {
         }
         let flush = call.saturating_add(1);
         write_fails(&rt, rt.alloc(), *size, flush, &whole, 16)?;
-        let devices = Devices {
-            pieces: (7, *size),
-            fails: (None, Some(flush.saturating_add(1))),
-        };
-        let mut machine = Machine::with_limit(rt.alloc(), 16)?;
-        run(
-            &rt,
-            &mut machine,
-            SCRIPT,
-            &devices,
-            Ok(Summary { any_error }),
-            &whole,
-        );
+        for room in &ROOMS {
+            let devices = Devices {
+                pieces: (7, *size),
+                fails: (None, Some(flush.saturating_add(1))),
+                room: *room,
+            };
+            let mut machine = Machine::with_limit(rt.alloc(), 16)?;
+            let answer = Ok(Summary { any_error });
+            run(&rt, &mut machine, SCRIPT, &devices, answer, &whole);
+        }
+    }
+    Ok(())
+}
+
+#[test]
+fn each_call_fails_where_many_replies_wait(rt: HostRuntime) -> Result<(), Fail> {
+    let sizes: [usize; 3] = [1, 5, 200];
+    let (whole, any_error) = output_of(rt.alloc(), 0, SCRIPT, true)?;
+    for size in &sizes {
+        for room in &ROOMS {
+            let mut before = 0usize;
+            for call in 1u32..1000 {
+                let devices = Devices {
+                    pieces: (SCRIPT.len(), *size),
+                    fails: (None, Some(call)),
+                    room: *room,
+                };
+                let mut machine = Machine::with_limit(rt.alloc(), 16)?;
+                let mut taken = [0u8; 2048];
+                let (answer, count) = run_between(&mut machine, SCRIPT, &devices, &mut taken);
+                assert!(rt; taken.get(..count) == whole.get(..count));
+                assert!(rt; before <= count);
+                before = count;
+                if answer == Ok(Summary { any_error }) {
+                    assert!(rt; count == whole.len());
+                    break;
+                }
+                assert!(rt; answer == Err(ScriptFault::Write));
+            }
+            assert!(rt; before == whole.len());
+        }
     }
     Ok(())
 }
