@@ -1,0 +1,187 @@
+-- A value with a space in it spells nothing.
+use Rattle.std.proofs.Common.{true≢false, ◌≡◌, ℕ, ◌+◌, option_map, ◌≤◌, ◌<◌, Bool, true, false, ◌&&◌, ◌==◌, not, List, [], ◌∷◌, ◌^◌, ◌-◌, length, nat_lt, nat_le, Option, Some, None, Result, Ok, Err, refl, sym, ◌∙◌, ap, subst, arith, if◌then◌else◌, drop, take, inl, inr, codes}
+use Rattle.std.proofs.lemmas.Bool.{eqb-true}
+use Rattle.std.proofs.lemmas.List.Splits.{length-slice_split}
+use Rattle.std.proofs.lemmas.Slice.Eq.{bytes_eq-Decides}
+use Rattle.std.specs.Char.{is_digit}
+use Rattle.std.specs.Int.RustNames.{bit_or}
+use Rattle.std.specs.List.{count_by, list_all, onto_first, slice_split}
+use Rattle.std.specs.Option.{ok_or}
+use Rattle.std.specs.Str.{bytes_eq}
+use Rattle.std.specs.Str.Parse.{digits_value}
+use Rattle.bitflags.specs.Sets.{Row, find_row, find_name}
+use Rattle.hex.specs.Hex.{is_hex_digit}
+use Rattle.cc_word.specs.declared.refusal.Refusal.{Refusal}
+use Rattle.cc_word.specs.declared.refusal.Refusal.TheVariants.{Syntax, OutOfRange}
+use Rattle.cc_cap.specs.Permissions.{permission_table}
+use Rattle.cc_machine.specs.declared.op.Op.{Op}
+use Rattle.cc_machine.specs.declared.op.Op.TheVariants as op
+use Rattle.cc_script.specs.declared.keyword.Keyword.{Keyword}
+use Rattle.cc_script.specs.declared.keyword.Keyword.TheVariants as keyword
+use Rattle.cc_script.specs.Numbers.{numeral_of, number_of, within_limit}
+use Rattle.cc_script.specs.Commands.{words_of, index_in, length_in, address_in, permissions_in, with_names, flag_in, word_in, two, two_values, command_of}
+use Rattle.cc_script.proofs.CommandLemmas.{three_values}
+
+-- no byte of the text is a space
+abbrev is_word : List ℕ → Bool
+is_word text = list_all (λ byte. not (byte == 32)) text
+
+-- a test that no space passes fails on a text with one
+all-spaced : (p : ℕ → Bool) → p 32 ≡ false → (text : List ℕ) → is_word text ≡ false → list_all p text ≡ false
+all-spaced p none [] spaced = cc
+all-spaced p none (x ∷ text) spaced = by (x == 32) refl spaced (λ later. all-spaced p none text later) where
+  later : (first : Bool) → list_all p text ≡ false → (first && list_all p text) ≡ false
+  later true e = e
+  later false e = refl
+
+  by : (space : Bool) → (x == 32) ≡ space → (not space && is_word text) ≡ false → (is_word text ≡ false → list_all p text ≡ false)
+      → (p x && list_all p text) ≡ false
+  by true is spaced rest = rw (eqb-true x 32 is, none) refl
+  by false is spaced rest = later (p x) (rest spaced)
+
+-- ---- numbers
+
+none_of : (radix : ℕ) (text : List ℕ) → is_digit 32 radix ≡ false → is_word text ≡ false → numeral_of radix text ≡ None
+none_of radix text none spaced = rw (all-spaced (λ digit. is_digit digit radix) none text spaced) (by (nat_lt 0 (length text))) where
+  by : (some : Bool) → (if some && false then Some (digits_value radix text) else None) ≡ None
+  by true = refl
+  by false = refl
+
+no_number : (text : List ℕ) → is_word text ≡ false → number_of text ≡ None
+no_number [] spaced = cc
+no_number (x ∷ []) spaced = by (bytes_eq (x ∷ []) (48 ∷ 120 ∷ [])) refl where
+  by : (prefixed : Bool) → bytes_eq (x ∷ []) (48 ∷ 120 ∷ []) ≡ prefixed → (if prefixed then numeral_of 16 [] else numeral_of 10 (x ∷ [])) ≡ None
+  by true is = absurd (omega (arith, ap length ((bytes_eq-Decides (x ∷ []) (48 ∷ 120 ∷ [])).0 is)))
+  by false is = none_of 10 (x ∷ []) refl spaced
+no_number (x ∷ y ∷ text) spaced = by (bytes_eq (x ∷ y ∷ []) (48 ∷ 120 ∷ [])) refl where
+  by : (prefixed : Bool) → bytes_eq (x ∷ y ∷ []) (48 ∷ 120 ∷ []) ≡ prefixed
+      → (if prefixed then numeral_of 16 text else numeral_of 10 (x ∷ y ∷ text)) ≡ None
+  by true is =
+      let same : x ∷ y ∷ [] ≡ 48 ∷ 120 ∷ [] = (bytes_eq-Decides (x ∷ y ∷ []) (48 ∷ 120 ∷ [])).0 is in
+      let first : x ≡ 48 = cc in
+      let second : y ≡ 120 = cc in
+      none_of 16 text refl (rw (first, second) at spaced)
+  by false is = none_of 10 (x ∷ y ∷ text) refl spaced
+
+limited : (limit : ℕ) (text : List ℕ) → is_word text ≡ false → within_limit limit (number_of text) ≡ Err Syntax
+limited limit text spaced = rw (no_number text spaced) refl
+
+-- ---- the other values
+
+no_flag : (text : List ℕ) → is_word text ≡ false → flag_in text ≡ Err Syntax
+no_flag text spaced = by (bytes_eq text (codes "0")) refl (bytes_eq text (codes "1")) refl where
+  by : (zero : Bool) → bytes_eq text (codes "0") ≡ zero → (one : Bool) → bytes_eq text (codes "1") ≡ one
+      → (if zero then Ok false else if one then Ok true else Err Syntax) ≡ Err Syntax
+  by true is one other = absurd (let same = (bytes_eq-Decides text (codes "0")).0 is in let word : is_word text ≡ true = ap is_word same in cc)
+  by false is true other = absurd (let same = (bytes_eq-Decides text (codes "1")).0 other in let word : is_word text ≡ true = ap is_word same in cc)
+  by false is false other = refl
+
+no_word : (text : List ℕ) → is_word text ≡ false → word_in text ≡ Err Syntax
+no_word text spaced = rw (all-spaced is_hex_digit refl text spaced) (by (length text == 32)) where
+  by : (sized : Bool) → (if sized && false then Ok (digits_value 16 text) else Err Syntax) ≡ Err Syntax
+  by true = refl
+  by false = refl
+
+-- ---- names of permissions
+
+both_true : (a b : Bool) → (a && b) ≡ true → (a ≡ true) × (b ≡ true)
+both_true true true e = (refl, refl)
+both_true true false e = cc
+both_true false b e = cc
+
+no_row : (rows : List Row) (name : List ℕ) → list_all (λ row. is_word row.0) rows ≡ true → is_word name ≡ false → find_row rows name ≡ None
+unfolding find_row
+no_row [] name all spaced = refl
+no_row (row ∷ rows) name all spaced =
+    let named = both_true (is_word row.0) (list_all (λ other. is_word other.0) rows) all in
+    by (bytes_eq row.0 name) refl named.0 (no_row rows name named.1 spaced)
+  where
+    by : (same : Bool) → bytes_eq row.0 name ≡ same → is_word row.0 ≡ true → find_row rows name ≡ None
+        → (if same then Some row.1 else find_row rows name) ≡ None
+    by true e named later =
+        let word : is_word row.0 ≡ is_word name = ap is_word ((bytes_eq-Decides row.0 name).0 e) in
+        absurd (true≢false (sym named ∙ word ∙ spaced))
+    by false e named later = later
+
+no_name : (name : List ℕ) → is_word name ≡ false → find_name permission_table name ≡ None
+no_name name spaced = by (length name == 0) where
+  by : (empty : Bool) → (if empty then None else find_row permission_table name) ≡ None
+  by true = refl
+  by false = no_row permission_table name refl spaced
+
+no_names : (names : List (List ℕ)) (bits : ℕ) → list_all is_word names ≡ false → with_names bits names ≡ None
+no_names [] bits spaced = cc
+no_names (name ∷ names) bits spaced = by (is_word name) refl spaced (find_name permission_table name) refl (λ more later. no_names names more later) where
+  by : (word : Bool) → is_word name ≡ word → (word && list_all is_word names) ≡ false → (found : Option ℕ) → find_name permission_table name ≡ found
+      → ((more : ℕ) → list_all is_word names ≡ false → with_names more names ≡ None) → with_names bits (name ∷ names) ≡ None
+  by false is spaced found e rest = rw (no_name name is) refl
+  by true is spaced None e rest = rw e refl
+  by true is spaced (Some named) e rest = rw e (rest (bit_or bits named) spaced)
+
+-- where a text between two bytes has a space, a piece of it has
+pieces-spaced : (text : List ℕ) → is_word text ≡ false → list_all is_word (slice_split (λ byte. byte == 43) text) ≡ false
+pieces-spaced [] spaced = cc
+pieces-spaced (x ∷ text) spaced = by (x == 43) refl (x == 32) refl spaced (slice_split (λ byte. byte == 43) text) (pieces-spaced text) where
+  by : (joint : Bool) → (x == 43) ≡ joint → (space : Bool) → (x == 32) ≡ space → (not space && is_word text) ≡ false
+      → (pieces : List (List ℕ)) → (is_word text ≡ false → list_all is_word pieces ≡ false)
+      → list_all is_word (if joint then [] ∷ pieces else onto_first x pieces) ≡ false
+  by true is true at spaced pieces later = absurd (omega (arith, eqb-true x 43 is, eqb-true x 32 at))
+  by true is false at spaced pieces later = later spaced
+  by false is true at spaced [] later = rw at refl
+  by false is true at spaced (piece ∷ pieces) later = rw at refl
+  by false is false at spaced [] later = rw at (later spaced)
+  by false is false at spaced (piece ∷ pieces) later = rw at (later spaced)
+
+no_permissions : (text : List ℕ) → is_word text ≡ false → permissions_in text ≡ Err Syntax
+no_permissions text spaced = by (bytes_eq text (codes "-")) refl where
+  by : (none : Bool) → bytes_eq text (codes "-") ≡ none → permissions_in text ≡ Err Syntax
+  by true is = absurd (let word : is_word text ≡ true = ap is_word ((bytes_eq-Decides text (codes "-")).0 is) in cc)
+  by false is = rw (is, no_names (slice_split (λ byte. byte == 43) text) 0 (pieces-spaced text spaced)) refl
+
+-- ---- commands
+
+two-syntax : {B : Type 0} (make : ℕ → B → Op) (limit : ℕ) (number : Option ℕ) → two make (within_limit limit number) (Err Syntax) ≡ Err Syntax
+two-syntax make limit None = refl
+two-syntax make limit (Some number) = by (nat_le number limit) where
+  by : (fits : Bool) → two make (if fits then Ok number else Err OutOfRange) (Err Syntax) ≡ Err Syntax
+  by true = refl
+  by false = refl
+
+spaced-second : (k : Keyword) (first second : List ℕ) → is_word second ≡ false → two_values k first second ≡ Err Syntax
+spaced-second keyword.Bounds first second e = rw (limited (2 ^ 64) second e) (two-syntax op.Bounds (2 ^ 32 - 1) (number_of first))
+spaced-second keyword.Exact first second e = rw (limited (2 ^ 64) second e) (two-syntax op.Exact (2 ^ 32 - 1) (number_of first))
+spaced-second keyword.Addr first second e = rw (limited (2 ^ 64 - 1) second e) (two-syntax op.Addr (2 ^ 32 - 1) (number_of first))
+spaced-second keyword.Inc first second e = rw (limited (2 ^ 64 - 1) second e) (two-syntax op.Inc (2 ^ 32 - 1) (number_of first))
+spaced-second keyword.Perms first second e = rw (no_permissions second e) (two-syntax op.Perms (2 ^ 32 - 1) (number_of first))
+spaced-second keyword.Flag first second e = rw (no_flag second e) (two-syntax op.Flag (2 ^ 32 - 1) (number_of first))
+spaced-second keyword.Seal first second e = rw (limited (2 ^ 32 - 1) second e) (two-syntax op.Seal (2 ^ 32 - 1) (number_of first))
+spaced-second keyword.Unseal first second e = rw (limited (2 ^ 32 - 1) second e) (two-syntax op.Unseal (2 ^ 32 - 1) (number_of first))
+spaced-second keyword.Rebuild first second e = rw (no_word second e) (two-syntax op.Rebuild (2 ^ 32 - 1) (number_of first))
+spaced-second keyword.Show first second e = refl
+spaced-second keyword.Round first second e = refl
+spaced-second keyword.Pool first second e = refl
+spaced-second keyword.Alloc first second e = refl
+spaced-second keyword.Free first second e = refl
+
+alone : (text : List ℕ) → is_word text ≡ true → words_of text ≡ text ∷ []
+alone [] is = refl
+alone (x ∷ text) is = by (x == 32) is (λ later. alone text later) where
+  by : (space : Bool) → (not space && is_word text) ≡ true → (is_word text ≡ true → words_of text ≡ text ∷ []) → (if space then [] ∷ words_of text else onto_first x (words_of text)) ≡ (x ∷ text) ∷ []
+  by true is rest = cc
+  by false is rest = ap (onto_first x) (rest is)
+
+many : (text : List ℕ) → is_word text ≡ false → 2 ≤ length (words_of text)
+many [] spaced = cc
+many (x ∷ text) spaced = by (x == 32) spaced (words_of text) (many text) (length-slice_split (λ byte. byte == 32) text) where
+  by : (space : Bool) → (not space && is_word text) ≡ false → (words : List (List ℕ)) → (is_word text ≡ false → 2 ≤ length words)
+      → length words ≡ count_by (λ byte. byte == 32) text + 1 → 2 ≤ length (if space then [] ∷ words else onto_first x words)
+  by true spaced words later sized = omega (arith, sized)
+  by false spaced [] later sized = absurd (omega (arith, sized))
+  by false spaced (word ∷ words) later sized = later spaced
+
+-- a keyword and what stands after its first value: the rest is one value, or has a space and is none
+pub two_or_more : (k : Keyword) (first rest : List ℕ) → two_values k first rest ≡ command_of k (first ∷ words_of rest)
+two_or_more k first rest = by (is_word rest) refl where
+  by : (word : Bool) → is_word rest ≡ word → two_values k first rest ≡ command_of k (first ∷ words_of rest)
+  by true is = rw (alone rest is) refl
+  by false is = spaced-second k first rest is ∙ sym (three_values k first (words_of rest) (many rest is))
