@@ -101,7 +101,9 @@ a capability puts it into the next slot:
   perms S NAMES, flag S F      fewer permissions, another flag
   seal S A, unseal S A         sealed or unsealed by the authority in slot A
   rebuild A WORD               a word again, as far as slot A grants it
-  pool S, alloc N, free J      a pool, an object of N bytes in it, and its end
+  pool S, alloc N              a pool, and an object of N bytes in it
+  free J                       an object's end; it holds its bytes until the next sweep
+  sweep                        gives freed bytes back, and revokes every capability for them
   show S, round N              shows a slot, or what a length is rounded to
 A line that is no command, or that is refused, is answered by `error`, a code and a name, and the
 next line is run.
@@ -132,12 +134,13 @@ For a BASE or LENGTH that is no number the answer is `error 1 syntax`, and for o
 large it is `error 4 range`, both with exit status 1, and no script is run.
 
 Example:
-  printf 'alloc 100\\nfree 1\\n' | cheri-cap plan 0x10000 65536
+  printf 'alloc 100\\nfree 1\\nsweep\\n' | cheri-cap plan 0x10000 65536
   slot 1 ffff0000000000000000000000010000 0x0 0x10000000000000000
   slot 2 ffff0000000190000000000000010000 0x10000 0x20000
   pool 2 0x10000 0x20000
   object 1 slot 3 ffff0000041880040000000000010000 0x10000 0x10064 held 100
-  freed 1 revoked 1 held 0";
+  freed 1 revoked 0 held 100
+  swept 1 revoked 1 held 0";
 
 const SLOTS_HELP: &str = "\
 How many slots the machine can have, and how many objects, from 1 to 65536 [default: 4096]";
