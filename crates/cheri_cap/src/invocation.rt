@@ -33,13 +33,20 @@ pub enum Invocation<'a> {
     Plan {
         /// The most slots, and the most objects, that the machine can have: from 1 to 65536.
         limit: u32,
-        /// The text that stands for the pool's first address, which may be none.
-        base: &'a str,
-        /// The text that stands for the pool's length, which may be none.
-        length: &'a str,
+        /// The pool, as it was typed.
+        pool: PoolTexts<'a>,
         /// The script's file. Standard input where there is none, or where it is `-`.
         file: Option<&'a str>,
     },
+}
+
+/// A pool as it was typed. Each of its texts may spell no number.
+#[derive(Clone, Copy, Debug, PartialEq, Eq)]
+pub struct PoolTexts<'a> {
+    /// The text that stands for the pool's first address.
+    pub base: &'a str,
+    /// The text that stands for the pool's length.
+    pub length: &'a str,
 }
 
 /// The most slots and objects of a machine where `--slots` is not given.
@@ -301,8 +308,10 @@ fn invocation_of<'a>(matches: &ArgMatches<'a>) -> Invocation<'a>
         },
         Some(("plan", plan)) => Invocation::Plan {
             limit: limit_of(plan),
-            base: wanted_text(plan, "base"),
-            length: wanted_text(plan, "length"),
+            pool: PoolTexts {
+                base: wanted_text(plan, "base"),
+                length: wanted_text(plan, "length"),
+            },
             file: plan.get_str("file"),
         },
         _ => unreachable!(),

@@ -130,3 +130,37 @@ fn room_for_one_reply(rt: HostRuntime) -> Result<(), Fail> {
     assert!(rt; room.as_slice() == &reply[..63]);
     Ok(())
 }
+
+/// Scripts of capabilities, sealing and bounds, and of two reasons to refuse one command.
+#[rattlefmt::skip]
+const CALLS: [Row; 9] = [
+    ("rounding_within_parent", 4096, "bounds 0 0x1008\naddr 1 3\nbounds 2 0x1004\nexact 2 0x1004\nbounds 2 0x1006\n",
+        "slot 1 ffff0000000380040000000000000000 0x0 0x1008\nslot 2 ffff0000000380040000000000000003 0x0 0x1008\nslot 3 ffff0000000380040000000000000003 0x0 0x1008\nerror 10 inexact\nerror 9 bounds\n"),
+    ("types_and_authorities", 4096, "bounds 0 7\naddr 1 7\nseal 0 2\naddr 1 6\nseal 0 3\naddr 0 0x3ffef\nseal 0 5\naddr 0 7\nseal 0 7\nunseal 8 2\n",
+        "slot 1 ffff0000040040040000000000000000 0x0 0x7\nslot 2 ffff0000040040040000000000000007 0x0 0x7\nerror 9 bounds\nslot 3 ffff0000040040040000000000000006 0x0 0x7\nslot 4 ffff1fffc80000000000000000000000 0x0 0x10000000000000000\nslot 5 ffff000000000000000000000003ffef 0x0 0x10000000000000000\nslot 6 ffff0000800000000000000000000000 0x0 0x10000000000000000\nslot 7 ffff0000000000000000000000000007 0x0 0x10000000000000000\nslot 8 ffff1fffc00000000000000000000000 0x0 0x10000000000000000\nerror 9 bounds\n"),
+    ("empty_bounds_at_the_top", 4096, "addr 0 0x1000\nbounds 1 0x200\naddr 2 0x1200\nexact 3 0\nrebuild 2 ffff0000048192040000000000001200\nshow 5\nshow 6\n",
+        "slot 1 ffff0000000000000000000000001000 0x0 0x10000000000000000\nslot 2 ffff0000048190040000000000001000 0x1000 0x1200\nslot 3 ffff0000048190040000000000001200 0x1000 0x1200\nslot 4 ffff0000048192040000000000001200 0x1200 0x1200\nslot 5 ffff0000048192040000000000001200 0x1200 0x1200\ncap ffff0000048192040000000000001200 0x1200 0x1200 ffff 0 3ffff 2\nerror 5 slot\n"),
+    ("lengths_near_a_growth", 4096, "addr 0 1\nbounds 1 8184\nbounds 1 8176\nbounds 1 0xffffffffffffffff\n",
+        "slot 1 ffff0000000000000000000000000001 0x0 0x10000000000000000\nslot 2 ffff0000000180050000000000000001 0x0 0x2000\nslot 3 ffff000003ff80040000000000000001 0x0 0x1ff8\nslot 4 ffff0000000000000000000000000001 0x0 0x10000000000000000\n"),
+    ("bounds_before_the_type", 4096, "addr 0 0x3ff00\nbounds 1 16\naddr 2 0x3fff0\nseal 0 3\nperms 3 LOAD\nseal 0 4\naddr 0 0x3fff0\nseal 0 5\n",
+        "slot 1 ffff000000000000000000000003ff00 0x0 0x10000000000000000\nslot 2 ffff000007c5bf04000000000003ff00 0x3ff00 0x3ff10\nslot 3 ffff000007c5bf04000000000003fff0 0x3ff00 0x3ff10\nerror 9 bounds\nslot 4 0004000007c5bf04000000000003fff0 0x3ff00 0x3ff10\nerror 12 permission\nslot 5 ffff000000000000000000000003fff0 0x0 0x10000000000000000\nerror 13 type\n"),
+    ("mismatch_comes_last", 4096, "addr 0 7\nseal 0 1\nbounds 0 7\naddr 3 9\nunseal 2 4\nperms 4 SEAL\nunseal 2 5\naddr 0 9\nperms 6 SEAL\nunseal 2 7\nunseal 2 6\n",
+        "slot 1 ffff0000000000000000000000000007 0x0 0x10000000000000000\nslot 2 ffff1fffc00000000000000000000000 0x0 0x10000000000000000\nslot 3 ffff0000040040040000000000000000 0x0 0x7\nslot 4 ffff0000040040040000000000000009 0x0 0x7\nerror 9 bounds\nslot 5 00800000040040040000000000000009 0x0 0x7\nerror 12 permission\nslot 6 ffff0000000000000000000000000009 0x0 0x10000000000000000\nslot 7 00800000000000000000000000000009 0x0 0x10000000000000000\nerror 12 permission\nerror 14 mismatch\n"),
+    ("sealed_before_the_window", 4096, "bounds 0 0x200\naddr 1 0x4000\naddr 0 7\nseal 1 2\naddr 3 0x4000\ninc 3 0x4000\n",
+        "slot 1 ffff0000048180040000000000000000 0x0 0x200\nerror 11 unrepresentable\nslot 2 ffff0000000000000000000000000007 0x0 0x10000000000000000\nslot 3 ffff1fffc48180040000000000000000 0x0 0x200\nerror 7 sealed\nerror 7 sealed\n"),
+    ("flag_set_and_cleared", 4096, "flag 0 1\nflag 1 0\nshow 1\nshow 2\nflag 2 0\n",
+        "slot 1 ffff2000000000000000000000000000 0x0 0x10000000000000000\nslot 2 ffff0000000000000000000000000000 0x0 0x10000000000000000\ncap ffff2000000000000000000000000000 0x0 0x10000000000000000 ffff 1 3ffff 0\ncap ffff0000000000000000000000000000 0x0 0x10000000000000000 ffff 0 3ffff 1\nslot 3 ffff0000000000000000000000000000 0x0 0x10000000000000000\n"),
+    ("revoked_and_missing_slots", 4096, "pool 0\nalloc 16\nfree 1\nseal 1 9\nseal 9 1\nunseal 1 9\nunseal 9 1\nseal 0 1\nseal 0 9\n",
+        "pool 0 0x0 0x10000000000000000\nobject 1 slot 1 ffff0000040580040000000000000000 0x0 0x10 held 16\nfreed 1 revoked 1 held 0\nerror 6 revoked\nerror 5 slot\nerror 6 revoked\nerror 5 slot\nerror 6 revoked\nerror 5 slot\n"),
+];
+
+#[test]
+fn rows_of_calls(rt: HostRuntime) -> Result<(), Fail> {
+    for row in &CALLS {
+        for size in &[1usize, 7, 4096] {
+            let mut machine = Machine::with_limit(rt.alloc(), row.1.clamp(1, 65_536))?;
+            run(&rt, &mut machine, row, (*size, *size));
+        }
+    }
+    Ok(())
+}

@@ -1,4 +1,5 @@
 //! Worked plans: the numbers of a pool, and the scripts that follow.
+use crate::invocation::PoolTexts;
 use crate::planning::{plan_numbers, plan_script};
 use cc_machine::Machine;
 use cc_script::{ScriptFault, SliceSink, SliceSource, Summary};
@@ -42,7 +43,7 @@ fn assert_planned(
     let mut room = [0u8; 2048];
     let mut source = SliceSource::new(script.as_bytes(), pieces.0.max(1), fail_at);
     let mut sink = SliceSink::new(room.split_at_mut(size.min(2048)).0, pieces.1.max(1), None);
-    let Ok((base, length)) = plan_numbers(base.as_bytes(), length.as_bytes()) else {
+    let Ok((base, length)) = plan_numbers(&PoolTexts { base, length }) else {
         panic!(rt; "{base} {length}");
     };
     let ended = plan_script(machine, base, length, &mut source, &mut sink);
@@ -104,7 +105,7 @@ fn faults_of_the_numbers(rt: HostRuntime) {
         ("1 ", "1", Refusal::Syntax),
     ];
     for (base, length, refusal) in table {
-        let numbers = plan_numbers(base.as_bytes(), length.as_bytes());
+        let numbers = plan_numbers(&PoolTexts { base, length });
         assert!(rt; numbers == Err(refusal), "{base} {length}");
     }
 }
@@ -122,7 +123,7 @@ fn numbers_of_a_pool(rt: HostRuntime) {
         ),
     ];
     for (base, length, address, bytes) in table {
-        match plan_numbers(base.as_bytes(), length.as_bytes()) {
+        match plan_numbers(&PoolTexts { base, length }) {
             Ok(numbers) => {
                 assert_eq!(rt; numbers.0, address, "{base}");
                 assert_eq!(rt; numbers.1.get(), bytes, "{length}");
