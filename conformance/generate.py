@@ -18,7 +18,7 @@ TEST_TABLE = HERE.parent / "crates/cheri_cap/src/tests/conformance_table.rt"
 HEAD = '''//! The conformance set: words, and what each of them means (docs/CONFORMANCE.md).
 //!
 //! conformance/generate.py writes this file, and with it conformance/conformance.tsv, which other programs read.
-//! The gate compares the lines of fifteen words.
+//! The gate compares both with what it works out.
 
 pub const TABLE: &str = "\\
 '''
@@ -218,9 +218,6 @@ def in_columns(lines):
 
 
 def main(arguments):
-    frame = [line for line in (HEAD + TAIL).splitlines() if len(line.split()) == len(COLUMNS)]
-    if frame:
-        sys.exit(f"the gate would take this for a row: {frame[0]}")
     files = {TABLE: with_tabs(table()), TEST_TABLE: HEAD + in_columns(table()) + TAIL}
     if arguments == ["--write"]:
         for path, text in files.items():

@@ -1,6 +1,11 @@
 // Holds the header and the library against the conformance table, a file of rows with fifteen words, and
-// against some lengths. What the table says was not made by the library.
+// against some lengths. What the table says was not made by the library. It is C11 and C++17.
+//
+//   conformance TABLE   the failures, and at the end how many rows and failures there are
+//   conformance names   for each permission of the header a word that has it alone, its bits and its name
 #include <cheri_cap.h>
+#include <cheri_cap.h> // a second time changes nothing
+#include <inttypes.h>
 #include <stdio.h>
 #include <stdlib.h>
 #include <string.h>
@@ -169,11 +174,50 @@ static void check_requests(void)
     expect(!cheri_cap_represents(word.high, word.low, UINT64_C(0xefffffffffffffff)), "2^61 bytes", "the address before it");
 }
 
+// Which types a word of the root's bounds may have: those that sealing gives, and unsealed.
+static void check_types(void)
+{
+    static const struct { uint32_t otype; bool canonical; } rows[] = {
+        {0, true},
+        {CHERI_CAP_OTYPE_LAST_SEALING, true},
+        {CHERI_CAP_OTYPE_LAST_SEALING + 1, false},
+        {CHERI_CAP_OTYPE_UNSEALED - 1, false},
+        {CHERI_CAP_OTYPE_UNSEALED, true},
+    };
+    cheri_cap_fields fields = cheri_cap_unpack(0, 0);
+    expect(fields.otype == CHERI_CAP_OTYPE_UNSEALED, "null", "unsealed");
+    for (size_t i = 0; i < sizeof rows / sizeof *rows; i++) {
+        fields.otype = rows[i].otype;
+        cheri_cap_u128 word = cheri_cap_pack(fields);
+        expect(cheri_cap_otype(word.high, word.low) == rows[i].otype, "a type", "its 18 bits");
+        expect(cheri_cap_is_canonical(word.high, word.low) == rows[i].canonical, "a type", "canonical");
+    }
+}
+
+#define PERMISSIONS(OF)                                                                                  \
+    OF(GLOBAL) OF(EXECUTE) OF(LOAD) OF(STORE) OF(LOAD_CAP) OF(STORE_CAP) OF(STORE_LOCAL_CAP) OF(SEAL)    \
+    OF(CINVOKE) OF(UNSEAL) OF(SYSTEM_REGS) OF(SET_CID) OF(USER0) OF(USER1) OF(USER2) OF(USER3)
+
+static int print_names(void)
+{
+#define ROW(NAME) {#NAME, CHERI_CAP_PERM_##NAME},
+    static const struct { const char *name; uint16_t perms; } rows[] = {PERMISSIONS(ROW)};
+    for (size_t i = 0; i < sizeof rows / sizeof *rows; i++) {
+        cheri_cap_fields fields = cheri_cap_unpack(0, 0);
+        fields.perms = rows[i].perms;
+        cheri_cap_u128 word = cheri_cap_pack(fields);
+        printf("%016" PRIx64 "%016" PRIx64 " %04x %s\n", word.high, word.low, (unsigned)rows[i].perms, rows[i].name);
+    }
+    return 0;
+}
+
 int main(int argc, char **argv)
 {
+    if (argc == 2 && strcmp(argv[1], "names") == 0)
+        return print_names();
     FILE *table = argc == 2 ? fopen(argv[1], "r") : NULL;
     if (table == NULL) {
-        fputs("usage: conformance TABLE\n", stderr);
+        fputs("usage: conformance TABLE | names\n", stderr);
         return 2;
     }
     expect(cheri_cap_version() == CHERI_CAP_VERSION, "version", "header and library");
@@ -181,6 +225,7 @@ int main(int argc, char **argv)
     expect(rows >= 24, argv[1], "too few rows");
     check_lengths();
     check_requests();
+    check_types();
     printf("%u rows, %u failures\n", rows, failures);
     return failures != 0;
 }

@@ -4,6 +4,7 @@
 use crate::{Set, Span, alignment_mask, granule, represents, round_length, set_bounds};
 use cc_word::unpack;
 use std::process::Abort;
+use std::test::Fail;
 
 /// The size of the address space.
 const LAP: u128 = 1 << 64;
@@ -283,4 +284,31 @@ fn stored_spans(rt: HostRuntime) {
             }
         }
     }
+}
+
+#[test]
+fn values_are_told_apart(rt: HostRuntime) -> Result<(), Fail> {
+    let span = Span { base: 1, top: 3 };
+    for other in [
+        Span { base: 2, top: 3 },
+        Span { base: 1, top: 2 },
+        Span { base: 0, top: LAP },
+    ] {
+        assert!(rt; span != other);
+        assert!(rt; other.clone()? == other);
+    }
+    // the same span granted, with and without rounding, and other spans
+    let rounded = set_bounds(1, 8184);
+    for other in [
+        set_bounds(0, 8192),
+        set_bounds(0, 8200),
+        set_bounds(16, 8192),
+        set_bounds(0, 0),
+    ] {
+        assert!(rt; rounded != other);
+        assert!(rt; other.clone()? == other);
+    }
+    assert!(rt; rounded.granted() == set_bounds(0, 8192).granted());
+    assert!(rt; rounded.clone()? == rounded);
+    Ok(())
 }

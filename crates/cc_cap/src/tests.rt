@@ -1,5 +1,7 @@
 //! Worked rows: what a call makes, as its word and its bounds.
+mod orders;
 mod sealing;
+mod values;
 mod words;
 
 use crate::Cap;

@@ -113,12 +113,14 @@ impl SpanTree {
         SpanTree { root: None }
     }
 
+    #[inline(always)]
     fn is_empty(&self) -> bool
         ensures { IsTrue result ↔ (self.now.spans ≡ []) }
     {
         self.root.is_none()
     }
 
+    #[inline(always)]
     fn height(&self) -> u32
         ensures value { result ≡ self.now.height }
         ensures low { result ≤ length self.now.spans }
@@ -129,6 +131,7 @@ impl SpanTree {
         }
     }
 
+    #[inline(always)]
     pub(crate) fn extent(&self) -> Option<Extent>
         ensures { result ≡ extent_of self.now.spans }
     {
@@ -139,6 +142,7 @@ impl SpanTree {
     }
 
     /// The node at the top, and the trees beside it.
+    #[inline(always)]
     fn parts(self) -> Option<Parts>
         ensures some { IfSome result (λ parts. IsParted self parts.left (span_of parts.node.value) parts.right) }
         ensures top { IfSome result (λ parts. IsTop self parts.node.value) }
@@ -279,6 +283,7 @@ impl SpanTree {
     }
 
     /// Where the spans end, which begin at `from` or above: `from` where there is none.
+    #[inline(always)]
     pub(crate) fn end(&self, from: u128) -> u128
         requires { IsChain from (2 ^ 64) self.now.spans }
         ensures { result ≡ end_of from self.now.spans }
@@ -317,6 +322,7 @@ impl SpanTree {
 }
 
 /// The tree of a node between two trees of about the same height.
+#[inline(always)]
 fn join(left: SpanTree, mut node: Box<SpanNode>, right: SpanTree) -> SpanTree
     requires chain { IsChain 0 (2 ^ 64) (left.spans ++ span_of node.value ∷ right.spans) }
     requires few { length left.spans + length right.spans < 2 ^ 31 }
@@ -338,6 +344,7 @@ fn join(left: SpanTree, mut node: Box<SpanNode>, right: SpanTree) -> SpanTree
 
 /// The tree of a node between its trees, after one of them may have changed. It counts as changed where its
 /// extent or its height is not what stood in the node.
+#[inline(always)]
 fn restore(left: SpanTree, node: Box<SpanNode>, right: SpanTree, changed: bool) -> Changed
     requires chain { IsChain 0 (2 ^ 64) (left.spans ++ span_of node.value ∷ right.spans) }
     requires few { length left.spans + length right.spans < 2 ^ 31 }
@@ -363,6 +370,7 @@ fn restore(left: SpanTree, node: Box<SpanNode>, right: SpanTree, changed: bool) 
 }
 
 /// The tree of a node between trees that its extent and height are those of.
+#[inline(always)]
 fn put_back(left: SpanTree, mut node: Box<SpanNode>, right: SpanTree) -> SpanTree
     requires chain { IsChain 0 (2 ^ 64) (left.spans ++ span_of node.value ∷ right.spans) }
     requires same { IsStanding left node.value right }
@@ -384,6 +392,7 @@ fn put_back(left: SpanTree, mut node: Box<SpanNode>, right: SpanTree) -> SpanTre
 }
 
 /// The tree of a node between two trees, one of which may be two higher than the other.
+#[inline(always)]
 fn balance(left: SpanTree, node: Box<SpanNode>, right: SpanTree) -> SpanTree
     requires chain { IsChain 0 (2 ^ 64) (left.spans ++ span_of node.value ∷ right.spans) }
     requires few { length left.spans + length right.spans < 2 ^ 31 }
@@ -402,6 +411,7 @@ fn balance(left: SpanTree, node: Box<SpanNode>, right: SpanTree) -> SpanTree
 }
 
 /// As `balance`, where the left tree is two higher.
+#[inline(never)]
 fn lean_left(left: SpanTree, node: Box<SpanNode>, right: SpanTree) -> SpanTree
     requires chain { IsChain 0 (2 ^ 64) (left.spans ++ span_of node.value ∷ right.spans) }
     requires few { length left.spans + length right.spans < 2 ^ 31 }
@@ -436,6 +446,7 @@ fn lean_left(left: SpanTree, node: Box<SpanNode>, right: SpanTree) -> SpanTree
 }
 
 /// As `balance`, where the right tree is two higher.
+#[inline(never)]
 fn lean_right(left: SpanTree, node: Box<SpanNode>, right: SpanTree) -> SpanTree
     requires chain { IsChain 0 (2 ^ 64) (left.spans ++ span_of node.value ∷ right.spans) }
     requires few { length left.spans + length right.spans < 2 ^ 31 }

@@ -162,6 +162,7 @@ spaced-second keyword.Round first second e = refl
 spaced-second keyword.Pool first second e = refl
 spaced-second keyword.Alloc first second e = refl
 spaced-second keyword.Free first second e = refl
+spaced-second keyword.Sweep first second e = refl
 
 alone : (text : List ℕ) → is_word text ≡ true → words_of text ≡ text ∷ []
 alone [] is = refl

@@ -86,7 +86,13 @@ keyword_of word =
     else if bytes_eq word (codes "pool") then Some keyword.Pool
     else if bytes_eq word (codes "alloc") then Some keyword.Alloc
     else if bytes_eq word (codes "free") then Some keyword.Free
+    else if bytes_eq word (codes "sweep") then Some keyword.Sweep
     else None
+
+-- the commands that are a keyword alone
+abbrev pub no_value : Keyword → Result Op Refusal
+no_value keyword.Sweep = Ok op.Sweep
+no_value keyword = Err Syntax
 
 -- a command of one value, or its fault
 abbrev pub one : {A : Type 0} → (A → Op) → Result A Refusal → Result Op Refusal
@@ -138,7 +144,7 @@ second_value keyword slot second = Err Syntax
 
 -- the commands by how many words follow the keyword
 abbrev pub command_of : Keyword → (values : List (List ℕ)) → Result Op Refusal
-command_of keyword [] = Err Syntax
+command_of keyword [] = no_value keyword
 command_of keyword (value ∷ []) = one_value keyword value
 command_of keyword (first ∷ second ∷ []) = two_values keyword first second
 command_of keyword (first ∷ second ∷ third ∷ more) = Err Syntax

@@ -8,7 +8,7 @@ use Rattle.cc_word.specs.declared.refusal.Refusal.{Refusal}
 use Rattle.cc_bounds.specs.declared.span.Span.{Span}
 use Rattle.cc_cap.specs.Permissions.{bits_of}
 use Rattle.cc_machine.specs.declared.reply.Reply.{Reply}
-use Rattle.cc_machine.specs.declared.reply.Reply.TheVariants.{Made, Shown, Rounded, PoolSet, Allocated, Freed, Refused}
+use Rattle.cc_machine.specs.declared.reply.Reply.TheVariants.{Made, Shown, Rounded, PoolSet, Allocated, Freed, Swept, Refused}
 
 -- `0x` and the digits of a number to base 16, in lower case and without leading zeros
 abbrev pub hexadecimal : ℕ → List ℕ
@@ -31,6 +31,10 @@ parent_text (Some slot) = decimal slot
 abbrev pub refusal_text : Refusal → List ℕ
 refusal_text refusal = codes "error " ++ decimal (code_of refusal) ++ codes " " ++ name_of refusal
 
+-- how many slots were revoked, and the bytes held after it
+abbrev pub revoked_text : (revoked held : ℕ) → List ℕ
+revoked_text revoked held = codes " revoked " ++ decimal revoked ++ codes " held " ++ decimal held
+
 -- the text of a reply
 unfoldable pub reply_text : Reply → List ℕ
 reply_text (Made slot word span) = codes "slot " ++ made_text slot word span
@@ -42,8 +46,8 @@ reply_text (Rounded rounded granule mask) =
 reply_text (PoolSet slot span) = codes "pool " ++ decimal slot ++ codes " " ++ bounds_text span
 reply_text (Allocated object slot word span held) =
     codes "object " ++ decimal object ++ codes " slot " ++ made_text slot word span ++ codes " held " ++ decimal held
-reply_text (Freed object revoked held) =
-    codes "freed " ++ decimal object ++ codes " revoked " ++ decimal revoked ++ codes " held " ++ decimal held
+reply_text (Freed object revoked held) = codes "freed " ++ decimal object ++ revoked_text revoked held
+reply_text (Swept objects revoked held) = codes "swept " ++ decimal objects ++ revoked_text revoked held
 reply_text (Refused refusal) = refusal_text refusal
 
 -- the reply is an error

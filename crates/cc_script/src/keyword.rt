@@ -19,6 +19,7 @@ pub enum Keyword {
     Pool,
     Alloc,
     Free,
+    Sweep,
 }
 
 impl Keyword {
@@ -54,6 +55,8 @@ impl Keyword {
             Keyword::Alloc
         } else if word == b"free".as_slice() {
             Keyword::Free
+        } else if word == b"sweep".as_slice() {
+            Keyword::Sweep
         } else {
             return None;
         };

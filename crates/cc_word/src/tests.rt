@@ -79,3 +79,18 @@ fn refusals(rt: HostRuntime) {
     assert_eq!(rt; sealed.otype, 0);
     assert!(rt; sealed != unpack(0));
 }
+
+// What `==` and `Clone` are has no contract of its own: each of these values is told from the others, and is its clone.
+#[test]
+fn values_are_told_apart(rt: HostRuntime) -> Result<(), Fail> {
+    assert!(rt; Refusal::Sealed != Refusal::Unsealed);
+    assert!(rt; Refusal::Syntax != Refusal::Full);
+    let null = unpack(0);
+    for bit in [0u32, 63, 64, 78, 90, 91, 109, 110, 112, 127] {
+        let fields = unpack(1 << bit);
+        assert!(rt; fields != null, "bit {bit}");
+        assert!(rt; fields.clone()? == fields, "bit {bit}");
+    }
+    assert!(rt; Refusal::Sealed.clone()? == Refusal::Sealed);
+    Ok(())
+}

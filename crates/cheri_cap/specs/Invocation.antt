@@ -81,7 +81,7 @@ abbrev pub command_of : Invocation → Text
 command_of (Show word) = codes "show"
 command_of (Round size) = codes "round"
 command_of (Run limit file) = codes "run"
-command_of (Plan limit base size file) = codes "plan"
+command_of (Plan limit pool file) = codes "plan"
 
 -- each text of the command is the value of its name, and none where the name has no value
 abbrev pub HasValues : List Row → Invocation → Type 0
@@ -89,9 +89,9 @@ HasValues rows (Show word) = first_of (codes "word") rows ≡ Some word.now
 HasValues rows (Round size) = first_of (codes "length") rows ≡ Some size.now
 HasValues rows (Run limit file) =
     IsLimit (first_of (codes "slots") rows) limit × (first_of (codes "file") rows ≡ option_map (λ text. text.now) file)
-HasValues rows (Plan limit base size file) =
+HasValues rows (Plan limit pool file) =
     IsLimit (first_of (codes "slots") rows) limit
-    × (first_of (codes "base") rows ≡ Some base.now) × (first_of (codes "length") rows ≡ Some size.now)
+    × (first_of (codes "base") rows ≡ Some pool.base.now) × (first_of (codes "length") rows ≡ Some pool.length.now)
     × (first_of (codes "file") rows ≡ option_map (λ text. text.now) file)
 
 -- the command is the subcommand that clap found, and each text is the value that it gives to its name

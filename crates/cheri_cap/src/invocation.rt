@@ -33,13 +33,20 @@ pub enum Invocation<'a> {
     Plan {
         /// The most slots, and the most objects, that the machine can have: from 1 to 65536.
         limit: u32,
-        /// The text that stands for the pool's first address, which may be none.
-        base: &'a str,
-        /// The text that stands for the pool's length, which may be none.
-        length: &'a str,
+        /// The pool, as it was typed.
+        pool: PoolTexts<'a>,
         /// The script's file. Standard input where there is none, or where it is `-`.
         file: Option<&'a str>,
     },
+}
+
+/// A pool as it was typed. Each of its texts may spell no number.
+#[derive(Clone, Copy, Debug, PartialEq, Eq)]
+pub struct PoolTexts<'a> {
+    /// The text that stands for the pool's first address.
+    pub base: &'a str,
+    /// The text that stands for the pool's length.
+    pub length: &'a str,
 }
 
 /// The most slots and objects of a machine where `--slots` is not given.
@@ -101,7 +108,9 @@ a capability puts it into the next slot:
   perms S NAMES, flag S F      fewer permissions, another flag
   seal S A, unseal S A         sealed or unsealed by the authority in slot A
   rebuild A WORD               a word again, as far as slot A grants it
-  pool S, alloc N, free J      a pool, an object of N bytes in it, and its end
+  pool S, alloc N              a pool, and an object of N bytes in it
+  free J                       an object's end; it holds its bytes until the next sweep
+  sweep                        gives freed bytes back, and revokes every capability for them
   show S, round N              shows a slot, or what a length is rounded to
 A line that is no command, or that is refused, is answered by `error`, a code and a name, and the
 next line is run.
@@ -132,12 +141,13 @@ For a BASE or LENGTH that is no number the answer is `error 1 syntax`, and for o
 large it is `error 4 range`, both with exit status 1, and no script is run.
 
 Example:
-  printf 'alloc 100\\nfree 1\\n' | cheri-cap plan 0x10000 65536
+  printf 'alloc 100\\nfree 1\\nsweep\\n' | cheri-cap plan 0x10000 65536
   slot 1 ffff0000000000000000000000010000 0x0 0x10000000000000000
   slot 2 ffff0000000190000000000000010000 0x10000 0x20000
   pool 2 0x10000 0x20000
   object 1 slot 3 ffff0000041880040000000000010000 0x10000 0x10064 held 100
-  freed 1 revoked 1 held 0";
+  freed 1 revoked 0 held 100
+  swept 1 revoked 1 held 0";
 
 const SLOTS_HELP: &str = "\
 How many slots the machine can have, and how many objects, from 1 to 65536 [default: 4096]";
@@ -298,8 +308,10 @@ fn invocation_of<'a>(matches: &ArgMatches<'a>) -> Invocation<'a>
         },
         Some(("plan", plan)) => Invocation::Plan {
             limit: limit_of(plan),
-            base: wanted_text(plan, "base"),
-            length: wanted_text(plan, "length"),
+            pool: PoolTexts {
+                base: wanted_text(plan, "base"),
+                length: wanted_text(plan, "length"),
+            },
             file: plan.get_str("file"),
         },
         _ => unreachable!(),

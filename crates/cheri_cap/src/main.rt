@@ -2,9 +2,11 @@
 //! what a machine of capabilities replies to a script.
 #![tactic(auto)]
 
-ghost use Rattle.std.specs.Prelude.{◌≡◌, List, Option};
-ghost use Rattle.clap.specs.Words.{Row, Text};
-ghost use Rattle.cheri_cap.specs.Invocation.{IsInvocation};
+ghost use Rattle.std.specs.Prelude.{◌≡◌, ◌≢◌, false, List, Option};
+ghost use Rattle.clap.specs.Walk.{texts};
+ghost use Rattle.clap.specs.Words.{Row, Text, kind_of, takes};
+ghost use Rattle.cheri_cap.specs.declared.outcome.Ending.TheVariants as ending;
+ghost use Rattle.cheri_cap.specs.Invocation.{IsInvocation, program};
 ghost use Rattle.cheri_cap.specs.Outcome.{status_of};
 
 mod answers;
@@ -18,10 +20,11 @@ mod running;
 mod text;
 
 use cc_script::{FromWriter, Summary};
+use clap::Error;
 use clap::error::ErrorKind;
 use invocation::{Invocation, read_words};
 use listing::show_word;
-use outcome::{Fault, status};
+use outcome::{Ending, Fault, ending_of, status};
 use rounding::show_round;
 use std::alloc::AllocError;
 use std::env::{self, Env};
@@ -29,52 +32,67 @@ use std::io;
 use std::process::ExitCode;
 use std::rt::Files;
 
-/// The exit status of a command line that is not understood.
-const REFUSED: u8 = 2;
-
 fn main(rt: HostRuntime) -> ExitCode {
-    ExitCode::from(run(&rt))
+    let ending = run(&rt);
+    ExitCode::from(finish(&rt, ending))
 }
 
-/// Runs the program on its arguments, and answers the exit status.
-fn run<R: Env + AllocGlobal + Files + Input + Print + Eprint>(rt: &R) -> u8 {
+/// Runs the program on its arguments.
+fn run<R: Env + AllocGlobal + Files + Input + Print + Eprint>(rt: &R) -> Ending {
     let arguments = match env::args(rt) {
         Ok(arguments) => arguments.collect::<Vec<String>>(rt.alloc()),
         Err(error) if error.kind() == io::ErrorKind::OutOfMemory => Err(AllocError),
         Err(_) => {
             let _ = eprintln!(rt; "cheri-cap: an argument is not text");
-            return REFUSED;
+            return Ending::Refused;
         }
     };
     match arguments {
         Ok(arguments) => run_arguments(rt, arguments.as_slice()),
-        Err(_) => finish(rt, &Err(Fault::Memory)),
+        Err(_) => Ending::Stopped(Fault::Memory),
     }
 }
 
-/// Does what the arguments ask for. A command line that is not understood gets clap's text.
+/// Does what the arguments ask for.
 fn run_arguments<R: AllocGlobal + Files + Input + Print + Eprint>(
     rt: &R,
     arguments: &[String],
-) -> u8 {
+) -> Ending {
     let words: Result<Vec<&str>, AllocError> = arguments
         .iter()
         .map(|argument| argument.as_str())
         .collect(rt.alloc());
-    let Ok(words) = words else {
-        return finish(rt, &Err(Fault::Memory));
-    };
-    match read_words(rt.alloc(), words.as_slice()) {
-        Ok(invocation) => finish(rt, &answer(rt, invocation)),
-        Err(error) if error.kind() == ErrorKind::OutOfMemory => finish(rt, &Err(Fault::Memory)),
-        Err(error) if error.use_stderr() => {
-            let _ = error.print(rt);
-            REFUSED
-        }
-        Err(help) => match help.print(rt) {
-            Ok(()) => 0,
-            Err(_) => finish(rt, &Err(Fault::Write)),
+    match words {
+        Ok(words) => run_words(rt, words.as_slice()),
+        Err(_) => Ending::Stopped(Fault::Memory),
+    }
+}
+
+/// Does what the words ask for.
+fn run_words<R: AllocGlobal + Files + Input + Print + Eprint>(rt: &R, words: &[&str]) -> Ending
+    ensures { result ≡ ending.Refused → takes program (texts words.now) ≡ false }
+{
+    match read_words(rt.alloc(), words) {
+        Ok(invocation) => ending_of(answer(rt, invocation)),
+        Err(error) => tell(rt, &error),
+    }
+}
+
+/// Tells why clap did not take the words: a request for help or for the version is answered on standard output,
+/// and a command line that is not understood on standard error.
+fn tell<R: Print + Eprint>(rt: &R, error: &Error) -> Ending
+    ensures { result ≡ ending.Refused → kind_of error.now ≢ ErrorKind.OutOfMemory }
+{
+    match error.kind() {
+        ErrorKind::OutOfMemory => Ending::Stopped(Fault::Memory),
+        ErrorKind::DisplayHelp | ErrorKind::DisplayVersion => match error.print(rt) {
+            Ok(()) => Ending::Answered(Summary { any_error: false }),
+            Err(_) => Ending::Stopped(Fault::Write),
         },
+        _ => {
+            let _ = error.print(rt);
+            Ending::Refused
+        }
     }
 }
 
@@ -90,23 +108,18 @@ fn answer<R: AllocGlobal + Files + Input + Print>(
         Invocation::Show { word } => Ok(show_word(word.as_bytes(), &mut output)?),
         Invocation::Round { length } => Ok(show_round(length.as_bytes(), &mut output)?),
         Invocation::Run { limit, file } => running::run(rt, limit, file),
-        Invocation::Plan {
-            limit,
-            base,
-            length,
-            file,
-        } => running::plan(rt, limit, base, length, file),
+        Invocation::Plan { limit, pool, file } => running::plan(rt, limit, pool, file),
     }
 }
 
 /// Tells a fault on standard error, and answers the exit status.
-fn finish<R: Eprint>(rt: &R, outcome: &Result<Summary, Fault>) -> u8
-    ensures { result ≡ status_of outcome.now }
+fn finish<R: Eprint>(rt: &R, ending: Ending) -> u8
+    ensures { result ≡ status_of ending }
 {
-    if let Err(fault) = outcome {
+    if let Ending::Stopped(fault) = ending {
         let _ = eprintln!(rt; "{fault}");
     }
-    status(outcome)
+    status(ending)
 }
 
 #[cfg(test)]

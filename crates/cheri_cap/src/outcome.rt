@@ -1,7 +1,7 @@
 //! How the program ends.
 ghost use Rattle.std.specs.Prelude.{◌≡◌};
 ghost use Rattle.cheri_cap.specs.declared.outcome.Fault.TheVariants as fault;
-ghost use Rattle.cheri_cap.specs.Outcome.{fault_of, status_of};
+ghost use Rattle.cheri_cap.specs.Outcome.{ending_of, fault_of, status_of};
 
 use cc_script::{ScriptFault, Summary};
 use std::alloc::AllocError;
@@ -24,13 +24,36 @@ pub enum Fault {
     Write,
 }
 
-/// The exit status: 0 where no reply was an error, 1 where one was, 3 for a fault.
-pub fn status(outcome: &Result<Summary, Fault>) -> u8
-    ensures { result ≡ status_of outcome.now }
+/// How the program ends.
+#[derive(Clone, Copy, Debug, PartialEq, Eq)]
+pub enum Ending {
+    /// The answer was written, or the help that was asked for.
+    Answered(Summary),
+    /// The command line was refused.
+    Refused,
+    /// The program stopped before its end.
+    Stopped(Fault),
+}
+
+/// The end of a program that was asked for an answer.
+pub fn ending_of(answer: Result<Summary, Fault>) -> Ending
+    ensures { result ≡ ending_of answer }
 {
-    match outcome {
-        Ok(summary) => u8::from(summary.any_error),
-        Err(_) => 3,
+    match answer {
+        Ok(summary) => Ending::Answered(summary),
+        Err(fault) => Ending::Stopped(fault),
+    }
+}
+
+/// The exit status: 0 where no reply was an error, 1 where one was, 2 for a command line that was refused, and 3
+/// for a fault.
+pub fn status(ending: Ending) -> u8
+    ensures { result ≡ status_of ending }
+{
+    match ending {
+        Ending::Answered(summary) => u8::from(summary.any_error),
+        Ending::Refused => 2,
+        Ending::Stopped(_) => 3,
     }
 }
 

@@ -8,3 +8,4 @@ mod endings;
 mod planning;
 mod rounding;
 mod rows;
+mod values;

@@ -7,11 +7,11 @@ use std::process::Abort;
 use std::test::Fail;
 
 const SCRIPT: &[u8] =
-    b"addr 0 0x10000\nexact 1 0x10000\npool 2\nalloc 100\nalloc 5000\nalloc 4\nalloc 8191\nfree 2\nalloc 4097\nalloc 65537\nalloc 0\nbounds 3 16\nfree 1\nshow 8\nfree 1\nshow 0";
+    b"addr 0 0x10000\nexact 1 0x10000\npool 2\nalloc 100\nalloc 5000\nalloc 4\nalloc 8191\nfree 2\nsweep\nalloc 4097\nalloc 65537\nalloc 0\nbounds 3 16\nfree 1\nsweep\nshow 8\nfree 1\nshow 0";
 
 /// The replies to its lines, and the last one, to the rest.
 #[rattlefmt::skip]
-const REPLIES: [&str; 16] = [
+const REPLIES: [&str; 18] = [
     "slot 1 ffff0000000000000000000000010000 0x0 0x10000000000000000\n",
     "slot 2 ffff0000000190000000000000010000 0x10000 0x20000\n",
     "pool 2 0x10000 0x20000\n",
@@ -19,12 +19,14 @@ const REPLIES: [&str; 16] = [
     "object 2 slot 4 ffff000000fd806c0000000000010068 0x10068 0x113f0 held 5100\n",
     "object 3 slot 5 ffff0000041b80600000000000010064 0x10064 0x10068 held 5104\n",
     "object 4 slot 6 ffff0000027f89fd00000000000113f0 0x113f0 0x133f0 held 13296\n",
-    "freed 2 revoked 1 held 8296\n",
+    "freed 2 revoked 0 held 13296\n",
+    "swept 1 revoked 1 held 8296\n",
     "object 5 slot 7 ffff0000001d806c0000000000010068 0x10068 0x11070 held 12400\n",
     "error 20 noroom\n",
     "error 19 zero\n",
     "slot 8 ffff0000040580040000000000010000 0x10000 0x10010\n",
-    "freed 1 revoked 2 held 12300\n",
+    "freed 1 revoked 0 held 12400\n",
+    "swept 1 revoked 2 held 12300\n",
     "error 6 revoked\n",
     "error 21 object\n",
     UNFINISHED,
@@ -218,7 +220,7 @@ fn write_fails(
         let mut machine = Machine::with_limit(alloc, 16)?;
         let answer = Err(ScriptFault::Write);
         run(rt, &mut machine, SCRIPT, &devices, answer, output);
-        stands_after(rt, alloc, &mut machine, lines.min(15))?;
+        stands_after(rt, alloc, &mut machine, lines.min(17))?;
     }
     Ok(())
 }
@@ -241,7 +243,7 @@ fn each_write_and_the_flush_fail(rt: HostRuntime) -> Result<(), Fail> {
             before = before.saturating_add(reply.len());
         }
         let flush = call.saturating_add(1);
-        write_fails(&rt, rt.alloc(), *size, flush, &whole, 16)?;
+        write_fails(&rt, rt.alloc(), *size, flush, &whole, 18)?;
         for room in &ROOMS {
             let devices = Devices {
                 pieces: (7, *size),

@@ -10,7 +10,7 @@ fn lines_spell_operations(rt: HostRuntime) {
     let len = Len::new(0x200).expect(&rt, "a length");
     let load = Perms::from_name("LOAD").expect(&rt, "a name");
     let none = Perms::from_bits(0).expect(&rt, "no permission");
-    let rows: [(&str, Op); 16] = [
+    let rows: [(&str, Op); 17] = [
         ("show 0", Op::Show(0)),
         ("show 4294967295", Op::Show(u32::MAX)),
         ("bounds 1 0x200", Op::Bounds(1, len)),
@@ -30,6 +30,7 @@ fn lines_spell_operations(rt: HostRuntime) {
         ("pool 2", Op::Pool(2)),
         ("alloc 512", Op::Alloc(len)),
         ("free 1", Op::Free(1)),
+        ("sweep", Op::Sweep),
     ];
     for (line, op) in &rows {
         assert!(rt; parse_line(line.as_bytes()) == Ok(*op), "{line}");
@@ -37,7 +38,7 @@ fn lines_spell_operations(rt: HostRuntime) {
 }
 
 #[rattlefmt::skip]
-const FAULTS: [(&str, Refusal); 32] = [
+const FAULTS: [(&str, Refusal); 42] = [
     ("", Syntax),
     (" ", Syntax),
     ("show", Syntax),
@@ -52,6 +53,16 @@ const FAULTS: [(&str, Refusal); 32] = [
     ("shown 0", Syntax),
     ("show 0 0", Syntax),
     ("bounds 0", Syntax),
+    ("sweep 0", Syntax),
+    ("sweep ", Syntax),
+    (" sweep", Syntax),
+    ("sweep  ", Syntax),
+    ("sweep sweep", Syntax),
+    ("sweep 0 0", Syntax),
+    ("sweep 4294967296", Syntax),
+    ("sweeps", Syntax),
+    ("SWEEP", Syntax),
+    ("free", Syntax),
     ("bounds 0 1 2", Syntax),
     ("show 0X0", Syntax),
     ("show +0", Syntax),

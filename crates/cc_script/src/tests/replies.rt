@@ -19,7 +19,7 @@ const SMALL: Span = Span {
 fn replies_as_text(rt: HostRuntime) {
     let perms = Perms::from_bits(0xffff).expect(&rt, "a set");
     let sealed = ObjType::from_bits(7).expect(&rt, "a type");
-    let rows: [(Reply, &str); 9] = [
+    let rows: [(Reply, &str); 11] = [
         (
             Reply::Made {
                 slot: 1,
@@ -81,18 +81,34 @@ fn replies_as_text(rt: HostRuntime) {
         (
             Reply::Freed {
                 object: 2,
-                revoked: 1,
-                held: 8296,
+                revoked: 0,
+                held: 13296,
             },
-            "freed 2 revoked 1 held 8296",
+            "freed 2 revoked 0 held 13296",
         ),
         (
             Reply::Freed {
                 object: 1,
-                revoked: 1,
+                revoked: 0,
                 held: 1 << 64,
             },
-            "freed 1 revoked 1 held 18446744073709551616",
+            "freed 1 revoked 0 held 18446744073709551616",
+        ),
+        (
+            Reply::Swept {
+                objects: 1,
+                revoked: 2,
+                held: 12300,
+            },
+            "swept 1 revoked 2 held 12300",
+        ),
+        (
+            Reply::Swept {
+                objects: 65535,
+                revoked: 4_294_967_295,
+                held: 0,
+            },
+            "swept 65535 revoked 4294967295 held 0",
         ),
         (
             Reply::Refused(Refusal::Unrepresentable),

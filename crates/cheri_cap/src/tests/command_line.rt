@@ -1,5 +1,5 @@
 //! Command lines that are taken and refused.
-use crate::invocation::{Invocation, read_words};
+use crate::invocation::{Invocation, PoolTexts, read_words};
 use clap::error::ErrorKind;
 use std::alloc::Global;
 use std::test::Fail;
@@ -130,8 +130,10 @@ fn plan_is_taken(rt: HostRuntime) -> Result<(), Fail> {
             read_words(rt.alloc(), words)?,
             Invocation::Plan {
                 limit,
-                base: "0",
-                length: "9",
+                pool: PoolTexts {
+                    base: "0",
+                    length: "9"
+                },
                 file
             }
         );
@@ -159,8 +161,7 @@ fn texts_of_plan_are_not_read_as_numbers(rt: HostRuntime) -> Result<(), Fail> {
             read_words(rt.alloc(), words)?,
             Invocation::Plan {
                 limit: 4096,
-                base,
-                length,
+                pool: PoolTexts { base, length },
                 file: None
             }
         );

@@ -1,7 +1,7 @@
 //! The conformance set: words, and what each of them means (docs/CONFORMANCE.md).
 //!
 //! conformance/generate.py writes this file, and with it conformance/conformance.tsv, which other programs read.
-//! The gate compares the lines of fifteen words.
+//! The gate compares both with what it works out.
 
 pub const TABLE: &str = "\
 name                      word                             perms reserved flag type  ie t   b    address            exponent base               top                 canonical rebuild

@@ -1,5 +1,5 @@
 //! Fault texts and exit statuses.
-use crate::outcome::{Fault, status};
+use crate::outcome::{Ending, Fault, ending_of, status};
 use cc_script::{ScriptFault, Summary};
 use std::test::Fail;
 
@@ -20,10 +20,14 @@ fn fault_texts(rt: HostRuntime) -> Result<(), Fail> {
 
 #[test]
 fn statuses(rt: HostRuntime) {
-    assert_eq!(rt; status(&Ok(Summary { any_error: false })), 0);
-    assert_eq!(rt; status(&Ok(Summary { any_error: true })), 1);
+    for (any_error, number) in [(false, 0), (true, 1)] {
+        let ending = ending_of(Ok(Summary { any_error }));
+        assert_eq!(rt; ending, Ending::Answered(Summary { any_error }));
+        assert_eq!(rt; status(ending), number);
+    }
+    assert_eq!(rt; status(Ending::Refused), 2);
     for fault in [Fault::Memory, Fault::Open, Fault::Read, Fault::Write] {
-        assert_eq!(rt; status(&Err(fault)), 3);
+        assert_eq!(rt; status(ending_of(Err(fault))), 3);
     }
 }
 

@@ -1,0 +1,84 @@
+//! What `==` and `clone` are, of values from the machine up: unequal ones are told apart, and a clone is its original.
+use crate::invocation::{Invocation, PoolTexts};
+use crate::outcome::{Ending, Fault};
+use cc_bounds::Span;
+use cc_machine::{Len, Op, Reply};
+use cc_script::{ScriptFault, Summary};
+use cc_word::Refusal;
+use std::test::Fail;
+
+#[test]
+fn replies_are_told_apart(rt: HostRuntime) -> Result<(), Fail> {
+    let span = Span { base: 0, top: 16 };
+    let reply = Reply::PoolSet { slot: 1, span };
+    for other in [
+        Reply::Refused(Refusal::Sealed),
+        Reply::Refused(Refusal::Unsealed),
+        Reply::PoolSet { slot: 2, span },
+        Reply::PoolSet {
+            slot: 1,
+            span: Span { base: 0, top: 8 },
+        },
+        Reply::Made {
+            slot: 1,
+            word: 0,
+            span,
+        },
+    ] {
+        assert!(rt; other != reply);
+        assert!(rt; other.clone()? == other);
+    }
+    assert!(rt; Reply::Refused(Refusal::Sealed) != Reply::Refused(Refusal::Unsealed));
+    Ok(())
+}
+
+#[test]
+fn operations_are_told_apart(rt: HostRuntime) -> Result<(), Fail> {
+    let length = Len::new(8).ok_or("no length")?;
+    let longer = Len::new(9).ok_or("no length")?;
+    assert!(rt; length != longer);
+    assert!(rt; length.clone()? == length);
+    for other in [
+        Op::Show(1),
+        Op::Round(length),
+        Op::Alloc(longer),
+        Op::Free(1),
+    ] {
+        assert!(rt; other != Op::Alloc(length));
+        assert!(rt; other.clone()? == other);
+    }
+    assert!(rt; Op::Show(1) != Op::Show(2));
+    Ok(())
+}
+
+#[test]
+fn endings_are_told_apart(rt: HostRuntime) -> Result<(), Fail> {
+    let answered = |any_error| Ending::Answered(Summary { any_error });
+    assert!(rt; ScriptFault::Read != ScriptFault::Write);
+    assert!(rt; Fault::Memory != Fault::Open);
+    assert!(rt; Ending::Stopped(Fault::Read) != Ending::Stopped(Fault::Write));
+    assert!(rt; answered(false) != answered(true));
+    assert!(rt; answered(false) != Ending::Refused);
+    assert!(rt; Ending::Refused.clone()? == Ending::Refused);
+    assert!(rt; answered(true).clone()? == answered(true));
+    Ok(())
+}
+
+#[test]
+fn invocations_are_told_apart(rt: HostRuntime) {
+    let pool = PoolTexts {
+        base: "0",
+        length: "9",
+    };
+    let other = PoolTexts {
+        base: "9",
+        length: "0",
+    };
+    assert!(rt; pool != other);
+    let plan = |limit, pool, file| Invocation::Plan { limit, pool, file };
+    assert!(rt; plan(5, pool, None) != plan(6, pool, None));
+    assert!(rt; plan(5, pool, None) != plan(5, other, None));
+    assert!(rt; plan(5, pool, None) != plan(5, pool, Some("a")));
+    assert!(rt; Invocation::Show { word: "1" } != Invocation::Round { length: "1" });
+    assert!(rt; Invocation::Show { word: "1" } != Invocation::Show { word: "2" });
+}
