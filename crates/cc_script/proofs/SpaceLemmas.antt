@@ -14,12 +14,13 @@ use Rattle.hex.specs.Hex.{is_hex_digit}
 use Rattle.cc_word.specs.declared.refusal.Refusal.{Refusal}
 use Rattle.cc_word.specs.declared.refusal.Refusal.TheVariants.{Syntax, OutOfRange}
 use Rattle.cc_cap.specs.Permissions.{permission_table}
+use Rattle.cc_plan.specs.declared.align.Align.TheVariants.{One, Sixteen}
 use Rattle.cc_machine.specs.declared.op.Op.{Op}
 use Rattle.cc_machine.specs.declared.op.Op.TheVariants as op
 use Rattle.cc_script.specs.declared.keyword.Keyword.{Keyword}
 use Rattle.cc_script.specs.declared.keyword.Keyword.TheVariants as keyword
 use Rattle.cc_script.specs.Numbers.{numeral_of, number_of, within_limit}
-use Rattle.cc_script.specs.Commands.{words_of, index_in, length_in, address_in, permissions_in, with_names, flag_in, word_in, two, two_values, command_of}
+use Rattle.cc_script.specs.Commands.{words_of, index_in, length_in, address_in, permissions_in, with_names, align_in, flag_in, word_in, two, two_values, command_of}
 use Rattle.cc_script.proofs.CommandLemmas.{three_values}
 
 -- no byte of the text is a space
@@ -74,6 +75,14 @@ no_flag text spaced = by (bytes_eq text (codes "0")) refl (bytes_eq text (codes 
       → (if zero then Ok false else if one then Ok true else Err Syntax) ≡ Err Syntax
   by true is one other = absurd (let same = (bytes_eq-Decides text (codes "0")).0 is in let word : is_word text ≡ true = ap is_word same in cc)
   by false is true other = absurd (let same = (bytes_eq-Decides text (codes "1")).0 other in let word : is_word text ≡ true = ap is_word same in cc)
+  by false is false other = refl
+
+no_align : (text : List ℕ) → is_word text ≡ false → align_in text ≡ Err Syntax
+no_align text spaced = by (bytes_eq text (codes "1")) refl (bytes_eq text (codes "16")) refl where
+  by : (first : Bool) → bytes_eq text (codes "1") ≡ first → (second : Bool) → bytes_eq text (codes "16") ≡ second
+      → (if first then Ok One else if second then Ok Sixteen else Err Syntax) ≡ Err Syntax
+  by true is second other = absurd (let same = (bytes_eq-Decides text (codes "1")).0 is in let word : is_word text ≡ true = ap is_word same in cc)
+  by false is true other = absurd (let same = (bytes_eq-Decides text (codes "16")).0 other in let word : is_word text ≡ true = ap is_word same in cc)
   by false is false other = refl
 
 no_word : (text : List ℕ) → is_word text ≡ false → word_in text ≡ Err Syntax
@@ -157,9 +166,9 @@ spaced-second keyword.Flag first second e = rw (no_flag second e) (two-syntax op
 spaced-second keyword.Seal first second e = rw (limited (2 ^ 32 - 1) second e) (two-syntax op.Seal (2 ^ 32 - 1) (number_of first))
 spaced-second keyword.Unseal first second e = rw (limited (2 ^ 32 - 1) second e) (two-syntax op.Unseal (2 ^ 32 - 1) (number_of first))
 spaced-second keyword.Rebuild first second e = rw (no_word second e) (two-syntax op.Rebuild (2 ^ 32 - 1) (number_of first))
+spaced-second keyword.Pool first second e = rw (no_align second e) (two-syntax op.Pool (2 ^ 32 - 1) (number_of first))
 spaced-second keyword.Show first second e = refl
 spaced-second keyword.Round first second e = refl
-spaced-second keyword.Pool first second e = refl
 spaced-second keyword.Alloc first second e = refl
 spaced-second keyword.Free first second e = refl
 spaced-second keyword.Sweep first second e = refl

@@ -11,6 +11,8 @@ use Rattle.cc_word.specs.declared.refusal.Refusal.{Refusal}
 use Rattle.cc_word.specs.declared.refusal.Refusal.TheVariants.{Syntax, TooLong}
 use Rattle.cc_cap.specs.Permissions.{permission_table}
 use Rattle.cc_cap.specs.declared.perms.Perms.{Perms}
+use Rattle.cc_plan.specs.declared.align.Align.{Align}
+use Rattle.cc_plan.specs.declared.align.Align.TheVariants.{One, Sixteen}
 use Rattle.cc_machine.specs.declared.op.Op.{Op}
 use Rattle.cc_machine.specs.declared.op.Op.TheVariants as op
 use Rattle.cc_script.specs.declared.keyword.Keyword.{Keyword}
@@ -52,6 +54,11 @@ length_in text = within_limit (2 ^ 64) (number_of text)
 abbrev pub flag_in : (text : List ℕ) → Result Bool Refusal
 flag_in text =
     if bytes_eq text (codes "0") then Ok false else if bytes_eq text (codes "1") then Ok true else Err Syntax
+
+-- the alignment that a text spells: `1` or `16`
+abbrev pub align_in : (text : List ℕ) → Result Align Refusal
+align_in text =
+    if bytes_eq text (codes "1") then Ok One else if bytes_eq text (codes "16") then Ok Sixteen else Err Syntax
 
 -- the word of a capability that a text spells: 32 hexadecimal digits of either case
 abbrev pub word_in : (text : List ℕ) → Result ℕ Refusal
@@ -111,7 +118,7 @@ two make (Err fault) (Err other) = Err other
 abbrev pub one_value : Keyword → (value : List ℕ) → Result Op Refusal
 one_value keyword.Show slot = one op.Show (index_in slot)
 one_value keyword.Round len = one op.Round (length_in len)
-one_value keyword.Pool slot = one op.Pool (index_in slot)
+one_value keyword.Pool slot = one (λ number. op.Pool number One) (index_in slot)
 one_value keyword.Alloc len = one op.Alloc (length_in len)
 one_value keyword.Free object = one op.Free (index_in object)
 one_value keyword value = Err Syntax
@@ -127,6 +134,7 @@ two_values keyword.Flag slot flag = two op.Flag (index_in slot) (flag_in flag)
 two_values keyword.Seal slot authority = two op.Seal (index_in slot) (index_in authority)
 two_values keyword.Unseal slot authority = two op.Unseal (index_in slot) (index_in authority)
 two_values keyword.Rebuild authority word = two op.Rebuild (index_in authority) (word_in word)
+two_values keyword.Pool slot align = two op.Pool (index_in slot) (align_in align)
 two_values keyword first second = Err Syntax
 
 -- The commands of two values, where the first is a slot that is known. No public clause cites it.
@@ -140,6 +148,7 @@ second_value keyword.Flag slot flag = one (op.Flag slot) (flag_in flag)
 second_value keyword.Seal slot authority = one (op.Seal slot) (index_in authority)
 second_value keyword.Unseal slot authority = one (op.Unseal slot) (index_in authority)
 second_value keyword.Rebuild authority word = one (op.Rebuild authority) (word_in word)
+second_value keyword.Pool slot align = one (op.Pool slot) (align_in align)
 second_value keyword slot second = Err Syntax
 
 -- the commands by how many words follow the keyword

@@ -1,5 +1,5 @@
 -- The texts of replies, without their line feed.
-use Rattle.std.specs.Prelude.{ℕ, Bool, true, false, List, ◌++◌, codes, decimal, Option, Some, None}
+use Rattle.std.specs.Prelude.{ℕ, Bool, true, false, List, [], ◌++◌, codes, decimal, Option, Some, None}
 use Rattle.std.specs.Fmt.{digits}
 use Rattle.cc_word.specs.Refusal.{code_of, name_of}
 use Rattle.cc_word.specs.Word.{bit_of}
@@ -7,6 +7,8 @@ use Rattle.cc_word.specs.WordText.{digits_of}
 use Rattle.cc_word.specs.declared.refusal.Refusal.{Refusal}
 use Rattle.cc_bounds.specs.declared.span.Span.{Span}
 use Rattle.cc_cap.specs.Permissions.{bits_of}
+use Rattle.cc_plan.specs.declared.align.Align.{Align}
+use Rattle.cc_plan.specs.declared.align.Align.TheVariants.{One, Sixteen}
 use Rattle.cc_machine.specs.declared.reply.Reply.{Reply}
 use Rattle.cc_machine.specs.declared.reply.Reply.TheVariants.{Made, Shown, Rounded, PoolSet, Allocated, Freed, Swept, Refused}
 
@@ -31,6 +33,11 @@ parent_text (Some slot) = decimal slot
 abbrev pub refusal_text : Refusal → List ℕ
 refusal_text refusal = codes "error " ++ decimal (code_of refusal) ++ codes " " ++ name_of refusal
 
+-- the alignment of a pool, of which 1 is not told
+abbrev pub align_text : Align → List ℕ
+align_text One = []
+align_text Sixteen = codes " align 16"
+
 -- how many slots were revoked, and the bytes held after it
 abbrev pub revoked_text : (revoked held : ℕ) → List ℕ
 revoked_text revoked held = codes " revoked " ++ decimal revoked ++ codes " held " ++ decimal held
@@ -43,7 +50,8 @@ reply_text (Shown word span perms flag otype parent) =
     ++ codes " " ++ decimal (bit_of flag) ++ codes " " ++ digits_of 5 otype ++ codes " " ++ parent_text parent
 reply_text (Rounded rounded granule mask) =
     codes "round " ++ hexadecimal rounded ++ codes " " ++ hexadecimal granule ++ codes " " ++ hexadecimal mask
-reply_text (PoolSet slot span) = codes "pool " ++ decimal slot ++ codes " " ++ bounds_text span
+reply_text (PoolSet slot span align) =
+    codes "pool " ++ decimal slot ++ codes " " ++ bounds_text span ++ align_text align
 reply_text (Allocated object slot word span held) =
     codes "object " ++ decimal object ++ codes " slot " ++ made_text slot word span ++ codes " held " ++ decimal held
 reply_text (Freed object revoked held) = codes "freed " ++ decimal object ++ revoked_text revoked held

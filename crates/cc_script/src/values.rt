@@ -3,10 +3,11 @@ ghost use Rattle.std.specs.Prelude.{◌≡◌, ◌==◌, option_map};
 ghost use Rattle.std.specs.List.{slice_split};
 ghost use Rattle.bitflags.specs.Sets.{find_name};
 ghost use Rattle.cc_cap.specs.Permissions.{bits_of, permission_table};
-ghost use Rattle.cc_script.specs.Commands.{flag_in, word_in, permissions_in, with_names};
+ghost use Rattle.cc_script.specs.Commands.{align_in, flag_in, word_in, permissions_in, with_names};
 
 use crate::words::split_at_first;
 use cc_cap::Perms;
+use cc_machine::Align;
 use cc_word::Refusal;
 
 /// The flag that a text spells: `0` or `1`, and nothing else.
@@ -17,6 +18,19 @@ pub fn read_flag(text: &[u8]) -> Result<bool, Refusal>
         Ok(false)
     } else if text == b"1".as_slice() {
         Ok(true)
+    } else {
+        Err(Refusal::Syntax)
+    }
+}
+
+/// The alignment that a text spells: `1` or `16`, and nothing else.
+pub fn read_align(text: &[u8]) -> Result<Align, Refusal>
+    ensures { result ≡ align_in text.now }
+{
+    if text == b"1".as_slice() {
+        Ok(Align::One)
+    } else if text == b"16".as_slice() {
+        Ok(Align::Sixteen)
     } else {
         Err(Refusal::Syntax)
     }

@@ -1,7 +1,7 @@
 //! Lines as users write them.
 use crate::parse_line;
 use cc_cap::Perms;
-use cc_machine::{Len, Op};
+use cc_machine::{Align, Len, Op};
 use cc_word::Refusal;
 use cc_word::Refusal::{OutOfRange, Syntax, TooLong};
 
@@ -27,7 +27,9 @@ fn lines_spell_operations(rt: HostRuntime) {
             Op::Rebuild(0, 0xffff_0000_0481_9004_0000_0000_0000_1000),
         ),
         ("round 0x200", Op::Round(len)),
-        ("pool 2", Op::Pool(2)),
+        ("pool 2", Op::Pool(2, Align::One)),
+        ("pool 2 1", Op::Pool(2, Align::One)),
+        ("pool 0x2 16", Op::Pool(2, Align::Sixteen)),
         ("alloc 512", Op::Alloc(len)),
         ("free 1", Op::Free(1)),
         ("sweep", Op::Sweep),

@@ -2,7 +2,7 @@
 use crate::reply_line;
 use cc_bounds::Span;
 use cc_cap::{ObjType, Perms};
-use cc_machine::Reply;
+use cc_machine::{Align, Reply};
 use cc_word::Refusal;
 
 const ALL: Span = Span {
@@ -62,8 +62,17 @@ fn replies_as_text(rt: HostRuntime) {
             Reply::PoolSet {
                 slot: 2,
                 span: SMALL,
+                align: Align::One,
             },
             "pool 2 0x1000 0x1200",
+        ),
+        (
+            Reply::PoolSet {
+                slot: 2,
+                span: SMALL,
+                align: Align::Sixteen,
+            },
+            "pool 2 0x1000 0x1200 align 16",
         ),
         (
             Reply::Allocated {

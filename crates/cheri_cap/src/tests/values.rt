@@ -2,7 +2,7 @@
 use crate::invocation::{Invocation, PoolTexts};
 use crate::outcome::{Ending, Fault};
 use cc_bounds::Span;
-use cc_machine::{Len, Op, Reply};
+use cc_machine::{Align, Len, Op, Reply};
 use cc_script::{ScriptFault, Summary};
 use cc_word::Refusal;
 use std::test::Fail;
@@ -10,14 +10,29 @@ use std::test::Fail;
 #[test]
 fn replies_are_told_apart(rt: HostRuntime) -> Result<(), Fail> {
     let span = Span { base: 0, top: 16 };
-    let reply = Reply::PoolSet { slot: 1, span };
+    let align = Align::One;
+    let reply = Reply::PoolSet {
+        slot: 1,
+        span,
+        align,
+    };
     for other in [
         Reply::Refused(Refusal::Sealed),
         Reply::Refused(Refusal::Unsealed),
-        Reply::PoolSet { slot: 2, span },
+        Reply::PoolSet {
+            slot: 2,
+            span,
+            align,
+        },
+        Reply::PoolSet {
+            slot: 1,
+            span,
+            align: Align::Sixteen,
+        },
         Reply::PoolSet {
             slot: 1,
             span: Span { base: 0, top: 8 },
+            align,
         },
         Reply::Made {
             slot: 1,
