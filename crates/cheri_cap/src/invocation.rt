@@ -108,7 +108,7 @@ a capability puts it into the next slot:
   perms S NAMES, flag S F      fewer permissions, another flag
   seal S A, unseal S A         sealed or unsealed by the authority in slot A
   rebuild A WORD               a word again, as far as slot A grants it
-  pool S, alloc N              a pool, and an object of N bytes in it
+  pool S [16], alloc N         a pool, of alignment 16 or 1, and an object of N bytes in it
   free J                       an object's end; it holds its bytes until the next sweep
   sweep                        gives freed bytes back, and revokes every capability for them
   show S, round N              shows a slot, or what a length is rounded to

@@ -8,7 +8,7 @@ use std::test::Fail;
 type Row<'a> = (&'a str, u32, &'a str, &'a str);
 
 #[rattlefmt::skip]
-const ROWS: [Row; 26] = [
+const ROWS: [Row; 27] = [
     ("empty_script", 4096, "", ""),
     ("root_shown", 4096, "show 0\n", "cap ffff0000000000000000000000000000 0x0 0x10000000000000000 ffff 0 3ffff -\n"),
     ("small_bounds", 4096, "addr 0 0x1000\nbounds 1 0x200\n",
@@ -57,6 +57,8 @@ const ROWS: [Row; 26] = [
         "slot 1 ffff0000000000000000000000010000 0x0 0x10000000000000000\nslot 2 ffff0000000190000000000000010000 0x10000 0x20000\npool 2 0x10000 0x20000\nobject 1 slot 3 ffff0000041880040000000000010000 0x10000 0x10064 held 100\nfreed 1 revoked 0 held 100\nslot 4 ffff0000041880040000000000010001 0x10000 0x10064\nslot 5 ffff0000040580040000000000010000 0x10000 0x10010\nerror 1 syntax\nerror 1 syntax\nerror 1 syntax\ncap ffff0000040580040000000000010000 0x10000 0x10010 ffff 0 3ffff 3\nswept 1 revoked 3 held 0\nerror 6 revoked\nerror 6 revoked\nerror 6 revoked\ncap ffff0000000190000000000000010000 0x10000 0x20000 ffff 0 3ffff 1\n"),
     ("full_machine_swept", 5, "addr 0 0x10000\nexact 1 0x10000\npool 2\nalloc 100\nalloc 5000\naddr 0 5\nfree 2\nfree 1\nsweep\nalloc 100\nsweep\n",
         "slot 1 ffff0000000000000000000000010000 0x0 0x10000000000000000\nslot 2 ffff0000000190000000000000010000 0x10000 0x20000\npool 2 0x10000 0x20000\nobject 1 slot 3 ffff0000041880040000000000010000 0x10000 0x10064 held 100\nobject 2 slot 4 ffff000000fd806c0000000000010068 0x10068 0x113f0 held 5100\nerror 22 full\nfreed 2 revoked 0 held 5100\nfreed 1 revoked 0 held 5100\nswept 2 revoked 2 held 0\nerror 22 full\nswept 0 revoked 0 held 0\n"),
+    ("aligned_pool", 4096, "addr 0 0x10000\nexact 1 0x10000\npool 2 016\npool 2 0x10\npool 2 16 \npool 2 16\nalloc 100\nalloc 5000\nalloc 1\nalloc 8184\nalloc 4095\npool 2 8\npool 2 1\nround 8184\n",
+        "slot 1 ffff0000000000000000000000010000 0x0 0x10000000000000000\nslot 2 ffff0000000190000000000000010000 0x10000 0x20000\nerror 1 syntax\nerror 1 syntax\nerror 1 syntax\npool 2 0x10000 0x20000 align 16\nobject 1 slot 3 ffff0000041d80040000000000010000 0x10000 0x10070 held 112\nobject 2 slot 4 ffff0000010180740000000000010070 0x10070 0x11400 held 5120\nobject 3 slot 5 ffff0000050594040000000000011400 0x11400 0x11410 held 5136\nobject 4 slot 6 ffff000002838a0d0000000000011410 0x11410 0x13410 held 13328\nobject 5 slot 7 ffff00000105b4140000000000013410 0x13410 0x14410 held 17424\nerror 1 syntax\nerror 18 poolset\nround 0x1ff8 0x8 0xfffffffffffffff8\n"),
 ];
 
 fn run(rt: &impl Abort, machine: &mut Machine, row: &Row, sizes: (usize, usize)) {
@@ -84,8 +86,8 @@ fn rows(rt: HostRuntime) -> Result<(), Fail> {
 /// The script `tests/opening` refuses each request for memory after the machines were opened.
 #[test]
 fn no_memory_after_opening(rt: HostRuntime) -> Result<(), Fail> {
-    let mut plan = Machine::with_limit(rt.alloc(), 4096)?;
-    let mut pool = Machine::with_limit(rt.alloc(), 4096)?;
+    let mut plan = Machine::with_limit(rt.alloc(), 64)?;
+    let mut pool = Machine::with_limit(rt.alloc(), 64)?;
     run(&rt, &mut plan, &ROWS[18], (7, 5));
     run(&rt, &mut pool, &ROWS[19], (7, 5));
     Ok(())
@@ -150,8 +152,8 @@ const CALLS: [Row; 9] = [
         "slot 1 ffff0000048180040000000000000000 0x0 0x200\nerror 11 unrepresentable\nslot 2 ffff0000000000000000000000000007 0x0 0x10000000000000000\nslot 3 ffff1fffc48180040000000000000000 0x0 0x200\nerror 7 sealed\nerror 7 sealed\n"),
     ("flag_set_and_cleared", 4096, "flag 0 1\nflag 1 0\nshow 1\nshow 2\nflag 2 0\n",
         "slot 1 ffff2000000000000000000000000000 0x0 0x10000000000000000\nslot 2 ffff0000000000000000000000000000 0x0 0x10000000000000000\ncap ffff2000000000000000000000000000 0x0 0x10000000000000000 ffff 1 3ffff 0\ncap ffff0000000000000000000000000000 0x0 0x10000000000000000 ffff 0 3ffff 1\nslot 3 ffff0000000000000000000000000000 0x0 0x10000000000000000\n"),
-    ("revoked_and_missing_slots", 4096, "pool 0\nalloc 16\nfree 1\nseal 1 9\nseal 9 1\nunseal 1 9\nunseal 9 1\nseal 0 1\nseal 0 9\n",
-        "pool 0 0x0 0x10000000000000000\nobject 1 slot 1 ffff0000040580040000000000000000 0x0 0x10 held 16\nfreed 1 revoked 1 held 0\nerror 6 revoked\nerror 5 slot\nerror 6 revoked\nerror 5 slot\nerror 6 revoked\nerror 5 slot\n"),
+    ("revoked_and_missing_slots", 4096, "pool 0\nalloc 16\nfree 1\nsweep\nseal 1 9\nseal 9 1\nunseal 1 9\nunseal 9 1\nseal 0 1\nseal 0 9\n",
+        "pool 0 0x0 0x10000000000000000\nobject 1 slot 1 ffff0000040580040000000000000000 0x0 0x10 held 16\nfreed 1 revoked 0 held 16\nswept 1 revoked 1 held 0\nerror 6 revoked\nerror 5 slot\nerror 6 revoked\nerror 5 slot\nerror 6 revoked\nerror 5 slot\n"),
 ];
 
 #[test]
