@@ -141,9 +141,16 @@ multiple_of_sixteen size number fits multiple =
 
 -- ---- padded sizes
 
--- what a unit and a padded size come to
+unit-some : (align : Align) (size : ℕ) → 0 < unit_of align size
+unit-some One size = omega arith
+unit-some Sixteen size = omega arith
+
+-- no size is longer than it is padded to
+pub padded_for-enough : (align : Align) (size : ℕ) → size ≤ padded_size_for align size
+padded_for-enough align size = le-div_ceil size (unit_of align size) (unit-some align size)
+
+-- how much a size is padded
 pub record IsPaddedFor (align : Align) (size : ℕ) : Type 0 where
-  pub some : 0 < unit_of align size
   pub enough : size ≤ padded_size_for align size
   pub little : padded_size_for align size ≤ size + size / 512 + (align_bytes align - 1)
   pub fits : padded_size_for align size ≤ 2 ^ 64
@@ -153,19 +160,16 @@ padded_for_law One size fits =
     let padding = padded_law size fits in
     let is = padded-one size in
     record {
-      some = omega arith;
-      enough = omega (arith, is, padding.enough);
+      enough = padded_for-enough One size;
       little = omega (arith, is, padding.little);
       fits = omega (arith, is, padding.fits);
     }
 padded_for_law Sixteen size fits = elim (fine_or_grown size fits) [
   | inl fine ↦
       let is = padded-fine size fine in
-      let enough = le-div_ceil size 16 (omega arith) in
       let near = div_ceil-lt size 16 (omega arith) in
       record {
-        some = omega arith;
-        enough = omega (arith, is, enough);
+        enough = padded_for-enough Sixteen size;
         little = omega (arith, is, near);
         fits = omega (arith, is, near, fine.small);
       }
@@ -173,8 +177,7 @@ padded_for_law Sixteen size fits = elim (fine_or_grown size fits) [
       let padding = padded_law size fits in
       let is = padded-grown size grown in
       record {
-        some = omega arith;
-        enough = omega (arith, is, padding.enough);
+        enough = padded_for-enough Sixteen size;
         little = omega (arith, is, padding.little);
         fits = omega (arith, is, padding.fits);
       }
