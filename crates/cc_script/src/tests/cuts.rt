@@ -202,7 +202,7 @@ fn each_read_fails(rt: HostRuntime) -> Result<(), Fail> {
 }
 
 /// The call of the sink fails when it took this output, and the machine stands after these lines, whatever
-/// the room: a piece of seven bytes ends one line at most, whose reply is passed on before the next.
+/// the room: a piece of six bytes ends one line at most, whose reply is passed on before the next.
 fn write_fails(
     rt: &impl Abort,
     alloc: Global,
@@ -213,7 +213,7 @@ fn write_fails(
 ) -> Result<(), AllocError> {
     for room in &ROOMS {
         let devices = Devices {
-            pieces: (7, size),
+            pieces: (6, size),
             fails: (None, Some(call)),
             room: *room,
         };
@@ -246,7 +246,7 @@ fn each_write_and_the_flush_fail(rt: HostRuntime) -> Result<(), Fail> {
         write_fails(&rt, rt.alloc(), *size, flush, &whole, 18)?;
         for room in &ROOMS {
             let devices = Devices {
-                pieces: (7, *size),
+                pieces: (6, *size),
                 fails: (None, Some(flush.saturating_add(1))),
                 room: *room,
             };
