@@ -10,7 +10,7 @@ fn lines_spell_operations(rt: HostRuntime) {
     let len = Len::new(0x200).expect(&rt, "a length");
     let load = Perms::from_name("LOAD").expect(&rt, "a name");
     let none = Perms::from_bits(0).expect(&rt, "no permission");
-    let rows: [(&str, Op); 17] = [
+    let rows: [(&str, Op); 19] = [
         ("show 0", Op::Show(0)),
         ("show 4294967295", Op::Show(u32::MAX)),
         ("bounds 1 0x200", Op::Bounds(1, len)),

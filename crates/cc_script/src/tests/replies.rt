@@ -19,7 +19,7 @@ const SMALL: Span = Span {
 fn replies_as_text(rt: HostRuntime) {
     let perms = Perms::from_bits(0xffff).expect(&rt, "a set");
     let sealed = ObjType::from_bits(7).expect(&rt, "a type");
-    let rows: [(Reply, &str); 11] = [
+    let rows: [(Reply, &str); 12] = [
         (
             Reply::Made {
                 slot: 1,
