@@ -1,4 +1,5 @@
 //! Pools of both alignments: what an object takes, where it begins, and what stays free.
+ghost use Rattle.std.specs.Prelude.{◌≤◌};
 
 use super::pool;
 use crate::{Align, ObjectId, Placer, Planner, ScanPlacer, SortedPlacer};
