@@ -131,10 +131,12 @@ impl Heap {
     /// The line that a number draws.
     fn exchange(&mut self, drawn: u32) -> Result<Exchange, AllocError> {
         let draw = (drawn / 16) as usize;
+        let slots = self.owners.len().saturating_add(2).max(1);
+        let objects = self.objects.len().saturating_add(2).max(1);
         match drawn % 16 {
             0..=5 => self.allocate(draw % 8),
-            6..=9 => self.derive(draw % self.owners.len().saturating_add(2).max(1)),
-            10..=13 => self.free(draw % self.objects.len().saturating_add(2).max(1)),
+            6..=9 => self.derive(draw % slots),
+            10..=13 => self.free(draw % objects),
             _ => self.sweep(),
         }
     }
