@@ -9,7 +9,7 @@ const MOST_BYTES: usize = 1 << 30;
 
 /// A source over a reader. Any error of the reader is a failure, an interruption too.
 ///
-/// It gives at most 2^30 bytes, and the read after that fails: a script through it is shorter.
+/// The read that would begin behind its first 2^30 bytes fails, so a script through it has fewer.
 #[derive(Drop)]
 pub struct FromReader<R> {
     reader: R,

@@ -1,6 +1,7 @@
 -- Which command lines clap takes for the program: those that name one of its commands and give it its texts.
 use Rattle.std.proofs.Common.{◌≡◌, ◌==◌, ◌∙◌, ℕ, Bool, true, false, List, [], ◌∷◌, Option, Some, None, arith, is_some, refl, subst, sym, ap, ap₂, codes, get_or, if◌then◌else◌, option_map}
-use Rattle.std.specs.Prelude.{⊤, ◌&&◌, IfSome, IsSome, Result, Ok, Err, find, not, Box, pos, unwrap_or}
+use Rattle.std.specs.Prelude.{⊤, ◌&&◌, ◌||◌, IfSome, IsOk, IsSome, Result, Ok, Err, find, not, Box, pos, unwrap_or}
+use Rattle.std.specs.Borrow.{Bor}
 use Rattle.std.specs.Box.{box_value}
 use Rattle.std.specs.List.{list_any}
 use Rattle.std.specs.Option.{option_map_or}
@@ -10,13 +11,13 @@ use Rattle.std.proofs.lemmas.Int.{ints}
 use Rattle.std.proofs.lemmas.Slice.Eq.{bytes_eq-Decides}
 use Rattle.clap.specs.Kinds.{check_kinds}
 use Rattle.clap.specs.Lexer.{without_minus}
-use Rattle.clap.specs.Walk.{Row, Rule, Text, answers_to, arg_by_id, first_of, nothing_held, one_of, rows_after, rows_of, walk}
+use Rattle.clap.specs.Walk.{Row, Rule, Text, answers_to, arg_by_id, first_of, nothing_held, one_of, rows_after, rows_of, texts, walk}
 use Rattle.clap.specs.Simple.{Shape, argument_words, built, entered, filled, help_rule, help_shape, label_of, names_of, rows_at, subcommand_of, subcommand_rows, subcommand_rows_of}
 use Rattle.clap.specs.Faults.{check_fault, entered_fault, fault_of, level_fault}
 use Rattle.clap.specs.Facts.{explicit_source}
 use Rattle.clap.specs.Matches.{ReadsOne, first_value, subcommand_name_of}
 use Rattle.clap.specs.Takes.{is_given}
-use Rattle.clap.specs.Values.{IsSignedIn}
+use Rattle.clap.specs.Values.{IsSignedIn, same_text}
 use Rattle.clap.specs.declared.builder.value_parser.ValueParser.TheVariants.{Signed}
 use Rattle.clap.specs.declared.parser.matches.ArgMatches.{ArgMatches}
 use Rattle.clap.specs.declared.parser.matches.ArgMatches.TheViews.{out-ArgMatches, out-SubCommand}
@@ -24,7 +25,12 @@ use Rattle.clap.specs.declared.parser.matches.Found.{Found}
 use Rattle.clap.specs.declared.parser.matches.SubCommand.{SubCommand}
 use Rattle.clap.proofs.ValueTestLemmas.{accepts-Accepts}
 use Rattle.clap.proofs.WalkLemmas.{first_value-rows}
-use Rattle.cheri_cap.specs.Invocation.{HasItsTexts, HasLimit, HasText, IsLimit, IsLimitText, IsWhole, decimal_value, program, slots_option}
+use Rattle.cc_word.specs.declared.refusal.Refusal.{Refusal}
+use Rattle.cc_word.specs.declared.refusal.Refusal.TheVariants.{Syntax}
+use Rattle.cc_plan.specs.declared.align.Align.{Align}
+use Rattle.cc_plan.specs.declared.align.Align.TheVariants.{One, Sixteen}
+use Rattle.cc_script.specs.Commands.{align_in}
+use Rattle.cheri_cap.specs.Invocation.{HasAlign, HasItsTexts, HasLimit, HasText, IsAlign, IsLimit, IsLimitText, IsWhole, align_option, decimal_value, program, slots_option}
 use Rattle.cheri_cap.proofs.GivenLemmas.{GiveValues, GivesValue, IsTaken, level-given, level_parts, required_given, set_gives, taken}
 
 -- ---- numbers
@@ -74,6 +80,48 @@ limit_read gives (Some text) read limit none some parses = go read (some text re
         record { value = same; from_one = rw same limit.from_one; at_most = rw same limit.at_most }
     go None h = absurd (parses text (Err h.0) h.1 (limit.numeral, omega (arith, limit.at_most)))
 
+-- ---- alignments
+
+-- a text that is among names is among the texts that they stand for
+among_texts : (names : List (Bor Text)) (text : Text)
+    → list_any (λ name. same_text false name.now text) names ≡ list_any (λ name. bytes_eq name text) (texts names)
+among_texts [] text = refl
+among_texts (name ∷ names) text = ap (λ (rest : Bool). bytes_eq name.now text || rest) (among_texts names text)
+
+-- 1 and 16 are alignments
+align_read : (text : Text) → list_any (λ name. bytes_eq name text) (codes "1" ∷ codes "16" ∷ []) ≡ true → IsOk (align_in text)
+align_read text among = go (bytes_eq (codes "1") text) (bytes_eq (codes "16") text) refl refl among
+  where
+    go : (one sixteen : Bool) → bytes_eq (codes "1") text ≡ one → bytes_eq (codes "16") text ≡ sixteen
+        → (one || (sixteen || false)) ≡ true → IsOk (align_in text)
+    go true sixteen is other e = subst (λ (t : Text). IsOk (align_in t)) ((bytes_eq-Decides (codes "1") text).0 is) refl
+    go false true other is e = subst (λ (t : Text). IsOk (align_in t)) ((bytes_eq-Decides (codes "16") text).0 is) refl
+    go false false one sixteen e = cc e
+
+has_align : (aligns : Bor (List (Bor Text))) → texts aligns.now ≡ codes "1" ∷ codes "16" ∷ [] → (rows : List Row)
+    → IsTaken (filled (align_option aligns)) (first_of (codes "align") rows) (one_of (codes "align") rows) → HasAlign rows
+has_align aligns are rows taken = go (first_of (codes "align") rows) (one_of (codes "align") rows) taken
+  where
+    go : (given read : Option Text) → IsTaken (filled (align_option aligns)) given read → IfSome given (λ text. IsOk (align_in text))
+    go None read is = tt
+    go (Some text) read is =
+        let among = sym (among_texts aligns.now text) ∙ is.1 in
+        align_read text (subst (λ (names : List Text). list_any (λ name. bytes_eq name text) names ≡ true) are among)
+
+-- what is read of an alignment that is not 16
+pub align_one : (given : Option Text) → IfSome given (λ text. IsOk (align_in text)) → (given ≡ Some (codes "16") → ⊥) → IsAlign given One
+align_one None read other = refl
+align_one (Some text) read other =
+    go (bytes_eq text (codes "1")) (bytes_eq text (codes "16")) (λ is. other (ap Some ((bytes_eq-Decides text (codes "16")).0 is))) read
+  where
+    spelt : (one sixteen : Bool) → Result Align Refusal
+    spelt one sixteen = if one then Ok One else if sixteen then Ok Sixteen else Err Syntax
+
+    go : (one sixteen : Bool) → (sixteen ≡ true → ⊥) → IsOk (spelt one sixteen) → spelt one sixteen ≡ Ok One
+    go true sixteen not_sixteen read = refl
+    go false true not_sixteen read = absurd (not_sixteen refl)
+    go false false not_sixteen read = cc read
+
 -- ---- what the commands want
 
 -- two names that the test tells apart
@@ -110,134 +158,140 @@ run_whole rows limit = record {
   plan = λ same. absurd (other (codes "run") (codes "plan") refl same);
 }
 
-plan_whole : (rows : List Row) → HasText (codes "base") rows → HasText (codes "length") rows → HasLimit rows → IsWhole (codes "plan") rows
-plan_whole rows base size limit = record {
+plan_whole : (rows : List Row) → HasText (codes "base") rows → HasText (codes "length") rows → HasLimit rows → HasAlign rows → IsWhole (codes "plan") rows
+plan_whole rows base size limit align = record {
   known = refl;
   show = λ same. absurd (other (codes "plan") (codes "show") refl same);
   round = λ same. absurd (other (codes "plan") (codes "round") refl same);
   run = λ same. absurd (other (codes "plan") (codes "run") refl same);
-  plan = λ _. (base, size, limit);
+  plan = λ _. (base, size, limit, align);
 }
 
 -- ---- the commands, as building leaves them
 
-abbrev show : Shape
-show = get_or (built program).subs 0 help_shape
+module _ (aligns : Bor (List (Bor Text))) (are : texts aligns.now ≡ codes "1" ∷ codes "16" ∷ []) where
+  abbrev show : Shape
+  show = get_or (built (program aligns)).subs 0 help_shape
 
-abbrev round : Shape
-round = get_or (built program).subs 1 help_shape
+  abbrev round : Shape
+  round = get_or (built (program aligns)).subs 1 help_shape
 
-abbrev run : Shape
-run = get_or (built program).subs 2 help_shape
+  abbrev run : Shape
+  run = get_or (built (program aligns)).subs 2 help_shape
 
-abbrev plan : Shape
-plan = get_or (built program).subs 3 help_shape
+  abbrev plan : Shape
+  plan = get_or (built (program aligns)).subs 3 help_shape
 
--- a call for help is a fault, and no row's
-help_gives : (c : List Rule) → GivesValue c (filled help_rule)
-help_gives c = record { no_default = refl; uses = λ again values rows e given. given }
+  -- a call for help is a fault, and no row's
+  help_gives : (c : List Rule) → GivesValue c (filled help_rule)
+  help_gives c = record { no_default = refl; uses = λ again values rows e given. given }
 
-show_gives : GiveValues show.rules show.rules
-show_gives = (set_gives show.rules _ refl refl refl refl, (help_gives show.rules, tt))
+  show_gives : GiveValues show.rules show.rules
+  show_gives = (set_gives show.rules _ refl refl refl refl, (help_gives show.rules, tt))
 
-round_gives : GiveValues round.rules round.rules
-round_gives = (set_gives round.rules _ refl refl refl refl, (help_gives round.rules, tt))
+  round_gives : GiveValues round.rules round.rules
+  round_gives = (set_gives round.rules _ refl refl refl refl, (help_gives round.rules, tt))
 
-run_gives : GiveValues run.rules run.rules
-run_gives = (set_gives run.rules _ refl refl refl refl, (set_gives run.rules _ refl refl refl refl, (help_gives run.rules, tt)))
+  run_gives : GiveValues run.rules run.rules
+  run_gives = (set_gives run.rules _ refl refl refl refl, (set_gives run.rules _ refl refl refl refl, (help_gives run.rules, tt)))
 
-plan_gives : GiveValues plan.rules plan.rules
-plan_gives = (
-  set_gives plan.rules _ refl refl refl refl,
-  (
+  plan_gives : GiveValues plan.rules plan.rules
+  plan_gives = (
     set_gives plan.rules _ refl refl refl refl,
     (
       set_gives plan.rules _ refl refl refl refl,
-      (set_gives plan.rules _ refl refl refl refl, (help_gives plan.rules, tt)),
+      (
+        set_gives plan.rules _ refl refl refl refl,
+        (
+          set_gives plan.rules _ refl refl refl refl,
+          (set_gives plan.rules _ refl refl refl refl, (help_gives plan.rules, tt)),
+        ),
+      ),
     ),
-  ),
-)
+  )
 
--- a command whose words have no fault has what it wants
-abbrev Serves : Shape → Type 0
-Serves s = (words : List Text) → level_fault s [] nothing_held words false [] ≡ [] → HasItsTexts (Some (rows_at s words))
+  -- a command whose words have no fault has what it wants
+  abbrev Serves : Shape → Type 0
+  Serves s = (words : List Text) → level_fault s [] nothing_held words false [] ≡ [] → HasItsTexts (Some (rows_at s words))
 
-show_serves : Serves show
-show_serves words e =
-    let rows = rows_after show.rules [] words in
-    (codes "show", rows, refl, show_whole rows ((required_given show words show_gives e).0 refl))
+  show_serves : Serves show
+  show_serves words e =
+      let rows = rows_after show.rules [] words in
+      (codes "show", rows, refl, show_whole rows ((required_given show words show_gives e).0 refl))
 
-round_serves : Serves round
-round_serves words e =
-    let rows = rows_after round.rules [] words in
-    (codes "round", rows, refl, round_whole rows ((required_given round words round_gives e).0 refl))
+  round_serves : Serves round
+  round_serves words e =
+      let rows = rows_after round.rules [] words in
+      (codes "round", rows, refl, round_whole rows ((required_given round words round_gives e).0 refl))
 
--- the value of `--slots`
-limit_served : (s : Shape) (words : List Text) → GiveValues s.rules s.rules → arg_by_id s.rules (codes "slots") ≡ Some (filled slots_option)
-    → level_fault s [] nothing_held words false [] ≡ [] → HasLimit (rows_after s.rules [] words)
-limit_served s words gives own e =
-    let rows = rows_after s.rules [] words in
-    has_limit rows (taken s.rules (codes "slots") (filled slots_option) rows (level-given s [] words false [] gives e) own)
+  -- the value of `--slots`
+  limit_served : (s : Shape) (words : List Text) → GiveValues s.rules s.rules → arg_by_id s.rules (codes "slots") ≡ Some (filled slots_option)
+      → level_fault s [] nothing_held words false [] ≡ [] → HasLimit (rows_after s.rules [] words)
+  limit_served s words gives own e =
+      let rows = rows_after s.rules [] words in
+      has_limit rows (taken s.rules (codes "slots") (filled slots_option) rows (level-given s [] words false [] gives e) own)
 
-run_serves : Serves run
-run_serves words e =
-    let rows = rows_after run.rules [] words in
-    (codes "run", rows, refl, run_whole rows (limit_served run words run_gives refl e))
+  run_serves : Serves run
+  run_serves words e =
+      let rows = rows_after run.rules [] words in
+      (codes "run", rows, refl, run_whole rows (limit_served run words run_gives refl e))
 
-plan_serves : Serves plan
-plan_serves words e =
-    let rows = rows_after plan.rules [] words in
-    let texts = required_given plan words plan_gives e in
-    (codes "plan", rows, refl, plan_whole rows (texts.1.0 refl) (texts.1.1.0 refl) (limit_served plan words plan_gives refl e))
+  plan_serves : Serves plan
+  plan_serves words e =
+      let rows = rows_after plan.rules [] words in
+      let wanted = required_given plan words plan_gives e in
+      let limit = limit_served plan words plan_gives refl e in
+      let align = has_align aligns are rows (taken plan.rules (codes "align") (filled (align_option aligns)) rows (level-given plan [] words false [] plan_gives e) refl) in
+      (codes "plan", rows, refl, plan_whole rows (wanted.1.1.0 refl) (wanted.1.1.1.0 refl) limit align)
 
-abbrev AllServe : List Shape → Type 0
-AllServe [] = ⊤
-AllServe (s ∷ rest) = Serves s × AllServe rest
+  abbrev AllServe : List Shape → Type 0
+  AllServe [] = ⊤
+  AllServe (s ∷ rest) = Serves s × AllServe rest
 
-all_serve : AllServe (built program).subs
-all_serve = (show_serves, (round_serves, (run_serves, (plan_serves, tt))))
+  all_serve : AllServe (built (program aligns)).subs
+  all_serve = (show_serves, (round_serves, (run_serves, (plan_serves, tt))))
 
--- ---- the program
+  -- ---- the program
 
-wanted_by : (help_wanted argument_wanted : Bool) → check_kinds help_wanted true argument_wanted ≡ [] → ⊥
-wanted_by true b e = cc e
-wanted_by false b e = cc e
+  wanted_by : (help_wanted argument_wanted : Bool) → check_kinds help_wanted true argument_wanted ≡ [] → ⊥
+  wanted_by true b e = cc e
+  wanted_by false b e = cc e
 
--- a command is wanted
-wanted : (rows : List Row) → check_fault (built program).top rows false ≡ [] → ⊥
-wanted rows e =
-    wanted_by (not (list_any (λ (r : Row). explicit_source r.source) rows))
-    (list_any (λ (a : Rule). a.required && not (is_given a.id rows)) (built program).top.rules) e
+  -- a command is wanted
+  wanted : (rows : List Row) → check_fault (built (program aligns)).top rows false ≡ [] → ⊥
+  wanted rows e =
+      wanted_by (not (list_any (λ (r : Row). explicit_source r.source) rows))
+      (list_any (λ (a : Rule). a.required && not (is_given a.id rows)) (built (program aligns)).top.rules) e
 
-by_name : (is_named : Shape → Bool) (commands : List Shape) (words : List Text) (rows : List Row) → AllServe commands
-    → option_map_or (λ s. level_fault s [] nothing_held words false []) (find is_named commands) [] ≡ []
-    → check_fault (built program).top rows (is_some (option_map (λ s. rows_at s words) (find is_named commands))) ≡ []
-    → HasItsTexts (option_map (λ s. rows_at s words) (find is_named commands))
-by_name is_named [] words rows all below e = absurd (wanted rows e)
-by_name is_named (s ∷ rest) words rows all below e = go (is_named s) below e (by_name is_named rest words rows all.1)
-  where
-    go : (b : Bool) → option_map_or (λ s. level_fault s [] nothing_held words false []) (if b then Some s else find is_named rest) [] ≡ []
-        → check_fault (built program).top rows (is_some (option_map (λ s. rows_at s words) (if b then Some s else find is_named rest))) ≡ []
-        → (option_map_or (λ s. level_fault s [] nothing_held words false []) (find is_named rest) [] ≡ []
-        → check_fault (built program).top rows (is_some (option_map (λ s. rows_at s words) (find is_named rest))) ≡ []
-        → HasItsTexts (option_map (λ s. rows_at s words) (find is_named rest)))
-        → HasItsTexts (option_map (λ s. rows_at s words) (if b then Some s else find is_named rest))
-    go true below e later = all.0 words below
-    go false below e later = later below e
+  by_name : (is_named : Shape → Bool) (commands : List Shape) (words : List Text) (rows : List Row) → AllServe commands
+      → option_map_or (λ s. level_fault s [] nothing_held words false []) (find is_named commands) [] ≡ []
+      → check_fault (built (program aligns)).top rows (is_some (option_map (λ s. rows_at s words) (find is_named commands))) ≡ []
+      → HasItsTexts (option_map (λ s. rows_at s words) (find is_named commands))
+  by_name is_named [] words rows all below e = absurd (wanted rows e)
+  by_name is_named (s ∷ rest) words rows all below e = go (is_named s) below e (by_name is_named rest words rows all.1)
+    where
+      go : (b : Bool) → option_map_or (λ s. level_fault s [] nothing_held words false []) (if b then Some s else find is_named rest) [] ≡ []
+          → check_fault (built (program aligns)).top rows (is_some (option_map (λ s. rows_at s words) (if b then Some s else find is_named rest))) ≡ []
+          → (option_map_or (λ s. level_fault s [] nothing_held words false []) (find is_named rest) [] ≡ []
+          → check_fault (built (program aligns)).top rows (is_some (option_map (λ s. rows_at s words) (find is_named rest))) ≡ []
+          → HasItsTexts (option_map (λ s. rows_at s words) (find is_named rest)))
+          → HasItsTexts (option_map (λ s. rows_at s words) (if b then Some s else find is_named rest))
+      go true below e later = all.0 words below
+      go false below e later = later below e
 
-by_stop : (stop : Option (Text × List Text)) (rows : List Row) → entered_fault (built program) stop ≡ []
-    → check_fault (built program).top rows (is_some (entered (built program) stop)) ≡ [] → HasItsTexts (entered (built program) stop)
-by_stop None rows below e = absurd (wanted rows e)
-by_stop (Some p) rows below e = by_name (λ s. answers_to p.0 (label_of s)) (built program).subs p.1 rows all_serve below e
+  by_stop : (stop : Option (Text × List Text)) (rows : List Row) → entered_fault (built (program aligns)) stop ≡ []
+      → check_fault (built (program aligns)).top rows (is_some (entered (built (program aligns)) stop)) ≡ [] → HasItsTexts (entered (built (program aligns)) stop)
+  by_stop None rows below e = absurd (wanted rows e)
+  by_stop (Some p) rows below e = by_name (λ s. answers_to p.0 (label_of s)) (built (program aligns)).subs p.1 rows all_serve below e
 
--- words without a fault name a command and give it its texts
-pub found : (words : List Text) → fault_of program words ≡ [] → HasItsTexts (subcommand_of program words)
-found words e =
-    let app = built program in
-    let rest = argument_words program words in
-    let end = walk app.top.rules (names_of app) nothing_held rest in
-    let parts = level_parts app.top (names_of app) rest (is_some (entered app end.stopped)) (entered_fault app end.stopped) e in
-    by_stop end.stopped (rows_after app.top.rules (names_of app) rest) parts.1 parts.3
+  -- words without a fault name a command and give it its texts
+  pub found : (words : List Text) → fault_of (program aligns) words ≡ [] → HasItsTexts (subcommand_of (program aligns) words)
+  found words e =
+      let app = built (program aligns) in
+      let rest = argument_words (program aligns) words in
+      let end = walk app.top.rules (names_of app) nothing_held rest in
+      let parts = level_parts app.top (names_of app) rest (is_some (entered app end.stopped)) (entered_fault app end.stopped) e in
+      by_stop end.stopped (rows_after app.top.rules (names_of app) rest) parts.1 parts.3
 
 -- ---- what was found
 

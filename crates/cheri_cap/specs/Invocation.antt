@@ -1,12 +1,17 @@
 -- What a command line asks for.
-use Rattle.std.specs.Prelude.{◌≡◌, ◌≤◌, ℕ, true, pos, List, [], ◌∷◌, Option, Some, IfSome, codes, option_map}
+use Rattle.std.specs.Prelude.{◌≡◌, ◌≤◌, ℕ, true, pos, List, [], ◌∷◌, Option, Some, None, IfSome, Ok, IsOk, codes, option_map}
+use Rattle.std.specs.Borrow.{Bor}
 use Rattle.std.specs.List.{list_any}
 use Rattle.std.specs.Option.{option_map_or}
 use Rattle.std.specs.Str.{bytes_eq}
 use Rattle.std.specs.Str.Parse.{IsNumeral, digits_value, without_leading_plus}
+use Rattle.clap.specs.Walk.{texts}
 use Rattle.clap.specs.Words.{App, Row, Rule, Text, first_of, new_app, new_rule, one_of, with_rule, with_subcommand}
 use Rattle.clap.specs.declared.builder.action.ArgAction.TheVariants.{Set}
-use Rattle.clap.specs.declared.builder.value_parser.ValueParser.TheVariants.{Signed}
+use Rattle.clap.specs.declared.builder.value_parser.ValueParser.TheVariants.{Names, Signed}
+use Rattle.cc_plan.specs.declared.align.Align.{Align}
+use Rattle.cc_plan.specs.declared.align.Align.TheVariants.{One}
+use Rattle.cc_script.specs.Commands.{align_in}
 use Rattle.cheri_cap.specs.declared.invocation.Invocation.{Invocation}
 use Rattle.cheri_cap.specs.declared.invocation.Invocation.TheVariants.{Plan, Round, Run, Show}
 
@@ -27,6 +32,13 @@ slots_option = record (optional_argument (codes "slots")) {
   parser = Some (Signed (pos 1) (pos 65536));
 }
 
+-- the option `--align ALIGN`, whose value is one of these texts
+abbrev pub align_option : Bor (List (Bor Text)) → Rule
+align_option aligns = record (optional_argument (codes "align")) {
+  long = Some (codes "align");
+  parser = Some (Names aligns);
+}
+
 -- the command `show WORD`
 abbrev pub show_command : App
 show_command = with_rule (new_app (codes "show")) (wanted_argument (codes "word"))
@@ -39,11 +51,14 @@ round_command = with_rule (new_app (codes "round")) (wanted_argument (codes "len
 abbrev pub run_command : App
 run_command = with_rule (with_rule (new_app (codes "run")) slots_option) (optional_argument (codes "file"))
 
--- the command `plan [--slots N] BASE LENGTH [FILE]`
-abbrev pub plan_command : App
-plan_command =
-    let slots = with_rule (new_app (codes "plan")) slots_option in
-    let pool = with_rule (with_rule slots (wanted_argument (codes "base"))) (wanted_argument (codes "length")) in
+-- the command `plan [--slots N] [--align ALIGN]`
+abbrev pub plan_options : Bor (List (Bor Text)) → App
+plan_options aligns = with_rule (with_rule (new_app (codes "plan")) slots_option) (align_option aligns)
+
+-- the command `plan [--slots N] [--align ALIGN] BASE LENGTH [FILE]`
+abbrev pub plan_command : Bor (List (Bor Text)) → App
+plan_command aligns =
+    let pool = with_rule (with_rule (plan_options aligns) (wanted_argument (codes "base"))) (wanted_argument (codes "length")) in
     with_rule pool (optional_argument (codes "file"))
 
 -- a program that wants one of its commands and has a version, before its commands are added
@@ -57,11 +72,17 @@ bare_program = let bare = new_app (codes "cheri-cap") in record bare {
   };
 }
 
--- the program as clap reads it
-abbrev pub program : App
-program =
+-- the program as clap reads it, where `--align` takes these texts
+abbrev pub program : Bor (List (Bor Text)) → App
+program aligns =
     let words = with_subcommand (with_subcommand bare_program show_command.top) round_command.top in
-    with_subcommand (with_subcommand words run_command.top) plan_command.top
+    with_subcommand (with_subcommand words run_command.top) (plan_command aligns).top
+
+-- the program as clap reads it, where `--align` takes 1 and 16, wherever in memory these two texts stand
+pub record IsProgram (app : App) : Type 0 where
+  pub aligns : Bor (List (Bor Text))
+  pub are : texts aligns.now ≡ codes "1" ∷ codes "16" ∷ []
+  pub is : app ≡ program aligns
 
 -- ---- what clap found, and what it asks for
 
@@ -76,12 +97,17 @@ pub record IsLimit (given : Option Text) (limit : ℕ) : Type 0 where
   pub from_one : 1 ≤ limit
   pub at_most : limit ≤ 65536
 
+-- the alignment is the one that the value of `--align` spells, or 1 where it is not given
+abbrev pub IsAlign : (given : Option Text) → Align → Type 0
+IsAlign None align = align ≡ One
+IsAlign (Some text) align = align_in text ≡ Ok align
+
 -- the name of the command
 abbrev pub command_of : Invocation → Text
 command_of (Show word) = codes "show"
 command_of (Round size) = codes "round"
 command_of (Run limit file) = codes "run"
-command_of (Plan limit pool file) = codes "plan"
+command_of (Plan limit pool align file) = codes "plan"
 
 -- each text of the command is the value of its name, and none where the name has no value
 abbrev pub HasValues : List Row → Invocation → Type 0
@@ -89,8 +115,8 @@ HasValues rows (Show word) = first_of (codes "word") rows ≡ Some word.now
 HasValues rows (Round size) = first_of (codes "length") rows ≡ Some size.now
 HasValues rows (Run limit file) =
     IsLimit (first_of (codes "slots") rows) limit × (first_of (codes "file") rows ≡ option_map (λ text. text.now) file)
-HasValues rows (Plan limit pool file) =
-    IsLimit (first_of (codes "slots") rows) limit
+HasValues rows (Plan limit pool align file) =
+    IsLimit (first_of (codes "slots") rows) limit × IsAlign (first_of (codes "align") rows) align
     × (first_of (codes "base") rows ≡ Some pool.base.now) × (first_of (codes "length") rows ≡ Some pool.length.now)
     × (first_of (codes "file") rows ≡ option_map (λ text. text.now) file)
 
@@ -115,13 +141,17 @@ pub record HasLimit (rows : List Row) : Type 0 where
   pub read : one_of (codes "slots") rows ≡ first_of (codes "slots") rows
   pub limit : IfSome (first_of (codes "slots") rows) IsLimitText
 
+-- the value of `--align`, where it has one, spells an alignment
+abbrev pub HasAlign : List Row → Type 0
+HasAlign rows = IfSome (first_of (codes "align") rows) (λ text. IsOk (align_in text))
+
 -- the command of this name is one of the program's, and has what it wants
 pub record IsWhole (name : Text) (rows : List Row) : Type 0 where
   pub known : list_any (λ command. bytes_eq command name) (codes "show" ∷ codes "round" ∷ codes "run" ∷ codes "plan" ∷ []) ≡ true
   pub show : name ≡ codes "show" → HasText (codes "word") rows
   pub round : name ≡ codes "round" → HasText (codes "length") rows
   pub run : name ≡ codes "run" → HasLimit rows
-  pub plan : name ≡ codes "plan" → HasText (codes "base") rows × HasText (codes "length") rows × HasLimit rows
+  pub plan : name ≡ codes "plan" → HasText (codes "base") rows × HasText (codes "length") rows × HasLimit rows × HasAlign rows
 
 -- a command was found that has what it wants
 abbrev pub HasItsTexts : Option (Text × List Row) → Type 0

@@ -1,10 +1,12 @@
 //! The command line.
-ghost use Rattle.std.specs.Prelude.{◌≡◌, IfErr, IfOk, IsSome, Some, codes, false, true};
+ghost use Rattle.std.specs.Prelude.{◌≡◌, ◌∷◌, [], IfErr, IfOk, IsSome, Some, codes, false, true};
 ghost use Rattle.clap.specs.Walk.{texts};
-ghost use Rattle.clap.specs.Words.{app_of, first_of, first_value, found_of, kind_of, new_app, rows_of, rule_of, subcommand_of, subcommand_rows_of, takes};
+ghost use Rattle.clap.specs.Words.{App, app_of, first_of, first_value, found_of, kind_of, new_app, rows_of, rule_of, subcommand_of, subcommand_rows_of, takes};
 ghost use Rattle.clap.specs.declared.builder.command.Command.TheViews.{out-Command};
-ghost use Rattle.cheri_cap.specs.Invocation.{HasItsTexts, HasLimit, IsInvocation, IsLimit, bare_program, optional_argument, plan_command, program, round_command, run_command, show_command, slots_option, wanted_argument};
+ghost use Rattle.cheri_cap.specs.Invocation.{HasAlign, HasItsTexts, HasLimit, IsAlign, IsInvocation, IsLimit, IsProgram, align_option, bare_program, optional_argument, plan_command, plan_options, program, round_command, run_command, show_command, slots_option, wanted_argument};
 
+use cc_machine::Align;
+use clap::builder::ValueParser;
 use clap::error::ErrorKind;
 use clap::{Arg, ArgAction, ArgMatches, Command, Error, value_parser};
 use std::alloc::{AllocError, Global};
@@ -29,18 +31,20 @@ pub enum Invocation<'a> {
         /// The script's file. Standard input where there is none, or where it is `-`.
         file: Option<&'a str>,
     },
-    /// `plan [--slots N] BASE LENGTH [FILE]`: the replies to a script, on a machine with a pool.
+    /// `plan [--slots N] [--align ALIGN] BASE LENGTH [FILE]`: the replies to a script, on a machine with a pool.
     Plan {
         /// The most slots, and the most objects, that the machine can have: from 1 to 65536.
         limit: u32,
-        /// The pool, as it was typed.
+        /// The pool's bounds, as they were typed.
         pool: PoolTexts<'a>,
+        /// The pool's alignment.
+        align: Align,
         /// The script's file. Standard input where there is none, or where it is `-`.
         file: Option<&'a str>,
     },
 }
 
-/// A pool as it was typed. Each of its texts may spell no number.
+/// The bounds of a pool as they were typed. Each text may spell no number.
 #[derive(Clone, Copy, Debug, PartialEq, Eq)]
 pub struct PoolTexts<'a> {
     /// The text that stands for the pool's first address.
@@ -110,7 +114,7 @@ a capability puts it into the next slot:
   rebuild A WORD               a word again, as far as slot A grants it
   pool S [16], alloc N         a pool, of alignment 16 or 1, and an object of N bytes in it
   free J                       an object's end; it holds its bytes until the next sweep
-  sweep                        gives freed bytes back, and revokes every capability for them
+  sweep                        gives freed bytes back, and revokes what came from the freed objects
   show S, round N              shows a slot, or what a length is rounded to
 A line that is no command, or that is refused, is answered by `error`, a code and a name, and the
 next line is run.
@@ -132,10 +136,10 @@ The first address of the pool: decimal digits, or 0x and hexadecimal digits of e
 const POOL_LENGTH_HELP: &str = "The pool's length in bytes, at most 2^64, written as BASE is";
 
 const PLAN_AFTER_HELP: &str = "\
-The machine is opened by `addr 0 BASE`, `exact 1 LENGTH` and `pool 2`, whose three replies stand
-first. They are errors where no capability has exactly these bounds, and the machine then has no
-pool; `cheri-cap round LENGTH` tells which length and alignment are exact. The script is then run
-as `cheri-cap run` does.
+The machine is opened by `addr 0 BASE`, `exact 1 LENGTH` and `pool 2` (or `pool 2 16`), whose three
+replies stand first. They are errors where no capability has exactly these bounds, and the machine
+then has no pool; `cheri-cap round LENGTH` tells which length and alignment are exact. The script is
+then run as `cheri-cap run` does.
 
 For a BASE or LENGTH that is no number the answer is `error 1 syntax`, and for one that is too
 large it is `error 4 range`, both with exit status 1, and no script is run.
@@ -152,6 +156,9 @@ Example:
 const SLOTS_HELP: &str = "\
 How many slots the machine can have, and how many objects, from 1 to 65536 [default: 4096]";
 
+const ALIGN_HELP: &str = "\
+How the bounds of each object are aligned at least: to bytes, or to 16 bytes [default: 1]";
+
 const FILE_HELP: &str = "The script's file; standard input where it is `-` or left out";
 
 /// Reads the program's words, its own name first.
@@ -159,26 +166,34 @@ const FILE_HELP: &str = "The script's file; standard input where it is `-` or le
 /// An error is a mistake in the words, a request for help or for the version, or want of memory; its
 /// kind says which, and its text is for the user.
 pub fn read_words<'a>(alloc: Global, words: &'a [&'a str]) -> Result<Invocation<'a>, Error>
-    ensures read { IfOk result (IsInvocation (subcommand_of program (texts words.now))) }
+    ensures read { IfOk result (λ invocation.
+        (app : App) × IsProgram app × IsInvocation (subcommand_of app (texts words.now)) invocation) }
     ensures refused { IfErr result (λ error.
-        takes program (texts words.now) ≡ true → kind_of error ≡ ErrorKind.OutOfMemory) }
+        (app : App) × IsProgram app × (takes app (texts words.now) ≡ true → kind_of error ≡ ErrorKind.OutOfMemory)) }
 {
-    let mut command = program(alloc)?;
+    let mut command = program(alloc, aligns())?;
     match command.try_get_matches_from_mut(words) {
         Ok(matches) => Ok(invocation_of(&matches)),
         Err(error) => Err(error),
     }
 }
 
+/// The values that `--align` takes.
+fn aligns<'a>() -> &'a [&'a str]
+    ensures { texts result.now ≡ codes "1" ∷ codes "16" ∷ [] }
+{
+    &["1", "16"]
+}
+
 /// The program as clap reads it.
-fn program<'a>(alloc: Global) -> Result<Command<'a>, AllocError>
-    ensures { IfOk result (λ command. app_of command ≡ program) }
+fn program<'a>(alloc: Global, aligns: &'a [&'a str]) -> Result<Command<'a>, AllocError>
+    ensures { IfOk result (λ command. app_of command ≡ program aligns.entry) }
 {
     bare_program(alloc)?
         .subcommand(show_command(alloc)?)?
         .subcommand(round_command(alloc)?)?
         .subcommand(run_command(alloc)?)?
-        .subcommand(plan_command(alloc)?)
+        .subcommand(plan_command(alloc, aligns)?)
 }
 
 /// `show WORD`.
@@ -210,19 +225,28 @@ fn run_command<'a>(alloc: Global) -> Result<Command<'a>, AllocError>
         .arg(file)
 }
 
-/// `plan [--slots N] BASE LENGTH [FILE]`.
-fn plan_command<'a>(alloc: Global) -> Result<Command<'a>, AllocError>
-    ensures shape { IfOk result (λ command. app_of command ≡ plan_command) }
+/// `plan [--slots N] [--align ALIGN] BASE LENGTH [FILE]`.
+fn plan_command<'a>(alloc: Global, aligns: &'a [&'a str]) -> Result<Command<'a>, AllocError>
+    ensures shape { IfOk result (λ command. app_of command ≡ plan_command aligns.entry) }
     ensures local { IfOk result (λ command. (out-Command command).has_globals ≡ false) }
 {
     let base = wanted_argument(alloc, "base", "BASE", BASE_HELP);
     let length = wanted_argument(alloc, "length", "LENGTH", POOL_LENGTH_HELP);
     let file = optional_argument(alloc, "file", "FILE", FILE_HELP);
-    bare_command(alloc, "plan", PLAN_ABOUT, PLAN_AFTER_HELP)
-        .arg(slots_option(alloc))?
+    plan_options(alloc, aligns)?
         .arg(base)?
         .arg(length)?
         .arg(file)
+}
+
+/// `plan [--slots N] [--align ALIGN]`.
+fn plan_options<'a>(alloc: Global, aligns: &'a [&'a str]) -> Result<Command<'a>, AllocError>
+    ensures shape { IfOk result (λ command. app_of command ≡ plan_options aligns.entry) }
+    ensures local { IfOk result (λ command. (out-Command command).has_globals ≡ false) }
+{
+    bare_command(alloc, "plan", PLAN_ABOUT, PLAN_AFTER_HELP)
+        .arg(slots_option(alloc))?
+        .arg(align_option(alloc, aligns))
 }
 
 /// The program without its commands.
@@ -290,6 +314,16 @@ fn slots_option<'a>(alloc: Global) -> Arg<'a>
         .value_parser(value_parser!(u32).range(1..=65_536))
 }
 
+/// The option `--align ALIGN`, whose value is one of these texts.
+fn align_option<'a>(alloc: Global, aligns: &'a [&'a str]) -> Arg<'a>
+    ensures rule { rule_of result ≡ align_option aligns.entry }
+    ensures local { result.global ≡ false }
+{
+    optional_argument(alloc, "align", "ALIGN", ALIGN_HELP)
+        .long("align")
+        .value_parser(ValueParser::Names(aligns))
+}
+
 /// What the command that clap found asks for.
 fn invocation_of<'a>(matches: &ArgMatches<'a>) -> Invocation<'a>
     requires { HasItsTexts (subcommand_rows_of matches.now) }
@@ -312,6 +346,7 @@ fn invocation_of<'a>(matches: &ArgMatches<'a>) -> Invocation<'a>
                 base: wanted_text(plan, "base"),
                 length: wanted_text(plan, "length"),
             },
+            align: align_of(plan),
             file: plan.get_str("file"),
         },
         _ => unreachable!(),
@@ -335,4 +370,15 @@ fn limit_of(matches: &ArgMatches<'_>) -> u32
     ensures { IsLimit (first_of (codes "slots") (rows_of (found_of matches.now))) result }
 {
     matches.get_one("slots").unwrap_or(DEFAULT_LIMIT)
+}
+
+/// The value of `--align`, or 1.
+fn align_of(matches: &ArgMatches<'_>) -> Align
+    requires { HasAlign (rows_of (found_of matches.now)) }
+    ensures { IsAlign (first_of (codes "align") (rows_of (found_of matches.now))) result }
+{
+    match matches.get_str("align") {
+        Some("16") => Align::Sixteen,
+        _ => Align::One,
+    }
 }

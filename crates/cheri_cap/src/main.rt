@@ -4,9 +4,9 @@
 
 ghost use Rattle.std.specs.Prelude.{◌≡◌, ◌≢◌, false, List, Option};
 ghost use Rattle.clap.specs.Walk.{texts};
-ghost use Rattle.clap.specs.Words.{Row, Text, kind_of, takes};
+ghost use Rattle.clap.specs.Words.{App, Row, Text, kind_of, takes};
 ghost use Rattle.cheri_cap.specs.declared.outcome.Ending.TheVariants as ending;
-ghost use Rattle.cheri_cap.specs.Invocation.{IsInvocation, program};
+ghost use Rattle.cheri_cap.specs.Invocation.{IsInvocation, IsProgram};
 ghost use Rattle.cheri_cap.specs.Outcome.{status_of};
 
 mod answers;
@@ -70,7 +70,7 @@ fn run_arguments<R: AllocGlobal + Files + Input + Print + Eprint>(
 
 /// Does what the words ask for.
 fn run_words<R: AllocGlobal + Files + Input + Print + Eprint>(rt: &R, words: &[&str]) -> Ending
-    ensures { result ≡ ending.Refused → takes program (texts words.now) ≡ false }
+    ensures { result ≡ ending.Refused → (app : App) × IsProgram app × (takes app (texts words.now) ≡ false) }
 {
     match read_words(rt.alloc(), words) {
         Ok(invocation) => ending_of(answer(rt, invocation)),
@@ -108,7 +108,12 @@ fn answer<R: AllocGlobal + Files + Input + Print>(
         Invocation::Show { word } => Ok(show_word(word.as_bytes(), &mut output)?),
         Invocation::Round { length } => Ok(show_round(length.as_bytes(), &mut output)?),
         Invocation::Run { limit, file } => running::run(rt, limit, file),
-        Invocation::Plan { limit, pool, file } => running::plan(rt, limit, pool, file),
+        Invocation::Plan {
+            limit,
+            pool,
+            align,
+            file,
+        } => running::plan(rt, limit, pool, align, file),
     }
 }
 

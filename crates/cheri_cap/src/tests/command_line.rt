@@ -1,5 +1,6 @@
 //! Command lines that are taken and refused.
 use crate::invocation::{Invocation, PoolTexts, read_words};
+use cc_machine::Align;
 use clap::error::ErrorKind;
 use std::alloc::Global;
 use std::test::Fail;
@@ -134,9 +135,47 @@ fn plan_is_taken(rt: HostRuntime) -> Result<(), Fail> {
                     base: "0",
                     length: "9"
                 },
+                align: Align::One,
                 file
             }
         );
+    }
+    Ok(())
+}
+
+#[test]
+fn alignments_are_1_and_16(rt: HostRuntime) -> Result<(), Fail> {
+    let pool = PoolTexts {
+        base: "0",
+        length: "9",
+    };
+    for (words, align) in [
+        (
+            ["cheri-cap", "plan", "--align", "1", "0", "9"].as_slice(),
+            Align::One,
+        ),
+        (
+            ["cheri-cap", "plan", "--align", "16", "0", "9"].as_slice(),
+            Align::Sixteen,
+        ),
+        (
+            ["cheri-cap", "plan", "0", "--align=16", "9", "--slots=4096"].as_slice(),
+            Align::Sixteen,
+        ),
+    ] {
+        let plan = Invocation::Plan {
+            limit: 4096,
+            pool,
+            align,
+            file: None,
+        };
+        assert_eq!(rt; read_words(rt.alloc(), words)?, plan);
+    }
+    for text in ["2", "0x10", "", "01", "016", "+16", "17", "16 "] {
+        let attached = format!(in rt.alloc(); "--align={text}")?;
+        let words = ["cheri-cap", "plan", attached.as_str(), "0", "9"];
+        let refused = Some((ErrorKind::InvalidValue, true));
+        assert_eq!(rt; refusal(rt.alloc(), words.as_slice()), refused, "{text}");
     }
     Ok(())
 }
@@ -162,6 +201,7 @@ fn texts_of_plan_are_not_read_as_numbers(rt: HostRuntime) -> Result<(), Fail> {
             Invocation::Plan {
                 limit: 4096,
                 pool: PoolTexts { base, length },
+                align: Align::One,
                 file: None
             }
         );
@@ -274,6 +314,15 @@ fn refused_runs_and_plans(rt: HostRuntime) {
             ["cheri-cap", "plan", "0", "9", "--slots=5", "--slots=6"].as_slice(),
             twice,
         ),
+        (
+            ["cheri-cap", "plan", "--align=16", "0", "9", "--align=16"].as_slice(),
+            twice,
+        ),
+        (
+            ["cheri-cap", "plan", "0", "9", "--align"].as_slice(),
+            no_value,
+        ),
+        (["cheri-cap", "run", "--align=16"].as_slice(), unknown),
     ] {
         assert_eq!(rt; refusal(rt.alloc(), words), Some((kind, true)));
     }

@@ -2,7 +2,7 @@
 use crate::invocation::{Invocation, PoolTexts};
 use crate::outcome::{Ending, Fault};
 use cc_bounds::Span;
-use cc_machine::{Align, Len, Op, Reply};
+use cc_machine::{Align, Len, Object, ObjectState, Op, Reply};
 use cc_script::{ScriptFault, Summary};
 use cc_word::Refusal;
 use std::test::Fail;
@@ -48,6 +48,44 @@ fn replies_are_told_apart(rt: HostRuntime) -> Result<(), Fail> {
 }
 
 #[test]
+fn replies_of_objects_are_told_apart(rt: HostRuntime) {
+    let span = Span { base: 0, top: 16 };
+    let allocated = |object, held| Reply::Allocated {
+        object,
+        slot: 1,
+        word: 0,
+        span,
+        held,
+    };
+    assert!(rt; allocated(1, 16) != allocated(2, 16));
+    assert!(rt; allocated(1, 16) != allocated(1, 17));
+    let freed = |object, held| Reply::Freed {
+        object,
+        revoked: 0,
+        held,
+    };
+    assert!(rt; freed(1, 16) != freed(2, 16));
+    assert!(rt; freed(1, 16) != freed(1, 17));
+    let swept = |objects, revoked| Reply::Swept {
+        objects,
+        revoked,
+        held: 16,
+    };
+    assert!(rt; swept(1, 2) != swept(2, 2));
+    assert!(rt; swept(1, 2) != swept(1, 3));
+}
+
+#[test]
+fn objects_are_told_apart(rt: HostRuntime) {
+    let object = |size, slot, state| Object { size, slot, state };
+    let live = object(8, 1, ObjectState::Live);
+    assert!(rt; live != object(9, 1, ObjectState::Live));
+    assert!(rt; live != object(8, 2, ObjectState::Live));
+    assert!(rt; live != object(8, 1, ObjectState::Freed));
+    assert!(rt; ObjectState::Freed != ObjectState::Swept);
+}
+
+#[test]
 fn operations_are_told_apart(rt: HostRuntime) -> Result<(), Fail> {
     let length = Len::new(8).ok_or("no length")?;
     let longer = Len::new(9).ok_or("no length")?;
@@ -63,6 +101,9 @@ fn operations_are_told_apart(rt: HostRuntime) -> Result<(), Fail> {
         assert!(rt; other.clone()? == other);
     }
     assert!(rt; Op::Show(1) != Op::Show(2));
+    assert!(rt; Op::Pool(1, Align::One) != Op::Pool(2, Align::One));
+    assert!(rt; Op::Pool(1, Align::One) != Op::Pool(1, Align::Sixteen));
+    assert!(rt; Op::Sweep != Op::Free(1));
     Ok(())
 }
 
@@ -90,10 +131,22 @@ fn invocations_are_told_apart(rt: HostRuntime) {
         length: "0",
     };
     assert!(rt; pool != other);
-    let plan = |limit, pool, file| Invocation::Plan { limit, pool, file };
+    let plan = |limit, pool, file| Invocation::Plan {
+        limit,
+        pool,
+        align: Align::One,
+        file,
+    };
     assert!(rt; plan(5, pool, None) != plan(6, pool, None));
     assert!(rt; plan(5, pool, None) != plan(5, other, None));
     assert!(rt; plan(5, pool, None) != plan(5, pool, Some("a")));
+    let aligned = Invocation::Plan {
+        limit: 5,
+        pool,
+        align: Align::Sixteen,
+        file: None,
+    };
+    assert!(rt; plan(5, pool, None) != aligned);
     assert!(rt; Invocation::Show { word: "1" } != Invocation::Round { length: "1" });
     assert!(rt; Invocation::Show { word: "1" } != Invocation::Show { word: "2" });
 }

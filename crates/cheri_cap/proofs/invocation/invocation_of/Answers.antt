@@ -32,6 +32,13 @@ limit_of-requires-in-Some-plan-default c =
     let is = command_is c.args.matches.now (codes "plan") rows (sym (ap Some here.is-plan) ∙ here.ensures.name) here.ensures.rows in
     ((whole _ (codes "plan") rows is c.requires).plan refl).2
 
+pub align_of-requires : goal.align_of-requires
+align_of-requires c =
+    let here = c.in-Some-plan-default in
+    let rows = rows_of (found_of here.plan.now) in
+    let is = command_is c.args.matches.now (codes "plan") rows (sym (ap Some here.is-plan) ∙ here.ensures.name) here.ensures.rows in
+    ((whole _ (codes "plan") rows is c.requires).plan refl).3
+
 pub wanted_text-requires-in-Some-plan-default : goal.wanted_text-requires-in-Some-plan-default
 wanted_text-requires-in-Some-plan-default c =
     let here = c.in-Some-plan-default in
@@ -81,6 +88,7 @@ returns-in-Some-plan-default c =
       command_is c.args.matches.now (codes "plan") (rows_of f) (sym (ap Some here.is-plan) ∙ here.ensures.name) here.ensures.rows,
       (
         c.limit_of-in-Some-plan-default.ensures,
+        c.align_of.ensures,
         sym (first_value-rows f (codes "base")) ∙ c.wanted_text-in-Some-plan-default.ensures,
         sym (first_value-rows f (codes "length")) ∙ c.wanted_text-in-Some-plan-default-2.ensures,
         sym (first_value-rows f (codes "file")) ∙ sym c.get_str-in-Some-plan-default.ensures,
