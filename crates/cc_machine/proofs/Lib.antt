@@ -1,5 +1,6 @@
 pub mod ActionLemmas
 pub mod AddLemmas
+pub mod CapabilityLemmas
 pub mod FreeLemmas
 pub mod SweepLemmas
 pub mod OutcomeLemmas

@@ -18,6 +18,7 @@ pub use cc_plan::{Align, ObjectState};
 pub use laws::{
     confinement, disjoint_objects, exact_objects, exact_revocation, monotonic_tree,
     objects_from_pool, one_outcome, reachability, runs_join, sealing_authority,
+    slots_hold_capabilities,
 };
 pub use len::Len;
 pub use machine::Machine;
