@@ -1,6 +1,8 @@
 pub mod ActionLemmas
 pub mod AddLemmas
 pub mod CapabilityLemmas
+pub mod BelongingLemmas
+pub mod TotalLemmas
 pub mod FreeLemmas
 pub mod SweepLemmas
 pub mod OutcomeLemmas
