@@ -20,20 +20,24 @@ use Rattle.cc_machine.proofs.SlotLemmas.{IsSlot-split}
 use Rattle.cc_machine.proofs.SameSlotsLemmas.{HaveSameSlots, HaveSameSlots-list}
 use Rattle.cc_machine.proofs.RevokingLemmas.{RevokesFreed-same}
 
+-- of the opening state
 HoldsCapabilities-initial : (limit : ℕ) → HoldsCapabilities (initial_state limit)
 HoldsCapabilities-initial limit zero slot is =
     let e : tagged_slot root_capability None ≡ slot = (let f = is.found in cc) in
     subst (λ (s : SlotState). IsCapability s.capability) e root-IsCapability
 HoldsCapabilities-initial limit (suc number) slot is = let e = is.found in cc
 
+-- of the same slots, whatever is revoked
 HoldsCapabilities-same : (old new : State) → HoldsCapabilities old → HaveSameSlots old new → HoldsCapabilities new
 HoldsCapabilities-same old new holds same number slot is =
     let like = same.back number slot is in
     subst (λ (c : Capability). IsCapability c) like.capability (holds number like.other like.is_slot)
 
+-- of the same state
 HoldsCapabilities-stays : (old new : State) → HoldsCapabilities old → new ≡ old → HoldsCapabilities new
 HoldsCapabilities-stays old new holds same = subst HoldsCapabilities (sym same) holds
 
+-- with one more slot, whose capability can exist
 HoldsCapabilities-with_slot : (old : State) (cap : Capability) (parent : ℕ) → HoldsCapabilities old → IsCapability cap
     → HoldsCapabilities (with_slot old cap parent)
 HoldsCapabilities-with_slot old cap parent holds is_cap number slot is = elim (IsSlot-split old cap parent is) [
@@ -41,6 +45,7 @@ HoldsCapabilities-with_slot old cap parent holds is_cap number slot is = elim (I
   | inr new ↦ subst (λ (s : SlotState). IsCapability s.capability) (sym new.1) is_cap
 ]
 
+-- after adding what a rule makes, which has a word
 HoldsCapabilities-added : (old new : State) (parent : ℕ) (result : Result Capability Refusal) (reply : Reply)
     → HoldsCapabilities old → Adds old parent result reply new → HoldsCapabilities new
 HoldsCapabilities-added old new parent (Err refusal) reply holds adds = HoldsCapabilities-stays old new holds adds.1
@@ -48,6 +53,7 @@ HoldsCapabilities-added old new parent (Ok cap) reply holds (inl adds) =
     subst HoldsCapabilities (sym adds.1.added) (HoldsCapabilities-with_slot old cap parent holds adds.1.is_word.is_capability)
 HoldsCapabilities-added old new parent (Ok cap) reply holds (inr refused) = HoldsCapabilities-stays old new holds refused.1.1
 
+-- after making an object
 HoldsCapabilities-alloc : (old new : State) (size : ℕ) (reply : Reply) → HoldsCapabilities old → Allocates old size reply new → HoldsCapabilities new
 HoldsCapabilities-alloc old new size reply holds (inr refused) = HoldsCapabilities-stays old new holds refused.1.1
 HoldsCapabilities-alloc old new size reply holds (inl (_, inr refused)) = HoldsCapabilities-stays old new holds refused.1.1
@@ -62,11 +68,13 @@ HoldsCapabilities-alloc old new size reply holds (inl (_, inl (_, inl (_, places
   | inr none ↦ HoldsCapabilities-stays old new holds none.refused.1
 ]
 
+-- after freeing one
 HoldsCapabilities-free : (old new : State) (number : ℕ) (reply : Reply) → HoldsCapabilities old → Frees old number reply new → HoldsCapabilities new
 HoldsCapabilities-free old new number reply holds (inl freed) =
     HoldsCapabilities-same old new holds (HaveSameSlots-list old new (ap (λ (s : State). s.slots) freed.is_new))
 HoldsCapabilities-free old new number reply holds (inr refused) = HoldsCapabilities-stays old new holds refused.1.1
 
+-- after giving the pool
 HoldsCapabilities-pool : (old new : State) (number : ℕ) (align : Align) (found : Result SlotState Refusal) (reply : Reply) → HoldsCapabilities old
     → MatchResult found (λ slot.
     RefusedUnless (IsUnsealed slot.capability) Sealed old reply new (
@@ -81,6 +89,7 @@ HoldsCapabilities-pool old new number align (Ok slot) reply holds (inl (_, inl (
     let mid : State = record old { pool = Some number; align = align } in
     subst HoldsCapabilities (sym set.1) (HoldsCapabilities-same old mid holds (HaveSameSlots-list old mid refl))
 
+-- after each step
 HoldsCapabilities-step : (old new : State) (op : Op) (reply : Reply) → HoldsCapabilities old → Step old op reply new → HoldsCapabilities new
 HoldsCapabilities-step old new (Show number) reply holds step = HoldsCapabilities-stays old new holds step.1
 HoldsCapabilities-step old new (Round size) reply holds step = HoldsCapabilities-stays old new holds step.1
@@ -98,6 +107,7 @@ HoldsCapabilities-step old new (Alloc size) reply holds step = HoldsCapabilities
 HoldsCapabilities-step old new (Free number) reply holds step = HoldsCapabilities-free old new number reply holds step
 HoldsCapabilities-step old new Sweep reply holds swept = HoldsCapabilities-same old new holds (RevokesFreed-same old new swept.revoked)
 
+-- and each run
 HoldsCapabilities-run : (old new : State) (ops : List Op) (replies : List Reply) → HoldsCapabilities old → Run old ops replies new → HoldsCapabilities new
 HoldsCapabilities-run old new [] [] holds run = HoldsCapabilities-stays old new holds run
 HoldsCapabilities-run old new (op ∷ ops) (reply ∷ replies) holds run =
@@ -105,6 +115,7 @@ HoldsCapabilities-run old new (op ∷ ops) (reply ∷ replies) holds run =
 HoldsCapabilities-run old new [] (reply ∷ replies) holds run = absurd run
 HoldsCapabilities-run old new (op ∷ ops) [] holds run = absurd run
 
+-- and so in every state that a run leads to
 pub HoldsCapabilities-reached : (state : State) → IsReached state → HoldsCapabilities state
 HoldsCapabilities-reached state reached =
     HoldsCapabilities-run (initial_state reached.limit) state reached.ops reached.replies (HoldsCapabilities-initial reached.limit) reached.run

@@ -1,6 +1,7 @@
 pub mod ActionLemmas
 pub mod AddLemmas
 pub mod CapabilityLemmas
+pub mod CounterexampleLemmas
 pub mod BelongingLemmas
 pub mod TotalLemmas
 pub mod FreeLemmas
