@@ -15,3 +15,4 @@ pub mod TightestLemmas
 pub mod WindowLemmas
 pub mod LawLemmas
 pub mod FieldsLemmas
+pub mod DecisionLemmas

@@ -2,3 +2,4 @@ pub mod DerivationLemmas
 pub mod BoundsLemmas
 pub mod CanonicalLemmas
 pub mod ReachLemmas
+pub mod ResultLemmas

@@ -1,5 +1,9 @@
 pub mod ActionLemmas
 pub mod AddLemmas
+pub mod CapabilityLemmas
+pub mod CounterexampleLemmas
+pub mod BelongingLemmas
+pub mod TotalLemmas
 pub mod FreeLemmas
 pub mod SweepLemmas
 pub mod OutcomeLemmas

@@ -10,3 +10,4 @@ pub mod Reach
 pub mod Owners
 pub mod Making
 pub mod Machine
+pub mod Counterexamples

@@ -16,8 +16,10 @@ mod tests;
 
 pub use cc_plan::{Align, ObjectState};
 pub use laws::{
-    confinement, disjoint_objects, exact_objects, exact_revocation, monotonic_tree,
-    objects_from_pool, one_outcome, reachability, runs_join, sealing_authority,
+    confinement, disjoint_objects, every_run_has_an_outcome, every_step_has_an_outcome,
+    exact_objects, exact_revocation, monotonic_tree, objects_from_pool, one_outcome,
+    operations_are_in_address_space, reachability, runs_join, sealing_authority,
+    slots_hold_capabilities,
 };
 pub use len::Len;
 pub use machine::Machine;

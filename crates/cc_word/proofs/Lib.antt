@@ -1,2 +1,3 @@
 pub mod WordLemmas
+pub mod UnpackLemmas
 pub mod TextLemmas
