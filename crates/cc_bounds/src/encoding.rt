@@ -208,6 +208,7 @@ pub fn set_bounds(base: u64, len: u128) -> Set
     requires { base + len ≤ 2 ^ 64 }
     ensures granted { IsGranted (span_from base len) result.granted }
     ensures exact { IsTrue result.exact ↔ IsExact (span_from base len) }
+    ensures fields { HasBoundsFields result.granted (ie_of result.granted) (t_of result.granted) (b_of result.granted) }
     ensures decodes { DecodesBack result.granted }
     ensures tight { IsTight (span_from base len) result.granted }
     ensures tightest { IsTightest (span_from base len) result.granted }

@@ -10,7 +10,6 @@ mod owners;
 mod reply;
 mod rules;
 mod slot;
-mod stepping;
 #[cfg(test)]
 mod tests;
 

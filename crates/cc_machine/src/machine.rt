@@ -9,7 +9,6 @@ use crate::rules::{
     with_increment, with_perms,
 };
 use crate::slot::Slot;
-use crate::stepping::round;
 use cc_cap::Cap;
 use cc_plan::{Align, ObjectId, Planner, TreePlacer};
 use cc_word::Refusal;
@@ -199,7 +198,7 @@ impl Machine {
             Op::Seal(number, authority) => (number, sealed(self, number, authority)),
             Op::Unseal(number, authority) => (number, unsealed(self, number, authority)),
             Op::Rebuild(authority, word) => (authority, rebuilt(self, authority, word)),
-            Op::Round(length) => return round(length),
+            Op::Round(length) => return Reply::rounded(length),
             Op::Pool(number, align) => return self.set_pool(number, align),
             Op::Alloc(length) => return self.alloc(length),
             Op::Free(object) => return self.free(object),

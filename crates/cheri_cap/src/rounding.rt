@@ -2,12 +2,11 @@
 ghost use Rattle.std.specs.Prelude.{◌≡◌, ◌↔◌, [], false, true, IfOk, IsErr, IsTrue, OnErr};
 ghost use Rattle.cc_script.specs.Commands.{length_in};
 ghost use Rattle.cheri_cap.specs.Answer.{WritesAnswer};
-ghost use Rattle.cheri_cap.specs.Rounding.{IsRounding, rounded_reply};
+ghost use Rattle.cheri_cap.specs.Rounding.{IsRounding};
 
 use crate::answers::{push_refusal, write_answer};
 use crate::text::Text;
-use cc_bounds::{alignment_mask, granule, round_length};
-use cc_machine::{Len, Reply};
+use cc_machine::Reply;
 use cc_script::{ScriptFault, Sink, Summary, read_length, reply_line};
 
 /// Writes the line `round LENGTH GRANULE MASK` for the length that a text spells, and flushes the sink
@@ -37,23 +36,12 @@ fn push_rounding(answer: &mut Text, text: &[u8]) -> Summary
 {
     match read_length(text) {
         Ok(length) => {
-            answer.push_line(&reply_line(&rounded(length)));
+            answer.push_line(&reply_line(&Reply::rounded(length)));
             Summary { any_error: false }
         }
         Err(refusal) => {
             push_refusal(answer, refusal);
             Summary { any_error: true }
         }
-    }
-}
-
-/// What a length is rounded to.
-fn rounded(length: Len) -> Reply
-    ensures { result ≡ rounded_reply length }
-{
-    Reply::Rounded {
-        rounded: round_length(length.get()),
-        granule: granule(length.get()),
-        mask: alignment_mask(length.get()),
     }
 }

@@ -2,6 +2,7 @@ use Rattle.std.proofs.Common.{◌≡◌, subst, ℕ, ◌+◌, ◌≤◌, ◌<◌
 use Rattle.cc_bounds.specs.declared.span.Span.{Span}
 use Rattle.cc_bounds.specs.Span.{IsSpan, span_from}
 use Rattle.cc_bounds.specs.Granule.{IsGranted}
+use Rattle.cc_bounds.proofs.ComputingLemmas.{bounds_fields-is}
 use Rattle.cc_bounds.proofs.SoundLemmas.{granted-sound}
 use Rattle.cc_bounds.proofs.SoundDecodingLemmas.{sound-decodes}
 use Rattle.cc_bounds.proofs.TightestLemmas.{granted-tight, granted-tightest}
@@ -15,6 +16,12 @@ request-span base len base_fits fits = record { in_order = omega arith; base_fit
 request-granted : (base own len : ℕ) (granted : Span) → own ≡ base
     → IsGranted (record { base = base; top = own + len }) granted → IsGranted (span_from base len) granted
 request-granted base own len granted is h = subst (λ (n : ℕ). IsGranted (record { base = base; top = n + len }) granted) is h
+
+pub returns-clause-fields : goal.returns-clause-fields
+returns-clause-fields c =
+    let span = request-span c.args.base c.args.len (omega arith) c.requires in
+    let h = request-granted c.args.base _ c.args.len c.encode.result.granted c.from.ensures c.encode.ensures.granted in
+    bounds_fields-is c.encode.result.granted (granted-sound (span_from c.args.base c.args.len) c.encode.result.granted span h).is_span
 
 pub returns-clause-decodes : goal.returns-clause-decodes
 returns-clause-decodes c =
