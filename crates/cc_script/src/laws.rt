@@ -1,11 +1,13 @@
 //! What the definitions come to. Each function's contract is a law, and its body is empty.
-ghost use Rattle.std.specs.Prelude.{ℕ, List};
+ghost use Rattle.std.specs.Prelude.{◌≡◌, ◌⊎◌, ℕ, Bool, List, take, Option};
+ghost use Rattle.std.specs.Io.KnownBytes.{Appends};
 ghost use Rattle.cc_machine.specs.declared.reply.Reply.{Reply};
 ghost use Rattle.cc_machine.specs.State.{State};
 ghost use Rattle.cc_machine.specs.Run.{Run, IsReached};
 ghost use Rattle.cc_script.specs.Commands.{OneJoin};
-ghost use Rattle.cc_script.specs.Lines.{OneSplit};
-ghost use Rattle.cc_script.specs.Output.{TakesLines, operations_of, operation_replies};
+ghost use Rattle.cc_script.specs.Lines.{OneSplit, lines_of};
+ghost use Rattle.cc_script.specs.Output.{TakesLines, ScriptOutput, operations_of, operation_replies};
+ghost use Rattle.cc_script.specs.Correct.{StopsInReply, StopsAfterLines};
 
 /// The lines of a text and its rest are the one way to cut it at its line feeds.
 pub fn one_split()
@@ -26,4 +28,20 @@ pub fn lines_run()
         → Run old (operations_of lines) (operation_replies lines replies) new }
     ensures reached { (old new : State) (lines : List (List ℕ)) (replies : List Reply)
         → IsReached old → TakesLines old lines replies new → IsReached new }
+{}
+
+/// A text has one output: from one state it has the same bytes for an answer, with an error among the replies
+/// or none, and leads to the same state.
+pub fn one_output()
+    ensures { (old new other : State) (text output other_output : List ℕ) (any_error other_error : Bool)
+        → ScriptOutput old text output any_error new → ScriptOutput old text other_output other_error other
+        → (output ≡ other_output) × (any_error ≡ other_error) × (new ≡ other) }
+{}
+
+/// Where a sink failed, what it took is a beginning of the output of the text.
+pub fn stopped_output_begins()
+    ensures { (old new : State) (text : List ℕ) (taken taken_now : Option (List ℕ))
+        → StopsInReply old (lines_of text) taken taken_now new ⊎ StopsAfterLines old text taken taken_now new
+        → (output : List ℕ) (any_error : Bool) (end : State) → ScriptOutput old text output any_error end
+        → (count : ℕ) × Appends taken taken_now (take count output) }
 {}
