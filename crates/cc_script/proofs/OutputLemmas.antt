@@ -13,7 +13,7 @@ use Rattle.cc_script.specs.Commands.{operation_of}
 use Rattle.cc_script.specs.Lines.{lines_of, rest_of}
 use Rattle.cc_script.specs.Replies.{reply_text, is_error}
 use Rattle.cc_script.specs.Output.{Takes, TakesLines, ScriptOutput, with_line_feed, replies_text, rest_text}
-use Rattle.cc_script.specs.Correct.{StopsInReply, StopsAfterLines}
+use Rattle.cc_script.specs.Correct.{StopsInReply, StopsAfterLines, BeginsOutput}
 use Rattle.cc_script.proofs.EngineLemmas.{takes_further, replies_text-append}
 
 -- ---- one output
@@ -127,9 +127,7 @@ begins_after_lines old new end t u text output any_error s whole =
     (length (replies_text s.replies) + s.count, subst (λ (l : List ℕ). Appends t u l) (sym part) s.written)
 
 pub stopped_begins : (old new : State) (text : List ℕ) (t u : Option (List ℕ))
-    → StopsInReply old (lines_of text) t u new ⊎ StopsAfterLines old text t u new
-    → (output : List ℕ) (any_error : Bool) (end : State) → ScriptOutput old text output any_error end
-    → (count : ℕ) × Appends t u (take count output)
+    → StopsInReply old (lines_of text) t u new ⊎ StopsAfterLines old text t u new → BeginsOutput old text t u
 stopped_begins old new text t u (inl s) output any_error end whole =
     begins_in_reply old new end t u text output any_error s whole
 stopped_begins old new text t u (inr s) output any_error end whole =

@@ -74,23 +74,11 @@ pub record GivesBeginning (old : State) (text : List ℕ) (left taken taken_now 
   pub left_is : left ≡ Some rest
   pub writes : WritesReplies old given taken taken_now new
 
--- a beginning of the output of the text was written
-pub record HasBeginning (old : State) (text : List ℕ) (taken taken_now : Option (List ℕ)) (end : State) : Type 0 where
-  pub output : List ℕ
-  pub any_error : Bool
-  pub of_text : ScriptOutput old text output any_error end
-  pub count : ℕ
-  pub written : Appends taken taken_now (take count output)
-
--- the first of the lines of the text were taken, and were the later ones taken too, what was written so far
--- would be a beginning of the whole output
-pub record BeginsOutput (old : State) (text : List ℕ) (taken taken_now : Option (List ℕ)) (new : State) : Type 0 where
-  pub earlier : List (List ℕ)
-  pub later : List (List ℕ)
-  pub lines_are : lines_of text ≡ earlier ++ later
-  pub replies : List Reply
-  pub before : TakesLines old earlier replies new
-  pub begins : (more : List Reply) (end : State) → TakesLines new later more end → HasBeginning old text taken taken_now end
+-- what was written is a beginning of the output of the text
+abbrev pub BeginsOutput : (old : State) (text : List ℕ) (taken taken_now : Option (List ℕ)) → Type 0
+BeginsOutput old text taken taken_now =
+    (output : List ℕ) (any_error : Bool) (end : State) → ScriptOutput old text output any_error end
+    → (count : ℕ) × Appends taken taken_now (take count output)
 
 -- What a run leaves where the text is all that was to come: the whole output at the end, and else what came
 -- before the failure of a device.
@@ -99,4 +87,4 @@ RunsWhole old text left taken taken_now (Ok summary) new = (left ≡ Some []) ×
 RunsWhole old text left taken taken_now (Err Read) new = GivesBeginning old text left taken taken_now new
 RunsWhole old text left taken taken_now (Err Write) new =
     (StopsInReply old (lines_of text) taken taken_now new ⊎ StopsAfterLines old text taken taken_now new)
-    × BeginsOutput old text taken taken_now new
+    × BeginsOutput old text taken taken_now

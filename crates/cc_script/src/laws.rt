@@ -1,13 +1,12 @@
 //! What the definitions come to. Each function's contract is a law, and its body is empty.
-ghost use Rattle.std.specs.Prelude.{◌≡◌, ◌⊎◌, ℕ, Bool, List, take, Option};
-ghost use Rattle.std.specs.Io.KnownBytes.{Appends};
+ghost use Rattle.std.specs.Prelude.{◌≡◌, ◌⊎◌, ℕ, Bool, List, Option};
 ghost use Rattle.cc_machine.specs.declared.reply.Reply.{Reply};
 ghost use Rattle.cc_machine.specs.State.{State};
 ghost use Rattle.cc_machine.specs.Run.{Run, IsReached};
 ghost use Rattle.cc_script.specs.Commands.{OneJoin};
 ghost use Rattle.cc_script.specs.Lines.{OneSplit, lines_of};
 ghost use Rattle.cc_script.specs.Output.{TakesLines, ScriptOutput, operations_of, operation_replies};
-ghost use Rattle.cc_script.specs.Correct.{StopsInReply, StopsAfterLines};
+ghost use Rattle.cc_script.specs.Correct.{StopsInReply, StopsAfterLines, BeginsOutput};
 
 /// The lines of a text and its rest are the one way to cut it at its line feeds.
 pub fn one_split()
@@ -42,6 +41,5 @@ pub fn one_output()
 pub fn stopped_output_begins()
     ensures { (old new : State) (text : List ℕ) (taken taken_now : Option (List ℕ))
         → StopsInReply old (lines_of text) taken taken_now new ⊎ StopsAfterLines old text taken taken_now new
-        → (output : List ℕ) (any_error : Bool) (end : State) → ScriptOutput old text output any_error end
-        → (count : ℕ) × Appends taken taken_now (take count output) }
+        → BeginsOutput old text taken taken_now }
 {}
