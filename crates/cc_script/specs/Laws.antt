@@ -10,25 +10,24 @@ use Rattle.cc_machine.specs.Laws.{IsMonotonicTree, HasSealingAuthority}
 use Rattle.cc_machine.specs.ObjectLaws.{KeepsObjectLaws}
 use Rattle.cc_machine.specs.Confinement.{StepsWithin, IsConfined}
 use Rattle.cc_machine.specs.Reach.{ReachesAll}
-use Rattle.cc_script.specs.Commands.{operation_of}
 use Rattle.cc_script.specs.Output.{operations_of}
 
--- the machine takes a line; unless its operation is refused, that uses only slots that are held
-abbrev pub TakesWithin : (given : ℕ → Bool) → (start old : State) → Result Op Refusal → Reply → State → Type 0
+-- the machine takes a command; unless that is refused, it uses only slots that are held
+abbrev pub TakesWithin : (given : ℕ → Bool) → (start old : State) → (command : Result Op Refusal) → Reply → State → Type 0
 TakesWithin given start old (Ok op) reply new = StepsWithin given start old op reply new
 TakesWithin given start old (Err refusal) reply new = (reply ≡ Refused refusal) × (new ≡ old)
 
--- it takes the lines so, one after another
-abbrev pub TakesLinesWithin :
-    (given : ℕ → Bool) → (start old : State) → (lines : List (List ℕ)) → List Reply → State → Type 0
-TakesLinesWithin given start old [] [] new = new ≡ old
-TakesLinesWithin given start old (line ∷ lines) (reply ∷ replies) new =
-    (mid : State) × TakesWithin given start old (operation_of line) reply mid
-    × TakesLinesWithin given start mid lines replies new
-TakesLinesWithin given start old [] (reply ∷ replies) new = ⊥
-TakesLinesWithin given start old (line ∷ lines) [] new = ⊥
+-- it takes the commands so, one after another
+abbrev pub TakesAllWithin :
+    (given : ℕ → Bool) → (start old : State) → (commands : List (Result Op Refusal)) → List Reply → State → Type 0
+TakesAllWithin given start old [] [] new = new ≡ old
+TakesAllWithin given start old (command ∷ commands) (reply ∷ replies) new =
+    (mid : State) × TakesWithin given start old command reply mid
+    × TakesAllWithin given start mid commands replies new
+TakesAllWithin given start old [] (reply ∷ replies) new = ⊥
+TakesAllWithin given start old (command ∷ commands) [] new = ⊥
 
--- The laws of every run, from the state at entry: the new state keeps those of one state. Whatever lines were
+-- The laws of every run, from the state at entry: the new state keeps those of one state. Whatever commands were
 -- taken, if they used only given slots, and slots made since, it is confined to the given slots; and if their
 -- operations are the path to a capability, it has that.
 pub record KeepsLaws (old new : State) : Type 0 where
@@ -36,8 +35,8 @@ pub record KeepsLaws (old new : State) : Type 0 where
   pub sealing : HasSealingAuthority new
   pub objects : KeepsObjectLaws new
   pub confined :
-      (given : ℕ → Bool) (lines : List (List ℕ)) (replies : List Reply)
-      → TakesLinesWithin given old old lines replies new → IsConfined given old new
+      (given : ℕ → Bool) (commands : List (Result Op Refusal)) (replies : List Reply)
+      → TakesAllWithin given old old commands replies new → IsConfined given old new
   pub reaches :
-      (lines : List (List ℕ)) (replies : List Reply)
-      → Run old (operations_of lines) replies new → ReachesAll old (operations_of lines) replies new
+      (commands : List (Result Op Refusal)) (replies : List Reply)
+      → Run old (operations_of commands) replies new → ReachesAll old (operations_of commands) replies new

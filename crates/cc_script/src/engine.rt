@@ -1,14 +1,14 @@
 //! Runs a script.
-ghost use Rattle.std.specs.Prelude.{◌≡◌, ℕ, true, false, List, [], ◌∷◌, ◌++◌, take, length, not, ◌==◌, ◌↔◌, Err, IfSome, IfOk, OnOk, OnErr, IsErr};
+ghost use Rattle.std.specs.Prelude.{◌≡◌, ℕ, true, false, List, [], ◌∷◌, ◌++◌, map, take, length, not, ◌==◌, ◌↔◌, Ok, Err, IfSome, IfOk, OnOk, OnErr, IsErr};
 ghost use Rattle.std.specs.Io.KnownBytes.{Appends};
-ghost use Rattle.cc_script.specs.Lines.{lines_from, IsLine};
+ghost use Rattle.cc_script.specs.Lines.{IsLine};
 ghost use Rattle.cc_script.specs.Commands.{operation_of};
-ghost use Rattle.cc_script.specs.Replies.{is_error};
-ghost use Rattle.cc_script.specs.Output.{Takes, rest_text};
+ghost use Rattle.cc_script.specs.Replies.{reply_text, is_error};
+ghost use Rattle.cc_script.specs.Output.{Takes, with_line_feed, rest_text};
 ghost use Rattle.cc_script.specs.Laws.{KeepsLaws};
 ghost use Rattle.cc_script.specs.Devices.{TakesBeginning};
 ghost use Rattle.cc_script.specs.Correct.{StopsInReply, RunsAfter, RunsScript, RunsWhole};
-ghost use Rattle.cc_script.specs.Engine.{AnswersLine, CutsLine, Answers};
+ghost use Rattle.cc_script.specs.Engine.{AnswersLine, CutsLine, AnswersOpening, commands_from, Answers};
 
 use crate::devices::{Failed, Sink, Source};
 use crate::line::Line;
@@ -16,7 +16,7 @@ use crate::lines::{LineStart, split_at_line_feed};
 use crate::parsing::parse_line;
 use crate::printing::{push_reply, refusal_line};
 use crate::summary::{ScriptFault, Summary};
-use cc_machine::{Machine, Reply};
+use cc_machine::{Machine, Op, Reply};
 use cc_word::Refusal;
 
 /// The most bytes that are read at once.
@@ -41,20 +41,21 @@ pub fn run_script<R: Source, W: Sink>(
     requires source { R.has_failed source.old ≡ false }
     requires sink { W.has_failed sink.old ≡ false }
     ensures whole { IfSome (R.to_come source.old) (λ text.
-        RunsWhole machine.old text (R.to_come source.new) (W.taken_bytes sink.old) (W.taken_bytes sink.new) result machine.new) }
+        RunsWhole machine.old [] text (R.to_come source.new) (W.taken_bytes sink.old) (W.taken_bytes sink.new) result machine.new) }
     ensures runs { RunsScript machine.old (R.to_come source.old) (R.to_come source.new) (W.taken_bytes sink.old) (W.taken_bytes sink.new) result machine.new }
     ensures read { (result ≡ Err ScriptFault.Read) ↔ (R.has_failed source.new ≡ true) }
     ensures write { (result ≡ Err ScriptFault.Write) ↔ (W.has_failed sink.new ≡ true) }
     ensures passed { OnOk result (W.waiting_bytes sink.new ≡ []) }
     ensures laws { KeepsLaws machine.old machine.new }
 {
-    run_script_after(b"", machine, source, sink)
+    run_script_after(&[], machine, source, sink)
 }
 
-/// Runs the script that begins with these bytes and goes on as the source gives, as [`run_script`] runs one
-/// that is all from the source.
+/// Runs the script that begins with these operations and goes on as the source gives, as [`run_script`] runs one
+/// that is all from the source. An operation gets the reply that a line which spells it gets, and the sink passes
+/// on what waits before the first read.
 pub fn run_script_after<R: Source, W: Sink>(
-    opening: &[u8],
+    opening: &[Op],
     machine: &mut Machine,
     source: &mut R,
     sink: &mut W,
@@ -62,7 +63,7 @@ pub fn run_script_after<R: Source, W: Sink>(
     requires source { R.has_failed source.old ≡ false }
     requires sink { W.has_failed sink.old ≡ false }
     ensures whole { IfSome (R.to_come source.old) (λ text.
-        RunsWhole machine.old (opening.now ++ text) (R.to_come source.new) (W.taken_bytes sink.old) (W.taken_bytes sink.new) result machine.new) }
+        RunsWhole machine.old opening.now text (R.to_come source.new) (W.taken_bytes sink.old) (W.taken_bytes sink.new) result machine.new) }
     ensures runs { RunsAfter opening.now machine.old (R.to_come source.old) (R.to_come source.new) (W.taken_bytes sink.old) (W.taken_bytes sink.new) result machine.new }
     ensures read { (result ≡ Err ScriptFault.Read) ↔ (R.has_failed source.new ≡ true) }
     ensures write { (result ≡ Err ScriptFault.Write) ↔ (W.has_failed sink.new ≡ true) }
@@ -78,7 +79,7 @@ pub fn run_script_after<R: Source, W: Sink>(
 
 /// Runs the script, piece by piece.
 fn run_pieces<R: Source, W: Sink>(
-    opening: &[u8],
+    opening: &[Op],
     machine: &mut Machine,
     source: &mut R,
     sink: &mut W,
@@ -93,7 +94,7 @@ fn run_pieces<R: Source, W: Sink>(
     let mut start = LineStart::new();
     let mut text = Line::new();
     let mut piece = [0u8; PIECE];
-    let opening_error = match take_piece(machine, &mut start, &mut text, opening, sink) {
+    let opening_error = match take_opening(machine, &mut text, opening, sink) {
         Ok(is_error) => is_error,
         Err(Failed) => return Err(ScriptFault::Write),
     };
@@ -119,6 +120,38 @@ fn run_pieces<R: Source, W: Sink>(
     }
 }
 
+/// Steps the operations of the opening, and writes their replies. Where there was one, the sink passes on what
+/// waits. Tells whether a reply was an error.
+fn take_opening<W: Sink>(
+    machine: &mut Machine,
+    text: &mut Line,
+    opening: &[Op],
+    sink: &mut W,
+) -> Result<bool, Failed>
+    requires { W.has_failed sink.old ≡ false }
+    ensures ok { IfOk result (λ error.
+        AnswersOpening machine.old opening.now (W.taken_bytes sink.old) (W.taken_bytes sink.new) error machine.new) }
+    ensures err { OnErr result (
+        StopsInReply machine.old (map Ok opening.now) (W.taken_bytes sink.old) (W.taken_bytes sink.new) machine.new) }
+    ensures fails { IsErr result ↔ (W.has_failed sink.new ≡ true) }
+{
+    let mut any_error = false;
+    for op in opening {
+        let reply = machine.step(op);
+        match write_reply(text, &reply, sink) {
+            Ok(is_error) => any_error |= is_error,
+            Err(Failed) => return Err(Failed),
+        }
+    }
+    if opening.is_empty() {
+        return Ok(any_error);
+    }
+    match sink.before_read() {
+        Ok(()) => Ok(any_error),
+        Err(Failed) => Err(Failed),
+    }
+}
+
 /// Answers the lines that end in a piece of the script, and keeps the beginning of the next. Where one ended,
 /// the sink passes on what waits. Tells whether a reply was an error.
 fn take_piece<W: Sink>(
@@ -132,7 +165,7 @@ fn take_piece<W: Sink>(
     ensures ok { (begun : List ℕ) → start.old ≡ take 129 begun → IfOk result (λ error.
         Answers machine.old begun piece.now start.new (W.taken_bytes sink.old) (W.taken_bytes sink.new) error machine.new) }
     ensures err { (begun : List ℕ) → start.old ≡ take 129 begun → OnErr result (
-        StopsInReply machine.old (lines_from begun piece.now) (W.taken_bytes sink.old) (W.taken_bytes sink.new) machine.new) }
+        StopsInReply machine.old (commands_from begun piece.now) (W.taken_bytes sink.old) (W.taken_bytes sink.new) machine.new) }
     ensures fails { IsErr result ↔ (W.has_failed sink.new ≡ true) }
 {
     let mut any_error = false;
@@ -170,7 +203,7 @@ fn end_line<W: Sink>(
     ensures ok { (begun : List ℕ) → start.old ≡ take 129 begun → IfOk result (λ error.
         Answers machine.old begun (end.now ++ 10 ∷ []) start.new (W.taken_bytes sink.old) (W.taken_bytes sink.new) error machine.new) }
     ensures err { (begun : List ℕ) → start.old ≡ take 129 begun → OnErr result (
-        StopsInReply machine.old (lines_from begun (end.now ++ 10 ∷ [])) (W.taken_bytes sink.old) (W.taken_bytes sink.new) machine.new) }
+        StopsInReply machine.old (commands_from begun (end.now ++ 10 ∷ [])) (W.taken_bytes sink.old) (W.taken_bytes sink.new) machine.new) }
     ensures fails { IsErr result ↔ (W.has_failed sink.new ≡ true) }
 {
     if start.is_empty() {
@@ -203,10 +236,24 @@ fn answer_line<W: Sink>(
     ensures fails { IsErr result ↔ (W.has_failed sink.new ≡ true) }
 {
     let reply = reply_to(machine, line);
+    match write_reply(text, &reply, sink) {
+        Ok(is_error) => Ok(is_error),
+        Err(Failed) => Err(Failed),
+    }
+}
+
+/// Writes a reply. Tells whether it is an error.
+fn write_reply<W: Sink>(text: &mut Line, reply: &Reply, sink: &mut W) -> Result<bool, Failed>
+    requires { W.has_failed sink.old ≡ false }
+    ensures error { IfOk result (λ error. error ≡ is_error reply.now) }
+    ensures ok { OnOk result (Appends (W.taken_bytes sink.old) (W.taken_bytes sink.new) (with_line_feed (reply_text reply.now))) }
+    ensures err { OnErr result (TakesBeginning (W.taken_bytes sink.old) (W.taken_bytes sink.new) (with_line_feed (reply_text reply.now))) }
+    ensures fails { IsErr result ↔ (W.has_failed sink.new ≡ true) }
+{
     text.clear();
-    push_reply(text, &reply);
+    push_reply(text, reply);
     match text.write(sink) {
-        Ok(()) => Ok(is_refusal(&reply)),
+        Ok(()) => Ok(is_refusal(reply)),
         Err(Failed) => Err(Failed),
     }
 }

@@ -1,11 +1,14 @@
 //! What the definitions come to. Each function's contract is a law, and its body is empty.
-ghost use Rattle.std.specs.Prelude.{ℕ, List};
+ghost use Rattle.std.specs.Prelude.{◌≡◌, ◌⊎◌, ℕ, Bool, List, Option, Result};
+ghost use Rattle.cc_word.specs.declared.refusal.Refusal.{Refusal};
+ghost use Rattle.cc_machine.specs.declared.op.Op.{Op};
 ghost use Rattle.cc_machine.specs.declared.reply.Reply.{Reply};
 ghost use Rattle.cc_machine.specs.State.{State};
 ghost use Rattle.cc_machine.specs.Run.{Run, IsReached};
 ghost use Rattle.cc_script.specs.Commands.{OneJoin};
 ghost use Rattle.cc_script.specs.Lines.{OneSplit};
-ghost use Rattle.cc_script.specs.Output.{TakesLines, operations_of, operation_replies};
+ghost use Rattle.cc_script.specs.Output.{commands_of, TakesAll, ScriptOutput, operations_of, operation_replies};
+ghost use Rattle.cc_script.specs.Correct.{StopsInReply, StopsAfterLines, BeginsOutput};
 
 /// The lines of a text and its rest are the one way to cut it at its line feeds.
 pub fn one_split()
@@ -18,12 +21,27 @@ pub fn one_join()
     ensures { (line : List ℕ) → OneJoin line }
 {}
 
-/// A machine that takes lines runs the operations of those that have one, and gives these its replies: what
-/// holds of every run of a machine holds of what a script does to it. From a state that a run leads to, it
+/// A machine that takes the commands of a script runs the operations among them, and gives these its replies:
+/// what holds of every run of a machine holds of what a script does to it. From a state that a run leads to, it
 /// leads to such a state.
-pub fn lines_run()
-    ensures run { (old new : State) (lines : List (List ℕ)) (replies : List Reply) → TakesLines old lines replies new
-        → Run old (operations_of lines) (operation_replies lines replies) new }
-    ensures reached { (old new : State) (lines : List (List ℕ)) (replies : List Reply)
-        → IsReached old → TakesLines old lines replies new → IsReached new }
+pub fn commands_run()
+    ensures run { (old new : State) (commands : List (Result Op Refusal)) (replies : List Reply) → TakesAll old commands replies new
+        → Run old (operations_of commands) (operation_replies commands replies) new }
+    ensures reached { (old new : State) (commands : List (Result Op Refusal)) (replies : List Reply)
+        → IsReached old → TakesAll old commands replies new → IsReached new }
+{}
+
+/// A script has one output: from one state it has the same bytes for an answer, with an error among the replies
+/// or none, and leads to the same state.
+pub fn one_output()
+    ensures { (old new other : State) (opening : List Op) (text output other_output : List ℕ) (any_error other_error : Bool)
+        → ScriptOutput old opening text output any_error new → ScriptOutput old opening text other_output other_error other
+        → (output ≡ other_output) × (any_error ≡ other_error) × (new ≡ other) }
+{}
+
+/// Where a sink failed, what it took is a beginning of the output of the script.
+pub fn stopped_output_begins()
+    ensures { (old new : State) (opening : List Op) (text : List ℕ) (taken taken_now : Option (List ℕ))
+        → StopsInReply old (commands_of opening text) taken taken_now new ⊎ StopsAfterLines old opening text taken taken_now new
+        → BeginsOutput old opening text taken taken_now }
 {}

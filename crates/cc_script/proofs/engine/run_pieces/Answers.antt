@@ -8,17 +8,17 @@ use Rattle.cc_script.proofs.engine.run_pieces.Goals as goal
 
 pub pieces-init : goal.pieces-init
 pieces-init g c = record {
-  reads = reads_begins _ _ _ _ _ (c.in-Ok.ensures.ok [] c.new-start.ensures).start_is;
+  reads = reads_begins _ _ _ [] _ c.new-start.ensures;
   gives = search rules;
   takes = search rules;
 }
 
 pub returns-in-Err-clause-runs : goal.returns-in-Err-clause-runs
-returns-in-Err-clause-runs g c = stops_in_opening _ _ _ _ _ _ (c.in-Err.ensures.err [] c.new-start.ensures)
+returns-in-Err-clause-runs g c = stops_in_opening _ _ _ _ _ _ c.in-Err.ensures.err
 
 pub returns-in-Err-read-clause-runs : goal.returns-in-Err-read-clause-runs
 returns-in-Err-read-clause-runs g c =
-    fails_reading _ _ _ _ _ _ _ _ _ _ _ _ _ _ (c.in-Ok.ensures.ok [] c.new-start.ensures) c.pieces.invariant.reads
+    fails_reading _ _ _ _ _ _ _ _ _ _ _ _ _ c.in-Ok.ensures.ok c.pieces.invariant.reads
     (keeps_consumes _ _ c.in-Err-read.ensures.gives)
 
 pub pieces-preserved : goal.pieces-preserved
@@ -33,7 +33,7 @@ pieces-preserved g c =
 pub returns-in-Err-take_piece-clause-runs : goal.returns-in-Err-take_piece-clause-runs
 returns-in-Err-take_piece-clause-runs g c =
     let r = c.pieces.invariant.reads in
-    stops_reading _ _ _ _ _ _ _ _ _ _ _ _ _ _ _ _ _ (c.in-Ok.ensures.ok [] c.new-start.ensures) r c.in-Ok-read.ensures.gives.0
+    stops_reading _ _ _ _ _ _ _ _ _ _ _ _ _ _ _ _ c.in-Ok.ensures.ok r c.in-Ok-read.ensures.gives.0
     (c.in-Err-take_piece.ensures.err _ r.answers.start_is)
 
 pub returns-in-Ok-finish-clause-runs : goal.returns-in-Ok-finish-clause-runs
@@ -41,7 +41,7 @@ returns-in-Ok-finish-clause-runs g c =
     let given = c.in-Ok-read.ensures.gives in
     let none : c.in-Ok-read.count ≡ 0 = search rules in
     let nothing = subst (λ (n : ℕ). Consumes (g.R.Source.to_come c.pieces.source) (g.R.Source.to_come c.read.new.self) (take n c.read.new.room)) none given.0 in
-    ends _ _ _ _ _ _ _ _ _ _ _ _ _ _ _ _ (c.in-Ok.ensures.ok [] c.new-start.ensures) c.pieces.invariant.reads nothing (given.1 none (search rules))
+    ends _ _ _ _ _ _ _ _ _ _ _ _ _ _ _ c.in-Ok.ensures.ok c.pieces.invariant.reads nothing (given.1 none (search rules))
     (subst (λ (start : List ℕ). Appends (g.W.Sink.taken_bytes c.pieces.sink) (g.W.Sink.taken_bytes c.finish.new.sink) (rest_text start)) c.as_slice.ensures c.in-Ok-finish.ensures.ok)
     (search rules)
 
@@ -50,5 +50,5 @@ returns-in-Err-finish-clause-runs g c =
     let given = c.in-Ok-read.ensures.gives in
     let none : c.in-Ok-read.count ≡ 0 = search rules in
     let nothing = subst (λ (n : ℕ). Consumes (g.R.Source.to_come c.pieces.source) (g.R.Source.to_come c.read.new.self) (take n c.read.new.room)) none given.0 in
-    stops_ending _ _ _ _ _ _ _ _ _ _ _ _ _ _ _ (c.in-Ok.ensures.ok [] c.new-start.ensures) c.pieces.invariant.reads nothing (given.1 none (search rules))
+    stops_ending _ _ _ _ _ _ _ _ _ _ _ _ _ _ c.in-Ok.ensures.ok c.pieces.invariant.reads nothing (given.1 none (search rules))
     (subst (λ (start : List ℕ). TakesBeginning (g.W.Sink.taken_bytes c.pieces.sink) (g.W.Sink.taken_bytes c.finish.new.sink) (rest_text start)) c.as_slice.ensures c.in-Err-finish.ensures.err)

@@ -1,11 +1,10 @@
 use Rattle.std.proofs.Common.{◌≡◌, false, []}
 use Rattle.cc_script.specs.Engine.{Reads}
-use Rattle.cc_script.specs.Lines.{rest_from}
 use Rattle.cc_script.proofs.engine.run_pieces.Given as goal
 
 abbrev pub invariant-pieces : goal.invariant-pieces
 invariant-pieces g l = record {
-  reads : Reads l.initial.machine (rest_from [] l.opening) (g.R.Source.to_come l.initial.source) (g.R.Source.to_come l.source) l.start
+  reads : Reads l.initial.machine [] (g.R.Source.to_come l.initial.source) (g.R.Source.to_come l.source) l.start
       (g.W.Sink.taken_bytes l.initial.sink) (g.W.Sink.taken_bytes l.sink) l.any_error l.machine;
   gives : g.R.Source.has_failed l.source ≡ false;
   takes : g.W.Sink.has_failed l.sink ≡ false;
