@@ -28,7 +28,7 @@ const PIECE: usize = 32768;
 ///
 /// The caller has that neither device has failed before. The sink is flushed once, at the end of the
 /// script. `Read` is answered exactly if the source failed: then the replies of the whole lines that came
-/// before were written, and the machine stands after these. `Write` is answered exactly if the sink failed:
+/// before were written and passed on, and the machine stands after these. `Write` is answered exactly if the sink failed:
 /// then a beginning of the output was written, and the machine stands after the line whose reply was being
 /// written. Takes no memory of its own.
 ///
@@ -46,6 +46,7 @@ pub fn run_script<R: Source, W: Sink>(
     ensures read { (result ≡ Err ScriptFault.Read) ↔ (R.has_failed source.new ≡ true) }
     ensures write { (result ≡ Err ScriptFault.Write) ↔ (W.has_failed sink.new ≡ true) }
     ensures passed { OnOk result (W.waiting_bytes sink.new ≡ []) }
+    ensures passed_before_read { result ≡ Err ScriptFault.Read → W.waiting_bytes sink.old ≡ [] → W.waiting_bytes sink.new ≡ [] }
     ensures laws { KeepsLaws machine.old machine.new }
 {
     run_script_after(&[], machine, source, sink)
@@ -68,6 +69,7 @@ pub fn run_script_after<R: Source, W: Sink>(
     ensures read { (result ≡ Err ScriptFault.Read) ↔ (R.has_failed source.new ≡ true) }
     ensures write { (result ≡ Err ScriptFault.Write) ↔ (W.has_failed sink.new ≡ true) }
     ensures passed { OnOk result (W.waiting_bytes sink.new ≡ []) }
+    ensures passed_before_read { result ≡ Err ScriptFault.Read → W.waiting_bytes sink.old ≡ [] → W.waiting_bytes sink.new ≡ [] }
     ensures laws { KeepsLaws machine.old machine.new }
 {
     // A machine tells that a run leads to its state: this one tells it of the state before and of that after.
@@ -90,6 +92,7 @@ fn run_pieces<R: Source, W: Sink>(
     ensures read { (result ≡ Err ScriptFault.Read) ↔ (R.has_failed source.new ≡ true) }
     ensures write { (result ≡ Err ScriptFault.Write) ↔ (W.has_failed sink.new ≡ true) }
     ensures passed { OnOk result (W.waiting_bytes sink.new ≡ []) }
+    ensures passed_before_read { result ≡ Err ScriptFault.Read → W.waiting_bytes sink.old ≡ [] → W.waiting_bytes sink.new ≡ [] }
 {
     let mut start = LineStart::new();
     let mut text = Line::new();
@@ -133,6 +136,7 @@ fn take_opening<W: Sink>(
         AnswersOpening machine.old opening.now (W.taken_bytes sink.old) (W.taken_bytes sink.new) error machine.new) }
     ensures err { OnErr result (
         StopsInReply machine.old (map Ok opening.now) (W.taken_bytes sink.old) (W.taken_bytes sink.new) machine.new) }
+    ensures passed { OnOk result (W.waiting_bytes sink.old ≡ [] → W.waiting_bytes sink.new ≡ []) }
     ensures fails { IsErr result ↔ (W.has_failed sink.new ≡ true) }
 {
     let mut any_error = false;
@@ -166,6 +170,7 @@ fn take_piece<W: Sink>(
         Answers machine.old begun piece.now start.new (W.taken_bytes sink.old) (W.taken_bytes sink.new) error machine.new) }
     ensures err { (begun : List ℕ) → start.old ≡ take 129 begun → OnErr result (
         StopsInReply machine.old (commands_from begun piece.now) (W.taken_bytes sink.old) (W.taken_bytes sink.new) machine.new) }
+    ensures passed { OnOk result (W.waiting_bytes sink.old ≡ [] → W.waiting_bytes sink.new ≡ []) }
     ensures fails { IsErr result ↔ (W.has_failed sink.new ≡ true) }
 {
     let mut any_error = false;

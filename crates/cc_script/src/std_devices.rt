@@ -97,6 +97,10 @@ impl<W: Write> Sink for FromWriter<W> {
         }
     }
 
+    fn before_read(&mut self) -> Result<(), Failed> {
+        if self.has_failed { Err(Failed) } else { Ok(()) }
+    }
+
     fn flush(&mut self) -> Result<(), Failed> {
         if self.has_failed {
             return Err(Failed);

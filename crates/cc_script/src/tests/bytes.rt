@@ -88,6 +88,10 @@ impl<'a> Sink for Repeated<'a> {
         }
     }
 
+    fn before_read(&mut self) -> Result<(), Failed> {
+        if self.has_failed { Err(Failed) } else { Ok(()) }
+    }
+
     fn flush(&mut self) -> Result<(), Failed> {
         if self.has_failed { Err(Failed) } else { Ok(()) }
     }

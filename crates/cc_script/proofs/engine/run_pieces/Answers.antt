@@ -11,6 +11,7 @@ pieces-init g c = record {
   reads = reads_begins _ _ _ [] _ c.new-start.ensures;
   gives = search rules;
   takes = search rules;
+  passed = λ none. none;
 }
 
 pub returns-in-Err-clause-runs : goal.returns-in-Err-clause-runs
@@ -28,6 +29,7 @@ pieces-preserved g c =
       reads = reads_more _ _ _ _ _ _ _ _ _ _ _ _ _ _ _ r c.in-Ok-read.ensures.gives.0 (c.in-Ok-take_piece.ensures.ok _ r.answers.start_is);
       gives = search rules;
       takes = search rules;
+      passed = λ none. c.in-Ok-take_piece.ensures.passed (c.pieces.invariant.passed none);
     }
 
 pub returns-in-Err-take_piece-clause-runs : goal.returns-in-Err-take_piece-clause-runs

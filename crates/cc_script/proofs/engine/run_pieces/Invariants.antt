@@ -8,6 +8,7 @@ invariant-pieces g l = record {
       (g.W.Sink.taken_bytes l.initial.sink) (g.W.Sink.taken_bytes l.sink) l.any_error l.machine;
   gives : g.R.Source.has_failed l.source ≡ false;
   takes : g.W.Sink.has_failed l.sink ≡ false;
+  passed : g.W.Sink.waiting_bytes l.initial.sink ≡ [] → g.W.Sink.waiting_bytes l.sink ≡ [];
 }
 
 abbrev pub decreases-pieces : goal.decreases-pieces

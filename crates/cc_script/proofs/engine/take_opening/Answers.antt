@@ -1,15 +1,16 @@
-use Rattle.std.proofs.Common.{rules, ◌<◌, length}
+use Rattle.std.proofs.Common.{rules, ◌<◌, length, refl, arith}
 use Rattle.cc_script.proofs.EngineLemmas.{opening_begins, opening_more, opening_stops, opening_whole, opening_kept, opening_fails}
 use Rattle.cc_script.proofs.engine.take_opening.Goals as goal
 
 pub loop-op-init : goal.loop-op-init
-loop-op-init g c = record { answers = opening_begins _ _; works = search rules }
+loop-op-init g c = record { answers = opening_begins _ _; works = search rules; quiet = λ _. refl }
 
 pub loop-op-preserved : goal.loop-op-preserved
 loop-op-preserved g c = record {
   answers = opening_more _ _ _ _ _ _ _ _ _ _ _ _ c.loop-op.invariant.answers c.loop-op-test.true c.op-item.is c.step-reply.ensures.step
       c.in-Ok.ensures.ok c.in-Ok.ensures.error;
   works = search rules;
+  quiet = λ none. absurd (omega (arith, none));
 }
 
 pub returns-in-Err-clause-err : goal.returns-in-Err-clause-err
