@@ -1,10 +1,11 @@
 //! What the definitions come to. Each function's contract is a law, and its body is empty.
 ghost use Rattle.std.specs.Prelude.{◌≡◌, ◌⊎◌, ℕ, Bool, List, Option, Result};
+ghost use Rattle.std.specs.List.{AllByRecursion};
 ghost use Rattle.cc_word.specs.declared.refusal.Refusal.{Refusal};
 ghost use Rattle.cc_machine.specs.declared.op.Op.{Op};
 ghost use Rattle.cc_machine.specs.declared.reply.Reply.{Reply};
 ghost use Rattle.cc_machine.specs.State.{State};
-ghost use Rattle.cc_machine.specs.Run.{Run, IsReached};
+ghost use Rattle.cc_machine.specs.Run.{Run, IsReached, IsInAddressSpace};
 ghost use Rattle.cc_script.specs.Commands.{OneJoin};
 ghost use Rattle.cc_script.specs.Lines.{OneSplit};
 ghost use Rattle.cc_script.specs.Output.{commands_of, TakesAll, ScriptOutput, operations_of, operation_replies};
@@ -37,6 +38,13 @@ pub fn one_output()
     ensures { (old new other : State) (opening : List Op) (text output other_output : List ℕ) (any_error other_error : Bool)
         → ScriptOutput old opening text output any_error new → ScriptOutput old opening text other_output other_error other
         → (output ≡ other_output) × (any_error ≡ other_error) × (new ≡ other) }
+{}
+
+/// From every state that a run leads to every script has an output, whatever its opening and its text. By
+/// [`one_output`] there is one.
+pub fn every_script_has_an_output()
+    ensures { (old : State) (opening : List Op) (text : List ℕ) → IsReached old → AllByRecursion IsInAddressSpace opening
+        → (output : List ℕ) × (any_error : Bool) × (new : State) × ScriptOutput old opening text output any_error new }
 {}
 
 /// Where a sink failed, what it took is a beginning of the output of the script.
