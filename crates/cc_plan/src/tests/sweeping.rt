@@ -1,7 +1,6 @@
 //! Sweeps: what stays held until one, and what it gives back.
 
 use super::pool;
-use super::runs::next_call;
 use crate::{
     ObjectId, ObjectState, Placer, PlanCall, Planner, ScanPlacer, SortedPlacer, TreePlacer,
 };
@@ -147,6 +146,18 @@ fn sweep_known(known: &mut [Known]) -> u32 {
         }
     }
     count
+}
+
+/// The next call of a walk that makes objects of 1 to 6,000 bytes, frees about as many, and sweeps now and then.
+fn next_call(seed: u32) -> PlanCall {
+    let number = seed >> 8;
+    if seed % 2 == 0 {
+        Alloc(u128::from(number % 6000 + 1))
+    } else if number % 16 == 0 {
+        Sweep
+    } else {
+        Free(ObjectId(number % 256))
+    }
 }
 
 /// Makes a call, of the planner and of the list alike.
