@@ -4,5 +4,6 @@ pub mod Permissions
 pub mod Listing
 pub mod Rounding
 pub mod Planning
+pub mod Script
 pub mod Outcome
 pub mod Invocation

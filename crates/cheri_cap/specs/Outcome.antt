@@ -1,5 +1,8 @@
 -- How the program ends.
-use Rattle.std.specs.Prelude.{ℕ, Result, Ok, Err}
+use Rattle.std.specs.Prelude.{ℕ, ◌≡◌, ◌≢◌, ◌⊎◌, false, [], Result, Ok, Err}
+use Rattle.clap.specs.Words.{IsAmong, Kinds}
+use Rattle.clap.specs.declared.error.kind.ErrorKind.{ErrorKind}
+use Rattle.clap.specs.declared.error.kind.ErrorKind.TheVariants.{DisplayHelp, DisplayVersion, OutOfMemory}
 use Rattle.cc_word.specs.Word.{bit_of}
 use Rattle.cheri_cap.specs.declared.outcome.Ending.{Ending}
 use Rattle.cheri_cap.specs.declared.outcome.Ending.TheVariants.{Answered, Refused, Stopped}
@@ -25,3 +28,23 @@ abbrev pub status_of : Ending → ℕ
 status_of (Answered summary) = bit_of summary.any_error
 status_of Refused = 2
 status_of (Stopped fault) = 3
+
+-- how the program ends that was asked for help or for its version: with an answer that is no error, or because it
+-- can't be written
+abbrev pub EndsRequest : Ending → Type 0
+EndsRequest ending = (ending ≡ Answered (record { any_error = false })) ⊎ (ending ≡ Stopped fault.Write)
+
+-- how the program ends where clap gives an error of this kind: all but want of memory, and a request for help or
+-- for the version, is a command line that is refused
+abbrev pub EndsBy : ErrorKind → Ending → Type 0
+EndsBy OutOfMemory ending = ending ≡ Stopped fault.Memory
+EndsBy DisplayHelp ending = EndsRequest ending
+EndsBy DisplayVersion ending = EndsRequest ending
+EndsBy _ ending = ending ≡ Refused
+
+-- how the program ends on words at which clap may give these kinds of error: not as one whose command line is
+-- refused, where there are none; by one of them, where there are some; or because memory is wanting
+abbrev pub EndsOn : Kinds → Ending → Type 0
+EndsOn kinds ending =
+    ((kinds ≡ []) × (ending ≢ Refused))
+    ⊎ (((kind : ErrorKind) × IsAmong kind kinds × EndsBy kind ending) ⊎ (ending ≡ Stopped fault.Memory))

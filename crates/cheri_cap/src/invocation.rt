@@ -1,7 +1,7 @@
 //! The command line.
 ghost use Rattle.std.specs.Prelude.{◌≡◌, ◌∷◌, [], IfErr, IfOk, IsSome, Some, codes, false, true};
 ghost use Rattle.clap.specs.Walk.{texts};
-ghost use Rattle.clap.specs.Words.{App, app_of, first_of, first_value, found_of, kind_of, new_app, rows_of, rule_of, subcommand_of, subcommand_rows_of, takes};
+ghost use Rattle.clap.specs.Words.{App, FailsBy, app_of, fault_of, first_of, first_value, found_of, kind_of, new_app, rows_of, rule_of, subcommand_of, subcommand_rows_of, takes};
 ghost use Rattle.clap.specs.declared.builder.command.Command.TheViews.{out-Command};
 ghost use Rattle.cheri_cap.specs.Invocation.{HasAlign, HasItsTexts, HasLimit, IsAlign, IsInvocation, IsLimit, IsProgram, align_option, bare_program, optional_argument, plan_command, plan_options, program, round_command, run_command, show_command, slots_option, wanted_argument};
 
@@ -170,6 +170,7 @@ pub fn read_words<'a>(alloc: Global, words: &'a [&'a str]) -> Result<Invocation<
         (app : App) × IsProgram app × IsInvocation (subcommand_of app (texts words.now)) invocation) }
     ensures refused { IfErr result (λ error.
         (app : App) × IsProgram app × (takes app (texts words.now) ≡ true → kind_of error ≡ ErrorKind.OutOfMemory)) }
+    ensures kinds { (app : App) × IsProgram app × FailsBy (fault_of app (texts words.now)) result }
 {
     let mut command = program(alloc, aligns())?;
     match command.try_get_matches_from_mut(words) {

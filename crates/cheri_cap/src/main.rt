@@ -2,12 +2,12 @@
 //! what a machine of capabilities replies to a script.
 #![tactic(auto)]
 
-ghost use Rattle.std.specs.Prelude.{◌≡◌, ◌≢◌, false, List, Option};
+ghost use Rattle.std.specs.Prelude.{◌≡◌, false, List, Option};
 ghost use Rattle.clap.specs.Walk.{texts};
-ghost use Rattle.clap.specs.Words.{App, Row, Text, kind_of, takes};
+ghost use Rattle.clap.specs.Words.{App, Row, Text, fault_of, kind_of, takes};
 ghost use Rattle.cheri_cap.specs.declared.outcome.Ending.TheVariants as ending;
 ghost use Rattle.cheri_cap.specs.Invocation.{IsInvocation, IsProgram};
-ghost use Rattle.cheri_cap.specs.Outcome.{status_of};
+ghost use Rattle.cheri_cap.specs.Outcome.{EndsBy, EndsOn, status_of};
 
 mod answers;
 mod invocation;
@@ -70,7 +70,8 @@ fn run_arguments<R: AllocGlobal + Files + Input + Print + Eprint>(
 
 /// Does what the words ask for.
 fn run_words<R: AllocGlobal + Files + Input + Print + Eprint>(rt: &R, words: &[&str]) -> Ending
-    ensures { result ≡ ending.Refused → (app : App) × IsProgram app × (takes app (texts words.now) ≡ false) }
+    ensures refused { result ≡ ending.Refused → (app : App) × IsProgram app × (takes app (texts words.now) ≡ false) }
+    ensures ends { (app : App) × IsProgram app × EndsOn (fault_of app (texts words.now)) result }
 {
     match read_words(rt.alloc(), words) {
         Ok(invocation) => ending_of(answer(rt, invocation)),
@@ -81,7 +82,7 @@ fn run_words<R: AllocGlobal + Files + Input + Print + Eprint>(rt: &R, words: &[&
 /// Tells why clap did not take the words: a request for help or for the version is answered on standard output,
 /// and a command line that is not understood on standard error.
 fn tell<R: Print + Eprint>(rt: &R, error: &Error) -> Ending
-    ensures { result ≡ ending.Refused → kind_of error.now ≢ ErrorKind.OutOfMemory }
+    ensures { EndsBy (kind_of error.now) result }
 {
     match error.kind() {
         ErrorKind::OutOfMemory => Ending::Stopped(Fault::Memory),

@@ -1,8 +1,8 @@
-use Rattle.std.proofs.Common.{◌∙◌, ◌≡◌, ap, codes, option_map, refl, subst, sym, Option, Some, None}
+use Rattle.std.proofs.Common.{◌∙◌, ◌≡◌, ap, codes, option_map, refl, subst, sym, Option, Some}
 use Rattle.clap.specs.Walk.{Text}
 use Rattle.clap.specs.Words.{first_of, found_of, rows_of}
 use Rattle.clap.proofs.WalkLemmas.{first_value-rows}
-use Rattle.cc_plan.specs.declared.align.Align.TheVariants.{One, Sixteen}
+use Rattle.cc_plan.specs.declared.align.Align.TheVariants.{Sixteen}
 use Rattle.cheri_cap.specs.Invocation.{IsAlign}
 use Rattle.cheri_cap.proofs.InvocationLemmas.{align_one}
 use Rattle.cheri_cap.proofs.invocation.align_of.Goals as goal

@@ -1,9 +1,9 @@
-use Rattle.std.proofs.Common.{◌≡◌, ◌∙◌, ap, refl, sym, subst, true, [], List}
+use Rattle.std.proofs.Common.{◌≡◌, ◌∙◌, ap, inl, refl, sym, subst, true, [], List}
 use Rattle.std.specs.Result.{IfErr}
 use Rattle.std.proofs.lemmas.Result.{err_from_is_err_and}
 use Rattle.clap.specs.Faults.{fault_of, is_simple_and_free}
 use Rattle.clap.specs.Walk.{Text, texts}
-use Rattle.clap.specs.Words.{App, is_simple, kind_of, subcommand_of, subcommand_rows_of, takes}
+use Rattle.clap.specs.Words.{App, FailsBy, HasKind, is_simple, kind_of, subcommand_of, subcommand_rows_of, takes}
 use Rattle.clap.specs.declared.error.Error.{Error}
 use Rattle.clap.specs.declared.error.kind.ErrorKind.TheVariants.{OutOfMemory}
 use Rattle.cheri_cap.specs.Invocation.{HasItsTexts, IsInvocation, IsProgram, program}
@@ -46,3 +46,27 @@ returns-in_err-command-clause-refused c =
     let told = err_from_is_err_and c.from_residual.result c.from_residual.ensures.1 in
     let holds : Q told.0 = (app, is_program, λ taken. told.2) in
     subst (λ r. IfErr r Q) (sym told.1) holds
+
+pub returns-in-Ok-clause-kinds : goal.returns-in-Ok-clause-kinds
+returns-in-Ok-clause-kinds c =
+    let words : List Text = texts c.args.words.now in
+    let is = c.in_ok-command.ensures in
+    let app : App = program c.aligns.result in
+    let is_program : IsProgram app = record { aligns = c.aligns.result; are = c.aligns.ensures; is = refl } in
+    (app, is_program, ap (λ (a : App). fault_of a words) (sym is) ∙ c.in-Ok.ensures.kinds (ap is_simple_and_free is))
+
+pub returns-clause-kinds : goal.returns-clause-kinds
+returns-clause-kinds c =
+    let words : List Text = texts c.args.words.now in
+    let is = c.in_ok-command.ensures in
+    let app : App = program c.aligns.result in
+    let is_program : IsProgram app = record { aligns = c.aligns.result; are = c.aligns.ensures; is = refl } in
+    (app, is_program, subst (λ (a : App). HasKind (fault_of a words) c.in-Err.error) is (c.in-Err.ensures.kinds (ap is_simple_and_free is)))
+
+pub returns-in_err-command-clause-kinds : goal.returns-in_err-command-clause-kinds
+returns-in_err-command-clause-kinds c =
+    let words : List Text = texts c.args.words.now in
+    let app : App = program c.aligns.result in
+    let is_program : IsProgram app = record { aligns = c.aligns.result; are = c.aligns.ensures; is = refl } in
+    let told = err_from_is_err_and c.from_residual.result c.from_residual.ensures.1 in
+    (app, is_program, subst (λ r. FailsBy (fault_of app words) r) (sym told.1) (inl told.2))
