@@ -152,11 +152,11 @@ fn sweep_known(known: &mut [Known]) -> u32 {
 fn next_call(seed: u32) -> PlanCall {
     let number = seed >> 8;
     if seed % 2 == 0 {
-        Alloc(u128::from(number % 6000 + 1))
+        PlanCall::Alloc(u128::from(number % 6000 + 1))
     } else if number % 16 == 0 {
-        Sweep
+        PlanCall::Sweep
     } else {
-        Free(ObjectId(number % 256))
+        PlanCall::Free(ObjectId(number % 256))
     }
 }
 
