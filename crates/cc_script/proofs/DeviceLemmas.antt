@@ -54,29 +54,6 @@ appends_further a b c bytes i n p q =
 pub count_further : (bytes : List ℕ) (i n : ℕ) → i ≤ length bytes → n ≤ length (take (length bytes - i) (drop i bytes)) → i + n ≤ length bytes
 count_further bytes i n h k = omega (arith, ap length (take_rest bytes i), length-drop i bytes)
 
--- a call that failed after some bytes
-pub part_kept : (a b c : Option (List ℕ)) (bytes : List ℕ) (i : ℕ) → i ≤ length bytes → Appends a b (take i bytes) → Keeps b c → TakesBeginning a c bytes
-part_kept a b c bytes i h p k = record {
-  count = i;
-  within = h;
-  taken = subst (λ (l : List ℕ). Appends a c l) (append-nil (take i bytes)) (appends_twice a b c (take i bytes) [] p (keeps_appends b c k));
-}
-
--- a piece written whole, and a beginning of the next
-pub then_part : (a b c : Option (List ℕ)) (xs ys : List ℕ) → Appends a b xs → TakesBeginning b c ys → TakesBeginning a c (xs ++ ys)
-then_part a b c xs ys p t = record {
-  count = length xs + t.count;
-  within = omega (arith, length-append xs ys, t.within);
-  taken = rw (take-append-add xs ys t.count) (appends_twice a b c xs (take t.count ys) p t.taken);
-}
-
 -- a call that moved nothing, after a piece written whole
 pub then_kept : (a b c : Option (List ℕ)) (xs : List ℕ) → Appends a b xs → Keeps b c → Appends a c xs
 then_kept a b c xs p k = subst (λ (l : List ℕ). Appends a c l) (append-nil xs) (appends_twice a b c xs [] p (keeps_appends b c k))
-
-pub takes_whole : (a b : Option (List ℕ)) (xs : List ℕ) → Appends a b xs → TakesBeginning a b xs
-takes_whole a b xs p = record {
-  count = length xs;
-  within = omega arith;
-  taken = rw (take_all (length xs) xs (omega arith)) p;
-}

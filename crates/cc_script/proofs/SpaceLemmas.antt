@@ -1,17 +1,15 @@
 -- A value with a space in it spells nothing.
-use Rattle.std.proofs.Common.{true≢false, ◌≡◌, ℕ, ◌+◌, option_map, ◌≤◌, ◌<◌, Bool, true, false, ◌&&◌, ◌==◌, not, List, [], ◌∷◌, ◌^◌, ◌-◌, length, nat_lt, nat_le, Option, Some, None, Result, Ok, Err, refl, sym, ◌∙◌, ap, subst, arith, if◌then◌else◌, drop, take, inl, inr, codes}
+use Rattle.std.proofs.Common.{true≢false, ◌≡◌, ℕ, ◌+◌, ◌≤◌, Bool, true, false, ◌&&◌, ◌==◌, not, List, [], ◌∷◌, ◌^◌, ◌-◌, length, nat_lt, nat_le, Option, Some, None, Ok, Err, refl, sym, ◌∙◌, ap, arith, if◌then◌else◌, codes}
 use Rattle.std.proofs.lemmas.Bool.{eqb-true}
 use Rattle.std.proofs.lemmas.List.Splits.{length-slice_split}
 use Rattle.std.proofs.lemmas.Slice.Eq.{bytes_eq-Decides}
 use Rattle.std.specs.Char.{is_digit}
 use Rattle.std.specs.Int.RustNames.{bit_or}
 use Rattle.std.specs.List.{count_by, list_all, onto_first, slice_split}
-use Rattle.std.specs.Option.{ok_or}
 use Rattle.std.specs.Str.{bytes_eq}
 use Rattle.std.specs.Str.Parse.{digits_value}
 use Rattle.bitflags.specs.Sets.{Row, find_row, find_name}
 use Rattle.hex.specs.Hex.{is_hex_digit}
-use Rattle.cc_word.specs.declared.refusal.Refusal.{Refusal}
 use Rattle.cc_word.specs.declared.refusal.Refusal.TheVariants.{Syntax, OutOfRange}
 use Rattle.cc_cap.specs.Permissions.{permission_table}
 use Rattle.cc_plan.specs.declared.align.Align.TheVariants.{One, Sixteen}
@@ -20,7 +18,7 @@ use Rattle.cc_machine.specs.declared.op.Op.TheVariants as op
 use Rattle.cc_script.specs.declared.keyword.Keyword.{Keyword}
 use Rattle.cc_script.specs.declared.keyword.Keyword.TheVariants as keyword
 use Rattle.cc_script.specs.Numbers.{numeral_of, number_of, within_limit}
-use Rattle.cc_script.specs.Commands.{words_of, index_in, length_in, address_in, permissions_in, with_names, align_in, flag_in, word_in, two, two_values, command_of}
+use Rattle.cc_script.specs.Commands.{words_of, permissions_in, with_names, align_in, flag_in, word_in, two, two_values, command_of}
 use Rattle.cc_script.proofs.CommandLemmas.{three_values}
 
 -- no byte of the text is a space
