@@ -28,9 +28,9 @@ const PIECE: usize = 32768;
 ///
 /// The caller has that neither device has failed before. The sink is flushed once, at the end of the
 /// script. `Read` is answered exactly if the source failed: then the replies of the whole lines that came
-/// before were written and passed on, and the machine stands after these. `Write` is answered exactly if the sink failed:
-/// then a beginning of the output was written, and the machine stands after the line whose reply was being
-/// written. Takes no memory of its own.
+/// before were written, none of them waits in the sink, and the machine stands after these lines. `Write` is
+/// answered exactly if the sink failed: then a beginning of the output was written, and the machine stands
+/// after the line whose reply was being written or passed on. Takes no memory of its own.
 ///
 /// Whatever it answers, the machine then keeps the laws of every run.
 pub fn run_script<R: Source, W: Sink>(
