@@ -13,7 +13,7 @@ from pathlib import Path
 
 HERE = Path(__file__).resolve().parent
 TABLE = HERE / "conformance.tsv"
-TEST_TABLE = HERE.parent / "crates/cheri_cap/src/tests/conformance_table.rt"
+TEST_TABLE = HERE.parent / "crates/cc_command/src/tests/conformance_table.rt"
 
 HEAD = '''//! The conformance set: words, and what each of them means (docs/CONFORMANCE.md).
 //!

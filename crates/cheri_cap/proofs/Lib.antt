@@ -1,4 +1,3 @@
 mod GivenLemmas
 mod InvocationLemmas
 mod OutcomeLemmas
-mod PermissionLemmas

@@ -1,9 +1,4 @@
 -- In reading order.
-pub mod Answer
-pub mod Permissions
-pub mod Listing
-pub mod Rounding
-pub mod Planning
 pub mod Script
 pub mod Outcome
 pub mod Invocation

@@ -5,6 +5,7 @@ ghost use Rattle.clap.specs.Words.{App, FailsBy, app_of, fault_of, first_of, fir
 ghost use Rattle.clap.specs.declared.builder.command.Command.TheViews.{out-Command};
 ghost use Rattle.cheri_cap.specs.Invocation.{HasAlign, HasItsTexts, HasLimit, IsAlign, IsInvocation, IsLimit, IsProgram, align_option, bare_program, optional_argument, plan_command, plan_options, program, round_command, run_command, show_command, slots_option, wanted_argument};
 
+use cc_command::PoolTexts;
 use cc_machine::Align;
 use clap::builder::ValueParser;
 use clap::error::ErrorKind;
@@ -42,15 +43,6 @@ pub enum Invocation<'a> {
         /// The script's file. Standard input where there is none, or where it is `-`.
         file: Option<&'a str>,
     },
-}
-
-/// The bounds of a pool as they were typed. Each text may spell no number.
-#[derive(Clone, Copy, Debug, PartialEq, Eq)]
-pub struct PoolTexts<'a> {
-    /// The text that stands for the pool's first address.
-    pub base: &'a str,
-    /// The text that stands for the pool's length.
-    pub length: &'a str,
 }
 
 /// The most slots and objects of a machine where `--slots` is not given.

@@ -9,23 +9,16 @@ ghost use Rattle.cheri_cap.specs.declared.outcome.Ending.TheVariants as ending;
 ghost use Rattle.cheri_cap.specs.Invocation.{IsInvocation, IsProgram};
 ghost use Rattle.cheri_cap.specs.Outcome.{EndsBy, EndsOn, status_of};
 
-mod answers;
 mod invocation;
-mod listing;
 mod outcome;
-mod permissions;
-mod planning;
-mod rounding;
 mod running;
-mod text;
 
+use cc_command::{show_round, show_word};
 use cc_script::{FromWriter, Summary};
 use clap::Error;
 use clap::error::ErrorKind;
 use invocation::{Invocation, read_words};
-use listing::show_word;
 use outcome::{Ending, Fault, ending_of, status};
-use rounding::show_round;
 use std::alloc::AllocError;
 use std::env::{self, Env};
 use std::io;

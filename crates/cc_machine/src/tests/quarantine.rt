@@ -1,6 +1,6 @@
 //! Freed objects stay held until a sweep, which revokes exactly what belongs to them.
-use super::objects::{allocated, freed, shown, swept, with_pool};
-use super::{END, length, made, replies};
+use super::objects::with_pool;
+use super::{Ask, END, Told, length, replies};
 use crate::{Align, Machine, ObjectState, Op, Reply};
 use cc_bounds::Span;
 use cc_cap::Perms;
@@ -8,26 +8,26 @@ use cc_word::Refusal;
 use std::process::Abort;
 use std::test::Fail;
 
+#[rattlefmt::skip]
+const SLOTS_OF_A_FREED_OBJECT_STAY_USABLE: [(Ask, Told); 12] = [
+    (Ask::Alloc(100), Told::Allocated(1, 3, 0xffff0000041880040000000000010000, 0x10000, 0x10064, 100)),
+    (Ask::Alloc(5000), Told::Allocated(2, 4, 0xffff000000fd806c0000000000010068, 0x10068, 0x113f0, 5100)),
+    (Ask::Bounds(4, 16), Told::Made(5, 0xffff0000041f806c0000000000010068, 0x10068, 0x10078)),
+    (Ask::Op(Op::Free(2)), Told::Freed(2, 5100)),
+    (Ask::Op(Op::Show(5)), Told::Shown(0xffff0000041f806c0000000000010068, 0x10068, 0x10078, Some(4))),
+    (Ask::Op(Op::Addr(5, 0x10070)), Told::Made(6, 0xffff0000041f806c0000000000010070, 0x10068, 0x10078)),
+    (Ask::Alloc(5000), Told::Allocated(3, 7, 0xffff000001df93f400000000000113f0, 0x113f0, 0x12778, 10100)),
+    (Ask::Op(Op::Free(2)), Told::Refused(Refusal::NoObject)),
+    (Ask::Op(Op::Sweep), Told::Swept(1, 3, 5100)),
+    (Ask::Op(Op::Show(6)), Told::Refused(Refusal::Revoked)),
+    (Ask::Alloc(4), Told::Allocated(4, 8, 0xffff0000041b80600000000000010064, 0x10064, 0x10068, 5104)),
+    (Ask::Op(Op::Sweep), Told::Swept(0, 0, 5104)),
+];
+
 #[test]
 fn slots_of_a_freed_object_stay_usable(rt: HostRuntime) -> Result<(), Fail> {
     let mut machine = with_pool(&rt, rt.alloc(), 0x10000, 0x10000)?;
-    let derived = 0xffff0000041f806c0000000000010068;
-    #[rattlefmt::skip]
-    let rows = [
-        (Op::Alloc(length(100)?), allocated(1, 3, 0xffff0000041880040000000000010000, 0x10000, 0x10064, 100)),
-        (Op::Alloc(length(5000)?), allocated(2, 4, 0xffff000000fd806c0000000000010068, 0x10068, 0x113f0, 5100)),
-        (Op::Bounds(4, length(16)?), made(5, derived, 0x10068, 0x10078)),
-        (Op::Free(2), freed(2, 5100)),
-        (Op::Show(5), shown(derived, 0x10068, 0x10078, Some(4))),
-        (Op::Addr(5, 0x10070), made(6, 0xffff0000041f806c0000000000010070, 0x10068, 0x10078)),
-        (Op::Alloc(length(5000)?), allocated(3, 7, 0xffff000001df93f400000000000113f0, 0x113f0, 0x12778, 10100)),
-        (Op::Free(2), Reply::Refused(Refusal::NoObject)),
-        (Op::Sweep, swept(1, 3, 5100)),
-        (Op::Show(6), Reply::Refused(Refusal::Revoked)),
-        (Op::Alloc(length(4)?), allocated(4, 8, 0xffff0000041b80600000000000010064, 0x10064, 0x10068, 5104)),
-        (Op::Sweep, swept(0, 0, 5104)),
-    ];
-    replies(&rt, &mut machine, &rows);
+    replies(&rt, &mut machine, &SLOTS_OF_A_FREED_OBJECT_STAY_USABLE)?;
     for slot in [4, 5, 6] {
         assert_eq!(rt; machine.slot(slot), Err(Refusal::Revoked));
     }
@@ -45,23 +45,17 @@ fn slots_of_a_freed_object_stay_usable(rt: HostRuntime) -> Result<(), Fail> {
     Ok(())
 }
 
+#[rattlefmt::skip]
+const SWEEP_BEFORE_ANY_POOL: [(Ask, Told); 3] = [
+    (Ask::Op(Op::Sweep), Told::Swept(0, 0, 0)),
+    (Ask::Op(Op::Pool(0, Align::One)), Told::PoolSet(0, 0, END, Align::One)),
+    (Ask::Op(Op::Sweep), Told::Swept(0, 0, 0)),
+];
+
 #[test]
 fn sweep_before_any_pool(rt: HostRuntime) -> Result<(), Fail> {
     let mut machine = Machine::with_limit(rt.alloc(), 1)?;
-    let all = Span { base: 0, top: END };
-    let rows = [
-        (Op::Sweep, swept(0, 0, 0)),
-        (
-            Op::Pool(0, Align::One),
-            Reply::PoolSet {
-                slot: 0,
-                span: all,
-                align: Align::One,
-            },
-        ),
-        (Op::Sweep, swept(0, 0, 0)),
-    ];
-    replies(&rt, &mut machine, &rows);
+    replies(&rt, &mut machine, &SWEEP_BEFORE_ANY_POOL)?;
     assert_eq!(rt; machine.slots(), 1);
     Ok(())
 }
@@ -77,20 +71,26 @@ fn swept_together(
     machine.step(&Op::Alloc(length(200)?));
     machine.step(&Op::Inc(3, 1));
     machine.step(&Op::Inc(5, 1));
-    let rows = [
-        (Op::Free(first), freed(first, 300)),
-        (Op::Free(second), freed(second, 300)),
-        (Op::Sweep, swept(2, 4, 0)),
-        (Op::Free(first), Reply::Refused(Refusal::NoObject)),
-        (Op::Sweep, swept(0, 0, 0)),
-    ];
-    replies(rt, machine, &rows);
+    assert_eq!(rt;
+        machine.step(&Op::Free(first)),
+        Told::Freed(first, 300).reply()
+    );
+    assert_eq!(rt;
+        machine.step(&Op::Free(second)),
+        Told::Freed(second, 300).reply()
+    );
+    assert_eq!(rt; machine.step(&Op::Sweep), Told::Swept(2, 4, 0).reply());
+    assert_eq!(rt;
+        machine.step(&Op::Free(first)),
+        Reply::Refused(Refusal::NoObject)
+    );
+    assert_eq!(rt; machine.step(&Op::Sweep), Told::Swept(0, 0, 0).reply());
     for slot in 3..7u32 {
         assert_eq!(rt; machine.slot(slot), Err(Refusal::Revoked));
     }
     assert_eq!(rt;
         machine.step(&Op::Alloc(length(300)?)),
-        allocated(
+        Told::Allocated(
             3,
             7,
             0xffff0000044a80040000000000010000,
@@ -98,6 +98,7 @@ fn swept_together(
             0x1012c,
             300
         )
+        .reply()
     );
     Ok(())
 }
@@ -118,6 +119,15 @@ fn two_frees_and_one_sweep(rt: HostRuntime) -> Result<(), Fail> {
     )
 }
 
+#[rattlefmt::skip]
+const SWEEP_LEAVES_LIVE_OBJECTS: [(Ask, Told); 5] = [
+    (Ask::Op(Op::Free(2)), Told::Freed(2, 96)),
+    (Ask::Op(Op::Sweep), Told::Swept(1, 3, 64)),
+    (Ask::Op(Op::Free(1)), Told::Freed(1, 64)),
+    (Ask::Op(Op::Free(3)), Told::Freed(3, 64)),
+    (Ask::Op(Op::Sweep), Told::Swept(2, 2, 0)),
+];
+
 #[test]
 fn sweep_leaves_live_objects(rt: HostRuntime) -> Result<(), Fail> {
     let mut machine = with_pool(&rt, rt.alloc(), 0x10000, 0x10000)?;
@@ -126,16 +136,18 @@ fn sweep_leaves_live_objects(rt: HostRuntime) -> Result<(), Fail> {
     }
     machine.step(&Op::Perms(4, Perms::LOAD));
     machine.step(&Op::Perms(6, Perms::LOAD));
-    let rows = [
-        (Op::Free(2), freed(2, 96)),
-        (Op::Sweep, swept(1, 3, 64)),
-        (Op::Free(1), freed(1, 64)),
-        (Op::Free(3), freed(3, 64)),
-        (Op::Sweep, swept(2, 2, 0)),
-    ];
-    replies(&rt, &mut machine, &rows);
-    Ok(())
+    replies(&rt, &mut machine, &SWEEP_LEAVES_LIVE_OBJECTS)
 }
+
+#[rattlefmt::skip]
+const FULL_MACHINE_STAYS_FULL_AFTER_A_SWEEP: [(Ask, Told); 6] = [
+    (Ask::Alloc(8), Told::Refused(Refusal::Full)),
+    (Ask::Op(Op::Free(3)), Told::Freed(3, 24)),
+    (Ask::Op(Op::Free(1)), Told::Freed(1, 24)),
+    (Ask::Op(Op::Free(2)), Told::Freed(2, 24)),
+    (Ask::Op(Op::Sweep), Told::Swept(3, 3, 0)),
+    (Ask::Alloc(8), Told::Refused(Refusal::Full)),
+];
 
 #[test]
 fn full_machine_stays_full_after_a_sweep(rt: HostRuntime) -> Result<(), Fail> {
@@ -144,31 +156,23 @@ fn full_machine_stays_full_after_a_sweep(rt: HostRuntime) -> Result<(), Fail> {
     for _ in 0..3u32 {
         machine.step(&Op::Alloc(length(8)?));
     }
-    let rows = [
-        (Op::Alloc(length(8)?), Reply::Refused(Refusal::Full)),
-        (Op::Free(3), freed(3, 24)),
-        (Op::Free(1), freed(1, 24)),
-        (Op::Free(2), freed(2, 24)),
-        (Op::Sweep, swept(3, 3, 0)),
-        (Op::Alloc(length(8)?), Reply::Refused(Refusal::Full)),
-    ];
-    replies(&rt, &mut machine, &rows);
+    replies(&rt, &mut machine, &FULL_MACHINE_STAYS_FULL_AFTER_A_SWEEP)?;
     assert_eq!(rt; machine.held_bytes(), 0);
     Ok(())
 }
+
+#[rattlefmt::skip]
+const SLOTS_OF_NO_OBJECT_STAY: [(Ask, Told); 5] = [
+    (Ask::Bounds(2, 100), Told::Made(4, 0xffff0000041880040000000000010000, 0x10000, 0x10064)),
+    (Ask::Op(Op::Free(1)), Told::Freed(1, 100)),
+    (Ask::Op(Op::Sweep), Told::Swept(1, 1, 0)),
+    (Ask::Op(Op::Show(3)), Told::Refused(Refusal::Revoked)),
+    (Ask::Op(Op::Show(4)), Told::Shown(0xffff0000041880040000000000010000, 0x10000, 0x10064, Some(2))),
+];
 
 #[test]
 fn slots_of_no_object_stay(rt: HostRuntime) -> Result<(), Fail> {
     let mut machine = with_pool(&rt, rt.alloc(), 0x10000, 0x10000)?;
     machine.step(&Op::Alloc(length(100)?));
-    #[rattlefmt::skip]
-    let rows = [
-        (Op::Bounds(2, length(100)?), made(4, 0xffff0000041880040000000000010000, 0x10000, 0x10064)),
-        (Op::Free(1), freed(1, 100)),
-        (Op::Sweep, swept(1, 1, 0)),
-        (Op::Show(3), Reply::Refused(Refusal::Revoked)),
-        (Op::Show(4), shown(0xffff0000041880040000000000010000, 0x10000, 0x10064, Some(2))),
-    ];
-    replies(&rt, &mut machine, &rows);
-    Ok(())
+    replies(&rt, &mut machine, &SLOTS_OF_NO_OBJECT_STAY)
 }

@@ -5,38 +5,40 @@ use cc_machine::{Align, Len, Op};
 use cc_word::Refusal;
 use cc_word::Refusal::{OutOfRange, Syntax, TooLong};
 
+#[rattlefmt::skip]
+const PLAIN: [(&str, Op); 13] = [
+    ("show 0", Op::Show(0)),
+    ("show 4294967295", Op::Show(u32::MAX)),
+    ("addr 0 0xffffffffffffffff", Op::Addr(0, u64::MAX)),
+    ("inc 2 0x800", Op::Inc(2, 0x800)),
+    ("flag 0 1", Op::Flag(0, true)),
+    ("seal 2 3", Op::Seal(2, 3)),
+    ("unseal 4 3", Op::Unseal(4, 3)),
+    ("rebuild 0 FFFF0000048190040000000000001000", Op::Rebuild(0, 0xffff_0000_0481_9004_0000_0000_0000_1000)),
+    ("pool 2", Op::Pool(2, Align::One)),
+    ("pool 2 1", Op::Pool(2, Align::One)),
+    ("pool 0x2 16", Op::Pool(2, Align::Sixteen)),
+    ("free 1", Op::Free(1)),
+    ("sweep", Op::Sweep),
+];
+
 #[test]
 fn lines_spell_operations(rt: HostRuntime) {
-    let len = Len::new(0x200).expect(&rt, "a length");
-    let load = Perms::from_name("LOAD").expect(&rt, "a name");
-    let none = Perms::from_bits(0).expect(&rt, "no permission");
-    let rows: [(&str, Op); 19] = [
-        ("show 0", Op::Show(0)),
-        ("show 4294967295", Op::Show(u32::MAX)),
-        ("bounds 1 0x200", Op::Bounds(1, len)),
-        ("exact 1 512", Op::Exact(1, len)),
-        ("addr 0 0xffffffffffffffff", Op::Addr(0, u64::MAX)),
-        ("inc 2 0x800", Op::Inc(2, 0x800)),
-        ("perms 0 LOAD+LOAD", Op::Perms(0, load)),
-        ("perms 0 -", Op::Perms(0, none)),
-        ("flag 0 1", Op::Flag(0, true)),
-        ("seal 2 3", Op::Seal(2, 3)),
-        ("unseal 4 3", Op::Unseal(4, 3)),
-        (
-            "rebuild 0 FFFF0000048190040000000000001000",
-            Op::Rebuild(0, 0xffff_0000_0481_9004_0000_0000_0000_1000),
-        ),
-        ("round 0x200", Op::Round(len)),
-        ("pool 2", Op::Pool(2, Align::One)),
-        ("pool 2 1", Op::Pool(2, Align::One)),
-        ("pool 0x2 16", Op::Pool(2, Align::Sixteen)),
-        ("alloc 512", Op::Alloc(len)),
-        ("free 1", Op::Free(1)),
-        ("sweep", Op::Sweep),
-    ];
-    for (line, op) in &rows {
+    for (line, op) in &PLAIN {
         assert!(rt; parse_line(line.as_bytes()) == Ok(*op), "{line}");
     }
+}
+
+#[test]
+fn lengths_and_permissions_are_spelled(rt: HostRuntime) {
+    let len = Len::new(0x200).expect(&rt, "a length");
+    assert!(rt; parse_line(b"bounds 1 0x200") == Ok(Op::Bounds(1, len)));
+    assert!(rt; parse_line(b"exact 1 512") == Ok(Op::Exact(1, len)));
+    assert!(rt; parse_line(b"round 0x200") == Ok(Op::Round(len)));
+    assert!(rt; parse_line(b"alloc 512") == Ok(Op::Alloc(len)));
+    let none = Perms::from_bits(0).expect(&rt, "no permission");
+    assert!(rt; parse_line(b"perms 0 LOAD+LOAD") == Ok(Op::Perms(0, Perms::LOAD)));
+    assert!(rt; parse_line(b"perms 0 -") == Ok(Op::Perms(0, none)));
 }
 
 #[rattlefmt::skip]
@@ -105,28 +107,29 @@ fn lines_of_more_than_128_bytes(rt: HostRuntime) {
     assert!(rt; parse_line(&number) == Err(OutOfRange));
 }
 
+const NAMES: [&str; 16] = [
+    "GLOBAL",
+    "EXECUTE",
+    "LOAD",
+    "STORE",
+    "LOAD_CAP",
+    "STORE_CAP",
+    "STORE_LOCAL_CAP",
+    "SEAL",
+    "CINVOKE",
+    "UNSEAL",
+    "SYSTEM_REGS",
+    "SET_CID",
+    "USER0",
+    "USER1",
+    "USER2",
+    "USER3",
+];
+
 #[test]
 fn every_name_of_a_permission(rt: HostRuntime) {
-    let names = [
-        "GLOBAL",
-        "EXECUTE",
-        "LOAD",
-        "STORE",
-        "LOAD_CAP",
-        "STORE_CAP",
-        "STORE_LOCAL_CAP",
-        "SEAL",
-        "CINVOKE",
-        "UNSEAL",
-        "SYSTEM_REGS",
-        "SET_CID",
-        "USER0",
-        "USER1",
-        "USER2",
-        "USER3",
-    ];
     let mut bit = 1u16;
-    for name in &names {
+    for name in &NAMES {
         let mut line = [0u8; 64];
         let end = 8 + name.len();
         line[..8].copy_from_slice(b"perms 0 ");

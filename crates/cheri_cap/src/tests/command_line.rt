@@ -1,6 +1,7 @@
 //! Command lines that are taken and refused. A line of a table is the words after the program's name, with one
 //! space between each two.
-use crate::invocation::{Invocation, PoolTexts, read_words};
+use crate::invocation::{Invocation, read_words};
+use cc_command::PoolTexts;
 use cc_machine::Align;
 use clap::error::ErrorKind;
 use std::alloc::{AllocError, Global};

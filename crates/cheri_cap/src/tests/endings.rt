@@ -3,15 +3,16 @@ use crate::outcome::{Ending, Fault, ending_of, status};
 use cc_script::{ScriptFault, Summary};
 use std::test::Fail;
 
+const TEXTS: [(Fault, &str); 4] = [
+    (Fault::Memory, "cheri-cap: out of memory"),
+    (Fault::Open, "cheri-cap: cannot open"),
+    (Fault::Read, "cheri-cap: read failed"),
+    (Fault::Write, "cheri-cap: write failed"),
+];
+
 #[test]
 fn fault_texts(rt: HostRuntime) -> Result<(), Fail> {
-    let table = [
-        (Fault::Memory, "cheri-cap: out of memory"),
-        (Fault::Open, "cheri-cap: cannot open"),
-        (Fault::Read, "cheri-cap: read failed"),
-        (Fault::Write, "cheri-cap: write failed"),
-    ];
-    for (fault, text) in table {
+    for (fault, text) in TEXTS {
         let shown = fault.to_string(rt.alloc())?;
         assert_eq!(rt; shown.as_str(), text);
     }

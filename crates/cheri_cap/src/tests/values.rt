@@ -1,7 +1,8 @@
 //! What `==` and `clone` are, of values from the machine up: unequal ones are told apart, and a clone is its original.
-use crate::invocation::{Invocation, PoolTexts};
+use crate::invocation::Invocation;
 use crate::outcome::{Ending, Fault};
 use cc_bounds::Span;
+use cc_command::PoolTexts;
 use cc_machine::{Align, Len, Object, ObjectState, Op, Reply};
 use cc_script::{ScriptFault, Summary};
 use cc_word::Refusal;

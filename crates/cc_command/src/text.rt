@@ -6,18 +6,18 @@ use cc_script::Line;
 use std::marker::Model;
 
 /// The most bytes of a text: more than any answer of the program has.
-pub const ROOM: usize = 1024;
+pub(crate) const ROOM: usize = 1024;
 
 /// Text of at most [`ROOM`] bytes, which is grown at its end and never allocates.
 #[derive(Drop)]
-pub struct Text {
+pub(crate) struct Text {
     room: [u8; ROOM],
     len: usize,
 }
 
 impl Model for Text {
     ghost use Rattle.std.specs.Prelude.{ℕ, ◌≤◌, List, take};
-    ghost use Rattle.cheri_cap.specs.declared.text.TheConstants.{ROOM};
+    ghost use Rattle.cc_command.specs.declared.text.TheConstants.{ROOM};
 
     ghost Value = { List ℕ };
 
@@ -28,7 +28,7 @@ impl Model for Text {
 
 impl Text {
     /// No text yet.
-    pub fn new() -> Self
+    pub(crate) fn new() -> Self
         ensures { result ≡ [] }
     {
         Text {
@@ -38,7 +38,7 @@ impl Text {
     }
 
     /// The bytes of the text.
-    pub fn bytes(&self) -> &[u8]
+    pub(crate) fn bytes(&self) -> &[u8]
         ensures value { result.now ≡ self.now }
         ensures fits { length result.now ≤ ROOM }
     {
@@ -46,7 +46,7 @@ impl Text {
     }
 
     /// Appends bytes as they are.
-    pub fn push(&mut self, bytes: &[u8])
+    pub(crate) fn push(&mut self, bytes: &[u8])
         requires { length self.old + length bytes.now ≤ ROOM }
         ensures { self.new ≡ self.old ++ bytes.now }
     {
@@ -56,7 +56,7 @@ impl Text {
     }
 
     /// Appends a line and its line feed.
-    pub fn push_line(&mut self, line: &Line)
+    pub(crate) fn push_line(&mut self, line: &Line)
         requires { length self.old + length line.now + 1 ≤ ROOM }
         ensures value { self.new ≡ self.old ++ with_line_feed line.now }
         ensures fits { length self.new ≡ length self.old + length line.now + 1 }

@@ -3,9 +3,9 @@ ghost use Rattle.std.specs.Prelude.{◌≡◌, ◌+◌, ◌≤◌, ◌++◌, ◌
 ghost use Rattle.cc_word.specs.Word.{bit_of, word_of};
 ghost use Rattle.cc_word.specs.WordText.{digits_of};
 ghost use Rattle.cc_script.specs.Replies.{hexadecimal};
-ghost use Rattle.cheri_cap.specs.Answer.{WritesAnswer};
-ghost use Rattle.cheri_cap.specs.Listing.{IsListing, IsWordText, bounds_lines_of, field_lines_of, line_of, listing_of};
-ghost use Rattle.cheri_cap.specs.Permissions.{permissions_text};
+ghost use Rattle.cc_command.specs.Answer.{WritesAnswer};
+ghost use Rattle.cc_command.specs.Listing.{IsListing, IsWordText, bounds_lines_of, field_lines_of, line_of, listing_of};
+ghost use Rattle.cc_command.specs.Permissions.{permissions_text};
 
 use crate::answers::{push_refusal, write_answer};
 use crate::permissions::push_permissions;

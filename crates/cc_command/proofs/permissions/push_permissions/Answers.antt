@@ -3,8 +3,8 @@ use Rattle.std.proofs.lemmas.Bool.{ne_eqb}
 use Rattle.std.specs.List.{join_with_byte}
 use Rattle.bitflags.specs.Sets.{Row}
 use Rattle.cc_cap.specs.Permissions.{bits_of, permission_table}
-use Rattle.cheri_cap.specs.Permissions.{names_of_set, permissions_text, rows_of}
-use Rattle.cheri_cap.proofs.permissions.push_permissions.Goals as goal
+use Rattle.cc_command.specs.Permissions.{names_of_set, permissions_text, rows_of}
+use Rattle.cc_command.proofs.permissions.push_permissions.Goals as goal
 
 pub returns-else-bits-eq0-clause-value : goal.returns-else-bits-eq0-clause-value
 unfolding permissions_text

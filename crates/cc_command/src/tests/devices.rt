@@ -82,17 +82,18 @@ impl Write for Faulty {
     }
 }
 
+const ANSWERS: [(Answer, Answer, bool, u32); 6] = [
+    (Answer::All, Answer::All, true, 1),
+    (Answer::Nothing, Answer::All, false, 0),
+    (Answer::Interrupted, Answer::All, false, 0),
+    (Answer::Broken, Answer::All, false, 0),
+    (Answer::All, Answer::Interrupted, false, 1),
+    (Answer::All, Answer::Broken, false, 1),
+];
+
 #[test]
 fn errors_of_writers_are_failures(rt: HostRuntime) {
-    let table = [
-        (Answer::All, Answer::All, true, 1),
-        (Answer::Nothing, Answer::All, false, 0),
-        (Answer::Interrupted, Answer::All, false, 0),
-        (Answer::Broken, Answer::All, false, 0),
-        (Answer::All, Answer::Interrupted, false, 1),
-        (Answer::All, Answer::Broken, false, 1),
-    ];
-    for (write, flush, is_ok, flushes) in table {
+    for (write, flush, is_ok, flushes) in ANSWERS {
         let mut writer = Faulty {
             write,
             flush,

@@ -1,8 +1,8 @@
 //! Lengths as setting bounds rounds them.
 ghost use Rattle.std.specs.Prelude.{◌≡◌, ◌↔◌, [], false, true, IfOk, IsErr, IsTrue, OnErr};
 ghost use Rattle.cc_script.specs.Commands.{length_in};
-ghost use Rattle.cheri_cap.specs.Answer.{WritesAnswer};
-ghost use Rattle.cheri_cap.specs.Rounding.{IsRounding};
+ghost use Rattle.cc_command.specs.Answer.{WritesAnswer};
+ghost use Rattle.cc_command.specs.Rounding.{IsRounding};
 
 use crate::answers::{push_refusal, write_answer};
 use crate::text::Text;

@@ -6,7 +6,7 @@ use Rattle.cc_machine.specs.Step.{RoundsLength}
 use Rattle.cc_script.specs.Commands.{length_in}
 use Rattle.cc_script.specs.Output.{with_line_feed}
 use Rattle.cc_script.specs.Replies.{reply_text}
-use Rattle.cheri_cap.specs.Answer.{IsRefusalLine}
+use Rattle.cc_command.specs.Answer.{IsRefusalLine}
 
 -- the answer to a length, which a machine replies too, or to a text that spells none
 abbrev pub IsRoundingOf : Result ℕ Refusal → (answer : List ℕ) → Type 0

@@ -1,6 +1,6 @@
 use Rattle.std.proofs.Common.{ℕ, refl, sym, ◌∙◌, ap, inl}
-use Rattle.cheri_cap.specs.Listing.{listing_of}
-use Rattle.cheri_cap.proofs.listing.push_answer.Goals as goal
+use Rattle.cc_command.specs.Listing.{listing_of}
+use Rattle.cc_command.proofs.listing.push_answer.Goals as goal
 
 pub returns-in-Some-clause-listing : goal.returns-in-Some-clause-listing
 returns-in-Some-clause-listing c =

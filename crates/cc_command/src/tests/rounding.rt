@@ -19,25 +19,26 @@ fn assert_rounded(rt: &impl Abort, text: &str, answer: &str, any_error: bool) {
     assert_eq!(rt; room.get(..taken), Some(answer.as_bytes()), "at {text}");
 }
 
+#[rattlefmt::skip]
+const ROUNDED: [(&str, &str); 13] = [
+    ("0", "round 0x0 0x1 0xffffffffffffffff\n"),
+    ("4095", "round 0xfff 0x1 0xffffffffffffffff\n"),
+    ("4096", "round 0x1000 0x8 0xfffffffffffffff8\n"),
+    ("8184", "round 0x1ff8 0x8 0xfffffffffffffff8\n"),
+    ("8185", "round 0x2000 0x10 0xfffffffffffffff0\n"),
+    ("8191", "round 0x2000 0x10 0xfffffffffffffff0\n"),
+    ("0xffc00", "round 0xffc00 0x400 0xfffffffffffffc00\n"),
+    ("0xffc01", "round 0x100000 0x800 0xfffffffffffff800\n"),
+    ("0xffffffffffffffff", WHOLE_ADDRESS_SPACE),
+    ("0x10000000000000000", WHOLE_ADDRESS_SPACE),
+    ("18446744073709551616", WHOLE_ADDRESS_SPACE),
+    ("00000000000000000000000000000000000000000000000000000000000000000000000000000000", "round 0x0 0x1 0xffffffffffffffff\n"),
+    ("0x00000000000000000000000000000000000000000000000000000000000000000000000000000000FfC01", "round 0x100000 0x800 0xfffffffffffff800\n"),
+];
+
 #[test]
 fn lengths_are_rounded(rt: HostRuntime) {
-    #[rattlefmt::skip]
-    let table = [
-        ("0", "round 0x0 0x1 0xffffffffffffffff\n"),
-        ("4095", "round 0xfff 0x1 0xffffffffffffffff\n"),
-        ("4096", "round 0x1000 0x8 0xfffffffffffffff8\n"),
-        ("8184", "round 0x1ff8 0x8 0xfffffffffffffff8\n"),
-        ("8185", "round 0x2000 0x10 0xfffffffffffffff0\n"),
-        ("8191", "round 0x2000 0x10 0xfffffffffffffff0\n"),
-        ("0xffc00", "round 0xffc00 0x400 0xfffffffffffffc00\n"),
-        ("0xffc01", "round 0x100000 0x800 0xfffffffffffff800\n"),
-        ("0xffffffffffffffff", WHOLE_ADDRESS_SPACE),
-        ("0x10000000000000000", WHOLE_ADDRESS_SPACE),
-        ("18446744073709551616", WHOLE_ADDRESS_SPACE),
-        ("00000000000000000000000000000000000000000000000000000000000000000000000000000000", "round 0x0 0x1 0xffffffffffffffff\n"),
-        ("0x00000000000000000000000000000000000000000000000000000000000000000000000000000000FfC01", "round 0x100000 0x800 0xfffffffffffff800\n"),
-    ];
-    for (text, answer) in table {
+    for (text, answer) in ROUNDED {
         assert_rounded(&rt, text, answer, false);
     }
 }

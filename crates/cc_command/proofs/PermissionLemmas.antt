@@ -8,7 +8,7 @@ use Rattle.bitflags.specs.Sets.{Row}
 use Rattle.bitflags.specs.declared.traits.Flag.{Flag}
 use Rattle.cc_cap.specs.Permissions.{bits_of}
 use Rattle.cc_cap.specs.declared.perms.Perms.{Perms}
-use Rattle.cheri_cap.specs.Permissions.{names_of_set, room_of, rows_of}
+use Rattle.cc_command.specs.Permissions.{names_of_set, room_of, rows_of}
 
 -- the names one after another, the first behind a separator of its own and each other behind a `+`
 abbrev pub separated : List ℕ → List (List ℕ) → List ℕ

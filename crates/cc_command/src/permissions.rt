@@ -2,7 +2,7 @@
 ghost use Rattle.std.specs.Prelude.{◌≡◌, ◌+◌, ◌≤◌, ◌++◌, length};
 ghost use Rattle.std.specs.List.{join_with_byte};
 ghost use Rattle.cc_cap.specs.Permissions.{bits_of};
-ghost use Rattle.cheri_cap.specs.Permissions.{names_of_set, permissions_text, room_of, rows_of};
+ghost use Rattle.cc_command.specs.Permissions.{names_of_set, permissions_text, room_of, rows_of};
 
 use bitflags::{Flag, Flags};
 use cc_cap::Perms;
@@ -10,7 +10,7 @@ use cc_script::Line;
 
 /// Appends the names of the permissions from bit 0 up, joined by `+`, or `-` for none.
 #[tactic(auto, unfolding(crate::specs::Permissions::permissions_text))]
-pub fn push_permissions(line: &mut Line, perms: Perms)
+pub(crate) fn push_permissions(line: &mut Line, perms: Perms)
     requires { length line.old + 125 ≤ 192 }
     ensures value { line.new ≡ line.old ++ permissions_text (bits_of perms) }
     ensures fits { length line.new ≤ length line.old + 125 }

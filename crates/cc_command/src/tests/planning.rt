@@ -1,6 +1,5 @@
 //! Worked plans: the numbers of a pool, and the scripts that follow.
-use crate::invocation::PoolTexts;
-use crate::planning::{plan_numbers, plan_script};
+use crate::planning::{PoolTexts, plan_numbers, plan_script};
 use cc_machine::{Align, Machine};
 use cc_script::{ScriptFault, SliceSink, SliceSource, Summary};
 use cc_word::Refusal;
@@ -88,43 +87,45 @@ fn full_sink_ends_a_plan(rt: HostRuntime) -> Result<(), Fail> {
     Ok(())
 }
 
+const FAULTS: [(&str, &str, Refusal); 10] = [
+    ("q", "1", Refusal::Syntax),
+    ("1", "q", Refusal::Syntax),
+    ("0x10000000000000000", "q", Refusal::Syntax),
+    ("q", "0x10000000000000001", Refusal::Syntax),
+    ("0", "0x10000000000000001", Refusal::OutOfRange),
+    ("0x10000000000000000", "1", Refusal::OutOfRange),
+    (
+        "0x10000000000000000",
+        "0x10000000000000001",
+        Refusal::OutOfRange,
+    ),
+    ("", "", Refusal::Syntax),
+    ("-1", "1", Refusal::Syntax),
+    ("1 ", "1", Refusal::Syntax),
+];
+
 #[test]
 fn faults_of_the_numbers(rt: HostRuntime) {
-    let table = [
-        ("q", "1", Refusal::Syntax),
-        ("1", "q", Refusal::Syntax),
-        ("0x10000000000000000", "q", Refusal::Syntax),
-        ("q", "0x10000000000000001", Refusal::Syntax),
-        ("0", "0x10000000000000001", Refusal::OutOfRange),
-        ("0x10000000000000000", "1", Refusal::OutOfRange),
-        (
-            "0x10000000000000000",
-            "0x10000000000000001",
-            Refusal::OutOfRange,
-        ),
-        ("", "", Refusal::Syntax),
-        ("-1", "1", Refusal::Syntax),
-        ("1 ", "1", Refusal::Syntax),
-    ];
-    for (base, length, refusal) in table {
+    for (base, length, refusal) in FAULTS {
         let numbers = plan_numbers(&PoolTexts { base, length });
         assert!(rt; numbers == Err(refusal), "{base} {length}");
     }
 }
 
+const NUMBERS: [(&str, &str, u64, u128); 3] = [
+    ("0", "0", 0, 0),
+    ("0x10", "0020", 16, 20),
+    (
+        "0xFFFFFFFFFFFFFFFF",
+        "0x10000000000000000",
+        u64::MAX,
+        1 << 64,
+    ),
+];
+
 #[test]
 fn numbers_of_a_pool(rt: HostRuntime) {
-    let table = [
-        ("0", "0", 0, 0),
-        ("0x10", "0020", 16, 20),
-        (
-            "0xFFFFFFFFFFFFFFFF",
-            "0x10000000000000000",
-            u64::MAX,
-            1 << 64,
-        ),
-    ];
-    for (base, length, address, bytes) in table {
+    for (base, length, address, bytes) in NUMBERS {
         match plan_numbers(&PoolTexts { base, length }) {
             Ok(numbers) => {
                 assert_eq!(rt; numbers.0, address, "{base}");

@@ -2,7 +2,7 @@
 ghost use Rattle.std.specs.Prelude.{◌≡◌, ◌↔◌, [], false, true, IfOk, IsErr, OnOk, OnErr};
 ghost use Rattle.std.specs.Io.KnownBytes.{Appends};
 ghost use Rattle.cc_script.specs.Devices.{TakesBeginning};
-ghost use Rattle.cheri_cap.specs.Answer.{IsRefusalLine, WritesAnswer};
+ghost use Rattle.cc_command.specs.Answer.{IsRefusalLine, WritesAnswer};
 
 use crate::text::Text;
 use cc_machine::Reply;
@@ -24,7 +24,7 @@ pub fn write_refusal<W: Sink>(refusal: Refusal, sink: &mut W) -> Result<Summary,
 }
 
 /// Makes the text the line of a refusal.
-pub fn push_refusal(text: &mut Text, refusal: Refusal)
+pub(crate) fn push_refusal(text: &mut Text, refusal: Refusal)
     requires { text.old ≡ [] }
     ensures { IsRefusalLine refusal text.new }
 {
@@ -32,7 +32,7 @@ pub fn push_refusal(text: &mut Text, refusal: Refusal)
 }
 
 /// Writes an answer and flushes the sink.
-pub fn write_answer<W: Sink>(answer: &Text, sink: &mut W) -> Result<(), ScriptFault>
+pub(crate) fn write_answer<W: Sink>(answer: &Text, sink: &mut W) -> Result<(), ScriptFault>
     requires { W.has_failed sink.old ≡ false }
     ensures ok { OnOk result (Appends (W.taken_bytes sink.old) (W.taken_bytes sink.new) answer.now) }
     ensures err { OnErr result (TakesBeginning (W.taken_bytes sink.old) (W.taken_bytes sink.new) answer.now) }

@@ -1,9 +1,9 @@
 use Rattle.std.proofs.Common.{◌≡◌, ◌+◌, ◌≤◌, ◌++◌, drop, length}
 use Rattle.std.specs.List.{join_with_byte}
 use Rattle.cc_cap.specs.Permissions.{bits_of}
-use Rattle.cheri_cap.specs.Permissions.{names_of_set, room_of, rows_of}
-use Rattle.cheri_cap.proofs.PermissionLemmas.{separated}
-use Rattle.cheri_cap.proofs.permissions.push_names.Given as goal
+use Rattle.cc_command.specs.Permissions.{names_of_set, room_of, rows_of}
+use Rattle.cc_command.proofs.PermissionLemmas.{separated}
+use Rattle.cc_command.proofs.permissions.push_names.Given as goal
 
 abbrev pub invariant-loop-flag : goal.invariant-loop-flag
 invariant-loop-flag l = record {

@@ -1,0 +1,6 @@
+-- In reading order.
+pub mod Answer
+pub mod Permissions
+pub mod Listing
+pub mod Rounding
+pub mod Planning
