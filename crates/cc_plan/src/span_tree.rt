@@ -2,6 +2,7 @@
 ghost use Rattle.std.specs.Prelude.{◌≡◌, ◌↔◌, ◌+◌, ◌<◌, ◌≤◌, ◌^◌, ◌∷◌, ◌++◌, [], false, length, max, Contains, IfSome, IfNone, IsTrue};
 ghost use Rattle.cc_plan.specs.Placement.{IsApartFrom};
 ghost use Rattle.cc_plan.specs.PlacerState.{IsSomeBytes};
+ghost use Rattle.cc_plan.specs.Gap.{IsNeeded};
 ghost use Rattle.cc_plan.specs.Chain.{IsChain, IsGapPlace, IsOneMore, end_of, extent_of};
 ghost use Rattle.cc_plan.specs.SpanTree.{IsAlike, IsNear, IsParted, IsSettledHeight, IsStanding, IsTop, span_of};
 
@@ -89,7 +90,7 @@ impl SpanNode {
             extent: Extent {
                 first: 0,
                 last: 0,
-                gap: 0,
+                room: 0,
             },
             height: 0,
         }
@@ -296,26 +297,31 @@ impl SpanTree {
 
     /// The least multiple of `align`, from `from` up, from which on `len` bytes lie in a gap below one of the
     /// spans, or `None` where there is none.
-    pub(crate) fn place(&self, from: u128, len: u128, align: u64) -> Option<u64>
+    ///
+    /// The caller has how much room a gap with such a place has at least. No tree is looked into where no gap
+    /// has as much.
+    pub(crate) fn place(&self, from: u128, len: u128, align: u64, needed: u128) -> Option<u64>
         requires chain { IsChain from (2 ^ 64) self.now.spans }
         requires some { 0 < len }
         requires aligned { 0 < align }
+        requires needed { IsNeeded len align needed }
         ensures { IsGapPlace self.now.spans from len align result }
     {
         match &self.root {
             None => None,
             Some(node) => {
-                if node.extent.widest(from) < len {
+                if node.extent.lacks(from, needed) {
                     return None;
                 }
-                if let Some(start) = node.left.place(from, len, align) {
+                if let Some(start) = node.left.place(from, len, align, needed) {
                     return Some(start);
                 }
                 let below = node.left.end(from);
                 if let Some(start) = fit(below, u128::from(node.base), len, align) {
                     return Some(start);
                 }
-                node.right.place(u128::from(node.last) + 1, len, align)
+                let above = u128::from(node.last) + 1;
+                node.right.place(above, len, align, needed)
             }
         }
     }

@@ -3,6 +3,7 @@ ghost use Rattle.std.specs.Prelude.{◌<◌, ◌≤◌, ◌^◌};
 ghost use Rattle.cc_plan.specs.Chain.{IsChain};
 ghost use Rattle.cc_plan.specs.Placement.{IsRoom};
 
+use crate::gap::needed;
 use crate::placer::Placer;
 use crate::rounding::fit;
 use crate::span_tree::{Removed, SpanNode, SpanTree};
@@ -12,10 +13,11 @@ use std::marker::Model;
 use std::mem;
 
 /// A placer that holds its spans in a balanced tree, in the order of their addresses, where each node
-/// knows the widest gap below it.
+/// knows the most room of a gap below it.
 ///
-/// To hold a span or to give one back takes time in the logarithm of how many it holds, and to find room
-/// that and the same for each gap that is long enough but has no place at a multiple of the alignment.
+/// To hold a span or to give one back takes time in the logarithm of how many it holds, and so does finding room
+/// for an object. Where a request asks for less than the alignment that the bounds of so many bytes have, it may take the
+/// same once more for each gap that is too short by less than a 512th part.
 /// The nodes are reserved when it is made, and each is used again.
 #[derive(Drop)]
 pub struct TreePlacer {
@@ -95,7 +97,7 @@ fn room_in(tree: &SpanTree, pool: Span, len: u128, align: u64) -> Option<u64>
     ensures { IsRoom pool tree.now.spans len align result }
 {
     let from = u128::from(pool.base);
-    if let Some(start) = tree.place(from, len, align) {
+    if let Some(start) = tree.place(from, len, align, needed(len, align)) {
         return Some(start);
     }
     fit(tree.end(from), pool.top, len, align)

@@ -1,0 +1,25 @@
+-- The room of a gap. No public clause cites this file.
+--
+-- An object of 4,096 bytes or more begins and ends at multiples of a power of two of which it has 512 or more.
+use Rattle.std.specs.Prelude.{ℕ, ◌≡◌, ◌+◌, ◌-◌, ◌*◌, ◌/◌, ◌%◌, ◌^◌, ◌<◌, ◌≤◌, max, min}
+use Rattle.std.specs.Int.{div_ceil}
+use Rattle.std.specs.Int.Count.{count_leading_zeros}
+
+-- the unit of a length: 8 below 4,096 bytes, and else the power of two of which it has at least 512, and less
+-- than 1,024
+unfoldable pub unit_of : ℕ → ℕ
+unit_of size = 2 ^ (67 - count_leading_zeros 64 (size / 8192))
+
+-- what a gap has, in which the unit of the length is this: the bytes from the first multiple of the unit on, or
+-- all of its bytes as far as they are fewer than 512 units, if that is more
+abbrev pub room_at : (unit from to : ℕ) → ℕ
+room_at unit from to = max (min (to - from) (512 * unit - 1)) (to - div_ceil from unit * unit)
+
+-- the room of a gap
+unfoldable pub room_of : (from to : ℕ) → ℕ
+room_of from to = room_at (unit_of (to - from)) from to
+
+-- a gap has at least this much room if it has so many bytes at a multiple of the alignment
+abbrev pub IsNeeded : (size align needed : ℕ) → Type 0
+IsNeeded size align needed =
+    (from to start : ℕ) → to < 2 ^ 64 → from ≤ start → start + size ≤ to → start % align ≡ 0 → needed ≤ room_of from to

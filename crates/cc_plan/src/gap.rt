@@ -1,0 +1,56 @@
+//! What gaps have room for.
+ghost use Rattle.std.specs.Prelude.{◌≡◌, ◌*◌, ◌^◌, ◌<◌, ◌≤◌};
+ghost use Rattle.cc_plan.specs.Gap.{IsNeeded, room_of, unit_of};
+
+use crate::rounding::{padding, remainder};
+
+/// Objects of fewer bytes than this begin and end anywhere, as far as their size goes.
+const FIRST_COARSE_LENGTH: u64 = 4096;
+
+/// How many units a length has at least that is not short.
+const LEAST_UNITS: u64 = 512;
+
+/// The unit of a length: 8 below 4,096 bytes, and else the power of two of which it has at least 512, and
+/// less than 1,024.
+#[inline(always)]
+fn unit(len: u64) -> u64
+    ensures value { result ≡ unit_of len }
+    ensures some { 8 ≤ result }
+    ensures few { 512 * result < 2 ^ 64 }
+{
+    1 << (67 - (len >> 13).leading_zeros())
+}
+
+/// The room of the gap from `from` up to `to`: the most bytes of an object that has a place in it.
+#[inline(always)]
+pub(crate) fn room(from: u64, to: u64) -> u64
+    requires { from ≤ to }
+    ensures { result ≡ room_of from to }
+{
+    let len = to - from;
+    let unit = unit(len);
+    let coarse = len.saturating_sub(padding(from, unit));
+    len.min(LEAST_UNITS * unit - 1).max(coarse)
+}
+
+/// The least room of a gap that has a place for `len` bytes at a multiple of `align`.
+///
+/// It is `len` for each object, since its place is at a multiple of the unit of its length. For other requests it
+/// is less, by less than a unit.
+pub(crate) fn needed(len: u128, align: u64) -> u128
+    requires { 0 < align }
+    ensures { IsNeeded len align result }
+{
+    let Ok(short) = u64::try_from(len) else {
+        return len;
+    };
+    if short < FIRST_COARSE_LENGTH {
+        return len;
+    }
+    let unit = unit(short);
+    if remainder(align, unit) == 0 {
+        len
+    } else {
+        len - u128::from(unit - 1)
+    }
+}
