@@ -7,7 +7,7 @@ use Rattle.std.proofs.Math.Pow.{pow_mono}
 use Rattle.std.proofs.lemmas.Bool.{cases_lt}
 use Rattle.std.proofs.lemmas.Nat.{pow_pos}
 use Rattle.std.proofs.lemmas.Nat.Gcd.{dvd_of_mod-eq-zero, dvd_trans, mod-eq-zero_of_dvd}
-use Rattle.cc_bounds.proofs.GranuleLemmas.{div_ceil-lt, leading_power}
+use Rattle.cc_bounds.proofs.GranuleLemmas.{div_ceil-lt, le-div_ceil, leading_power}
 use Rattle.cc_plan.specs.Gap.{IsNeeded, room_of, unit_of}
 use Rattle.cc_plan.proofs.PlacementLemmas.{least_multiple, multiple-div_ceil}
 
@@ -129,6 +129,12 @@ unfolding room_of
 room_is from to unit padding is some multiple near =
     let first = multiple-div_ceil unit from (from + padding) some multiple (omega arith) (omega (arith, near)) in
     rw (← is) (omega (arith, first))
+
+pub room_short : (from to : ℕ) → to - from < 4096 → to - from ≡ room_of from to
+unfolding room_of
+room_short from to short =
+    let covers = le-div_ceil from 8 (omega arith) in
+    rw (unit_short (to - from) short) (omega (arith, short, covers))
 
 -- ---- What is needed.
 

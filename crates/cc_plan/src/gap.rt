@@ -28,6 +28,9 @@ pub(crate) fn room(from: u64, to: u64) -> u64
     ensures { result ≡ room_of from to }
 {
     let len = to - from;
+    if len < FIRST_COARSE_LENGTH {
+        return len;
+    }
     let unit = unit(len);
     let coarse = len.saturating_sub(padding(from, unit));
     len.min(LEAST_UNITS * unit - 1).max(coarse)
