@@ -58,12 +58,20 @@ fn value_of_digit(byte: u8) -> u64
     DIGIT_VALUES[usize::from(byte)]
 }
 
-/// Where the digits of a byte stand in the table.
-fn place_of_digits(byte: u8) -> usize
-    ensures place { result ≡ 2 * byte }
-    ensures fits { result < 512 }
+/// The first of the two hexadecimal digits of a byte.
+#[tactic(auto, using(crate::proofs::WritingLemmas::high_listed))]
+fn high_digit(byte: u8) -> u8
+    ensures { result ≡ slice_index lower_digits (byte / 16) }
 {
-    2 * usize::from(byte)
+    BYTE_DIGITS[2 * usize::from(byte)]
+}
+
+/// The second of them.
+#[tactic(auto, using(crate::proofs::WritingLemmas::low_listed))]
+fn low_digit(byte: u8) -> u8
+    ensures { result ≡ slice_index lower_digits (byte % 16) }
+{
+    BYTE_DIGITS[2 * usize::from(byte) + 1]
 }
 
 /// The number that eight digits spell, which is below 2^32, or a greater one where a byte is no digit.
@@ -103,8 +111,8 @@ fn write_digits(bytes: &[u8], text: &mut [u8])
     ensures { text.new ≡ encode_with lower_digits bytes.now }
 {
     for (index, byte) in bytes.iter().enumerate() {
-        let at = place_of_digits(*byte);
-        text[2 * index..2 * index + 2].copy_from_slice(&BYTE_DIGITS[at..at + 2]);
+        text[2 * index] = high_digit(*byte);
+        text[2 * index + 1] = low_digit(*byte);
     }
 }
 
