@@ -1,4 +1,5 @@
 #include "plain.h"
+#include <string.h>
 
 __extension__ typedef unsigned __int128 u128;
 
@@ -40,7 +41,8 @@ cheri_cap_u128 plain_pack(cheri_cap_fields fields)
     return (cheri_cap_u128){high ^ NULL_HIGH, fields.address};
 }
 
-// The bounds of stored fields at an address.
+// The bounds of stored fields at an address: the address is moved within its window to where B stands, and the length is
+// added. From exponent 51 up the top is T alone, of which bit 64 is a bit.
 static inline span decoded(uint32_t ie, uint32_t t, uint32_t b, uint64_t address)
 {
     unsigned exponent = 0;
@@ -51,16 +53,13 @@ static inline span decoded(uint32_t ie, uint32_t t, uint32_t b, uint64_t address
         t &= ~7u;
         b &= ~7u;
     }
-    t |= (((b >> 12) + (t < (b & 0xfff)) + ie) & 3) << 12;
-    uint32_t first = ((b >> 11) - 1) & 7;
-    uint32_t section = address >> (exponent + 11) & 7;
-    uint64_t upper = exponent < 50 ? address >> (exponent + 14) : 0;
-    uint64_t base_upper = upper + (b >> 11 < first) - (section < first);
-    uint64_t top_upper = upper + (t >> 11 < first) - (section < first);
-    uint64_t base = (base_upper << 14 | b) << exponent;
-    u128 top = (u128)((__int128)(int64_t)top_upper * (1 << 14) + t) << exponent & ((ADDRESS_SPACE << 1) - 1);
-    if (exponent < 51 && (((uint64_t)(top >> 63) - (base >> 63)) & 3) > 1)
-        top ^= ADDRESS_SPACE;
+    uint32_t length = ((t - b) & 0xfff) | ie << 12;
+    uint64_t first = (b >> 11) - 1;
+    uint64_t section = address >> (exponent + 11);
+    uint64_t base = ((section - ((section - first) & 7) + 1) << 11 | (b & 0x7ff)) << exponent;
+    u128 top = (u128)base + ((uint64_t)length << exponent);
+    if (exponent > 50)
+        top = (u128)(b + length) << exponent & ((ADDRESS_SPACE << 1) - 1);
     return (span){base, top, exponent};
 }
 
@@ -126,13 +125,16 @@ cheri_cap_granted plain_set_bounds(uint64_t base, uint64_t length_high, uint64_t
     };
 }
 
-// Whether these are the bounds of a capability, in the fields that store them.
+// Whether the fields of a word store a span: one within the address space, and with none of B lost at the greatest
+// exponents. What any fields decode to is encoded by the least exponent, so nothing has to be encoded again.
 static inline bool is_stored(uint64_t plain, span bounds)
 {
-    if (bounds.base > bounds.top || bounds.top > ADDRESS_SPACE)
-        return false;
-    encoding set = encoded(bounds.base, bounds.top);
-    return set.ie == (plain >> 26 & 1) && set.t == (plain >> 14 & 0xfff) && set.b == (plain & 0x3fff);
+    uint32_t b = plain & 0x3fff;
+    bool is_span = bounds.base <= bounds.top && bounds.top <= ADDRESS_SPACE;
+    if (bounds.exponent < 51 || !is_span)
+        return is_span;
+    uint32_t stored = (plain >> 14 & 7) << 3 | (b & 7);
+    return stored == bounds.exponent && (uint64_t)(b >> 3) >> (61 - stored) == 0;
 }
 
 bool plain_is_canonical(uint64_t high, uint64_t low)
@@ -175,35 +177,91 @@ uint64_t plain_alignment_mask(uint64_t length_high, uint64_t length_low)
     return -plain_granule(length_high, length_low);
 }
 
-static inline int digit_value(char digit)
+// The value of each hexadecimal digit, and for any other byte one that eight digits do not reach.
+#define NONE (UINT64_C(1) << 32)
+
+static const uint64_t digit_values[256] = {
+    NONE, NONE, NONE, NONE, NONE, NONE, NONE, NONE, NONE, NONE, NONE, NONE, NONE, NONE, NONE, NONE,
+    NONE, NONE, NONE, NONE, NONE, NONE, NONE, NONE, NONE, NONE, NONE, NONE, NONE, NONE, NONE, NONE,
+    NONE, NONE, NONE, NONE, NONE, NONE, NONE, NONE, NONE, NONE, NONE, NONE, NONE, NONE, NONE, NONE,
+    0, 1, 2, 3, 4, 5, 6, 7, 8, 9, NONE, NONE, NONE, NONE, NONE, NONE,
+    NONE, 10, 11, 12, 13, 14, 15, NONE, NONE, NONE, NONE, NONE, NONE, NONE, NONE, NONE,
+    NONE, NONE, NONE, NONE, NONE, NONE, NONE, NONE, NONE, NONE, NONE, NONE, NONE, NONE, NONE, NONE,
+    NONE, 10, 11, 12, 13, 14, 15, NONE, NONE, NONE, NONE, NONE, NONE, NONE, NONE, NONE,
+    NONE, NONE, NONE, NONE, NONE, NONE, NONE, NONE, NONE, NONE, NONE, NONE, NONE, NONE, NONE, NONE,
+    NONE, NONE, NONE, NONE, NONE, NONE, NONE, NONE, NONE, NONE, NONE, NONE, NONE, NONE, NONE, NONE,
+    NONE, NONE, NONE, NONE, NONE, NONE, NONE, NONE, NONE, NONE, NONE, NONE, NONE, NONE, NONE, NONE,
+    NONE, NONE, NONE, NONE, NONE, NONE, NONE, NONE, NONE, NONE, NONE, NONE, NONE, NONE, NONE, NONE,
+    NONE, NONE, NONE, NONE, NONE, NONE, NONE, NONE, NONE, NONE, NONE, NONE, NONE, NONE, NONE, NONE,
+    NONE, NONE, NONE, NONE, NONE, NONE, NONE, NONE, NONE, NONE, NONE, NONE, NONE, NONE, NONE, NONE,
+    NONE, NONE, NONE, NONE, NONE, NONE, NONE, NONE, NONE, NONE, NONE, NONE, NONE, NONE, NONE, NONE,
+    NONE, NONE, NONE, NONE, NONE, NONE, NONE, NONE, NONE, NONE, NONE, NONE, NONE, NONE, NONE, NONE,
+    NONE, NONE, NONE, NONE, NONE, NONE, NONE, NONE, NONE, NONE, NONE, NONE, NONE, NONE, NONE, NONE,
+};
+
+// The number of eight digits, or a greater one where a byte is none.
+static inline uint64_t value_of_eight(const char *text)
 {
-    if (digit >= '0' && digit <= '9')
-        return digit - '0';
-    if (digit >= 'a' && digit <= 'f')
-        return digit - 'a' + 10;
-    if (digit >= 'A' && digit <= 'F')
-        return digit - 'A' + 10;
-    return -1;
+    const unsigned char *digits = (const unsigned char *)text;
+    uint64_t number = digit_values[digits[0]];
+    number = number << 4 | digit_values[digits[1]];
+    number = number << 4 | digit_values[digits[2]];
+    number = number << 4 | digit_values[digits[3]];
+    number = number << 4 | digit_values[digits[4]];
+    number = number << 4 | digit_values[digits[5]];
+    number = number << 4 | digit_values[digits[6]];
+    return number << 4 | digit_values[digits[7]];
 }
 
 cheri_cap_read plain_read_word(const char *text, size_t length)
 {
-    uint64_t halves[2] = {0, 0};
     if (length != 32)
         return (cheri_cap_read){0};
-    for (int i = 0; i < 32; i++) {
-        int value = digit_value(text[i]);
-        if (value < 0)
-            return (cheri_cap_read){0};
-        halves[i / 16] = halves[i / 16] << 4 | (uint64_t)value;
-    }
-    return (cheri_cap_read){halves[0], halves[1], true};
+    uint64_t a = value_of_eight(text), b = value_of_eight(text + 8);
+    uint64_t c = value_of_eight(text + 16), d = value_of_eight(text + 24);
+    if ((a | b | c | d) >= NONE)
+        return (cheri_cap_read){0};
+    return (cheri_cap_read){a << 32 | b, c << 32 | d, true};
+}
+
+// The two digits of each byte.
+static const char byte_digits[513] =
+    "000102030405060708090a0b0c0d0e0f"
+    "101112131415161718191a1b1c1d1e1f"
+    "202122232425262728292a2b2c2d2e2f"
+    "303132333435363738393a3b3c3d3e3f"
+    "404142434445464748494a4b4c4d4e4f"
+    "505152535455565758595a5b5c5d5e5f"
+    "606162636465666768696a6b6c6d6e6f"
+    "707172737475767778797a7b7c7d7e7f"
+    "808182838485868788898a8b8c8d8e8f"
+    "909192939495969798999a9b9c9d9e9f"
+    "a0a1a2a3a4a5a6a7a8a9aaabacadaeaf"
+    "b0b1b2b3b4b5b6b7b8b9babbbcbdbebf"
+    "c0c1c2c3c4c5c6c7c8c9cacbcccdcecf"
+    "d0d1d2d3d4d5d6d7d8d9dadbdcdddedf"
+    "e0e1e2e3e4e5e6e7e8e9eaebecedeeef"
+    "f0f1f2f3f4f5f6f7f8f9fafbfcfdfeff";
+
+static inline void write_byte(uint64_t byte, char *text)
+{
+    memcpy(text, byte_digits + 2 * (byte & 0xff), 2);
+}
+
+static inline void write_half(uint64_t half, char *text)
+{
+    write_byte(half >> 56, text);
+    write_byte(half >> 48, text + 2);
+    write_byte(half >> 40, text + 4);
+    write_byte(half >> 32, text + 6);
+    write_byte(half >> 24, text + 8);
+    write_byte(half >> 16, text + 10);
+    write_byte(half >> 8, text + 12);
+    write_byte(half, text + 14);
 }
 
 void plain_write_word(uint64_t high, uint64_t low, char *text)
 {
-    for (int i = 0; i < 16; i++) {
-        text[i] = "0123456789abcdef"[high >> (60 - 4 * i) & 15];
-        text[16 + i] = "0123456789abcdef"[low >> (60 - 4 * i) & 15];
-    }
+    write_half(high, text);
+    write_half(low, text + 16);
 }

@@ -215,6 +215,7 @@ impl Machine {
     }
 
     /// What a slot holds. Refusals in order: `NoSlot`, `Revoked`.
+    #[inline(never)]
     fn show(&self, number: u32) -> Reply
         ensures { Shows self.now.slots number result }
     {
@@ -263,6 +264,7 @@ impl Machine {
 
     /// Makes the bounds of a slot the pool, with this alignment. Refusals in order: `NoSlot`, `Revoked`, `Sealed`,
     /// `PoolAlreadySet`.
+    #[inline(never)]
     fn set_pool(&mut self, number: u32, align: Align) -> Reply
         ensures { Step self.old (Pool number align) result self.new }
     {
@@ -285,6 +287,7 @@ impl Machine {
     /// `Full`, `NoRoom`.
     ///
     /// The planner has no more objects than the machine has slots: it never refuses with `Full` itself.
+    #[inline(never)]
     fn alloc(&mut self, length: Len) -> Reply
         ensures { Step self.old (Alloc length) result self.new }
     {
@@ -321,6 +324,7 @@ impl Machine {
 
     /// Frees an object, which holds its bytes until the next sweep. Refusals: `NoObject`, where the number was
     /// never given, or its object was freed or swept.
+    #[inline(never)]
     fn free(&mut self, object: u32) -> Reply
         ensures { Step self.old (Free object) result self.new }
     {
@@ -336,6 +340,7 @@ impl Machine {
     }
 
     /// Sweeps the freed objects: gives their bytes back, and so revokes what belongs to them.
+    #[inline(never)]
     fn sweep(&mut self) -> Reply
         ensures { Step self.old Sweep result self.new }
     {

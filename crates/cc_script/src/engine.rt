@@ -3,7 +3,7 @@ ghost use Rattle.std.specs.Prelude.{◌≡◌, ℕ, true, false, List, [], ◌�
 ghost use Rattle.std.specs.Io.KnownBytes.{Appends};
 ghost use Rattle.cc_script.specs.Lines.{IsLine};
 ghost use Rattle.cc_script.specs.Commands.{operation_of};
-ghost use Rattle.cc_script.specs.Replies.{reply_text, is_error};
+ghost use Rattle.cc_script.specs.Replies.{refusal_text, reply_text, is_error};
 ghost use Rattle.cc_script.specs.Output.{Takes, with_line_feed, rest_text};
 ghost use Rattle.cc_script.specs.Laws.{KeepsLaws};
 ghost use Rattle.cc_script.specs.Devices.{TakesBeginning};
@@ -14,7 +14,7 @@ use crate::devices::{Failed, Sink, Source};
 use crate::line::Line;
 use crate::lines::{LineStart, split_at_line_feed};
 use crate::parsing::parse_line;
-use crate::printing::{push_reply, refusal_line};
+use crate::printing::{push_refusal, push_reply, refusal_line};
 use crate::summary::{ScriptFault, Summary};
 use cc_machine::{Machine, Op, Reply};
 use cc_word::Refusal;
@@ -240,9 +240,34 @@ fn answer_line<W: Sink>(
     ensures err { OnErr result (CutsLine machine.old line.now (W.taken_bytes sink.old) (W.taken_bytes sink.new) machine.new) }
     ensures fails { IsErr result ↔ (W.has_failed sink.new ≡ true) }
 {
-    let reply = reply_to(machine, line);
+    let op = match parse_line(line) {
+        Ok(op) => op,
+        Err(refusal) => {
+            return match write_refusal(text, refusal, sink) {
+                Ok(is_error) => Ok(is_error),
+                Err(Failed) => Err(Failed),
+            };
+        }
+    };
+    let reply = machine.step(&op);
     match write_reply(text, &reply, sink) {
         Ok(is_error) => Ok(is_error),
+        Err(Failed) => Err(Failed),
+    }
+}
+
+/// Writes the refusal of a line for its fault, which is an error.
+fn write_refusal<W: Sink>(text: &mut Line, refusal: Refusal, sink: &mut W) -> Result<bool, Failed>
+    requires { W.has_failed sink.old ≡ false }
+    ensures error { IfOk result (λ error. error ≡ true) }
+    ensures ok { OnOk result (Appends (W.taken_bytes sink.old) (W.taken_bytes sink.new) (with_line_feed (refusal_text refusal))) }
+    ensures err { OnErr result (TakesBeginning (W.taken_bytes sink.old) (W.taken_bytes sink.new) (with_line_feed (refusal_text refusal))) }
+    ensures fails { IsErr result ↔ (W.has_failed sink.new ≡ true) }
+{
+    text.clear();
+    push_refusal(text, refusal);
+    match text.write(sink) {
+        Ok(()) => Ok(true),
         Err(Failed) => Err(Failed),
     }
 }
@@ -260,16 +285,6 @@ fn write_reply<W: Sink>(text: &mut Line, reply: &Reply, sink: &mut W) -> Result<
     match text.write(sink) {
         Ok(()) => Ok(is_refusal(reply)),
         Err(Failed) => Err(Failed),
-    }
-}
-
-/// The machine's reply to a line, or the refusal of the line for its fault.
-fn reply_to(machine: &mut Machine, line: &[u8]) -> Reply
-    ensures { Takes machine.old (operation_of line.now) result machine.new }
-{
-    match parse_line(line) {
-        Ok(op) => machine.step(&op),
-        Err(refusal) => Reply::Refused(refusal),
     }
 }
 

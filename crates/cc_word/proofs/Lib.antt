@@ -1,3 +1,5 @@
 pub mod WordLemmas
 pub mod UnpackLemmas
 pub mod TextLemmas
+pub mod ReadingLemmas
+pub mod WritingLemmas

@@ -109,6 +109,19 @@ fn failed_flush_behind_is_told(rt: HostRuntime) {
     assert!(rt; sink.flush() == Err(Failed));
 }
 
+#[test]
+fn failed_passing_on_behind_is_told(rt: HostRuntime) {
+    let mut taken = [0u8; 16];
+    let (mut near, mut far) = ([0u8; 4], [0u8; 8]);
+    let behind = Buffered::new(SliceSink::new(&mut taken, 16, Some(1)), &mut far);
+    let mut sink = Buffered::new(behind, &mut near);
+    assert!(rt; sink.write(b"abc") == Ok(3));
+    assert!(rt; sink.before_read() == Err(Failed));
+    assert!(rt; sink.inner().inner().taken() == 0);
+    assert!(rt; sink.before_read() == Err(Failed));
+    assert!(rt; sink.flush() == Err(Failed));
+}
+
 /// A writer that tells how many bytes it took.
 #[derive(Drop)]
 struct Told<'a> {

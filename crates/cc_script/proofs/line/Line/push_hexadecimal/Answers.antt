@@ -11,7 +11,7 @@ returns-else-number-clause-value c =
     let high = digits 16 false (number / 2 ^ 64) in
     let low = digits_of 16 (number % 2 ^ 64) in
     c.push-else-number.ensures
-    ∙ rw (c.push_significant-else-number.ensures.value, c.push.ensures, c.sixteen_digits.ensures)
+    ∙ rw (c.push_significant-else-number.ensures.value, c.push.ensures, c.write_half.ensures)
     (append_assoc before high low
     ∙ ap (λ (l : List ℕ). before ++ l) (digits-long number c.ranges.number.fits c.if-number.false)
     ∙ append_assoc c.args.self.now (48 ∷ 120 ∷ []) (digits 16 false number))

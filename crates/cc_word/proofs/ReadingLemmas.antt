@@ -1,0 +1,189 @@
+-- Words read from their digits, eight at a time.
+use Rattle.std.proofs.Common.{◌-◌, ◌<◌, ◌≤◌, ◌≡◌, ◌↔◌, ℕ, Bool, true, false, ◌+◌, ◌*◌, ◌^◌, List, [], ◌∷◌, ◌++◌, length, drop, take, slice_index, ◌==◌, ◌&&◌, Option, Some, None, is_some, if◌then◌else◌, refl, sym, ◌∙◌, ap, arith}
+use Rattle.std.proofs.lemmas.Bool.{eqb-true, agree_below_at}
+use Rattle.std.proofs.lemmas.Nat.{pow-add}
+use Rattle.std.proofs.lemmas.List.{drop_all, drop_more, take_all, take-append-drop, length-drop}
+use Rattle.std.proofs.lemmas.List.Sums.{AllPass-from_list_all, list_all-from_AllPass}
+use Rattle.std.proofs.lemmas.List.Folds.{list_all-append}
+use Rattle.std.proofs.Math.Pow.{pow_mono}
+use Rattle.std.specs.List.{list_all, AllPass}
+use Rattle.hex.specs.Hex.{hex_digit_value, is_hex_digit}
+use Rattle.cc_word.proofs.TextLemmas.{digit_value-hex}
+use Rattle.std.specs.Char.{digit_value}
+use Rattle.std.specs.Str.Parse.{AllDigits, digits_value, digits_value_after}
+use Rattle.std.proofs.lemmas.Int.Digits.{digits_value-lt}
+use Rattle.cc_word.specs.declared.text.TheConstants.{DIGIT_VALUES}
+
+-- what the table has for a byte
+abbrev pub worth : ℕ → ℕ
+worth byte = if is_hex_digit byte then digit_value byte else 2 ^ 32
+
+pub value_listed : (byte : ℕ) → byte < 256 → slice_index DIGIT_VALUES byte ≡ (if is_hex_digit byte then digit_value byte else 2 ^ 32)
+value_listed byte fits =
+    eqb-true (slice_index DIGIT_VALUES byte) (worth byte)
+    (agree_below_at (λ b. slice_index DIGIT_VALUES b == worth b) (λ b. true) 256 byte refl fits)
+
+pub worth-most : (byte : ℕ) → byte < 256 → worth byte ≤ 2 ^ 32
+worth-most byte fits =
+    let none = eqb-true (worth byte - 2 ^ 32) 0 (agree_below_at (λ b. (worth b - 2 ^ 32) == 0) (λ b. true) 256 byte refl fits) in
+    omega (arith, none)
+
+-- what bytes make of a number, each by its worth
+pub gathered : (before : ℕ) (bytes : List ℕ) → ℕ
+gathered before [] = before
+gathered before (byte ∷ bytes) = gathered (before * 16 + worth byte) bytes
+
+pub gathered_more : (before i : ℕ) (bytes : List ℕ) → i < length bytes
+    → gathered (before * 16 + worth (slice_index bytes i)) (drop (i + 1) bytes) ≡ gathered before (drop i bytes)
+unfolding gathered
+gathered_more before i bytes within = rw (drop_more bytes i 0 within) refl
+
+-- it is never less
+gathered-least : (before : ℕ) (bytes : List ℕ) → before ≤ gathered before bytes
+unfolding gathered
+gathered-least before [] = omega arith
+gathered-least before (byte ∷ bytes) = omega (arith, gathered-least (before * 16 + worth byte) bytes)
+
+-- a small number is one of digits
+digits_one : (byte : ℕ) (after : Bool) (b : Bool) (before whole : ℕ) → is_hex_digit byte ≡ b
+    → before * 16 + worth byte ≤ whole → whole < 2 ^ 32 → after ≡ true → (is_hex_digit byte && after) ≡ true
+digits_one byte after true before whole e least small rest = rw (e, rest) refl
+digits_one byte after false before whole e least small rest =
+    let w : worth byte ≡ 2 ^ 32 = rw e refl in
+    absurd (omega (arith, w, small, least))
+
+gathered-digits : (before : ℕ) (bytes : List ℕ) → gathered before bytes < 2 ^ 32 → list_all is_hex_digit bytes ≡ true
+unfolding gathered
+gathered-digits before [] small = refl
+gathered-digits before (byte ∷ bytes) small =
+    digits_one byte (list_all is_hex_digit bytes) (is_hex_digit byte) before (gathered (before * 16 + worth byte) bytes) refl
+    (gathered-least (before * 16 + worth byte) bytes) small (gathered-digits (before * 16 + worth byte) bytes small)
+
+first_passes : (a b : Bool) → (a && b) ≡ true → a ≡ true
+first_passes true b h = refl
+first_passes false b h = cc h
+
+second_passes : (a b : Bool) → (a && b) ≡ true → b ≡ true
+second_passes true b h = h
+second_passes false b h = cc h
+
+worth-digit : (byte : ℕ) → is_hex_digit byte ≡ true → worth byte ≡ digit_value byte
+worth-digit byte h = rw h refl
+
+-- and theirs
+gathered-value : (before : ℕ) (bytes : List ℕ) → list_all is_hex_digit bytes ≡ true → gathered before bytes ≡ digits_value_after 16 before bytes
+unfolding gathered
+gathered-value before [] digits = refl
+gathered-value before (byte ∷ bytes) digits =
+    rw (worth-digit byte (first_passes (is_hex_digit byte) (list_all is_hex_digit bytes) digits))
+    (gathered-value (before * 16 + digit_value byte) bytes (second_passes (is_hex_digit byte) (list_all is_hex_digit bytes) digits))
+
+some_value : (o : Option ℕ) → is_some o ≡ true → (v : ℕ) × (o ≡ Some v)
+some_value (Some v) h = (v, refl)
+some_value None h = cc h
+
+hex-below : (byte value : ℕ) → hex_digit_value byte ≡ Some value → value < 16
+hex-below byte value h = grind (arith, h)
+
+digit-below : (byte : ℕ) → is_hex_digit byte ≡ true → digit_value byte < 16
+digit-below byte h =
+    let v = some_value (hex_digit_value byte) h in
+    rw (digit_value-hex byte v.0 v.1) (hex-below byte v.0 v.1)
+
+all_below : (bytes : List ℕ) → list_all is_hex_digit bytes ≡ true → AllDigits 16 bytes
+all_below [] digits = tt
+all_below (byte ∷ bytes) digits = (
+  digit-below byte (first_passes (is_hex_digit byte) (list_all is_hex_digit bytes) digits),
+  all_below bytes (second_passes (is_hex_digit byte) (list_all is_hex_digit bytes) digits),
+)
+
+-- eight digits spell less
+eight-small : (bytes : List ℕ) → length bytes ≡ 8 → list_all is_hex_digit bytes ≡ true → digits_value 16 bytes < 2 ^ 32
+eight-small bytes eight digits =
+    let below : digits_value 16 bytes < 16 ^ length bytes = digits_value-lt 16 bytes (all_below bytes digits) in
+    rw eight at below
+
+-- what is gathered of all eight
+pub record Gathered (number : ℕ) (bytes : List ℕ) : Type 0 where
+  pub digits : number < 2 ^ 32 → AllPass is_hex_digit bytes
+  pub small : AllPass is_hex_digit bytes → number < 2 ^ 32
+  pub value : number < 2 ^ 32 → number ≡ digits_value 16 bytes
+
+pub gathered_all : (number i : ℕ) (bytes : List ℕ) → length bytes ≡ 8 → length bytes ≤ i
+    → gathered number (drop i bytes) ≡ gathered 0 bytes → Gathered number bytes
+unfolding gathered
+gathered_all number i bytes eight all same =
+    let e : number ≡ gathered 0 bytes = ap (gathered number) (sym (drop_all i bytes all)) ∙ same in
+    let passes : number < 2 ^ 32 → list_all is_hex_digit bytes ≡ true = λ small. gathered-digits 0 bytes (rw e at small) in
+    record {
+      digits = λ small. AllPass-from_list_all is_hex_digit bytes (passes small);
+      small =
+          λ digits.
+          let all = list_all-from_AllPass is_hex_digit bytes digits in
+          rw (e, gathered-value 0 bytes all) (eight-small bytes eight all);
+      value = λ small. e ∙ gathered-value 0 bytes (passes small);
+    }
+
+-- ---- a text in two parts
+
+value_parts : (before : ℕ) (first rest : List ℕ)
+    → digits_value_after 16 before (first ++ rest) ≡ digits_value_after 16 (digits_value_after 16 before first) rest
+value_parts before [] rest = refl
+value_parts before (digit ∷ first) rest = value_parts (before * 16 + digit_value digit) first rest
+
+after_eight : (n : ℕ) (ds : List ℕ) → length ds ≡ 8 → digits_value_after 16 n ds ≡ n * 2 ^ 32 + digits_value 16 ds
+after_eight n (d0 ∷ d1 ∷ d2 ∷ d3 ∷ d4 ∷ d5 ∷ d6 ∷ d7 ∷ []) h = omega arith
+after_eight n _ h = absurd (omega arith)
+
+after_sixteen : (n : ℕ) (ds : List ℕ) → length ds ≡ 16 → digits_value_after 16 n ds ≡ n * 2 ^ 64 + digits_value 16 ds
+after_sixteen n (d0 ∷ d1 ∷ d2 ∷ d3 ∷ d4 ∷ d5 ∷ d6 ∷ d7 ∷ d8 ∷ d9 ∷ d10 ∷ d11 ∷ d12 ∷ d13 ∷ d14 ∷ d15 ∷ []) h = omega arith
+after_sixteen n _ h = absurd (omega arith)
+
+-- the parts as slices are read
+pub value_of_two_eights : (ds : List ℕ) → length ds ≡ 16
+    → digits_value 16 ds ≡ digits_value 16 (take 8 ds) * 2 ^ 32 + digits_value 16 (take 8 (drop 8 ds))
+value_of_two_eights ds h =
+    let all : take 8 (drop 8 ds) ≡ drop 8 ds = take_all 8 (drop 8 ds) (omega (arith, h, length-drop 8 ds)) in
+    rw all
+    (ap (digits_value_after 16 0) (sym (take-append-drop 8 ds)) ∙ value_parts 0 (take 8 ds) (drop 8 ds)
+    ∙ after_eight (digits_value 16 (take 8 ds)) (drop 8 ds) (omega (arith, h, length-drop 8 ds)))
+
+pub value_of_two_sixteens : (ds : List ℕ) → length ds ≡ 32
+    → digits_value 16 ds ≡ digits_value 16 (take 16 ds) * 2 ^ 64 + digits_value 16 (take 16 (drop 16 ds))
+value_of_two_sixteens ds h =
+    let all : take 16 (drop 16 ds) ≡ drop 16 ds = take_all 16 (drop 16 ds) (omega (arith, h, length-drop 16 ds)) in
+    rw all
+    (ap (digits_value_after 16 0) (sym (take-append-drop 16 ds)) ∙ value_parts 0 (take 16 ds) (drop 16 ds)
+    ∙ after_sixteen (digits_value 16 (take 16 ds)) (drop 16 ds) (omega (arith, h, length-drop 16 ds)))
+
+-- both parts are digits exactly if the whole is
+pub parts_pass : (k : ℕ) (ds : List ℕ) → length ds ≡ k + k
+    → AllPass is_hex_digit ds ↔ (AllPass is_hex_digit (take k ds) × AllPass is_hex_digit (take k (drop k ds)))
+parts_pass k ds h =
+    let all : take k (drop k ds) ≡ drop k ds = take_all k (drop k ds) (omega (arith, h, length-drop k ds)) in
+    let whole : list_all is_hex_digit ds ≡ (list_all is_hex_digit (take k ds) && list_all is_hex_digit (drop k ds)) =
+    ap (list_all is_hex_digit) (sym (take-append-drop k ds)) ∙ list_all-append is_hex_digit (take k ds) (drop k ds) in
+    rw all (
+      λ passes.
+          let both = sym whole ∙ list_all-from_AllPass is_hex_digit ds passes in (
+            AllPass-from_list_all is_hex_digit (take k ds) (first_passes (list_all is_hex_digit (take k ds)) (list_all is_hex_digit (drop k ds)) both),
+            AllPass-from_list_all is_hex_digit (drop k ds) (second_passes (list_all is_hex_digit (take k ds)) (list_all is_hex_digit (drop k ds)) both),
+          ),
+      λ parts.
+          AllPass-from_list_all is_hex_digit ds (
+          whole
+          ∙ rw (list_all-from_AllPass is_hex_digit (take k ds) parts.0, list_all-from_AllPass is_hex_digit (drop k ds) parts.1) refl
+          ),
+    )
+
+-- ---- the overflows of the sum
+
+pub room_further : (i number value : ℕ) → number + 2 ^ 32 ≤ 2 ^ (32 + 4 * i) → value ≤ 2 ^ 32
+    → number * 16 + value + 2 ^ 32 ≤ 2 ^ (32 + 4 * (i + 1))
+room_further i number value room most =
+    let more : 32 + 4 * (i + 1) ≡ 32 + 4 * i + 4 = omega arith in
+    let power : 2 ^ (32 + 4 * i + 4) ≡ 2 ^ (32 + 4 * i) * 2 ^ 4 = pow-add 2 (32 + 4 * i) 4 in
+    rw more (omega (arith, power, room, most))
+
+pub room_fits : (i : ℕ) → i ≤ 8 → 2 ^ (32 + 4 * i) ≤ 2 ^ 64
+room_fits i few = let most : 32 + 4 * i ≤ 64 = omega arith in pow_mono most
