@@ -3,3 +3,5 @@ pub mod BoundsLemmas
 pub mod CanonicalLemmas
 pub mod ReachLemmas
 pub mod ResultLemmas
+pub mod OneResultLemmas
+pub mod WordRuleLemmas

@@ -1,8 +1,8 @@
 -- How a `Cap` keeps its capability. No public clause cites this file.
 use Rattle.std.proofs.Common.{sym}
-use Rattle.std.specs.Prelude.{ℕ, true, ◌≡◌, ◌⊎◌, ◌↔◌, IsTrue, Result, IsOk}
+use Rattle.std.specs.Prelude.{ℕ, true, ◌≡◌, ◌⊎◌, ◌↔◌, IsTrue, Result, IsOk, MatchResult}
 use Rattle.cc_word.specs.declared.refusal.Refusal.{Refusal}
-use Rattle.cc_word.specs.declared.refusal.Refusal.TheVariants.{Sealed, OutOfBounds, MissingPermission}
+use Rattle.cc_word.specs.declared.refusal.Refusal.TheVariants.{Sealed, OutOfBounds, MissingPermission, NotCanonical}
 use Rattle.cc_bounds.specs.Span.{IsSpan, IsWithin}
 use Rattle.cc_bounds.specs.Granule.{IsGranted, IsExact, IsSound}
 use Rattle.cc_bounds.specs.Window.{Represents}
@@ -11,6 +11,7 @@ use Rattle.cc_cap.specs.declared.cap.Cap.TheInside.{Inside}
 use Rattle.cc_cap.specs.Bounds.{encoding_of}
 use Rattle.cc_cap.specs.Permissions.{bits_of, HasAll}
 use Rattle.cc_cap.specs.Capability.{Capability, IsCapability, IsUnsealed, Grants}
+use Rattle.cc_cap.specs.Canonical.{IsWordOf, IsCanonical}
 use Rattle.cc_cap.specs.Derivation.{RefusedUnless, request_of}
 
 -- the capability that is kept
@@ -67,3 +68,8 @@ ChecksAuthority authority permission result =
     RefusedUnless (HasAll authority.permissions permission) MissingPermission result (
     RefusedUnless (Grants authority authority.address) OutOfBounds result (
     IsOk result))
+
+-- the capability of a word is read, or the word has none
+abbrev pub IsReadFrom : ℕ → Result Capability Refusal → Type 0
+IsReadFrom word result =
+    MatchResult result (λ cap. IsWordOf cap word) (λ refusal. (¬ IsCanonical word) × (refusal ≡ NotCanonical))

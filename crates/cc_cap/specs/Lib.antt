@@ -5,5 +5,6 @@ pub mod Capability
 pub mod Canonical
 pub mod Derivation
 pub mod Reach
+pub mod WordRules
 pub mod Bounds
 pub mod Cap

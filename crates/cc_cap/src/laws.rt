@@ -1,6 +1,9 @@
-//! What holds of all capabilities.
+//! What holds of all capabilities, and of their words.
+ghost use Rattle.std.specs.Prelude.{ℕ, Bool};
 ghost use Rattle.cc_cap.specs.Capability.{Capability, IsCapability, IsUnsealed, GrantsNoMore};
 ghost use Rattle.cc_cap.specs.Reach.{IsReachable};
+ghost use Rattle.cc_cap.specs.Derivation.{SetsAddress, Increments, SetsBounds, SetsExactBounds, MasksPermissions, SetsFlag, Seals, Unseals, Rebuilds};
+ghost use Rattle.cc_cap.specs.WordRules.{IsLikeCalls, AreLikeCalls};
 
 /// Each capability grants no more than itself, and no more than what one grants no more than grants no
 /// more than. So what is derived in any number of steps grants no more than what it began with.
@@ -13,4 +16,18 @@ pub fn granting_no_more_is_an_order()
 pub fn all_that_grants_no_more_is_reached()
     ensures { (from to : Capability) → IsCapability from → IsCapability to → IsUnsealed from → IsUnsealed to
         → GrantsNoMore to from → IsReachable from to }
+{}
+
+/// What a rule on words answers, is what the call of `Cap` answers on the capability that has the word,
+/// in words. `InWords made result` says that `result` is the word of what was made, or the same refusal.
+pub fn rules_on_words_are_those_of_capabilities()
+    ensures set_address { (address word : ℕ) → IsLikeCalls (λ cap. SetsAddress cap address) word }
+    ensures increment { (amount word : ℕ) → IsLikeCalls (λ cap. Increments cap amount) word }
+    ensures set_bounds { (len word : ℕ) → IsLikeCalls (λ cap. SetsBounds cap len) word }
+    ensures set_bounds_exact { (len word : ℕ) → IsLikeCalls (λ cap. SetsExactBounds cap len) word }
+    ensures and_perms { (mask word : ℕ) → IsLikeCalls (λ cap. MasksPermissions cap mask) word }
+    ensures set_flag { (flag : Bool) (word : ℕ) → IsLikeCalls (λ cap. SetsFlag cap flag) word }
+    ensures seal { (word authority : ℕ) → AreLikeCalls Seals word authority }
+    ensures unseal { (word authority : ℕ) → AreLikeCalls Unseals word authority }
+    ensures rebuild { (word authority : ℕ) → IsLikeCalls (λ by. Rebuilds by word) authority }
 {}

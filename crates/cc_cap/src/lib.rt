@@ -6,11 +6,15 @@ mod cap;
 mod laws;
 mod obj_type;
 mod perms;
+pub mod words;
 
 pub use bitflags::Flags;
 pub use canonical::is_canonical;
 pub use cap::Cap;
-pub use laws::{all_that_grants_no_more_is_reached, granting_no_more_is_an_order};
+pub use laws::{
+    all_that_grants_no_more_is_reached, granting_no_more_is_an_order,
+    rules_on_words_are_those_of_capabilities,
+};
 pub use obj_type::ObjType;
 pub use perms::Perms;
 

@@ -1,5 +1,6 @@
 //! Worked rows: what a call makes, as its word and its bounds.
 mod orders;
+mod rules_on_words;
 mod sealing;
 mod values;
 mod words;

@@ -1,0 +1,116 @@
+-- The rules on words.
+use Rattle.std.proofs.Common.{ℕ, ◌≡◌, ◌+◌, ◌<◌, ◌≤◌, ◌^◌, Result, Ok, Err, refl, sym, ap, subst, inl, inr, arith}
+use Rattle.cc_word.specs.declared.fields.Fields.{Fields}
+use Rattle.cc_word.specs.Word.{word_of}
+use Rattle.cc_word.proofs.WordLemmas.{word_of-same}
+use Rattle.cc_word.specs.declared.refusal.Refusal.{Refusal}
+use Rattle.cc_word.specs.declared.refusal.Refusal.TheVariants.{NotCanonical}
+use Rattle.cc_bounds.specs.declared.span.Span.{Span}
+use Rattle.cc_bounds.specs.Span.{IsWithin}
+use Rattle.cc_bounds.specs.Decoding.{DecodesTo}
+use Rattle.cc_bounds.specs.Window.{Represents}
+use Rattle.cc_bounds.proofs.DecodingLemmas.{DecodesTo-same}
+use Rattle.cc_bounds.proofs.SoundDecodingLemmas.{sound-decodes}
+use Rattle.cc_cap.specs.Permissions.{HasAll}
+use Rattle.cc_cap.specs.Capability.{Capability, IsCapability, GrantsNoMore}
+use Rattle.cc_cap.specs.Canonical.{IsFieldsOf, IsWordOf, IsCanonical}
+use Rattle.cc_cap.specs.Cap.{IsRefusedBounds}
+use Rattle.cc_cap.specs.Derivation.{SetsBounds, SetsExactBounds}
+use Rattle.cc_cap.specs.WordRules.{InWords, OnWord, OnWords, IsSubset}
+use Rattle.cc_cap.proofs.CanonicalLemmas.{IsWordOf-same}
+
+-- ---- a rule on a word
+
+-- what the rule makes of the capability that the word has
+pub word_made : (rule : Capability → Result Capability Refusal → Type 0) (word : ℕ) (cap : Capability) (made : Result Capability Refusal) (result : Result ℕ Refusal)
+    → IsWordOf cap word → rule cap made → InWords made result → OnWord rule word result
+word_made rule word cap made result has is in_words =
+    inl ((cap, has), (cap, has, record { made = made; is_made = is; in_words = in_words }))
+
+-- and of two
+pub words_made : (rule : Capability → Capability → Result Capability Refusal → Type 0) (word authority : ℕ) (cap by : Capability) (made : Result Capability Refusal) (result : Result ℕ Refusal)
+    → IsWordOf cap word → IsWordOf by authority → rule cap by made → InWords made result → OnWords rule word authority result
+words_made rule word authority cap by made result has has' is in_words =
+    inl ((cap, has), (cap, has, word_made (rule cap) authority by made result has' is in_words))
+
+-- the authority's word is none
+pub words_refused : (rule : Capability → Capability → Result Capability Refusal → Type 0) (word authority : ℕ) (cap : Capability) (result : Result ℕ Refusal)
+    → IsWordOf cap word → (¬ IsCanonical authority) → result ≡ Err NotCanonical → OnWords rule word authority result
+words_refused rule word authority cap result has not e = inl ((cap, has), (cap, has, inr (not, e)))
+
+-- the result of a rule with one result is that of each capability with the word
+pub OnWord-same : (rule : Capability → Result Capability Refusal → Type 0)
+    → ((cap : Capability) (one other : Result Capability Refusal) → rule cap one → rule cap other → one ≡ other)
+    → (word : ℕ) (result : Result ℕ Refusal) → OnWord rule word result
+    → (cap : Capability) → IsWordOf cap word → (made : Result Capability Refusal) → rule cap made → InWords made result
+OnWord-same rule one word result (inr refused) cap has made is = absurd (refused.0 (cap, has))
+OnWord-same rule one word result (inl found) cap has made is =
+    let (own, own_has, makes) = found.1 in
+    let same = IsWordOf-same own cap word own_has has in
+    subst (λ m. InWords m result) (one cap makes.made made (subst (λ c. rule c makes.made) same makes.is_made) is) makes.in_words
+
+pub OnWords-same : (rule : Capability → Capability → Result Capability Refusal → Type 0)
+    → ((cap by : Capability) (one other : Result Capability Refusal) → rule cap by one → rule cap by other → one ≡ other)
+    → (word authority : ℕ) (result : Result ℕ Refusal) → OnWords rule word authority result
+    → (cap by : Capability) → IsWordOf cap word → IsWordOf by authority → (made : Result Capability Refusal) → rule cap by made → InWords made result
+OnWords-same rule one word authority result (inr refused) cap by has has' made is = absurd (refused.0 (cap, has))
+OnWords-same rule one word authority result (inl found) cap by has has' made is =
+    let (own, own_has, on) = found.1 in
+    let same = IsWordOf-same own cap word own_has has in
+    OnWord-same (rule cap) (one cap) authority result (subst (λ c. OnWord (rule c) authority result) same on) by has' made is
+
+-- ---- bounds of more than 2^64 bytes
+
+-- they lie in no span of the address space
+pub too_long-outside : (cap : Capability) (len : ℕ) → IsCapability cap → 2 ^ 64 < len
+    → ¬ IsWithin (record { base = cap.address; top = cap.address + len }) cap.span
+too_long-outside cap len is long within = absurd (omega (arith, long, within.to_top, is.is_span.top_fits))
+
+pub SetsBounds-refused : (cap : Capability) (len : ℕ) (refusal : Refusal) → IsRefusedBounds cap len refusal → SetsBounds cap len (Err refusal)
+SetsBounds-refused cap len refusal (inl sealed) = inr (sealed.0, ap Err sealed.1)
+SetsBounds-refused cap len refusal (inr outside) = inl (outside.0, inr (outside.1, ap Err outside.2))
+
+pub SetsExactBounds-refused : (cap : Capability) (len : ℕ) (refusal : Refusal) → IsRefusedBounds cap len refusal → SetsExactBounds cap len (Err refusal)
+SetsExactBounds-refused cap len refusal (inl sealed) = inr (sealed.0, ap Err sealed.1)
+SetsExactBounds-refused cap len refusal (inr outside) = inl (outside.0, inr (outside.1, ap Err outside.2))
+
+-- ---- subsets
+
+-- by the spans that the fields decode to
+pub IsSubset-spans : (inner outer : Fields) (one other : Span) → DecodesTo inner one → DecodesTo outer other
+    → IsSubset inner outer → IsWithin one other × HasAll outer.perms inner.perms
+IsSubset-spans inner outer one other decodes decodes' is =
+    let first = DecodesTo-same inner is.inner_span one is.inner_decodes decodes in
+    let second = DecodesTo-same outer is.outer_span other is.outer_decodes decodes' in
+    (subst (IsWithin one) second (subst (λ s. IsWithin s is.outer_span) first is.bytes), is.permissions)
+
+fields-decode : (cap : Capability) (fields : Fields) → IsCapability cap → IsFieldsOf cap fields → DecodesTo fields cap.span
+fields-decode cap fields is own =
+    sound-decodes cap.span is.is_span is.sound fields own.bounds (subst (Represents cap.span) (sym own.address) is.representable)
+
+-- of words of capabilities
+pub IsSubset-capabilities : (one other : Capability) (inner outer : ℕ) (first second : Fields) → IsWordOf one inner → IsWordOf other outer
+    → word_of first ≡ inner → word_of second ≡ outer
+    → (IsSubset first second → GrantsNoMore one other) × (GrantsNoMore one other → IsSubset first second)
+IsSubset-capabilities one other inner outer first second has has' is is' =
+    let first_same = word_of-same has.fields first inner (sym has.is_word) is in
+    let second_same = word_of-same has'.fields second outer (sym has'.is_word) is' in
+    let own = subst (IsFieldsOf one) first_same has.is_fields in
+    let also = subst (IsFieldsOf other) second_same has'.is_fields in
+    let decodes = fields-decode one first has.is_capability own in
+    let decodes' = fields-decode other second has'.is_capability also in (
+      λ subset.
+          let both = IsSubset-spans first second one.span other.span decodes decodes' subset in
+          record {
+            bytes = both.0;
+            permissions = subst (λ (n : ℕ). HasAll n one.permissions) also.permissions (subst (HasAll second.perms) own.permissions both.1);
+          },
+      λ grants. record {
+        inner_span = one.span;
+        outer_span = other.span;
+        inner_decodes = decodes;
+        outer_decodes = decodes';
+        bytes = grants.bytes;
+        permissions = subst (λ (n : ℕ). HasAll n first.perms) (sym also.permissions) (subst (HasAll other.permissions) (sym own.permissions) grants.permissions);
+      },
+    )

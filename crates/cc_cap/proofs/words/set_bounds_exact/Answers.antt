@@ -1,0 +1,10 @@
+use Rattle.std.proofs.Common.{Err, refl}
+use Rattle.cc_cap.specs.Derivation.{SetsExactBounds}
+use Rattle.cc_cap.proofs.WordRuleLemmas.{word_made, SetsExactBounds-refused}
+use Rattle.cc_cap.proofs.words.set_bounds_exact.Goals as goal
+
+pub returns-then-len-gt-ADDRESS_SPACE : goal.returns-then-len-gt-ADDRESS_SPACE
+returns-then-len-gt-ADDRESS_SPACE c = record {
+  made = word_made (λ cap. SetsExactBounds cap c.args.len) c.args.word c.in_ok-cap.cap (Err c.too_long.result) (Err c.too_long.result)
+      c.in_ok-cap.ensures (SetsExactBounds-refused c.in_ok-cap.cap c.args.len c.too_long.result c.too_long.ensures) refl;
+}

@@ -1,0 +1,59 @@
+-- The rules of derivation on words: a word goes in, and a word or a refusal comes out.
+use Rattle.std.specs.Prelude.{ℕ, ◌≡◌, Result, Ok, Err}
+use Rattle.cc_word.specs.declared.fields.Fields.{Fields}
+use Rattle.cc_word.specs.declared.refusal.Refusal.{Refusal}
+use Rattle.cc_word.specs.declared.refusal.Refusal.TheVariants.{NotCanonical}
+use Rattle.cc_bounds.specs.declared.span.Span.{Span}
+use Rattle.cc_bounds.specs.Span.{IsWithin}
+use Rattle.cc_bounds.specs.Decoding.{DecodesTo}
+use Rattle.cc_cap.specs.Permissions.{HasAll}
+use Rattle.cc_cap.specs.Capability.{Capability}
+use Rattle.cc_cap.specs.Canonical.{IsWordOf, IsCanonical}
+use Rattle.cc_cap.specs.Derivation.{RefusedUnless}
+
+-- a result in words: the word of the capability that was made, or the same refusal
+abbrev pub InWords : (made : Result Capability Refusal) (result : Result ℕ Refusal) → Type 0
+InWords (Ok cap) (Ok word) = IsWordOf cap word
+InWords (Err refusal) (Err told) = told ≡ refusal
+InWords (Ok cap) (Err told) = ⊥
+InWords (Err refusal) (Ok word) = ⊥
+
+-- the rule makes this of the capability, and the result tells it in words
+pub record MakesWord (rule : Result Capability Refusal → Type 0) (result : Result ℕ Refusal) : Type 0 where
+  pub made : Result Capability Refusal
+  pub is_made : rule made
+  pub in_words : InWords made result
+
+-- A rule on a word. A word that is none of a capability is refused, before the rule is asked.
+abbrev pub OnWord : (rule : Capability → Result Capability Refusal → Type 0) (word : ℕ) (result : Result ℕ Refusal) → Type 0
+OnWord rule word result =
+    RefusedUnless (IsCanonical word) NotCanonical result (
+    (cap : Capability) × IsWordOf cap word × MakesWord (rule cap) result)
+
+-- a rule on a word and the word of an authority
+abbrev pub OnWords : (rule : Capability → Capability → Result Capability Refusal → Type 0) (word authority : ℕ) (result : Result ℕ Refusal) → Type 0
+OnWords rule word authority result =
+    RefusedUnless (IsCanonical word) NotCanonical result (
+    (cap : Capability) × IsWordOf cap word × OnWord (rule cap) authority result)
+
+-- where a capability has the word, the result is what the rule makes of that capability
+abbrev pub IsLikeCalls : (rule : Capability → Result Capability Refusal → Type 0) (word : ℕ) → Type 0
+IsLikeCalls rule word =
+    (result : Result ℕ Refusal) → OnWord rule word result
+    → (cap : Capability) → IsWordOf cap word → (made : Result Capability Refusal) → rule cap made → InWords made result
+
+-- where capabilities have the two words, the result is what the rule makes of them
+abbrev pub AreLikeCalls : (rule : Capability → Capability → Result Capability Refusal → Type 0) (word authority : ℕ) → Type 0
+AreLikeCalls rule word authority =
+    (result : Result ℕ Refusal) → OnWords rule word authority result
+    → (cap by : Capability) → IsWordOf cap word → IsWordOf by authority → (made : Result Capability Refusal) → rule cap by made → InWords made result
+
+-- what words with these fields say that they grant: all bytes of the one as it decodes are within the
+-- other, and its permissions are the other's
+pub record IsSubset (inner outer : Fields) : Type 0 where
+  pub inner_span : Span
+  pub outer_span : Span
+  pub inner_decodes : DecodesTo inner inner_span
+  pub outer_decodes : DecodesTo outer outer_span
+  pub bytes : IsWithin inner_span outer_span
+  pub permissions : HasAll outer.perms inner.perms
