@@ -2,7 +2,8 @@
  * cheri_cap.h: the calls of Sorrelgable for C11 and C++17.
  *
  * CHERI Concentrate, the compressed 128-bit capabilities of CHERI-RISC-V for 64-bit addresses (CHERI
- * ISA version 9): fields, decoding, setting bounds, representable addresses and lengths, canonical words.
+ * ISA version 9): fields, decoding, setting bounds, representable addresses and lengths, canonical words, and
+ * the rules by which one capability is derived from another, on words.
  * The functions are those of the static library libcc_ffi.a. Each is proved to return what its contract
  * in crates/cc_ffi says; the comments here say the same in words. The inline functions at the end are
  * plain C: they are tested and not proved.
@@ -60,7 +61,23 @@ extern "C" {
 
 /* Object types: sealing gives 0 to the last sealing type; the types between the two are reserved. */
 #define CHERI_CAP_OTYPE_LAST_SEALING 0x3ffefu
+#define CHERI_CAP_OTYPE_SENTRY 0x3fffeu /* a sealed entry, as each return address of CheriBSD; reserved */
 #define CHERI_CAP_OTYPE_UNSEALED 0x3ffffu
+
+/*
+ * Why a rule makes no word, as `refusal` of cheri_cap_made; 0 says that it made one. The name of each, which
+ * scripts of cheri-cap print, is what cheri_cap_refusal_name tells.
+ */
+#define CHERI_CAP_REFUSAL_SEALED 7u           /* a capability is sealed that has to be unsealed */
+#define CHERI_CAP_REFUSAL_UNSEALED 8u         /* a capability is unsealed that has to be sealed */
+#define CHERI_CAP_REFUSAL_BOUNDS 9u           /* a request or an address is not within the bounds that it needs */
+#define CHERI_CAP_REFUSAL_INEXACT 10u         /* the bounds can't be stored without rounding */
+#define CHERI_CAP_REFUSAL_UNREPRESENTABLE 11u /* at this address the word would decode to other bounds */
+#define CHERI_CAP_REFUSAL_PERMISSION 12u      /* the authority lacks SEAL or UNSEAL */
+#define CHERI_CAP_REFUSAL_TYPE 13u            /* the authority's address is no type that sealing may give */
+#define CHERI_CAP_REFUSAL_MISMATCH 14u        /* the authority's address is not the type of the sealed word */
+#define CHERI_CAP_REFUSAL_CANONICAL 15u       /* the word, or the authority's, is the word of no capability */
+#define CHERI_CAP_REFUSAL_EXCEEDS 16u         /* the word grants more than its authority, or is sealed */
 
 /* A number of 128 bits: high * 2^64 + low. */
 typedef struct cheri_cap_u128 {
@@ -108,6 +125,13 @@ typedef struct cheri_cap_read {
     bool found;
 } cheri_cap_read;
 
+/* The word that a rule makes, or why it makes none. */
+typedef struct cheri_cap_made {
+    uint64_t high; /* 0 where no word was made */
+    uint64_t low;
+    uint8_t refusal; /* 0 where a word was made, else one of CHERI_CAP_REFUSAL_* */
+} cheri_cap_made;
+
 /* ---- The library */
 
 /* The version of the library. */
@@ -124,7 +148,11 @@ bool cheri_cap_flag(uint64_t high, uint64_t low);
 /* The word of fields. Of a number that is wider than its field the lowest bits count. */
 cheri_cap_u128 cheri_cap_pack(cheri_cap_fields fields);
 
-/* Whether the word is the word of some capability, sealed or not. */
+/*
+ * Whether the word is the word of some capability, sealed or not: "canonical" means "of a capability that
+ * this library makes". Sentries and words of the other reserved types, 0x3fff0 to 0x3fffe, decode as every
+ * word does, and are not canonical.
+ */
 bool cheri_cap_is_canonical(uint64_t high, uint64_t low);
 
 /*
@@ -177,6 +205,90 @@ cheri_cap_read cheri_cap_read_word(const char *text, size_t length);
 /* Writes the 32 hexadecimal digits of a word, in lower case, and no zero byte after them. */
 void cheri_cap_write_word(uint64_t high, uint64_t low, char *text /* room for 32 bytes */);
 
+/* ---- The rules of derivation, on words */
+
+/*
+ * Each takes any words, and answers the word that the rule makes of the capabilities that have them, with
+ * refusal 0; or no word, with the first refusal of those named, in this order. CANONICAL comes first where
+ * a word is that of no capability, and so for every sentry.
+ *
+ * Tags are the caller's: the answer is for words whose tags are set. Where a rule refuses, an instruction
+ * of the standard (UCAM-CL-TR-987, ISA version 9) still writes a result, with its tag cleared. What is said
+ * below of that result and of its bits, after "Standard:", is told from the standard, and is neither proved
+ * nor tested here; so is that a result of an untagged word or by an untagged authority has no tag. A
+ * processor takes a tagged sentry as a sealed capability.
+ */
+
+/*
+ * CSetAddr: the word at another address, with the same bounds. CANONICAL, SEALED, UNREPRESENTABLE.
+ * Standard: a refusal clears the tag; the address is set, and the upper half keeps its bits.
+ */
+cheri_cap_made cheri_cap_set_address(uint64_t high, uint64_t low, uint64_t address);
+
+/*
+ * CIncOffset: the word with its address moved up by so much, modulo 2^64. CANONICAL, SEALED,
+ * UNREPRESENTABLE. Standard: as CSetAddr, with the sum as the address.
+ */
+cheri_cap_made cheri_cap_increment(uint64_t high, uint64_t low, uint64_t amount);
+
+/*
+ * CSetBounds: the word with the bounds of `length` bytes from its address on, rounded outwards where they
+ * can't be stored exactly; rounding never leaves the word's own bounds. The address stays. Any length may be
+ * asked for; one above 2^64 is out of bounds. CANONICAL, SEALED, BOUNDS. Standard: a refusal clears the tag;
+ * the bounds fields are those of the request, and the other bits stay.
+ */
+cheri_cap_made cheri_cap_set_bounds_on(uint64_t high, uint64_t low, uint64_t length_high, uint64_t length_low);
+
+/*
+ * CSetBoundsExact: the same, but never rounded. CANONICAL, SEALED, BOUNDS, INEXACT. Standard: as CSetBounds,
+ * with the bounds fields of the rounded request.
+ */
+cheri_cap_made cheri_cap_set_bounds_exact_on(uint64_t high, uint64_t low, uint64_t length_high, uint64_t length_low);
+
+/*
+ * CAndPerm: the word with the permissions that are also in the mask. CANONICAL, SEALED. Standard: a refusal
+ * clears the tag; the permissions are masked, and the other bits stay.
+ */
+cheri_cap_made cheri_cap_and_perms(uint64_t high, uint64_t low, uint16_t mask);
+
+/*
+ * CSetFlags: the word with this flag. CANONICAL, SEALED. Standard: a refusal clears the tag; the flag is set,
+ * and the other bits stay.
+ */
+cheri_cap_made cheri_cap_set_flag(uint64_t high, uint64_t low, bool flag);
+
+/*
+ * CSeal: the word sealed, with the authority's address as its type. CANONICAL (either), SEALED (either),
+ * PERMISSION unless the authority has SEAL, BOUNDS unless its address is in its bounds, TYPE for an address
+ * above CHERI_CAP_OTYPE_LAST_SEALING. Standard: a refusal clears the tag; the type is the low 18 bits of the
+ * authority's address, and the other bits stay.
+ */
+cheri_cap_made cheri_cap_seal(uint64_t high, uint64_t low, uint64_t authority_high, uint64_t authority_low);
+
+/*
+ * CUnseal: the sealed word unsealed. It keeps GLOBAL only where the word and the authority both have it; all
+ * other permissions stay. CANONICAL (either), UNSEALED where the word is not sealed, SEALED where the
+ * authority is, PERMISSION unless the authority has UNSEAL, BOUNDS unless its address is in its bounds,
+ * MISMATCH unless its address is the word's type. Standard: a refusal clears the tag; the result is unsealed
+ * with the same rule on GLOBAL, and the other bits stay.
+ */
+cheri_cap_made cheri_cap_unseal(uint64_t high, uint64_t low, uint64_t authority_high, uint64_t authority_low);
+
+/*
+ * CBuildCap: the word again, now with a tag, where its capability grants no more than the authority. The
+ * authority comes first. CANONICAL (the authority's word), SEALED (the authority), CANONICAL (the word),
+ * EXCEEDS where the word is sealed, its bounds are not within the authority's, or it has a permission that
+ * the authority lacks. Standard: a refusal clears the tag, and the word's bits stay.
+ */
+cheri_cap_made cheri_cap_rebuild(uint64_t authority_high, uint64_t authority_low, uint64_t high, uint64_t low);
+
+/*
+ * CTestSubset: whether all bytes and permissions of the word are within those of the other: its base is at or
+ * above the other's, its top at or below, and the other has its permissions. For any two words, by the bounds
+ * that they decode to; types, flags and reserved bits are not looked at. Standard: and their tags are equal.
+ */
+bool cheri_cap_is_subset(uint64_t high, uint64_t low, uint64_t outer_high, uint64_t outer_low);
+
 /* ---- Plain C over the library, which no proof covers */
 
 /* The word of 16 bytes of memory, in the byte order of the memory. */
@@ -188,6 +300,15 @@ static inline cheri_cap_u128 cheri_cap_word_from_bytes(const uint8_t bytes[16], 
         word.low = word.low << 8 | bytes[big_endian ? 8 + i : 7 - i];
     }
     return word;
+}
+
+/* The name of a refusal, one lower-case word; null for 0 and for a number that no rule answers. */
+static inline const char *cheri_cap_refusal_name(uint8_t refusal)
+{
+    static const char *const names[] = {
+        "sealed", "unsealed", "bounds", "inexact", "unrepresentable", "permission", "type", "mismatch", "canonical", "exceeds",
+    };
+    return refusal >= 7 && refusal <= 16 ? names[refusal - 7] : NULL;
 }
 
 /* Whether the bounds hold the byte at the address. */

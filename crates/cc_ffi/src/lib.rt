@@ -5,6 +5,7 @@
 mod bounds;
 mod halves;
 mod lengths;
+mod rules;
 mod structs;
 mod text;
 mod version;

@@ -81,3 +81,15 @@ pub struct ReadWord {
     /// Whether the text spells a word.
     pub found: bool,
 }
+
+/// The word that a rule makes, or why it makes none.
+#[derive(Clone, Copy)]
+#[repr(C)]
+pub struct MadeWord {
+    /// The word's upper 64 bits, or 0.
+    pub high: u64,
+    /// The word's lower 64 bits, or 0.
+    pub low: u64,
+    /// 0 where a word was made, else the code of the refusal, from 7 to 16.
+    pub refusal: u8,
+}

@@ -1,0 +1,145 @@
+//! The rules of derivation on words.
+ghost use Rattle.std.specs.Prelude.{◌≡◌, ◌↔◌, IsTrue};
+ghost use Rattle.cc_word.specs.declared.fields.Fields.{Fields as FieldsSpec};
+ghost use Rattle.cc_cap.specs.Capability.{Capability, GrantsNoMore};
+ghost use Rattle.cc_cap.specs.Canonical.{IsWordOf};
+ghost use Rattle.cc_cap.specs.Derivation.{SetsAddress, Increments, SetsBounds, SetsExactBounds, MasksPermissions, SetsFlag, Seals, Unseals, Rebuilds};
+ghost use Rattle.cc_cap.specs.WordRules.{OnWord, OnWords, IsSubset};
+ghost use Rattle.cc_ffi.specs.Numbers.{number_of};
+ghost use Rattle.cc_ffi.specs.Words.{OfFields};
+ghost use Rattle.cc_ffi.specs.Rules.{IsTold, IsAnswer};
+
+use crate::halves::{halves, number};
+use crate::structs::MadeWord;
+use cc_cap::{Flags, Perms, words};
+use cc_word::Refusal;
+
+/// What C is told of an answer.
+fn told(answer: Result<u128, Refusal>) -> MadeWord
+    ensures { IsTold answer result }
+{
+    match answer {
+        Ok(word) => {
+            let word = halves(word);
+            MadeWord {
+                high: word.high,
+                low: word.low,
+                refusal: 0,
+            }
+        }
+        Err(refusal) => MadeWord {
+            high: 0,
+            low: 0,
+            refusal: refusal.code(),
+        },
+    }
+}
+
+/// The word at another address, with the same bounds.
+#[unsafe(no_mangle)]
+pub extern "C" fn cheri_cap_set_address(high: u64, low: u64, address: u64) -> MadeWord
+    ensures { IsAnswer (OnWord (λ cap. SetsAddress cap address) (number_of high low)) result }
+{
+    told(words::set_address(number(high, low), address))
+}
+
+/// The word with its address moved up, round the end of the address space.
+#[unsafe(no_mangle)]
+pub extern "C" fn cheri_cap_increment(high: u64, low: u64, amount: u64) -> MadeWord
+    ensures { IsAnswer (OnWord (λ cap. Increments cap amount) (number_of high low)) result }
+{
+    told(words::increment(number(high, low), amount))
+}
+
+/// The word with the bounds of `length` bytes from its address on, rounded where they can't be stored
+/// exactly.
+#[unsafe(no_mangle)]
+pub extern "C" fn cheri_cap_set_bounds_on(
+    high: u64,
+    low: u64,
+    length_high: u64,
+    length_low: u64,
+) -> MadeWord
+    ensures { IsAnswer (OnWord (λ cap. SetsBounds cap (number_of length_high length_low)) (number_of high low)) result }
+{
+    told(words::set_bounds(number(high, low), number(length_high, length_low)))
+}
+
+/// The word with exactly the bounds of `length` bytes from its address on.
+#[unsafe(no_mangle)]
+pub extern "C" fn cheri_cap_set_bounds_exact_on(
+    high: u64,
+    low: u64,
+    length_high: u64,
+    length_low: u64,
+) -> MadeWord
+    ensures { IsAnswer (OnWord (λ cap. SetsExactBounds cap (number_of length_high length_low)) (number_of high low)) result }
+{
+    told(words::set_bounds_exact(number(high, low), number(length_high, length_low)))
+}
+
+/// The word with the permissions that are also in the mask.
+#[unsafe(no_mangle)]
+pub extern "C" fn cheri_cap_and_perms(high: u64, low: u64, mask: u16) -> MadeWord
+    ensures { IsAnswer (OnWord (λ cap. MasksPermissions cap mask) (number_of high low)) result }
+{
+    told(words::and_perms(number(high, low), Perms::from_bits_retain(mask)))
+}
+
+/// The word with this flag.
+#[unsafe(no_mangle)]
+pub extern "C" fn cheri_cap_set_flag(high: u64, low: u64, flag: bool) -> MadeWord
+    ensures { IsAnswer (OnWord (λ cap. SetsFlag cap flag) (number_of high low)) result }
+{
+    told(words::set_flag(number(high, low), flag))
+}
+
+/// The word sealed with the authority's address as its type.
+#[unsafe(no_mangle)]
+pub extern "C" fn cheri_cap_seal(
+    high: u64,
+    low: u64,
+    authority_high: u64,
+    authority_low: u64,
+) -> MadeWord
+    ensures { IsAnswer (OnWords Seals (number_of high low) (number_of authority_high authority_low)) result }
+{
+    told(words::seal(number(high, low), number(authority_high, authority_low)))
+}
+
+/// The sealed word unsealed. It keeps GLOBAL only where the authority has it too.
+#[unsafe(no_mangle)]
+pub extern "C" fn cheri_cap_unseal(
+    high: u64,
+    low: u64,
+    authority_high: u64,
+    authority_low: u64,
+) -> MadeWord
+    ensures { IsAnswer (OnWords Unseals (number_of high low) (number_of authority_high authority_low)) result }
+{
+    told(words::unseal(number(high, low), number(authority_high, authority_low)))
+}
+
+/// The word again, where its capability grants no more than the authority does.
+#[unsafe(no_mangle)]
+pub extern "C" fn cheri_cap_rebuild(
+    authority_high: u64,
+    authority_low: u64,
+    high: u64,
+    low: u64,
+) -> MadeWord
+    ensures { IsAnswer (OnWord (λ cap. Rebuilds cap (number_of high low)) (number_of authority_high authority_low)) result }
+{
+    told(words::rebuild(number(authority_high, authority_low), number(high, low)))
+}
+
+/// Whether all bytes and permissions of the word are within those of the other, for any two words.
+#[unsafe(no_mangle)]
+pub extern "C" fn cheri_cap_is_subset(high: u64, low: u64, outer_high: u64, outer_low: u64) -> bool
+    ensures words { OfFields (number_of high low) (λ inner. OfFields (number_of outer_high outer_low) (λ outer.
+        IsTrue result ↔ IsSubset inner outer)) }
+    ensures capabilities { (one other : Capability) → IsWordOf one (number_of high low) → IsWordOf other (number_of outer_high outer_low)
+        → (IsTrue result ↔ GrantsNoMore one other) }
+{
+    words::is_subset(number(high, low), number(outer_high, outer_low))
+}
