@@ -3,6 +3,7 @@
 //
 //   conformance TABLE   the failures, and at the end how many rows and failures there are
 //   conformance names   for each permission of the header a word that has it alone, its bits and its name
+//   conformance refusals   the header's refusals, as scripts print them
 #include <cheri_cap.h>
 #include <cheri_cap.h> // a second time changes nothing
 #include <inttypes.h>
@@ -104,6 +105,90 @@ static void check_text(char **row, cheri_cap_u128 word)
     cheri_cap_u128 one = cheri_cap_word_from_bytes(little, false), other = cheri_cap_word_from_bytes(big, true);
     expect(one.high == word.high && one.low == word.low, row[NAME], "little-endian bytes");
     expect(other.high == word.high && other.low == word.low, row[NAME], "big-endian bytes");
+    uint8_t bytes[16];
+    cheri_cap_word_to_bytes(word, bytes, false);
+    expect(memcmp(bytes, little, 16) == 0, row[NAME], "a word's little-endian bytes");
+    cheri_cap_word_to_bytes(word, bytes, true);
+    expect(memcmp(bytes, big, 16) == 0, row[NAME], "a word's big-endian bytes");
+}
+
+// What the header works out itself, against the library.
+static void check_inline(char **row, cheri_cap_u128 word)
+{
+    cheri_cap_bounds bounds = cheri_cap_decode(word.high, word.low);
+    cheri_cap_fields fields = cheri_cap_unpack(word.high, word.low);
+    expect(cheri_cap_perms_of(word.high) == fields.perms, row[NAME], "perms from the upper half");
+    expect(cheri_cap_otype_of(word.high) == fields.otype, row[NAME], "type from the upper half");
+    expect(cheri_cap_is_sealed(word.high) == (strcmp(row[TYPE], "3ffff") != 0), row[NAME], "sealed");
+    expect(cheri_cap_is_sentry(word.high) == (strcmp(row[TYPE], "3fffe") == 0), row[NAME], "sentry");
+    cheri_cap_u128 top = cheri_cap_top(&bounds), base = {0, bounds.base}, length = cheri_cap_length(&bounds);
+    expect(is_number(row[TOP], top.high, top.low), row[NAME], "top");
+    expect(cheri_cap_compare(base, top) == (length.high >> 63 ? 1 : (length.high | length.low) != 0 ? -1 : 0), row[NAME], "comparison");
+    expect(cheri_cap_compare(top, base) == -cheri_cap_compare(base, top), row[NAME], "comparison turned round");
+    expect(cheri_cap_offset(&bounds, fields.address) + bounds.base == fields.address, row[NAME], "offset");
+    if (cheri_cap_is_canonical(word.high, word.low)) {
+        cheri_cap_granted set = cheri_cap_set_bounds(bounds.base, length.high, length.low);
+        expect(set.in_range && set.top_high == top.high && set.top_low == top.low, row[NAME], "length");
+    }
+}
+
+// The rules, where the table says what they make: a canonical unsealed word is rebuilt from the root, moved to its
+// own address, given its own bounds at its base, its own permissions and flag, and is sealed and unsealed.
+static void check_rules(char **row, cheri_cap_u128 word)
+{
+    cheri_cap_u128 root = cheri_cap_root();
+    cheri_cap_made made = cheri_cap_rebuild(root.high, root.low, word.high, word.low);
+    expect(made.refusal == (strcmp(row[REBUILD], "made") == 0 ? 0 : strtoul(row[REBUILD], NULL, 10)), row[NAME], "rebuild");
+    expect(cheri_cap_is_subset(word.high, word.low, word.high, word.low), row[NAME], "subset of itself");
+    bool canonical = strcmp(row[CANONICAL], "yes") == 0;
+    uint8_t refusal = !canonical ? CHERI_CAP_REFUSAL_CANONICAL : made.refusal != 0 ? CHERI_CAP_REFUSAL_SEALED : 0;
+    cheri_cap_bounds bounds = cheri_cap_decode(word.high, word.low);
+    cheri_cap_u128 length = cheri_cap_length(&bounds);
+    cheri_cap_made same[6];
+    same[0] = cheri_cap_set_address(word.high, word.low, word.low);
+    same[1] = cheri_cap_increment(word.high, word.low, 0);
+    same[2] = cheri_cap_and_perms(word.high, word.low, cheri_cap_perms(word.high, word.low));
+    same[3] = cheri_cap_set_flag(word.high, word.low, cheri_cap_flag(word.high, word.low));
+    same[4] = cheri_cap_set_address(word.high, word.low, bounds.base);
+    same[5] = cheri_cap_set_bounds_exact_on(same[4].high, same[4].low, length.high, length.low);
+    for (int i = 0; i < 4; i++)
+        expect(same[i].refusal == refusal, row[NAME], "refusal");
+    if (refusal != 0)
+        return;
+    same[5] = cheri_cap_set_address(same[5].high, same[5].low, word.low);
+    same[4] = made;
+    for (int i = 0; i < 6; i++)
+        expect(same[i].refusal == 0 && same[i].high == word.high && same[i].low == word.low, row[NAME], "the same word made");
+    cheri_cap_made sealed = cheri_cap_seal(word.high, word.low, root.high, 7);
+    expect(sealed.refusal == 0 && cheri_cap_otype_of(sealed.high) == 7, row[NAME], "sealed by the root at 7");
+    cheri_cap_made unsealed = cheri_cap_unseal(sealed.high, sealed.low, root.high, 7);
+    expect(unsealed.refusal == 0 && unsealed.high == word.high && unsealed.low == word.low, row[NAME], "unsealed again");
+    unsealed = cheri_cap_unseal(sealed.high, sealed.low, UINT64_C(0x0200000000000000), 7);
+    expect(unsealed.refusal == 0 && unsealed.high == (word.high & ~(UINT64_C(1) << 48)), row[NAME], "unsealed without GLOBAL");
+    expect(cheri_cap_is_subset(word.high, word.low, root.high, root.low), row[NAME], "subset of the root");
+}
+
+// The line of a word, from the columns of its row.
+static void check_line(char **row, cheri_cap_u128 word)
+{
+    char text[CHERI_CAP_LINE_SIZE], wanted[128], letters[6] = {0}, *end = letters;
+    unsigned long perms = strtoul(row[PERMS], NULL, 16);
+    static const struct { char letter; unsigned bit; } table[] = {
+        {'r', CHERI_CAP_PERM_LOAD}, {'w', CHERI_CAP_PERM_STORE}, {'x', CHERI_CAP_PERM_EXECUTE},
+        {'R', CHERI_CAP_PERM_LOAD_CAP}, {'W', CHERI_CAP_PERM_STORE_CAP},
+    };
+    for (size_t i = 0; i < sizeof table / sizeof *table; i++)
+        if (perms & table[i].bit)
+            *end++ = table[i].letter;
+    const char *type = strcmp(row[TYPE], "3ffff") == 0 ? "" : strcmp(row[TYPE], "3fffe") == 0 ? "sentry" : "sealed";
+    for (int tagged = 0; tagged < 2; tagged++) {
+        const char *open = tagged && *type == 0 ? "" : " (", *close = tagged && *type == 0 ? "" : ")";
+        const char *invalid = tagged ? "" : *type == 0 ? "invalid" : "invalid,";
+        snprintf(wanted, sizeof wanted, "%s [%s,%s-%s]%s%s%s%s", row[ADDRESS], letters, row[BASE], row[TOP], open, invalid, type, close);
+        memset(text, 'x', sizeof text);
+        size_t length = cheri_cap_format(word.high, word.low, tagged != 0, text);
+        expect(length == strlen(wanted) && memcmp(text, wanted, length + 1) == 0, row[NAME], "line");
+    }
 }
 
 // The fifteen words of a line, or fewer or more.
@@ -132,6 +217,9 @@ static unsigned check_table(FILE *table)
         check_fields(row, halves);
         check_bounds(row, halves);
         check_text(row, halves);
+        check_inline(row, halves);
+        check_rules(row, halves);
+        check_line(row, halves);
         rows++;
     }
     return rows;
@@ -198,6 +286,17 @@ static void check_types(void)
     OF(GLOBAL) OF(EXECUTE) OF(LOAD) OF(STORE) OF(LOAD_CAP) OF(STORE_CAP) OF(STORE_LOCAL_CAP) OF(SEAL)    \
     OF(CINVOKE) OF(UNSEAL) OF(SYSTEM_REGS) OF(SET_CID) OF(USER0) OF(USER1) OF(USER2) OF(USER3)
 
+// The code and the name of each refusal of a rule.
+static int print_refusals(void)
+{
+    for (unsigned refusal = 0; refusal < 256; refusal++) {
+        const char *name = cheri_cap_refusal_name((uint8_t)refusal);
+        if (*name != 0)
+            printf("error %u %s\n", refusal, name);
+    }
+    return 0;
+}
+
 static int print_names(void)
 {
 #define ROW(NAME) {#NAME, CHERI_CAP_PERM_##NAME},
@@ -215,9 +314,11 @@ int main(int argc, char **argv)
 {
     if (argc == 2 && strcmp(argv[1], "names") == 0)
         return print_names();
+    if (argc == 2 && strcmp(argv[1], "refusals") == 0)
+        return print_refusals();
     FILE *table = argc == 2 ? fopen(argv[1], "r") : NULL;
     if (table == NULL) {
-        fputs("usage: conformance TABLE | names\n", stderr);
+        fputs("usage: conformance TABLE | names | refusals\n", stderr);
         return 2;
     }
     expect(cheri_cap_version() == CHERI_CAP_VERSION, "version", "header and library");

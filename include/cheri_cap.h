@@ -20,7 +20,7 @@
  * address after the last byte. A top or a length may be 2^64, which needs 65 bits, so these have two
  * halves as well, and for 2^64 the high half is 1 and the low half 0.
  *
- * Ranges: every function takes every value of its parameters' types, but for the pointers of the two text
+ * Ranges: every function takes every value of its parameters' types, but for the pointers of the three text
  * calls, which have to be good, and says what it answers for values out of range. A `bool` has to be 0
  * or 1, as C and C++ make it.
  *
@@ -33,9 +33,18 @@
 #include <stdbool.h>
 #include <stddef.h>
 #include <stdint.h>
+#include <string.h>
 
 #ifdef __cplusplus
+#define CHERI_CAP_CAST_(type, value) static_cast<type>(value)
 extern "C" {
+#else
+#define CHERI_CAP_CAST_(type, value) ((type)(value))
+#endif
+
+#ifdef __clang__
+#pragma clang diagnostic push
+#pragma clang diagnostic ignored "-Wpadded"
 #endif
 
 /* The version of this header. */
@@ -205,6 +214,23 @@ cheri_cap_read cheri_cap_read_word(const char *text, size_t length);
 /* Writes the 32 hexadecimal digits of a word, in lower case, and no zero byte after them. */
 void cheri_cap_write_word(uint64_t high, uint64_t low, char *text /* room for 32 bytes */);
 
+/* Room for the line of any word, its zero byte counted. */
+#define CHERI_CAP_LINE_SIZE 96
+
+/*
+ * Writes the line of a word and a zero byte after it, in the form that `%#p` has in CheriBSD, as
+ * "0x10070 [rwxRW,0x10070-0x12070]": the address, then in brackets the letters of the permissions, the base
+ * and the top. LOAD is r, STORE w, EXECUTE x, LOAD_CAP R, STORE_CAP W; the other permissions have no letter.
+ * After it stands " (sentry)" for a sentry and " (sealed)" for any other type but unsealed, reserved ones too;
+ * and " (invalid)", " (invalid,sentry)" or " (invalid,sealed)" where `tagged` is false. Answers how many bytes
+ * stand before that zero byte. The rest of the room is overwritten.
+ *
+ * Every word has a line, canonical or not, by the bounds that it decodes to: the top may be 0x10000000000000000
+ * (2^64), and of a word that is not canonical above that, or below the base. Null without its tag is
+ * "0x0 [,0x0-0x10000000000000000] (invalid)".
+ */
+size_t cheri_cap_format(uint64_t high, uint64_t low, bool tagged, char *text /* room for CHERI_CAP_LINE_SIZE bytes */);
+
 /* ---- The rules of derivation, on words */
 
 /*
@@ -291,24 +317,117 @@ bool cheri_cap_is_subset(uint64_t high, uint64_t low, uint64_t outer_high, uint6
 
 /* ---- Plain C over the library, which no proof covers */
 
-/* The word of 16 bytes of memory, in the byte order of the memory. */
-static inline cheri_cap_u128 cheri_cap_word_from_bytes(const uint8_t bytes[16], bool big_endian)
+/* The upper half of the null mask: a word's upper half is that of its fields' layout, exclusive-or this. */
+#define CHERI_CAP_NULL_MASK_HIGH UINT64_C(0x00001ffffc018004)
+
+/* The null word, all zeros, and the root's: every permission over every address, at address 0. */
+static inline cheri_cap_u128 cheri_cap_null(void)
 {
     cheri_cap_u128 word = {0, 0};
-    for (int i = 0; i < 8; i++) {
-        word.high = word.high << 8 | bytes[big_endian ? i : 15 - i];
-        word.low = word.low << 8 | bytes[big_endian ? 8 + i : 7 - i];
-    }
+    return word;
+}
+static inline cheri_cap_u128 cheri_cap_root(void)
+{
+    cheri_cap_u128 word = {UINT64_C(0xffff000000000000), 0};
     return word;
 }
 
-/* The name of a refusal, one lower-case word; null for 0 and for a number that no rule answers. */
+/* The permissions and the type of a word from its upper half, with no call: cheri_cap_perms, cheri_cap_otype. */
+static inline uint16_t cheri_cap_perms_of(uint64_t high)
+{
+    return CHERI_CAP_CAST_(uint16_t, high >> 48);
+}
+static inline uint32_t cheri_cap_otype_of(uint64_t high)
+{
+    return CHERI_CAP_CAST_(uint32_t, (high ^ CHERI_CAP_NULL_MASK_HIGH) >> 27) & 0x3ffffu;
+}
+
+/* Whether the type is any but unsealed, as CGetSealed answers: sealed, a sentry, or another reserved type. */
+static inline bool cheri_cap_is_sealed(uint64_t high)
+{
+    return cheri_cap_otype_of(high) != CHERI_CAP_OTYPE_UNSEALED;
+}
+static inline bool cheri_cap_is_sentry(uint64_t high)
+{
+    return cheri_cap_otype_of(high) == CHERI_CAP_OTYPE_SENTRY;
+}
+
+/* Numbers of 65 bits and more, in halves: negative, 0 or positive, as the one is below, equal to or above the other. */
+static inline int cheri_cap_compare(cheri_cap_u128 one, cheri_cap_u128 other)
+{
+    if (one.high != other.high)
+        return one.high < other.high ? -1 : 1;
+    return (one.low > other.low) - (one.low < other.low);
+}
+
+/* The top of bounds, and their length: the top less the base, modulo 2^128 where it is below the base. */
+static inline cheri_cap_u128 cheri_cap_top(const cheri_cap_bounds *bounds)
+{
+    cheri_cap_u128 top = {bounds->top_high, bounds->top_low};
+    return top;
+}
+static inline cheri_cap_u128 cheri_cap_length(const cheri_cap_bounds *bounds)
+{
+    cheri_cap_u128 length = {bounds->top_high - (bounds->top_low < bounds->base), bounds->top_low - bounds->base};
+    return length;
+}
+
+/* The offset of an address in bounds, modulo 2^64: CGetOffset. */
+static inline uint64_t cheri_cap_offset(const cheri_cap_bounds *bounds, uint64_t address)
+{
+    return address - bounds->base;
+}
+
+/* A half with its bytes in the other order. */
+static inline uint64_t cheri_cap_swapped(uint64_t half)
+{
+    half = (half & UINT64_C(0x00ff00ff00ff00ff)) << 8 | (half >> 8 & UINT64_C(0x00ff00ff00ff00ff));
+    half = (half & UINT64_C(0x0000ffff0000ffff)) << 16 | (half >> 16 & UINT64_C(0x0000ffff0000ffff));
+    return half << 32 | half >> 32;
+}
+
+/* Whether this processor is big-endian. */
+static inline bool cheri_cap_is_big_endian(void)
+{
+    const uint16_t one = 1;
+    uint8_t first;
+    memcpy(&first, &one, 1);
+    return first == 0;
+}
+
+/* The word of 16 bytes of memory, in the byte order of the memory, and the bytes of a word. */
+static inline cheri_cap_u128 cheri_cap_word_from_bytes(const uint8_t bytes[16], bool big_endian)
+{
+    uint64_t halves[2];
+    cheri_cap_u128 word;
+    memcpy(halves, bytes, sizeof halves);
+    word.high = halves[big_endian ? 0 : 1];
+    word.low = halves[big_endian ? 1 : 0];
+    if (big_endian != cheri_cap_is_big_endian()) {
+        word.high = cheri_cap_swapped(word.high);
+        word.low = cheri_cap_swapped(word.low);
+    }
+    return word;
+}
+static inline void cheri_cap_word_to_bytes(cheri_cap_u128 word, uint8_t bytes[16], bool big_endian)
+{
+    uint64_t halves[2];
+    if (big_endian != cheri_cap_is_big_endian()) {
+        word.high = cheri_cap_swapped(word.high);
+        word.low = cheri_cap_swapped(word.low);
+    }
+    halves[big_endian ? 0 : 1] = word.high;
+    halves[big_endian ? 1 : 0] = word.low;
+    memcpy(bytes, halves, sizeof halves);
+}
+
+/* The name of a refusal, one lower-case word; an empty text for 0 and for a number that no rule answers. */
 static inline const char *cheri_cap_refusal_name(uint8_t refusal)
 {
     static const char *const names[] = {
         "sealed", "unsealed", "bounds", "inexact", "unrepresentable", "permission", "type", "mismatch", "canonical", "exceeds",
     };
-    return refusal >= 7 && refusal <= 16 ? names[refusal - 7] : NULL;
+    return refusal >= 7 && refusal <= 16 ? names[refusal - 7] : "";
 }
 
 /* Whether the bounds hold the byte at the address. */
@@ -316,6 +435,10 @@ static inline bool cheri_cap_bounds_hold(const cheri_cap_bounds *bounds, uint64_
 {
     return bounds->base <= address && (bounds->top_high != 0 || address < bounds->top_low);
 }
+
+#ifdef __clang__
+#pragma clang diagnostic pop
+#endif
 
 #ifdef __cplusplus
 }

@@ -5,3 +5,4 @@ pub mod ReachLemmas
 pub mod ResultLemmas
 pub mod OneResultLemmas
 pub mod WordRuleLemmas
+pub mod DigitLemmas

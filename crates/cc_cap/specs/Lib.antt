@@ -6,5 +6,6 @@ pub mod Canonical
 pub mod Derivation
 pub mod Reach
 pub mod WordRules
+pub mod LineText
 pub mod Bounds
 pub mod Cap

@@ -5,6 +5,10 @@ use Rattle.std.specs.Prelude.{ℕ, ◌≡◌, ◌≤◌, ◌⊎◌}
 abbrev pub last_sealing_type : ℕ
 last_sealing_type = 0x3ffef
 
+-- the type of a sealed entry, which is reserved
+abbrev pub sentry_type : ℕ
+sentry_type = 0x3fffe
+
 -- the type of an unsealed capability
 abbrev pub unsealed_type : ℕ
 unsealed_type = 0x3ffff

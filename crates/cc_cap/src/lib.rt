@@ -6,6 +6,7 @@ mod cap;
 mod laws;
 mod obj_type;
 mod perms;
+mod word_line;
 pub mod words;
 
 pub use bitflags::Flags;
@@ -17,6 +18,7 @@ pub use laws::{
 };
 pub use obj_type::ObjType;
 pub use perms::Perms;
+pub use word_line::WordLine;
 
 #[cfg(test)]
 mod tests;

@@ -3,6 +3,7 @@ mod orders;
 mod rules_on_words;
 mod sealing;
 mod values;
+mod word_lines;
 mod words;
 
 use crate::Cap;

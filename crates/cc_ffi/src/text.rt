@@ -1,13 +1,15 @@
 //! Words as text.
-ghost use Rattle.std.specs.Prelude.{◌≡◌, ◌↔◌, length, IsTrue};
+ghost use Rattle.std.specs.Prelude.{◌≡◌, ◌<◌, ◌↔◌, Some, length, slice_get, take, IsTrue};
 ghost use Rattle.std.specs.List.{AllPass};
 ghost use Rattle.std.specs.Str.Parse.{digits_value};
 ghost use Rattle.hex.specs.Hex.{is_hex_digit};
 ghost use Rattle.cc_word.specs.WordText.{digits_of};
+ghost use Rattle.cc_cap.specs.LineText.{IsLine};
 ghost use Rattle.cc_ffi.specs.Numbers.{number_of};
 
 use crate::halves::{halves, number};
 use crate::structs::ReadWord;
+use cc_cap::WordLine;
 
 /// The word that 32 hexadecimal digits of either case spell. Any other text spells none.
 #[unsafe(no_mangle)]
@@ -39,4 +41,29 @@ pub extern "C" fn cheri_cap_write_word(high: u64, low: u64, text: &mut [u8; 32])
     ensures { text.new ≡ digits_of 32 (number_of high low) }
 {
     *text = cc_word::write_word(number(high, low));
+}
+
+/// Writes the line of a word and a zero byte, and answers how many bytes stand before that zero byte.
+#[unsafe(no_mangle)]
+pub extern "C" fn cheri_cap_format(high: u64, low: u64, tagged: bool, text: &mut [u8; 96]) -> usize
+    ensures line { IsLine (number_of high low) tagged (take result text.new) }
+    ensures fits { result < 96 }
+    ensures ended { slice_get text.new result ≡ Some 0 }
+{
+    let line = WordLine::of_word(number(high, low), tagged);
+    *text = padded(line.bytes());
+    line.bytes().len()
+}
+
+/// The bytes, and zero bytes after them.
+fn padded(bytes: &[u8]) -> [u8; 96]
+    requires { length bytes.now < 96 }
+    ensures line { take (length bytes.now) result ≡ bytes.now }
+    ensures ended { slice_get result (length bytes.now) ≡ Some 0 }
+{
+    let mut room = [0; 96];
+    let end = bytes.len();
+    room[..end].copy_from_slice(bytes);
+    room[end] = 0;
+    room
 }

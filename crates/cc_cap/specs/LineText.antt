@@ -1,0 +1,56 @@
+-- The text of a word on one line.
+use Rattle.std.specs.Prelude.{ℕ, Bool, ◌≡◌, ◌==◌, ◌-◌, ◌<◌, ◌≤◌, ◌^◌, List, [], ◌++◌, codes, false, if◌then◌else◌}
+use Rattle.std.specs.Int.RustNames.{bit_and}
+use Rattle.std.specs.Fmt.{digits}
+use Rattle.cc_word.specs.declared.fields.Fields.{Fields}
+use Rattle.cc_word.specs.Word.{word_of}
+use Rattle.cc_bounds.specs.declared.span.Span.{Span}
+use Rattle.cc_bounds.specs.Decoding.{DecodesTo}
+use Rattle.cc_cap.specs.ObjType.{sentry_type, unsealed_type}
+
+-- `0x` and the digits of a number to base 16, in lower case and without leading zeros
+abbrev pub prefixed_digits : ℕ → List ℕ
+prefixed_digits number = codes "0x" ++ digits 16 false number
+
+-- a letter, where the set has the permission that it stands for
+abbrev pub letter_of : (letter : List ℕ) (permissions permission : ℕ) → List ℕ
+letter_of letter permissions permission = if bit_and permissions permission == permission then letter else []
+
+-- The letters of LOAD, STORE, EXECUTE, LOAD_CAP and STORE_CAP, of those that the set has. The other
+-- permissions have none.
+abbrev pub letters_of : ℕ → List ℕ
+letters_of permissions =
+    letter_of (codes "r") permissions (2 ^ 2) ++ letter_of (codes "w") permissions (2 ^ 3)
+    ++ letter_of (codes "x") permissions (2 ^ 1) ++ letter_of (codes "R") permissions (2 ^ 4)
+    ++ letter_of (codes "W") permissions (2 ^ 5)
+
+-- what is said of the type and the tag: nothing of a tagged word that is unsealed
+abbrev pub marks_of : (otype : ℕ) (tagged : Bool) → List ℕ
+marks_of otype tagged =
+    if otype == unsealed_type then (if tagged then [] else codes " (invalid)")
+    else if otype == sentry_type then (if tagged then codes " (sentry)" else codes " (invalid,sentry)")
+    else (if tagged then codes " (sealed)" else codes " (invalid,sealed)")
+
+-- the address, then in brackets the letters, the base and the top, and then the marks
+abbrev pub line_of : (fields : Fields) (bounds : Span) (tagged : Bool) → List ℕ
+line_of fields bounds tagged =
+    prefixed_digits fields.address ++ codes " [" ++ letters_of fields.perms ++ codes ","
+    ++ prefixed_digits bounds.base ++ codes "-" ++ prefixed_digits bounds.top ++ codes "]" ++ marks_of fields.otype tagged
+
+-- The line of a word: that of its fields and of the bounds that they decode to. There are no other such
+-- fields, and no other such bounds.
+pub record IsLine (word : ℕ) (tagged : Bool) (line : List ℕ) : Type 0 where
+  pub fields : Fields
+  pub bounds : Span
+  pub of_word : word_of fields ≡ word
+  pub decoded : DecodesTo fields bounds
+  pub text : line ≡ line_of fields bounds tagged
+
+-- ---- For the body alone.
+
+-- a number of this many hexadecimal digits, and of no fewer
+pub record HasDigits (count number : ℕ) : Type 0 where
+  pub some : 1 ≤ count
+  pub most : count ≤ 17
+  pub fits : number < 16 ^ count
+  pub least : 1 < count → 16 ^ (count - 1) ≤ number

@@ -1,0 +1,158 @@
+//! The text of a word on one line, in fixed room.
+ghost use Rattle.std.specs.Prelude.{◌≡◌, ◌+◌, ◌-◌, ◌^◌, ◌<◌, ◌≤◌, ◌++◌, [], length};
+ghost use Rattle.cc_word.specs.declared.fields.Fields.{Fields as FieldsSpec};
+ghost use Rattle.cc_cap.specs.Permissions.{bits_of};
+ghost use Rattle.cc_cap.specs.LineText.{HasDigits, IsLine, letter_of, letters_of, line_of, marks_of, prefixed_digits};
+
+use crate::obj_type::UNSEALED_TYPE;
+use crate::perms::Perms;
+use bitflags::Flags;
+use cc_bounds::{Span, decode};
+use cc_word::{Fields, unpack, write_word};
+use std::marker::Model;
+
+/// More bytes than any line has.
+const ROOM: usize = 96;
+
+/// The type of a sealed entry.
+const SENTRY_TYPE: u32 = 0x3fffe;
+
+/// The line of a word: at most 95 bytes, which stand in the value itself.
+#[derive(Drop)]
+pub struct WordLine {
+    room: [u8; ROOM],
+    len: usize,
+}
+
+impl Model for WordLine {
+    ghost use Rattle.std.specs.Prelude.{ℕ, ◌<◌, List, take};
+    ghost use Rattle.cc_cap.specs.declared.word_line.TheConstants.{ROOM};
+
+    ghost Value = { List ℕ };
+
+    ghost view = { λ line. take line.len line.room };
+
+    ghost invariant = { λ line. line.len < ROOM };
+}
+
+impl WordLine {
+    /// The line of a word, for every word, in the form that `%#p` has in CheriBSD: its address, and in
+    /// brackets the letters of its permissions, its base and its top as the word decodes; then, of the type
+    /// and of the tag that is handed in, `(sealed)`, `(sentry)` or `(invalid)`, or two of them.
+    ///
+    /// LOAD is `r`, STORE `w`, EXECUTE `x`, LOAD_CAP `R`, STORE_CAP `W`; the others have no letter. A type
+    /// but unsealed and sentry is sealed, reserved ones too. As `0x10070 [rwxRW,0x10070-0x12070]`.
+    pub fn of_word(word: u128, tagged: bool) -> WordLine
+        ensures { IsLine word tagged result }
+    {
+        let fields = unpack(word);
+        let bounds = decode(&fields);
+        let mut line = WordLine::new();
+        line.push_line(&fields, &bounds, tagged);
+        line
+    }
+
+    /// The bytes of the line.
+    pub fn bytes(&self) -> &[u8]
+        ensures value { result.now ≡ self.now }
+        ensures fits { length result.now < 96 }
+    {
+        &self.room[..self.len]
+    }
+
+    // No text yet.
+    fn new() -> WordLine
+        ensures { result ≡ [] }
+    {
+        WordLine {
+            room: [0; ROOM],
+            len: 0,
+        }
+    }
+
+    // Makes an empty line that of fields and bounds.
+    fn push_line(&mut self, fields: &Fields, bounds: &Span, tagged: bool)
+        requires empty { self.old ≡ [] }
+        requires top { bounds.now.top < 2 ^ 65 }
+        ensures { self.new ≡ line_of fields.now bounds.now tagged }
+    {
+        self.push_number(u128::from(fields.address));
+        self.push(b" [");
+        self.push_letters(Perms::from_bits_retain(fields.perms));
+        self.push(b",");
+        self.push_number(u128::from(bounds.base));
+        self.push(b"-");
+        self.push_number(bounds.top);
+        self.push(b"]");
+        self.push(marks(fields.otype, tagged));
+    }
+
+    // Appends bytes as they are.
+    fn push(&mut self, bytes: &[u8])
+        requires { length self.old + length bytes.now < 96 }
+        ensures { self.new ≡ self.old ++ bytes.now }
+    {
+        let end = self.len + bytes.len();
+        self.room[self.len..end].copy_from_slice(bytes);
+        self.len = end;
+    }
+
+    // Appends `0x` and a number's hexadecimal digits without leading zeros.
+    fn push_number(&mut self, number: u128)
+        requires small { number < 2 ^ 65 }
+        requires room { length self.old + 19 < 96 }
+        ensures value { self.new ≡ self.old ++ prefixed_digits number }
+        ensures fits { length self.new ≤ length self.old + 19 }
+    {
+        self.push(b"0x");
+        self.push(&write_word(number)[32 - digit_count(number)..]);
+    }
+
+    // Appends the letters of permissions.
+    fn push_letters(&mut self, perms: Perms)
+        requires { length self.old + 5 < 96 }
+        ensures value { self.new ≡ self.old ++ letters_of (bits_of perms) }
+        ensures fits { length self.new ≤ length self.old + 5 }
+    {
+        self.push(letter(b"r", perms, Perms::LOAD));
+        self.push(letter(b"w", perms, Perms::STORE));
+        self.push(letter(b"x", perms, Perms::EXECUTE));
+        self.push(letter(b"R", perms, Perms::LOAD_CAP));
+        self.push(letter(b"W", perms, Perms::STORE_CAP));
+    }
+}
+
+// The letter of a permission, where the set has it.
+fn letter<'a>(letter: &'a [u8], perms: Perms, permission: Perms) -> &'a [u8]
+    ensures value { result.now ≡ letter_of letter.now (bits_of perms) (bits_of permission) }
+    ensures fits { length result.now ≤ length letter.now }
+{
+    if perms.contains(permission) {
+        letter
+    } else {
+        b""
+    }
+}
+
+// What is said of a type and a tag.
+fn marks(otype: u32, tagged: bool) -> &'static [u8]
+    ensures value { result.now ≡ marks_of otype tagged }
+    ensures fits { length result.now ≤ 17 }
+{
+    match (otype, tagged) {
+        (UNSEALED_TYPE, true) => b"",
+        (UNSEALED_TYPE, false) => b" (invalid)",
+        (SENTRY_TYPE, true) => b" (sentry)",
+        (SENTRY_TYPE, false) => b" (invalid,sentry)",
+        (_, true) => b" (sealed)",
+        (_, false) => b" (invalid,sealed)",
+    }
+}
+
+// How many hexadecimal digits a number has, without leading zeros.
+fn digit_count(number: u128) -> usize
+    requires { number < 2 ^ 65 }
+    ensures { HasDigits result number }
+{
+    ((131 - number.leading_zeros()) / 4).max(1) as usize
+}
