@@ -1,0 +1,30 @@
+# Completion of cheri-cap's words for bash. tests/install compares it with the program's help.
+
+_cheri_cap() {
+  local word=${COMP_WORDS[COMP_CWORD]} before=${COMP_WORDS[COMP_CWORD - 1]} command=${COMP_WORDS[1]} options='-h --help'
+  COMPREPLY=()
+  if ((COMP_CWORD == 1)); then
+    mapfile -t COMPREPLY < <(compgen -W 'show round run plan -h --help -V --version' -- "$word")
+    return
+  fi
+  case $command in
+    run) options+=' --slots' ;;
+    plan) options+=' --slots --align' ;;
+    show | round) ;;
+    *) return ;;
+  esac
+  case $before in
+    --slots) ;;
+    --align) mapfile -t COMPREPLY < <(compgen -W '1 16' -- "$word") ;;
+    *)
+      if [[ $word == -* ]]; then
+        mapfile -t COMPREPLY < <(compgen -W "$options" -- "$word")
+      elif [[ $command == run || $command == plan ]]; then
+        compopt -o filenames 2>/dev/null
+        mapfile -t COMPREPLY < <(compgen -f -- "$word")
+      fi
+      ;;
+  esac
+}
+
+complete -F _cheri_cap cheri-cap

@@ -1,0 +1,150 @@
+"""Commands of gdb for words of CHERI Concentrate in the memory of the program that is debugged.
+
+    (gdb) source .../cheri_cap_gdb.py
+    (gdb) capdump ADDRESS [COUNT]       the words from an address on, 16 bytes each; one, if no count is given
+    (gdb) capinfo EXPRESSION            the fields and bounds of a value of 16 bytes
+    (gdb) capinfo WORD                  those of a word of 32 hexadecimal digits
+    (gdb) capprint TYPE                 from now on print values of this type, which has 16 bytes, as capabilities
+
+Bytes are taken in the byte order of the target (`show endian`). The module cheri_cap.py has to lie beside this file, as
+./install puts it, or in the folder python/ of a checkout.
+"""
+
+import os
+import re
+import sys
+
+import gdb
+import gdb.printing
+
+HERE = os.path.dirname(os.path.realpath(__file__))
+sys.path[1:1] = [HERE, os.path.join(os.path.dirname(HERE), "python")]
+from cheri_cap import Capability  # noqa: E402
+
+BYTES = 16
+
+
+def byte_order():
+    """The byte order of the target, as Python names it."""
+    return "big" if "big endian" in gdb.execute("show endian", to_string=True) else "little"
+
+
+def evaluate(text):
+    try:
+        return gdb.parse_and_eval(text)
+    except gdb.error as error:
+        raise gdb.GdbError(str(error))
+
+
+def from_memory(address):
+    """The capability at an address of the inferior."""
+    try:
+        data = gdb.selected_inferior().read_memory(address, BYTES)
+    except gdb.error as error:
+        raise gdb.GdbError(str(error))
+    return Capability.from_bytes(bytes(data), byte_order())
+
+
+def of_value(value):
+    """The capability that a value of 16 bytes is, in memory or, where it is a number, in a register."""
+    if value.type.sizeof != BYTES:
+        raise gdb.GdbError(f"a capability has {BYTES} bytes, and this value has {value.type.sizeof}")
+    if value.address is not None:
+        return from_memory(int(value.address))
+    if value.type.strip_typedefs().code == gdb.TYPE_CODE_INT:
+        return Capability(int(value.format_string(format="x", symbols=False), 16) % 2**128)
+    raise gdb.GdbError("this value is not in memory, and no number")
+
+
+class CapDump(gdb.Command):
+    """Show the capabilities from an address on: capdump ADDRESS [COUNT]
+
+COUNT words of 16 bytes each, one if it is left out, in the byte order of the target. Each line has the address, the
+word and what it stands for. Whether memory holds a capability is told by its tag, which is not looked at."""
+
+    def __init__(self):
+        super().__init__("capdump", gdb.COMMAND_DATA, gdb.COMPLETE_EXPRESSION)
+
+    def invoke(self, argument, from_tty):
+        words = gdb.string_to_argv(argument)
+        if len(words) not in (1, 2):
+            raise gdb.GdbError("usage: capdump ADDRESS [COUNT]")
+        start = evaluate(words[0])
+        start = int(start.address if start.type.strip_typedefs().code == gdb.TYPE_CODE_ARRAY else start)
+        count = int(evaluate(words[1])) if len(words) == 2 else 1
+        for address in range(start, start + BYTES * count, BYTES):
+            cap = from_memory(address)
+            print(f"{address:#x}: {cap.digits} {cap}")
+
+
+class CapInfo(gdb.Command):
+    """Show the fields and the bounds of a capability: capinfo EXPRESSION, or capinfo WORD
+
+EXPRESSION is a value of 16 bytes, and WORD 32 hexadecimal digits. The lines are those of `cheri-cap show`."""
+
+    def __init__(self):
+        super().__init__("capinfo", gdb.COMMAND_DATA, gdb.COMPLETE_EXPRESSION)
+
+    def invoke(self, argument, from_tty):
+        text = argument.strip()
+        if not text:
+            raise gdb.GdbError("usage: capinfo EXPRESSION, or capinfo WORD")
+        is_word = re.fullmatch("[0-9a-fA-F]{32}", text)
+        cap = Capability.parse(text) if is_word else of_value(evaluate(text))
+        print(cap.listing(), end="")
+
+
+class Printer:
+    """How `print` shows a value of a type that capprint named."""
+
+    def __init__(self, value):
+        self.value = value
+
+    def to_string(self):
+        try:
+            return str(of_value(self.value))
+        except gdb.GdbError as error:
+            return f"<{error}>"
+
+
+class Printers(gdb.printing.PrettyPrinter):
+    """The types that capprint named."""
+
+    def __init__(self):
+        super().__init__("cheri_cap")
+        self.types = set()
+
+    def __call__(self, value):
+        kind = value.type.unqualified()
+        names = {kind.name, str(kind), str(kind.strip_typedefs())}
+        return Printer(value) if names & self.types else None
+
+
+class CapPrint(gdb.Command):
+    """Print the values of a type as capabilities: capprint TYPE
+
+TYPE has 16 bytes, as `capability` or `struct capability`. It holds until gdb ends."""
+
+    def __init__(self, printers):
+        super().__init__("capprint", gdb.COMMAND_DATA, gdb.COMPLETE_SYMBOL)
+        self.printers = printers
+
+    def invoke(self, argument, from_tty):
+        name = argument.strip()
+        if not name:
+            raise gdb.GdbError("usage: capprint TYPE")
+        size = evaluate(f"sizeof({name})")
+        if int(size) != BYTES:
+            raise gdb.GdbError(f"a capability has {BYTES} bytes, and the type {name} has {int(size)}")
+        self.printers.types.add(name)
+
+
+def register():
+    printers = Printers()
+    gdb.printing.register_pretty_printer(None, printers, replace=True)
+    CapDump()
+    CapInfo()
+    CapPrint(printers)
+
+
+register()

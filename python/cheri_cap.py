@@ -1,0 +1,536 @@
+"""Capabilities of CHERI Concentrate, 128 bits for 64-bit addresses, over the shared library libcheri_cap.
+
+    >>> from cheri_cap import Capability
+    >>> cap = Capability.parse("ffff0000048190040000000000001000")
+    >>> hex(cap.base), hex(cap.top), cap.permissions[:2]
+    ('0x1000', '0x1200', ('GLOBAL', 'EXECUTE'))
+    >>> print(cap)
+    0x1000 [rwxRW,0x1000-0x1200]
+    >>> Capability.from_bytes(cap.to_bytes("little"), "little") == cap
+    True
+
+A word has 128 bits, and every word has fields and bounds. It is as it stands in memory: null is all zeros. Addresses,
+bases, tops, lengths and granules are numbers of bytes. Bounds are [base, top): the top is the address after the last
+byte, and may be 2**64. A word carries no tag: whether memory holds a capability is for the caller to know.
+
+What the library answers is proved; this module, which calls it, is tested and not proved. It needs no other module than
+Python's own, Python 3.8 or later, and x86-64 Linux. The library is looked for in this order: the file that the
+environment's CHERI_CAP_LIBRARY names; where ./install put it beside this module; examples/out of a checkout, where
+`examples/run shared` puts it; and where the loader looks.
+"""
+
+import ctypes
+import os
+from ctypes import POINTER, c_bool, c_char, c_char_p, c_size_t, c_uint8, c_uint16, c_uint32, c_uint64
+from pathlib import Path
+from typing import NamedTuple, Tuple
+
+__all__ = [
+    "LAST_SEALING",
+    "PERMISSIONS",
+    "REFUSALS",
+    "SENTRY",
+    "UNSEALED",
+    "VERSION",
+    "Capability",
+    "Fields",
+    "Granted",
+    "Refusal",
+    "alignment_mask",
+    "grant",
+    "granule",
+    "round_length",
+]
+
+#: The version of the library that this module calls.
+VERSION = 1
+
+#: The names of the permissions, from bit 0 up.
+PERMISSIONS = (
+    "GLOBAL",
+    "EXECUTE",
+    "LOAD",
+    "STORE",
+    "LOAD_CAP",
+    "STORE_CAP",
+    "STORE_LOCAL_CAP",
+    "SEAL",
+    "CINVOKE",
+    "UNSEAL",
+    "SYSTEM_REGS",
+    "SET_CID",
+    "USER0",
+    "USER1",
+    "USER2",
+    "USER3",
+)
+
+#: The refusals of derivations: their codes and names.
+REFUSALS = {
+    7: "sealed",
+    8: "unsealed",
+    9: "bounds",
+    10: "inexact",
+    11: "unrepresentable",
+    12: "permission",
+    13: "type",
+    14: "mismatch",
+    15: "canonical",
+    16: "exceeds",
+}
+
+#: The object type of a capability that is not sealed.
+UNSEALED = 0x3FFFF
+#: That of a sealed entry, as each return address of CheriBSD is; a reserved type.
+SENTRY = 0x3FFFE
+#: Sealing gives the types from 0 to this one; those between it and UNSEALED are reserved.
+LAST_SEALING = 0x3FFEF
+
+_HALF = 2**64 - 1
+_LINE_SIZE = 96
+
+
+class _Halves(ctypes.Structure):
+    _fields_ = [("high", c_uint64), ("low", c_uint64)]
+
+
+class _Fields(ctypes.Structure):
+    _fields_ = [
+        ("address", c_uint64),
+        ("otype", c_uint32),
+        ("perms", c_uint16),
+        ("t", c_uint16),
+        ("b", c_uint16),
+        ("reserved", c_uint8),
+        ("flag", c_bool),
+        ("ie", c_bool),
+    ]
+
+
+class _Bounds(ctypes.Structure):
+    _fields_ = [("base", c_uint64), ("top_high", c_uint64), ("top_low", c_uint64), ("exponent", c_uint8)]
+
+
+class _Granted(ctypes.Structure):
+    _fields_ = [
+        ("base", c_uint64),
+        ("top_high", c_uint64),
+        ("top_low", c_uint64),
+        ("t", c_uint16),
+        ("b", c_uint16),
+        ("exponent", c_uint8),
+        ("ie", c_bool),
+        ("exact", c_bool),
+        ("in_range", c_bool),
+    ]
+
+
+class _Read(ctypes.Structure):
+    _fields_ = [("high", c_uint64), ("low", c_uint64), ("found", c_bool)]
+
+
+class _Made(ctypes.Structure):
+    _fields_ = [("high", c_uint64), ("low", c_uint64), ("refusal", c_uint8)]
+
+
+_WORD = [c_uint64, c_uint64]
+
+# the header's calls: what each answers, and its parameters
+_CALLS = {
+    "version": (c_uint32, []),
+    "unpack": (_Fields, _WORD),
+    "pack": (_Halves, [_Fields]),
+    "is_canonical": (c_bool, _WORD),
+    "decode": (_Bounds, _WORD),
+    "set_bounds": (_Granted, [c_uint64, *_WORD]),
+    "represents": (c_bool, [*_WORD, c_uint64]),
+    "granule": (c_uint64, _WORD),
+    "round_length": (_Halves, _WORD),
+    "alignment_mask": (c_uint64, _WORD),
+    "read_word": (_Read, [c_char_p, c_size_t]),
+    "write_word": (None, [*_WORD, POINTER(c_char)]),
+    "set_address": (_Made, [*_WORD, c_uint64]),
+    "increment": (_Made, [*_WORD, c_uint64]),
+    "set_bounds_on": (_Made, [*_WORD, *_WORD]),
+    "set_bounds_exact_on": (_Made, [*_WORD, *_WORD]),
+    "and_perms": (_Made, [*_WORD, c_uint16]),
+    "set_flag": (_Made, [*_WORD, c_bool]),
+    "seal": (_Made, [*_WORD, *_WORD]),
+    "unseal": (_Made, [*_WORD, *_WORD]),
+    "rebuild": (_Made, [*_WORD, *_WORD]),
+    "is_subset": (c_bool, [*_WORD, *_WORD]),
+    "format": (c_size_t, [*_WORD, c_bool, POINTER(c_char)]),
+}
+
+
+def _place() -> str:
+    """The library's file, or its name, which the loader looks for."""
+    name = f"libcheri_cap.so.{VERSION}"
+    here = Path(__file__).resolve().parent
+    for place in here.parent.parent / "lib" / name, here.parent / "examples" / "out" / name:
+        if place.exists():
+            return str(place)
+    return name
+
+
+def _load():
+    place = os.environ.get("CHERI_CAP_LIBRARY") or _place()
+    try:
+        library = ctypes.CDLL(place)
+        calls = {}
+        for name, (answer, parameters) in _CALLS.items():
+            calls[name] = library[f"cheri_cap_{name}"]
+            calls[name].restype, calls[name].argtypes = answer, parameters
+    except (OSError, AttributeError) as error:
+        raise ImportError(f"cheri_cap: the shared library cannot be used: {error}") from error
+    if calls["version"]() != VERSION:
+        raise ImportError(f"cheri_cap: {place} is of version {calls['version']()}, and this module is for {VERSION}")
+    return calls
+
+
+_calls = _load()
+
+
+def _halves(number: int, most: int, what: str) -> Tuple[int, int]:
+    """The two halves of a number from 0 to `most`."""
+    if not 0 <= number <= most:
+        raise ValueError(f"{what} is from 0 to {most:#x}, and not {number:#x}")
+    return number >> 64, number & _HALF
+
+
+def _address(number: int) -> int:
+    return _halves(number, _HALF, "an address")[1]
+
+
+def _length(number: int) -> Tuple[int, int]:
+    return _halves(number, 2**64, "a length")
+
+
+class Refusal(Exception):
+    """A derivation is refused: `code`, a number, and `name`, one word of `REFUSALS`."""
+
+    def __init__(self, code: int):
+        super().__init__(code)
+        self.code = code
+        self.name = REFUSALS[code]
+
+    def __str__(self) -> str:
+        return f"{self.code} {self.name}"
+
+
+class Fields(NamedTuple):
+    """The fields of a word, as they are stored but for the exclusive-or of the null capability, which is taken away."""
+
+    #: the permissions, 16 bits; `PERMISSIONS` names them
+    perms: int
+    #: 2 bits, zero in every capability
+    reserved: int
+    #: whether code runs in capability mode
+    flag: bool
+    #: the object type, 18 bits; `UNSEALED` where it is not sealed
+    otype: int
+    #: the internal exponent: whether the low three bits of t and of b hold the exponent
+    ie: bool
+    #: the T field, 12 bits
+    t: int
+    #: the B field, 14 bits
+    b: int
+    #: the address, 64 bits
+    address: int
+
+
+class Granted(NamedTuple):
+    """What a request for bounds is granted."""
+
+    #: the first address, in bytes
+    base: int
+    #: the address after the last byte, at most 2**64
+    top: int
+    #: 0 to 52
+    exponent: int
+    #: whether the request is granted as it is
+    exact: bool
+    #: the fields that store the bounds
+    ie: bool
+    t: int
+    b: int
+
+
+class Capability:
+    """A word of 128 bits, read as a capability. It cannot be changed; two are equal where their words are."""
+
+    __slots__ = ("_word", "_fields", "_bounds")
+
+    def __init__(self, word: int = 0):
+        """The capability of a word from 0 to 2**128 - 1, all of which have fields and bounds; null, if left out."""
+        _halves(word, 2**128 - 1, "a word")
+        self._word = word
+        self._fields = None
+        self._bounds = None
+
+    # ---- From and to other forms
+
+    @classmethod
+    def root(cls) -> "Capability":
+        """The capability with every permission over every address, at address 0."""
+        return cls(0xFFFF << 112)
+
+    @classmethod
+    def parse(cls, text: str) -> "Capability":
+        """The word of 32 hexadecimal digits of either case, and nothing else; ValueError for any other text."""
+        given = text.encode("utf-8")
+        read = _calls["read_word"](given, len(given))
+        if not read.found:
+            raise ValueError(f"a word is 32 hexadecimal digits, and not {text!r}")
+        return cls(read.high << 64 | read.low)
+
+    @classmethod
+    def from_bytes(cls, data: bytes, byteorder: str = "little") -> "Capability":
+        """The word of 16 bytes of memory, in the byte order of the memory: "little" or "big"."""
+        if len(data) != 16:
+            raise ValueError(f"a word is 16 bytes, and not {len(data)}")
+        return cls(int.from_bytes(data, byteorder))
+
+    @classmethod
+    def from_fields(cls, fields: Fields) -> "Capability":
+        """The word of fields; ValueError for a number that is wider than its field."""
+        given = _Fields(**fields._asdict())
+        if any(getattr(given, name) != value for name, value in fields._asdict().items()):
+            raise ValueError(f"a field is too wide: {fields}")
+        halves = _calls["pack"](given)
+        made = cls(halves.high << 64 | halves.low)
+        if made.fields != fields:
+            raise ValueError(f"a field is too wide: {fields}")
+        return made
+
+    def to_bytes(self, byteorder: str = "little") -> bytes:
+        """The 16 bytes of the word in memory of this byte order, "little" or "big"."""
+        return self._word.to_bytes(16, byteorder)
+
+    @property
+    def word(self) -> int:
+        """The word, 128 bits."""
+        return self._word
+
+    @property
+    def digits(self) -> str:
+        """The word as 32 hexadecimal digits in lower case."""
+        text = (c_char * 32)()
+        _calls["write_word"](*self._halves(), text)
+        return text.raw.decode("ascii")
+
+    # ---- Fields
+
+    @property
+    def fields(self) -> Fields:
+        """All fields of the word."""
+        if self._fields is None:
+            found = _calls["unpack"](*self._halves())
+            self._fields = Fields(*(getattr(found, name) for name in Fields._fields))
+        return self._fields
+
+    @property
+    def perms(self) -> int:
+        """The permissions as 16 bits."""
+        return self.fields.perms
+
+    @property
+    def permissions(self) -> Tuple[str, ...]:
+        """The names of the permissions that it has, from bit 0 up."""
+        return tuple(name for bit, name in enumerate(PERMISSIONS) if self.perms >> bit & 1)
+
+    @property
+    def flag(self) -> bool:
+        """Whether code runs in capability mode."""
+        return self.fields.flag
+
+    @property
+    def otype(self) -> int:
+        """The object type, 18 bits: `UNSEALED` where it is not sealed."""
+        return self.fields.otype
+
+    @property
+    def is_sealed(self) -> bool:
+        """Whether its type is another than `UNSEALED` (CGetSealed)."""
+        return self.otype != UNSEALED
+
+    @property
+    def is_sentry(self) -> bool:
+        """Whether its type is `SENTRY`."""
+        return self.otype == SENTRY
+
+    @property
+    def address(self) -> int:
+        """The address, 64 bits."""
+        return self.fields.address
+
+    # ---- Bounds
+
+    @property
+    def base(self) -> int:
+        """The first address of the bounds."""
+        return self._decoded()[0]
+
+    @property
+    def top(self) -> int:
+        """The address after the last byte of the bounds; for a canonical word at most 2**64, else below 2**65."""
+        return self._decoded()[1]
+
+    @property
+    def exponent(self) -> int:
+        """The exponent of the bounds, 0 to 52: they are stored in units of 2**exponent bytes, or 2**(exponent + 3)."""
+        return self._decoded()[2]
+
+    @property
+    def length(self) -> int:
+        """The number of bytes in the bounds, 0 to 2**64; 0 where the top is below the base, which no canonical word has."""
+        return max(self.top - self.base, 0)
+
+    @property
+    def is_canonical(self) -> bool:
+        """Whether the word is that of some capability that derivation makes, sealed or not."""
+        return _calls["is_canonical"](*self._halves())
+
+    def holds(self, address: int) -> bool:
+        """Whether the bounds hold the byte at the address."""
+        return self.base <= _address(address) < self.top
+
+    def representable(self, address: int) -> bool:
+        """Whether the word with that address decodes to the same bounds. False for a word that does not store its bounds
+        as setting bounds stores them."""
+        return _calls["represents"](*self._halves(), _address(address))
+
+    # ---- Derivation: each makes another capability, or raises the first `Refusal` of those named, in this order
+
+    def set_address(self, address: int) -> "Capability":
+        """The same bounds at another address (CSetAddr). canonical, sealed, unrepresentable."""
+        return self._derived("set_address", _address(address))
+
+    def increment(self, amount: int) -> "Capability":
+        """The same bounds with the address moved by so many bytes, modulo 2**64 (CIncOffset). canonical, sealed,
+        unrepresentable."""
+        return self._derived("increment", amount & _HALF)
+
+    def set_bounds(self, length: int) -> "Capability":
+        """The bounds of `length` bytes from the address on, rounded outwards where they cannot be stored exactly
+        (CSetBounds). canonical, sealed, bounds."""
+        return self._derived("set_bounds_on", *_halves(length, 2**128 - 1, "a length"))
+
+    def set_bounds_exact(self, length: int) -> "Capability":
+        """The same, but never rounded (CSetBoundsExact). canonical, sealed, bounds, inexact."""
+        return self._derived("set_bounds_exact_on", *_halves(length, 2**128 - 1, "a length"))
+
+    def and_perms(self, mask: int) -> "Capability":
+        """With the permissions that are also in the mask of 16 bits (CAndPerm). canonical, sealed."""
+        return self._derived("and_perms", _halves(mask, 0xFFFF, "a mask")[1])
+
+    def set_flag(self, flag: bool) -> "Capability":
+        """With this flag (CSetFlags). canonical, sealed."""
+        return self._derived("set_flag", bool(flag))
+
+    def seal(self, authority: "Capability") -> "Capability":
+        """Sealed with the authority's address as its type (CSeal). canonical and sealed, of either; permission, bounds
+        and type, of the authority."""
+        return self._derived("seal", *authority._halves())
+
+    def unseal(self, authority: "Capability") -> "Capability":
+        """Unsealed (CUnseal); GLOBAL stays only where both have it. canonical, of either; unsealed; sealed, permission
+        and bounds, of the authority; mismatch."""
+        return self._derived("unseal", *authority._halves())
+
+    def rebuild(self, other: "Capability") -> "Capability":
+        """The other word again, where it grants no more than this authority (CBuildCap). canonical and sealed, of the
+        authority; canonical and exceeds, of the other."""
+        return self._derived("rebuild", *other._halves())
+
+    def is_subset(self, outer: "Capability") -> bool:
+        """Whether all its bytes and permissions are within those of the other (CTestSubset), for any two words."""
+        return _calls["is_subset"](*self._halves(), *outer._halves())
+
+    # ---- Texts
+
+    def line(self, tagged: bool = True) -> str:
+        """The word on one line, as CheriBSD's `%#p` shows it: 0x10070 [rwxRW,0x10070-0x12070], and behind it (sentry),
+        (sealed) or, without its tag, (invalid). LOAD is r, STORE w, EXECUTE x, LOAD_CAP R, STORE_CAP W."""
+        text = (c_char * _LINE_SIZE)()
+        length = _calls["format"](*self._halves(), tagged, text)
+        return text.raw[:length].decode("ascii")
+
+    def __str__(self) -> str:
+        """`line()`, as if it were tagged."""
+        return self.line()
+
+    def listing(self) -> str:
+        """The fields and bounds, one on each line: what `cheri-cap show` writes."""
+        field = self.fields
+        lines = {
+            "word": self.digits,
+            "perms": f"{field.perms:04x} {'+'.join(self.permissions) or '-'}",
+            "reserved": f"{field.reserved}",
+            "flag": f"{field.flag:d}",
+            "type": f"{field.otype:05x}",
+            "ie": f"{field.ie:d}",
+            "t": f"{field.t:03x}",
+            "b": f"{field.b:04x}",
+            "address": f"{field.address:#x}",
+            "exponent": f"{self.exponent}",
+            "base": f"{self.base:#x}",
+            "top": f"{self.top:#x}",
+            "canonical": "yes" if self.is_canonical else "no",
+        }
+        return "".join(f"{name} {value}\n" for name, value in lines.items())
+
+    def __repr__(self) -> str:
+        return f"Capability({self._word:#034x})"
+
+    # ---- The object
+
+    def __eq__(self, other: object) -> bool:
+        return self._word == other._word if isinstance(other, Capability) else NotImplemented
+
+    def __hash__(self) -> int:
+        return hash((Capability, self._word))
+
+    def __reduce__(self):
+        return Capability, (self._word,)
+
+    def _derived(self, call: str, *values: int) -> "Capability":
+        made = _calls[call](*self._halves(), *values)
+        if made.refusal:
+            raise Refusal(made.refusal)
+        return Capability(made.high << 64 | made.low)
+
+    def _halves(self) -> Tuple[int, int]:
+        return self._word >> 64, self._word & _HALF
+
+    def _decoded(self) -> Tuple[int, int, int]:
+        if self._bounds is None:
+            found = _calls["decode"](*self._halves())
+            self._bounds = found.base, found.top_high << 64 | found.top_low, found.exponent
+        return self._bounds
+
+
+def grant(base: int, length: int) -> Granted:
+    """The least bounds that a word can store and that cover `length` bytes from `base` on; ValueError where these end
+    above 2**64."""
+    found = _calls["set_bounds"](_address(base), *_length(length))
+    if not found.in_range:
+        raise ValueError(f"{length:#x} bytes from {base:#x} on end above 2**64")
+    top = found.top_high << 64 | found.top_low
+    return Granted(found.base, top, found.exponent, found.exact, found.ie, found.t, found.b)
+
+
+def granule(length: int) -> int:
+    """The unit in which the bounds of so many bytes, 0 to 2**64, are stored from address 0 up."""
+    return _calls["granule"](*_length(length))
+
+
+def round_length(length: int) -> int:
+    """The representable length (CRRL): the length, 0 to 2**64, rounded up to a multiple of its granule."""
+    halves = _calls["round_length"](*_length(length))
+    return halves.high << 64 | halves.low
+
+
+def alignment_mask(length: int) -> int:
+    """The representable alignment mask (CRAM): an address "and" the mask is a multiple of the length's granule."""
+    return _calls["alignment_mask"](*_length(length))

@@ -1,0 +1,164 @@
+# Proves and builds what a script needs, where that is not built from the sources as they are. Sourced by ./cheri-cap,
+# ./install and examples/run, each of which first sets
+#
+#   top    the folder of the checkout
+#   who    the name that stands before what is said on standard error
+#
+# and then calls `stand_built`. What a build was made of is kept in two files beside what it made:
+#
+#   built-from    the toolchain's identity, and the checksums of the sources and of what was built
+#   seen          their names, sizes and times when they last had these checksums
+#
+# Where `seen` is as the files are, no file is read. Names are relative to the checkout, so that it can be moved and
+# copied. The times are those of the last change of any kind, which no program sets back.
+
+: "${top:?}" "${who:?}"
+readonly NOT_BUILT=125
+# a crate that takes long tells how far it is, after so many seconds each
+readonly TELLS_EACH=10
+
+say() {
+  printf '%s: %s\n' "$who" "$1" >&2
+}
+
+# Ends with the status that says: not proved or not built, and nothing was run.
+stop() {
+  say "$1"
+  exit "$NOT_BUILT"
+}
+
+# Sets `identity` to the line that tells which toolchain is there, from the file in its folder or, where there is none,
+# by asking it. Nothing where there is no toolchain.
+identify() {
+  local folders folder rt=''
+  IFS=: read -ra folders <<<"$PATH"
+  for folder in "${folders[@]}"; do
+    [[ ! -f ${folder:-.}/rt || ! -x ${folder:-.}/rt ]] || { rt=${folder:-.}/rt && break; }
+  done
+  [[ ! -L $rt ]] || rt=$(readlink -f -- "$rt")
+  if [[ -z $rt ]]; then
+    identity=''
+  elif [[ -r ${rt%/bin/rt}/KIT-ID ]]; then
+    read -r identity <"${rt%/bin/rt}/KIT-ID"
+  else
+    identity=$(rt version 2>/dev/null) || identity=''
+  fi
+}
+
+# The crates below the one named, lowest first, and then that one, added to `order`. crates.txt has a line NAME: BELOW..
+# for each; what it does not name is the toolchain's.
+read_crates() {
+  local line name
+  while IFS= read -r line; do
+    line=${line%%#*}
+    if [[ $line == *:* ]]; then
+      read -r name _ <<<"${line%%:*}"
+      needs[$name]=${line#*:}
+    fi
+  done <"$top/crates.txt"
+}
+list_crates() {
+  local name
+  if [[ -n ${needs[$1]+known} && -z ${listed[$1]-} ]]; then
+    listed[$1]=yes
+    for name in ${needs[$1]}; do list_crates "$name"; done
+    order+=("$1")
+  fi
+}
+
+# The sources, and what else is named first, up to the word --: each as find prints it by the words that follow.
+files() {
+  local also=()
+  while [[ $1 != -- ]]; do also+=("$1") && shift; done
+  LC_ALL=C find crates.txt "${order[@]/#/crates/}" "${also[@]}" \
+    \( -name out -o -name must-fail \) -prune -o -type f "${@:2}"
+}
+
+# Names, sizes and times; the checksums. Each goes to the checkout, so they are called in a subshell.
+looks() {
+  cd -- "$top" && files "$@" -- -printf '%p %s %C@\n'
+}
+checksums() {
+  cd -- "$top" && files "$@" -- -print0 | LC_ALL=C sort -z | xargs -0 sha256sum --
+}
+
+# Writes a text into a file, whole or not at all. Fails where the folder is not to be written to.
+keep() {
+  { printf '%s\n' "$2" >"$1.new.$$" && mv -f -- "$1.new.$$" "$1"; } 2>/dev/null
+}
+
+# Whether what stands built is what was built, and from these sources. Without a toolchain, whichever built it.
+is_current() {
+  local identity=$1 product=$2 kept=$3 built_by found seen
+  [[ -f $top/$product && -f $kept/built-from ]] && read -r built_by <"$kept/built-from" || return
+  [[ -z $identity || $identity == "$built_by" ]] || return
+  found=$(looks "$product") || return
+  if [[ -f $kept/seen ]] && mapfile -d '' seen <"$kept/seen" && [[ ${seen[0]-} == "$found"$'\n' ]]; then return; fi
+  [[ $(<"$kept/built-from") == "$built_by"$'\n'"$(checksums "$product")" ]] || return
+  keep "$kept/seen" "$found" || true
+}
+
+# Keeps other builds out of this checkout until it is unlocked or this process ends.
+lock_checkout() {
+  exec {locked}<"$top/crates"
+  if type -P flock >/dev/null && ! flock -n "$locked"; then
+    say 'another build is at work in this checkout: waiting for it'
+    flock "$locked" || true
+  fi
+}
+unlock_checkout() {
+  exec {locked}<&-
+}
+
+# Proves and builds a crate by the rt command that follows, telling that it is the first of so many. The status of the
+# command comes as the last line behind what it says.
+prove() {
+  local at=$1 name=$2 line='' said='' began=$SECONDS told=$SECONDS
+  say "$at: proving and building $name"
+  while IFS= read -r line; do
+    said+=$line$'\n'
+    if [[ $line =~ ^so\ far:\ ([0-9]+)\ of\ ([0-9]+)\ functions ]] && ((SECONDS - told >= TELLS_EACH)); then
+      told=$SECONDS
+      say "$at: $name: ${BASH_REMATCH[1]} of ${BASH_REMATCH[2]} functions after $((SECONDS - began)) s"
+    fi
+  done < <(cd -- "$top/crates/$name" && "${@:3}" 2>&1 </dev/null; printf '\nstatus %s\n' "$?")
+  if [[ $said != *$'\n''status 0'$'\n' ]]; then
+    printf '%s' "${said%status *}" >&2
+    stop "$name is not proved, so nothing was built"
+  fi
+  say "$at: $name took $((SECONDS - began)) s"
+}
+
+# Proves and builds all crates in `order`, the last by the rt command given, and keeps what they were made of. Sources that
+# look before and after as they do in between were not changed.
+build_all() {
+  local identity=$1 product=$2 kept=$3 name at=0 before found made_of how
+  mkdir -p -- "$kept" 2>/dev/null && keep "$kept/building" "$identity" || stop "the build cannot be kept: $kept is not to be written to"
+  rm -f -- "$kept/building"
+  before=$(looks) || stop 'the sources cannot be read'
+  [[ -f $top/$product ]] || say 'the first build takes some minutes; it is done again where a source changed'
+  for name in "${order[@]}"; do
+    at=$((at + 1)) how=(rt lib)
+    ((at < ${#order[@]})) || how=("${@:4}")
+    prove "$at of ${#order[@]}" "$name" "${how[@]}"
+  done
+  found=$(looks "$product") && made_of=$(checksums "$product") || stop "$product was not built"
+  [[ $(looks) == "$before" ]] || stop 'a source changed while it was built: start it again'
+  keep "$kept/built-from" "$identity"$'\n'"$made_of" && keep "$kept/seen" "$found" || stop "the build cannot be kept in $kept"
+}
+
+# Sees to it that a file of a crate's folder out/ stands as built from the sources as they are, else builds it by the rt
+# command that follows:  stand_built CRATE FILE run -- --version
+stand_built() {
+  local crate=$1 product=crates/$1/out/$2 kept=$top/crates/$1/out identity locked
+  local -A needs=() listed=()
+  local order=()
+  read_crates
+  list_crates "$crate"
+  identify
+  if is_current "$identity" "$product" "$kept"; then return; fi
+  [[ -n $identity ]] || stop "the toolchain's command rt is not found or tells no version, and what stands built is not from these sources: see README.md, \"Before the first start\""
+  lock_checkout
+  is_current "$identity" "$product" "$kept" || build_all "$identity" "$product" "$kept" rt "${@:3}"
+  unlock_checkout
+}
