@@ -35,8 +35,8 @@ pub(crate) fn room(from: u64, to: u64) -> u64
         return len;
     }
     let unit = unit(len);
-    let coarse = len.saturating_sub(padding(from, unit));
-    len.min(LEAST_UNITS * unit - 1).max(coarse)
+    let coarse = len - padding(from, unit);
+    coarse.max(LEAST_UNITS * unit - 1)
 }
 
 /// The least room of a gap that has a place for `len` bytes at a multiple of `align`.
