@@ -10,8 +10,8 @@ use Rattle.std.specs.Int.Count.{count_leading_zeros}
 unfoldable pub unit_of : ℕ → ℕ
 unit_of size = 2 ^ (67 - count_leading_zeros 64 (size / 8192))
 
--- what a gap has, in which the unit of the length is this: the bytes from the first multiple of the unit on, or
--- all of its bytes as far as they are fewer than 512 units, if that is more
+-- the room of a gap whose length has this unit: the bytes from the first multiple of the unit on, or, if that is
+-- more, all of its bytes as far as they are fewer than 512 units
 abbrev pub room_at : (unit from to : ℕ) → ℕ
 room_at unit from to = max (min (to - from) (512 * unit - 1)) (to - div_ceil from unit * unit)
 

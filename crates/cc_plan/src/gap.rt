@@ -21,7 +21,10 @@ fn unit(len: u64) -> u64
     1 << (67 - (len >> 13).leading_zeros())
 }
 
-/// The room of the gap from `from` up to `to`: the most bytes of an object that has a place in it.
+/// The room of the gap from `from` up to `to`: an object of more bytes has no place in it.
+///
+/// It is the length below 4,096 bytes. Of longer gaps it is what is left from the first multiple of the length's
+/// unit on: objects of 512 such units and more lie at multiples of it.
 #[inline(always)]
 pub(crate) fn room(from: u64, to: u64) -> u64
     requires { from ≤ to }
@@ -32,8 +35,8 @@ pub(crate) fn room(from: u64, to: u64) -> u64
         return len;
     }
     let unit = unit(len);
-    let coarse = len.saturating_sub(padding(from, unit));
-    len.min(LEAST_UNITS * unit - 1).max(coarse)
+    let coarse = len - padding(from, unit);
+    coarse.max(LEAST_UNITS * unit - 1)
 }
 
 /// The least room of a gap that has a place for `len` bytes at a multiple of `align`.
