@@ -19,6 +19,7 @@ static cheri_cap_u128 *randoms, *canonicals, *lengths;
 static uint64_t *bases, *requests, *addresses;
 static cheri_cap_fields *fields;
 static char (*texts)[32];
+static cheri_cap_u128 *unsealed, *sealed, *authorities, *parents;
 
 // A seeded generator, splitmix64.
 static uint64_t next_random(void)
@@ -69,6 +70,22 @@ static void make_input(size_t i)
     plain_write_word(randoms[i].high, randoms[i].low, texts[i]);
 }
 
+// Words for the rules: of two unsealed ones in three the authority seals and unseals; a quarter of the parents are
+// other words, and the rest the root's.
+static void make_rule_input(size_t i)
+{
+    cheri_cap_fields own = fields[i];
+    own.otype = CHERI_CAP_OTYPE_UNSEALED;
+    unsealed[i] = plain_pack(own);
+    authorities[i] = cheri_cap_root();
+    authorities[i].low = next_random() % 0x3fff8;
+    if (next_random() % 3 == 0)
+        authorities[i].high &= next_random() << 48;
+    own.otype = (uint32_t)(next_random() % 4 != 0 ? authorities[i].low % 0x3fff0 : next_random() % 0x3fff0);
+    sealed[i] = plain_pack(own);
+    parents[i] = next_random() % 4 != 0 ? cheri_cap_root() : unsealed[next_random() % (i + 1)];
+}
+
 // Room for so many values of a kind.
 static void *room(size_t count, size_t size)
 {
@@ -90,8 +107,14 @@ static void make_inputs(size_t count)
     addresses = room(count, sizeof *addresses);
     fields = room(count, sizeof *fields);
     texts = room(count, sizeof *texts);
+    unsealed = room(count, sizeof *unsealed);
+    sealed = room(count, sizeof *sealed);
+    authorities = room(count, sizeof *authorities);
+    parents = room(count, sizeof *parents);
     for (size_t i = 0; i < count; i++)
         make_input(i);
+    for (size_t i = 0; i < count; i++)
+        make_rule_input(i);
 }
 
 static uint64_t fold_fields(cheri_cap_fields it)
@@ -143,6 +166,14 @@ CALL(is_canonical_canonical, bool, is_canonical, (canonicals[i].high, canonicals
 CALL(read_word, cheri_cap_read, read_word, (texts[i], 32), r.high + 3 * r.low + r.found)
 LOOP(write_word, library, char text[32], cheri_cap_write_word(randoms[i].high, randoms[i].low, text), fold_text(text))
 LOOP(write_word, plain, char text[32], plain_write_word(randoms[i].high, randoms[i].low, text), fold_text(text))
+#define WORD(words) words[i].high, words[i].low
+#define RULE(name, arguments) CALL(name, cheri_cap_made, name, arguments, r.high + 3 * r.low + r.refusal)
+RULE(increment, (WORD(unsealed), addresses[i] - unsealed[i].low))
+RULE(set_bounds_on, (WORD(unsealed), 0, requests[i] / 4))
+RULE(seal, (WORD(unsealed), WORD(authorities)))
+RULE(unseal, (WORD(sealed), WORD(authorities)))
+RULE(rebuild, (WORD(parents), WORD(unsealed)))
+CALL(is_subset, bool, is_subset, (WORD(unsealed), WORD(parents)), r)
 
 typedef uint64_t loop(size_t first, size_t end, uint64_t checksum);
 
@@ -165,6 +196,12 @@ static const struct {
     ROW(is_canonical_canonical),
     ROW(read_word),
     ROW(write_word),
+    ROW(increment),
+    ROW(set_bounds_on),
+    ROW(seal),
+    ROW(unseal),
+    ROW(rebuild),
+    ROW(is_subset),
 };
 
 static double now(void)

@@ -265,3 +265,133 @@ void plain_write_word(uint64_t high, uint64_t low, char *text)
     write_half(high, text);
     write_half(low, text + 16);
 }
+
+// ---- The rules on words
+
+#define BOUNDS_BITS UINT64_C(0x0000000007ffffff)
+#define TYPE_BITS (UINT64_C(0x3ffff) << 27)
+
+// The bounds of the capability of a word, where there is one.
+static inline bool read_bounds(uint64_t high, uint64_t low, span *bounds)
+{
+    uint64_t plain = high ^ NULL_HIGH;
+    uint32_t otype = plain >> 27 & 0x3ffff;
+    if ((plain >> 46 & 3) != 0 || (otype > CHERI_CAP_OTYPE_LAST_SEALING && otype != CHERI_CAP_OTYPE_UNSEALED))
+        return false;
+    *bounds = decoded_word(high, low);
+    return is_stored(plain, *bounds);
+}
+
+static inline bool is_sealed(uint64_t high)
+{
+    return (high & TYPE_BITS) != 0;
+}
+
+static inline bool has_all(uint64_t high, uint64_t perms)
+{
+    return (high >> 48 & perms) == perms;
+}
+
+static inline bool is_within(const span *inner, const span *outer)
+{
+    return outer->base <= inner->base && inner->top <= outer->top;
+}
+
+static inline bool has_byte(const span *bounds, uint64_t byte)
+{
+    return bounds->base <= byte && byte < bounds->top;
+}
+
+static inline cheri_cap_made made(uint64_t high, uint64_t low)
+{
+    return (cheri_cap_made){high, low, 0};
+}
+
+static inline cheri_cap_made refused(uint8_t refusal)
+{
+    return (cheri_cap_made){0, 0, refusal};
+}
+
+cheri_cap_made plain_increment(uint64_t high, uint64_t low, uint64_t amount)
+{
+    span bounds;
+    if (!read_bounds(high, low, &bounds))
+        return refused(CHERI_CAP_REFUSAL_CANONICAL);
+    if (is_sealed(high))
+        return refused(CHERI_CAP_REFUSAL_SEALED);
+    unsigned width = bounds.exponent + 11;
+    uint64_t start = ((bounds.base >> width) - 1) << width;
+    if ((low + amount - start) >> width >= 8)
+        return refused(CHERI_CAP_REFUSAL_UNREPRESENTABLE);
+    return made(high, low + amount);
+}
+
+cheri_cap_made plain_set_bounds_on(uint64_t high, uint64_t low, uint64_t length_high, uint64_t length_low)
+{
+    u128 length = (u128)length_high << 64 | length_low;
+    span bounds;
+    if (!read_bounds(high, low, &bounds))
+        return refused(CHERI_CAP_REFUSAL_CANONICAL);
+    if (is_sealed(high))
+        return refused(CHERI_CAP_REFUSAL_SEALED);
+    if (length > ADDRESS_SPACE || low < bounds.base || low + length > bounds.top)
+        return refused(CHERI_CAP_REFUSAL_BOUNDS);
+    encoding set = encoded(low, low + length);
+    uint64_t stored = (uint64_t)set.ie << 26 | (uint64_t)set.t << 14 | set.b;
+    return made((high & ~BOUNDS_BITS) | (stored ^ (NULL_HIGH & BOUNDS_BITS)), low);
+}
+
+cheri_cap_made plain_seal(uint64_t high, uint64_t low, uint64_t authority_high, uint64_t authority_low)
+{
+    span bounds, authority;
+    if (!read_bounds(high, low, &bounds) || !read_bounds(authority_high, authority_low, &authority))
+        return refused(CHERI_CAP_REFUSAL_CANONICAL);
+    if (is_sealed(high) || is_sealed(authority_high))
+        return refused(CHERI_CAP_REFUSAL_SEALED);
+    if (!has_all(authority_high, CHERI_CAP_PERM_SEAL))
+        return refused(CHERI_CAP_REFUSAL_PERMISSION);
+    if (!has_byte(&authority, authority_low))
+        return refused(CHERI_CAP_REFUSAL_BOUNDS);
+    if (authority_low > CHERI_CAP_OTYPE_LAST_SEALING)
+        return refused(CHERI_CAP_REFUSAL_TYPE);
+    return made(high | (authority_low << 27 ^ TYPE_BITS), low);
+}
+
+cheri_cap_made plain_unseal(uint64_t high, uint64_t low, uint64_t authority_high, uint64_t authority_low)
+{
+    span bounds, authority;
+    if (!read_bounds(high, low, &bounds) || !read_bounds(authority_high, authority_low, &authority))
+        return refused(CHERI_CAP_REFUSAL_CANONICAL);
+    if (!is_sealed(high))
+        return refused(CHERI_CAP_REFUSAL_UNSEALED);
+    if (is_sealed(authority_high))
+        return refused(CHERI_CAP_REFUSAL_SEALED);
+    if (!has_all(authority_high, CHERI_CAP_PERM_UNSEAL))
+        return refused(CHERI_CAP_REFUSAL_PERMISSION);
+    if (!has_byte(&authority, authority_low))
+        return refused(CHERI_CAP_REFUSAL_BOUNDS);
+    if (authority_low != ((high ^ NULL_HIGH) >> 27 & 0x3ffff))
+        return refused(CHERI_CAP_REFUSAL_MISMATCH);
+    uint64_t global = (uint64_t)CHERI_CAP_PERM_GLOBAL << 48;
+    return made(high & ~TYPE_BITS & (authority_high | ~global), low);
+}
+
+cheri_cap_made plain_rebuild(uint64_t authority_high, uint64_t authority_low, uint64_t high, uint64_t low)
+{
+    span bounds, authority;
+    if (!read_bounds(authority_high, authority_low, &authority))
+        return refused(CHERI_CAP_REFUSAL_CANONICAL);
+    if (is_sealed(authority_high))
+        return refused(CHERI_CAP_REFUSAL_SEALED);
+    if (!read_bounds(high, low, &bounds))
+        return refused(CHERI_CAP_REFUSAL_CANONICAL);
+    if (is_sealed(high) || !is_within(&bounds, &authority) || !has_all(authority_high, high >> 48))
+        return refused(CHERI_CAP_REFUSAL_EXCEEDS);
+    return made(high, low);
+}
+
+bool plain_is_subset(uint64_t high, uint64_t low, uint64_t outer_high, uint64_t outer_low)
+{
+    span inner = decoded_word(high, low), outer = decoded_word(outer_high, outer_low);
+    return is_within(&inner, &outer) && has_all(outer_high, high >> 48);
+}

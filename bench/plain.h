@@ -16,5 +16,11 @@ cheri_cap_u128 plain_round_length(uint64_t length_high, uint64_t length_low);
 uint64_t plain_alignment_mask(uint64_t length_high, uint64_t length_low);
 cheri_cap_read plain_read_word(const char *text, size_t length);
 void plain_write_word(uint64_t high, uint64_t low, char *text);
+cheri_cap_made plain_increment(uint64_t high, uint64_t low, uint64_t amount);
+cheri_cap_made plain_set_bounds_on(uint64_t high, uint64_t low, uint64_t length_high, uint64_t length_low);
+cheri_cap_made plain_seal(uint64_t high, uint64_t low, uint64_t authority_high, uint64_t authority_low);
+cheri_cap_made plain_unseal(uint64_t high, uint64_t low, uint64_t authority_high, uint64_t authority_low);
+cheri_cap_made plain_rebuild(uint64_t authority_high, uint64_t authority_low, uint64_t high, uint64_t low);
+bool plain_is_subset(uint64_t high, uint64_t low, uint64_t outer_high, uint64_t outer_low);
 
 #endif

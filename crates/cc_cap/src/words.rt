@@ -155,7 +155,7 @@ fn is_within(inner: &Span, outer: &Span) -> bool
 fn read(word: u128) -> Result<Cap, Refusal>
     ensures { IsReadFrom word result }
 {
-    match Cap::of_word(word) {
+    match Cap::of_any_word(word) {
         Some(cap) => Ok(cap),
         None => Err(Refusal::NotCanonical),
     }
