@@ -49,12 +49,9 @@ identify() {
 # for each; what it does not name is the toolchain's.
 read_crates() {
   local line name
-  while IFS= read -r line; do
+  while read -r name line; do
     line=${line%%#*}
-    if [[ $line == *:* ]]; then
-      read -r name _ <<<"${line%%:*}"
-      needs[$name]=${line#*:}
-    fi
+    if [[ $name == [^#]* && $name$line == *:* ]]; then needs[${name%:}]=${line#*:}; fi
   done <"$top/crates.txt"
 }
 list_crates() {
@@ -66,15 +63,16 @@ list_crates() {
   fi
 }
 
-# The sources, and what else is named first, up to the word --: each as find prints it by the words that follow.
+# The sources, and what else is named first, up to the word --: each as find prints it by the words that follow. To be
+# called in a subshell, which find takes the place of.
 files() {
   local also=()
   while [[ $1 != -- ]]; do also+=("$1") && shift; done
-  LC_ALL=C find crates.txt "${order[@]/#/crates/}" "${also[@]}" \
+  LC_ALL=C exec find crates.txt "${order[@]/#/crates/}" "${also[@]}" \
     \( -name out -o -name must-fail \) -prune -o -type f "${@:2}"
 }
 
-# Names, sizes and times; the checksums. Each goes to the checkout, so they are called in a subshell.
+# Names, sizes and times; the checksums. Each is called in a subshell too, and goes to the checkout.
 looks() {
   cd -- "$top" && files "$@" -- -printf '%p %s %C@\n'
 }
