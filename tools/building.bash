@@ -108,8 +108,8 @@ unlock_checkout() {
   exec {locked}<&-
 }
 
-# Proves and builds a crate by the rt command that follows, telling that it is the first of so many. The status of the
-# command comes as the last line behind what it says.
+# Proves and builds a crate by the rt command that follows, telling its place, as "3 of 7". The status of the command
+# comes as the last line behind what it says.
 prove() {
   local at=$1 name=$2 line='' said='' began=$SECONDS told=$SECONDS
   say "$at: proving and building $name"
@@ -127,13 +127,13 @@ prove() {
   say "$at: $name took $((SECONDS - began)) s"
 }
 
-# Proves and builds all crates in `order`, the last by the rt command given, and keeps what they were made of. Sources that
-# look before and after as they do in between were not changed.
+# Proves and builds all crates in `order`, the last by the rt command given, and keeps what they were made of: the
+# checksums, which are those of the sources that were built if all of them look the same before and after.
 build_all() {
   local identity=$1 product=$2 kept=$3 name at=0 before found made_of how
   mkdir -p -- "$kept" 2>/dev/null && keep "$kept/building" "$identity" || stop "the build cannot be kept: $kept is not to be written to"
   rm -f -- "$kept/building"
-  before=$(looks) || stop 'the sources cannot be read'
+  before=$(looks | LC_ALL=C sort) || stop 'the sources cannot be read'
   [[ -f $top/$product ]] || say 'the first build takes some minutes; it is done again where a source changed'
   for name in "${order[@]}"; do
     at=$((at + 1)) how=(rt lib)
@@ -141,7 +141,7 @@ build_all() {
     prove "$at of ${#order[@]}" "$name" "${how[@]}"
   done
   found=$(looks "$product") && made_of=$(checksums "$product") || stop "$product was not built"
-  [[ $(looks) == "$before" ]] || stop 'a source changed while it was built: start it again'
+  [[ $(looks | LC_ALL=C sort) == "$before" ]] || stop 'a source changed while it was built: start it again'
   keep "$kept/built-from" "$identity"$'\n'"$made_of" && keep "$kept/seen" "$found" || stop "the build cannot be kept in $kept"
 }
 
