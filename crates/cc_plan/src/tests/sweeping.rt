@@ -62,35 +62,6 @@ fn check_sweeps<P: Placer>(rt: &impl Abort, alloc: Global) -> Result<(), Fail> {
     two_freed_and_swept::<P>(rt, alloc, [3, 2])
 }
 
-/// The bytes of a freed object are placed again after a sweep, and not before it.
-fn check_same_bytes<P: Placer>(rt: &impl Abort, alloc: Global) -> Result<(), Fail> {
-    let mut planner: Planner<P> = Planner::with_limit(alloc, 8)?;
-    planner.give_pool(pool(0x10000, 0x10000)?)?;
-    planner.alloc(100)?;
-    let (second, cap) = planner.alloc(5000)?;
-    planner.alloc(8)?;
-    planner.free(second)?;
-    let (_, beside) = planner.alloc(5000)?;
-    assert_eq!(rt;
-        beside.span(),
-        Span {
-            base: 0x113f8,
-            top: 0x12780
-        }
-    );
-    assert_eq!(rt; planner.sweep(), 1);
-    let (_, again) = planner.alloc(5000)?;
-    assert_eq!(rt; again, cap);
-    assert_eq!(rt;
-        again.span(),
-        Span {
-            base: 0x10068,
-            top: 0x113f0
-        }
-    );
-    Ok(())
-}
-
 /// What the test knows of an object.
 #[derive(Drop)]
 struct Known {
@@ -220,13 +191,6 @@ fn swept_in_order(rt: HostRuntime) -> Result<(), Fail> {
 #[test]
 fn swept_in_a_tree(rt: HostRuntime) -> Result<(), Fail> {
     check_sweeps::<TreePlacer>(&rt, rt.alloc())
-}
-
-#[test]
-fn same_bytes_after_a_sweep(rt: HostRuntime) -> Result<(), Fail> {
-    check_same_bytes::<ScanPlacer>(&rt, rt.alloc())?;
-    check_same_bytes::<SortedPlacer>(&rt, rt.alloc())?;
-    check_same_bytes::<TreePlacer>(&rt, rt.alloc())
 }
 
 #[test]
