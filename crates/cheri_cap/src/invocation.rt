@@ -48,6 +48,8 @@ pub enum Invocation<'a> {
 /// The most slots and objects of a machine where `--slots` is not given.
 const DEFAULT_LIMIT: u32 = 4096;
 
+const VERSION: &str = "0.2.0\nCHERI Concentrate, 128 bits, CHERI ISA version 9";
+
 const ABOUT: &str =
     "Shows and derives 128-bit CHERI Concentrate capabilities, and plans who gets which bytes of a pool";
 
@@ -249,7 +251,7 @@ fn bare_program<'a>(alloc: Global) -> Result<Command<'a>, AllocError>
     Ok(
         Command::new(alloc, "cheri-cap")
             .bin_name("cheri-cap")?
-            .version("0.1.0")
+            .version(VERSION)
             .about(ABOUT)
             .after_help(AFTER_HELP)
             .arg_required_else_help(true)
