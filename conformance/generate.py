@@ -4,8 +4,8 @@
 It uses nothing of the library: the rules of decoding are written here from the public standard (UCAM-CL-TR-987;
 Woodruff et al. 2019), and what is canonical from the definition of a sound span. docs/CONFORMANCE.md describes the table.
 
-    generate.py            compares the two tables in the repository with what it works out; status 1 where they differ
-    generate.py --write    writes them: conformance.tsv, and the one that the library's test reads
+    generate.py            compares conformance.tsv with what it works out; status 1 where they differ
+    generate.py --write    writes it
 """
 
 import sys
@@ -13,16 +13,6 @@ from pathlib import Path
 
 HERE = Path(__file__).resolve().parent
 TABLE = HERE / "conformance.tsv"
-TEST_TABLE = HERE.parent / "crates/cc_command/src/tests/conformance_table.rt"
-
-HEAD = '''//! The conformance set: words, and what each of them means (docs/CONFORMANCE.md).
-//!
-//! conformance/generate.py writes this file, and with it conformance/conformance.tsv, which other programs read.
-//! The gate compares both with what it works out.
-
-pub const TABLE: &str = "\\
-'''
-TAIL = '";\n'
 
 COLUMNS = "name word perms reserved flag type ie t b address exponent base top canonical rebuild".split()
 
@@ -211,22 +201,14 @@ def with_tabs(lines):
     return "".join("\t".join(cells) + "\n" for cells in lines)
 
 
-def in_columns(lines):
-    """The lines in columns of one width: no source file may have a tab."""
-    widths = [max(map(len, cells)) for cells in zip(*lines)]
-    return "".join(" ".join(map(str.ljust, cells, widths)).rstrip() + "\n" for cells in lines)
-
-
 def main(arguments):
-    files = {TABLE: with_tabs(table()), TEST_TABLE: HEAD + in_columns(table()) + TAIL}
+    text = with_tabs(table())
     if arguments == ["--write"]:
-        for path, text in files.items():
-            path.write_text(text)
+        TABLE.write_text(text)
     elif arguments:
         sys.exit(__doc__)
-    for path, text in files.items():
-        if path.read_text() != text:
-            sys.exit(f"{path} is not the table that the generator works out")
+    if TABLE.read_text() != text:
+        sys.exit(f"{TABLE} is not the table that the generator works out")
 
 
 if __name__ == "__main__":

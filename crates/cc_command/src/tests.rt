@@ -1,7 +1,5 @@
 //! Worked answers, by topic.
 
-mod conformance;
-mod conformance_table;
 mod devices;
 mod planning;
 mod rounding;
