@@ -60,63 +60,46 @@ fn sweep_before_any_pool(rt: HostRuntime) -> Result<(), Fail> {
     Ok(())
 }
 
+#[rattlefmt::skip]
+const TWO_OBJECTS: [(Ask, Told); 4] = [
+    (Ask::Alloc(100), Told::Allocated(1, 3, 0xffff0000041880040000000000010000, 0x10000, 0x10064, 100)),
+    (Ask::Alloc(200), Told::Allocated(2, 4, 0xffff0000044a80600000000000010064, 0x10064, 0x1012c, 300)),
+    (Ask::Op(Op::Inc(3, 1)), Told::Made(5, 0xffff0000041880040000000000010001, 0x10000, 0x10064)),
+    (Ask::Op(Op::Inc(5, 1)), Told::Made(6, 0xffff0000041880040000000000010002, 0x10000, 0x10064)),
+];
+
+#[rattlefmt::skip]
+const SWEPT_AT_ONCE: [(Ask, Told); 9] = [
+    (Ask::Op(Op::Sweep), Told::Swept(2, 4, 0)),
+    (Ask::Op(Op::Free(1)), Told::Refused(Refusal::NoObject)),
+    (Ask::Op(Op::Free(2)), Told::Refused(Refusal::NoObject)),
+    (Ask::Op(Op::Sweep), Told::Swept(0, 0, 0)),
+    (Ask::Op(Op::Show(3)), Told::Refused(Refusal::Revoked)),
+    (Ask::Op(Op::Show(4)), Told::Refused(Refusal::Revoked)),
+    (Ask::Op(Op::Show(5)), Told::Refused(Refusal::Revoked)),
+    (Ask::Op(Op::Show(6)), Told::Refused(Refusal::Revoked)),
+    (Ask::Alloc(300), Told::Allocated(3, 7, 0xffff0000044a80040000000000010000, 0x10000, 0x1012c, 300)),
+];
+
 /// Two objects are freed in this order, and swept at once.
-fn swept_together(
-    rt: &impl Abort,
-    machine: &mut Machine,
-    first: u32,
-    second: u32,
-) -> Result<(), Fail> {
-    machine.step(&Op::Alloc(length(100)?));
-    machine.step(&Op::Alloc(length(200)?));
-    machine.step(&Op::Inc(3, 1));
-    machine.step(&Op::Inc(5, 1));
-    assert_eq!(rt;
-        machine.step(&Op::Free(first)),
-        Told::Freed(first, 300).reply()
-    );
-    assert_eq!(rt;
-        machine.step(&Op::Free(second)),
-        Told::Freed(second, 300).reply()
-    );
-    assert_eq!(rt; machine.step(&Op::Sweep), Told::Swept(2, 4, 0).reply());
-    assert_eq!(rt;
-        machine.step(&Op::Free(first)),
-        Reply::Refused(Refusal::NoObject)
-    );
-    assert_eq!(rt; machine.step(&Op::Sweep), Told::Swept(0, 0, 0).reply());
-    for slot in 3..7u32 {
-        assert_eq!(rt; machine.slot(slot), Err(Refusal::Revoked));
+fn swept_together(rt: &impl Abort, machine: &mut Machine, order: [u32; 2]) {
+    replies(rt, machine, &TWO_OBJECTS);
+    for object in order {
+        assert_eq!(rt;
+            machine.step(&Op::Free(object)),
+            Told::Freed(object, 300).reply()
+        );
     }
-    assert_eq!(rt;
-        machine.step(&Op::Alloc(length(300)?)),
-        Told::Allocated(
-            3,
-            7,
-            0xffff0000044a80040000000000010000,
-            0x10000,
-            0x1012c,
-            300
-        )
-        .reply()
-    );
-    Ok(())
+    replies(rt, machine, &SWEPT_AT_ONCE);
 }
 
 #[test]
 fn two_frees_and_one_sweep(rt: HostRuntime) -> Result<(), Fail> {
-    swept_together(
-        &rt,
-        &mut with_pool(&rt, rt.alloc(), 0x10000, 0x10000)?,
-        1,
-        2,
-    )?;
-    swept_together(
-        &rt,
-        &mut with_pool(&rt, rt.alloc(), 0x10000, 0x10000)?,
-        2,
-        1,
-    )
+    for order in [[1, 2], [2, 1]] {
+        let mut machine = with_pool(&rt, rt.alloc(), 0x10000, 0x10000)?;
+        swept_together(&rt, &mut machine, order);
+    }
+    Ok(())
 }
 
 #[rattlefmt::skip]
