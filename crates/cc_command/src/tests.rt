@@ -7,3 +7,4 @@ mod planning;
 mod rounding;
 mod rows;
 mod values;
+mod word_line;
