@@ -12,7 +12,7 @@
 #include <string.h>
 
 // The words of the table, and room for more.
-enum { ROOM = 256 };
+#define ROOM 256u
 static cheri_cap_u128 words[ROOM];
 
 enum { NAME, WORD, PERMS, RESERVED, FLAG, TYPE, IE, T, B, ADDRESS, EXPONENT, BASE, TOP, CANONICAL, REBUILD, COLUMNS };
