@@ -175,6 +175,29 @@ RULE(unseal, (WORD(sealed), WORD(authorities)))
 RULE(rebuild, (WORD(parents), WORD(unsealed)))
 CALL(is_subset, bool, is_subset, (WORD(unsealed), WORD(parents)), r)
 
+// A block of words at once, and then the checksum of the results.
+#define BLOCKWISE(name, body, type, call, words, folded)                                                               \
+    static uint64_t name##_by_##body(size_t first, size_t end, uint64_t checksum)                                      \
+    {                                                                                                                  \
+        static type results[BLOCK];                                                                                    \
+        size_t count = body##_##call words;                                                                            \
+        for (size_t i = 0; i < count; i++) {                                                                           \
+            type r = results[i];                                                                                       \
+            checksum = checksum * 31 + (folded);                                                                       \
+        }                                                                                                              \
+        return checksum;                                                                                               \
+    }
+#define library_decode_many cheri_cap_decode_many
+#define library_is_canonical_many cheri_cap_is_canonical_many
+#define library_represents_many cheri_cap_represents_many
+#define MANY(name, type, call, words, folded)                                                                          \
+    BLOCKWISE(name, library, type, call, words, folded)                                                                \
+    BLOCKWISE(name, plain, type, call, words, folded)
+MANY(decode_many, cheri_cap_bounds, decode_many, (canonicals + first, end - first, results, end - first), r.base + 3 * r.top_low + r.top_high + r.exponent)
+MANY(is_canonical_many_random, uint8_t, is_canonical_many, (randoms + first, end - first, results, end - first), r)
+MANY(is_canonical_many, uint8_t, is_canonical_many, (canonicals + first, end - first, results, end - first), r)
+MANY(represents_many, uint8_t, represents_many, (canonicals + first, end - first, addresses + first, end - first, results, end - first), r)
+
 typedef uint64_t loop(size_t first, size_t end, uint64_t checksum);
 
 #define ROW(name) {#name, name##_by_library, name##_by_plain}
@@ -194,6 +217,10 @@ static const struct {
     ROW(alignment_mask),
     ROW(is_canonical_random),
     ROW(is_canonical_canonical),
+    ROW(decode_many),
+    ROW(is_canonical_many_random),
+    ROW(is_canonical_many),
+    ROW(represents_many),
     ROW(read_word),
     ROW(write_word),
     ROW(increment),

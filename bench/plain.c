@@ -69,7 +69,7 @@ static inline span decoded_word(uint64_t high, uint64_t low)
     return decoded(high >> 26 & 1, high >> 14 & 0xfff, high & 0x3fff, low);
 }
 
-cheri_cap_bounds plain_decode(uint64_t high, uint64_t low)
+static inline __attribute__((always_inline)) cheri_cap_bounds bounds_of(uint64_t high, uint64_t low)
 {
     span bounds = decoded_word(high, low);
     return (cheri_cap_bounds){
@@ -78,6 +78,11 @@ cheri_cap_bounds plain_decode(uint64_t high, uint64_t low)
         .top_low = (uint64_t)bounds.top,
         .exponent = (uint8_t)bounds.exponent,
     };
+}
+
+cheri_cap_bounds plain_decode(uint64_t high, uint64_t low)
+{
+    return bounds_of(high, low);
 }
 
 // The power of two of the granule of [base, top).
@@ -137,7 +142,7 @@ static inline bool is_stored(uint64_t plain, span bounds)
     return stored == bounds.exponent && (uint64_t)(b >> 3) >> (61 - stored) == 0;
 }
 
-bool plain_is_canonical(uint64_t high, uint64_t low)
+static inline __attribute__((always_inline)) bool is_canonical(uint64_t high, uint64_t low)
 {
     uint64_t plain = high ^ NULL_HIGH;
     uint32_t otype = plain >> 27 & 0x3ffff;
@@ -146,7 +151,7 @@ bool plain_is_canonical(uint64_t high, uint64_t low)
     return is_stored(plain, decoded_word(high, low));
 }
 
-bool plain_represents(uint64_t high, uint64_t low, uint64_t address)
+static inline __attribute__((always_inline)) bool represents(uint64_t high, uint64_t low, uint64_t address)
 {
     span bounds = decoded_word(high, low);
     if (!is_stored(high ^ NULL_HIGH, bounds))
@@ -154,6 +159,47 @@ bool plain_represents(uint64_t high, uint64_t low, uint64_t address)
     unsigned width = bounds.exponent + 11;
     uint64_t start = ((bounds.base >> width) - 1) << width;
     return (address - start) >> width < 8;
+}
+
+bool plain_is_canonical(uint64_t high, uint64_t low)
+{
+    return is_canonical(high, low);
+}
+
+bool plain_represents(uint64_t high, uint64_t low, uint64_t address)
+{
+    return represents(high, low, address);
+}
+
+// ---- Many words at once: the bodies above, inlined into a loop
+
+static inline size_t least(size_t one, size_t other)
+{
+    return one < other ? one : other;
+}
+
+size_t plain_decode_many(const cheri_cap_u128 *words, size_t word_count, cheri_cap_bounds *bounds, size_t bounds_count)
+{
+    size_t count = least(word_count, bounds_count);
+    for (size_t i = 0; i < count; i++)
+        bounds[i] = bounds_of(words[i].high, words[i].low);
+    return count;
+}
+
+size_t plain_is_canonical_many(const cheri_cap_u128 *words, size_t word_count, uint8_t *answers, size_t answer_count)
+{
+    size_t count = least(word_count, answer_count);
+    for (size_t i = 0; i < count; i++)
+        answers[i] = is_canonical(words[i].high, words[i].low);
+    return count;
+}
+
+size_t plain_represents_many(const cheri_cap_u128 *words, size_t word_count, const uint64_t *addresses, size_t address_count, uint8_t *answers, size_t answer_count)
+{
+    size_t count = least(word_count, least(address_count, answer_count));
+    for (size_t i = 0; i < count; i++)
+        answers[i] = represents(words[i].high, words[i].low, addresses[i]);
+    return count;
 }
 
 uint64_t plain_granule(uint64_t length_high, uint64_t length_low)

@@ -10,7 +10,8 @@ _cheri_cap() {
   case $command in
     run) options+=' --slots' ;;
     plan) options+=' --slots --align' ;;
-    show | round) ;;
+    show) options+=' --line' ;;
+    round) ;;
     *) return ;;
   esac
   case $before in

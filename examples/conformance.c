@@ -11,6 +11,10 @@
 #include <stdlib.h>
 #include <string.h>
 
+// The words of the table, and room for more.
+#define ROOM 256u
+static cheri_cap_u128 words[ROOM];
+
 enum { NAME, WORD, PERMS, RESERVED, FLAG, TYPE, IE, T, B, ADDRESS, EXPONENT, BASE, TOP, CANONICAL, REBUILD, COLUMNS };
 
 static unsigned failures;
@@ -220,9 +224,36 @@ static unsigned check_table(FILE *table)
         check_inline(row, halves);
         check_rules(row, halves);
         check_line(row, halves);
+        if (rows < ROOM)
+            words[rows] = halves;
         rows++;
     }
     return rows;
+}
+
+// All words of the table at once, where there is room for one answer fewer: each is that of the call for one word.
+static void check_many(size_t count)
+{
+    static cheri_cap_bounds bounds[ROOM];
+    static uint64_t addresses[ROOM];
+    uint8_t canonical[ROOM], representable[ROOM];
+    memset(canonical, 7, sizeof canonical);
+    memset(representable, 7, sizeof representable);
+    bounds[count - 1].exponent = 77;
+    for (size_t i = 0; i < count; i++)
+        addresses[i] = words[i].low ^ UINT64_C(1) << i % 64;
+    expect(cheri_cap_decode_many(words, count, bounds, count - 1) == count - 1, "many words", "how many were decoded");
+    expect(cheri_cap_is_canonical_many(words, count, canonical, count - 1) == count - 1, "many words", "how many were told canonical");
+    expect(cheri_cap_represents_many(words, count, addresses, count - 1, representable, count) == count - 1, "many words", "how many addresses were told");
+    for (size_t i = 0; i < count - 1; i++) {
+        cheri_cap_bounds alone = cheri_cap_decode(words[i].high, words[i].low);
+        expect(bounds[i].base == alone.base && bounds[i].exponent == alone.exponent, "many words", "base and exponent");
+        expect(bounds[i].top_high == alone.top_high && bounds[i].top_low == alone.top_low, "many words", "top");
+        expect(canonical[i] == cheri_cap_is_canonical(words[i].high, words[i].low), "many words", "canonical");
+        expect(representable[i] == cheri_cap_represents(words[i].high, words[i].low, addresses[i]), "many words", "representable");
+    }
+    expect(bounds[count - 1].exponent == 77 && canonical[count - 1] == 7 && representable[count - 1] == 7, "many words", "what lies behind");
+    expect(cheri_cap_decode_many(words, 0, bounds, count) == 0, "many words", "no words");
 }
 
 static void check_lengths(void)
@@ -324,6 +355,7 @@ int main(int argc, char **argv)
     expect(cheri_cap_version() == CHERI_CAP_VERSION, "version", "header and library");
     unsigned rows = check_table(table);
     expect(rows >= 24, argv[1], "too few rows");
+    check_many(rows < ROOM ? rows : ROOM);
     check_lengths();
     check_requests();
     check_types();

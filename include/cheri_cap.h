@@ -21,8 +21,8 @@
  * halves as well, and for 2^64 the high half is 1 and the low half 0.
  *
  * Ranges: every function takes every value of its parameters' types, but for the pointers of the three text
- * calls, which have to be good, and says what it answers for values out of range. A `bool` has to be 0
- * or 1, as C and C++ make it.
+ * calls and of the three for many words, which have to be good, and says what it answers for values out of
+ * range. A `bool` has to be 0 or 1, as C and C++ make it.
  *
  * Threads: no function has a state, allocates, blocks, or calls another library. Any number of threads
  * may call any of them at once, and a signal handler too.
@@ -186,6 +186,18 @@ cheri_cap_granted cheri_cap_set_bounds(uint64_t base, uint64_t length_high, uint
  * setting bounds stores them. The permissions, the reserved bits, the flag and the type are not looked at.
  */
 bool cheri_cap_represents(uint64_t high, uint64_t low, uint64_t address);
+
+/*
+ * Many words at once: each call writes for each word, at the word's place, what cheri_cap_decode,
+ * cheri_cap_is_canonical or cheri_cap_represents answers for it, the last for the address at that place; a yes is
+ * a byte of 1, a no a byte of 0. It answers of how many words it did so. Each array has a count of its own: where
+ * they differ, the least of them counts, and what lies behind so many answers stays as it was. None of the
+ * pointers may be null, not even for a count of 0, and the answers may not overlap what is read. What the room
+ * for the answers holds before does not matter.
+ */
+size_t cheri_cap_decode_many(const cheri_cap_u128 *words, size_t word_count, cheri_cap_bounds *bounds, size_t bounds_count);
+size_t cheri_cap_is_canonical_many(const cheri_cap_u128 *words, size_t word_count, uint8_t *answers, size_t answer_count);
+size_t cheri_cap_represents_many(const cheri_cap_u128 *words, size_t word_count, const uint64_t *addresses, size_t address_count, uint8_t *answers, size_t answer_count);
 
 /*
  * The granule of a length: the unit in which the bounds of that many bytes from address 0 up are stored. 1

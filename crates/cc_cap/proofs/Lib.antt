@@ -6,3 +6,4 @@ pub mod ResultLemmas
 pub mod OneResultLemmas
 pub mod WordRuleLemmas
 pub mod DigitLemmas
+pub mod ManyLemmas

@@ -7,5 +7,6 @@ pub mod Derivation
 pub mod Reach
 pub mod WordRules
 pub mod LineText
+pub mod Many
 pub mod Bounds
 pub mod Cap

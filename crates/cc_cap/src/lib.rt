@@ -4,6 +4,7 @@
 mod canonical;
 mod cap;
 mod laws;
+pub mod many;
 mod obj_type;
 mod perms;
 mod word_line;

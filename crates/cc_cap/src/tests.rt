@@ -1,4 +1,5 @@
 //! Worked rows: what a call makes, as its word and its bounds.
+mod many_words;
 mod orders;
 mod rules_on_words;
 mod sealing;

@@ -1,4 +1,4 @@
-//! What the commands write to a sink: the listing of a word, a length rounded, the replies to a script after a pool.
+//! What the commands write to a sink: the listing of a word, its line, a length rounded, the replies to a script after a pool.
 //! No command line and no device is here; the program has those.
 #![tactic(auto)]
 
@@ -10,8 +10,10 @@ mod rounding;
 #[cfg(test)]
 mod tests;
 mod text;
+mod word_line;
 
 pub use answers::write_refusal;
 pub use listing::show_word;
 pub use planning::{PoolTexts, plan_numbers, plan_script};
 pub use rounding::show_round;
+pub use word_line::show_line;

@@ -5,3 +5,4 @@ mod planning;
 mod rounding;
 mod rows;
 mod values;
+mod word_line;

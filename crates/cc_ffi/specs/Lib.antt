@@ -3,3 +3,4 @@ pub mod Numbers
 pub mod Words
 pub mod Bounds
 pub mod Rules
+pub mod Many

@@ -5,6 +5,7 @@
 mod bounds;
 mod halves;
 mod lengths;
+mod many;
 mod rules;
 mod structs;
 mod text;

@@ -1,6 +1,6 @@
 -- What words without a fault give a command: each argument found in them has values that pass, whatever
 -- the command's rules, as long as no rule has a default and no use of a rule leaves it without a value.
-use Rattle.std.proofs.Common.{◌≡◌, ◌||◌, ◌∙◌, ℕ, zero, suc, Bool, true, false, List, [], ◌∷◌, ◌++◌, Option, Some, None, ap, is_some, length, option_map, refl, subst, sym, if◌then◌else◌}
+use Rattle.std.proofs.Common.{◌≡◌, ◌||◌, ◌∙◌, ℕ, zero, suc, Bool, true, false, List, [], ◌∷◌, ◌++◌, Option, Some, None, ap, codes, is_some, length, option_map, refl, subst, sym, if◌then◌else◌}
 use Rattle.std.specs.Prelude.{⊤, ◌&&◌, not, drop, encode_utf8, slice_get, find, fold, option_and_then}
 use Rattle.std.specs.List.{list_any}
 use Rattle.std.specs.Option.{option_map_or}
@@ -14,14 +14,14 @@ use Rattle.clap.specs.Simple.{Shape}
 use Rattle.clap.specs.Takes.{is_given}
 use Rattle.clap.specs.Values.{read_as}
 use Rattle.clap.specs.ValueTests.{accepts}
-use Rattle.clap.specs.Walk.{Held, Names, Outcome, Row, Rule, Step, Text, Waiting, Walk, action_of, after_flag, after_step, arg_by_id, arg_by_index, arg_by_long, arg_by_short, at_row, attached_value, bundle, bundle_met, bundle_step, default_rows, done, finished, first_of, flag_met, has_long, has_row, has_short, idle, is_pending, long_met, long_or_other, more_values, most_values, next, nothing_held, one_of, option, option_met, option_word, plain, plain_word, positional, positional_held, reacted, reading_by, refused, row_text, rows_after, settled, settled_rows, short_met, short_or_plain, subcommand, subcommand_met, subcommand_or_other, takes_several, takes_values, to_positional, trailing, used, used_by_id, value, waits, walk, walk_from, walked, walked_from, with_default, with_values, without, word_met}
+use Rattle.clap.specs.Walk.{Held, Names, Outcome, Row, Rule, Step, Text, Waiting, Walk, action_of, after_flag, after_step, arg_by_id, arg_by_index, arg_by_long, arg_by_short, at_row, attached_value, bundle, bundle_met, bundle_step, default_rows, done, finished, first_of, flag_met, has_long, has_row, has_short, idle, is_pending, long_met, long_or_other, more_values, most_values, next, nothing_held, one_of, option, option_met, option_word, plain, plain_word, positional, positional_held, reacted, reading_by, refused, row_text, rows_after, settled, settled_rows, short_met, short_or_plain, subcommand, subcommand_met, subcommand_or_other, takes_several, takes_values, to_positional, trailing, used, used_as, used_by_id, value, waits, walk, walk_from, walked, walked_from, with_default, with_values, without, word_met}
 use Rattle.clap.specs.declared.builder.action.ArgAction.{ArgAction}
-use Rattle.clap.specs.declared.builder.action.ArgAction.TheVariants.{Set}
+use Rattle.clap.specs.declared.builder.action.ArgAction.TheVariants.{Set, SetTrue}
 use Rattle.clap.specs.declared.builder.value_parser.Reading.{Reading}
 use Rattle.clap.specs.declared.error.kind.ErrorKind.{ErrorKind}
 use Rattle.clap.specs.declared.error.kind.ErrorKind.TheVariants as kind
 use Rattle.clap.specs.declared.parser.matches.ValueSource.{ValueSource}
-use Rattle.clap.specs.declared.parser.matches.ValueSource.TheVariants.{CommandLine}
+use Rattle.clap.specs.declared.parser.matches.ValueSource.TheVariants.{CommandLine, DefaultValue}
 use Rattle.cheri_cap.specs.Invocation.{HasText}
 
 -- both steps are without a fault
@@ -88,9 +88,9 @@ with_values-given c id how source values rows some pass h =
     ))
     ((some, pass), tt) h
 
--- the rule has no default, and a use of it without a fault gives it values that pass
+-- the default of the rule, if it has one, passes, and a use of it without a fault gives it values that pass
 pub record GivesValue (c : List Rule) (a : Rule) : Type 0 where
-  pub no_default : a.defaults ≡ []
+  pub default : (rows : List Row) → AreGiven c rows → AreGiven c (with_default rows a)
   pub uses : (again : Bool) (values : List Text) (rows : List Row) → use_fault again a values rows ≡ [] → AreGiven c rows → AreGiven c (used a values rows)
 
 -- and so do all of a command's
@@ -110,9 +110,20 @@ found_gives c p (a ∷ rest) all = go (p a) (found_gives c p rest all.1)
     go true later = all.0
     go false later = later
 
+no_default : (rows : List Row) (a : Rule) → a.defaults ≡ [] → with_default rows a ≡ rows
+no_default rows a none = go (has_row a.id rows) a.defaults none
+  where
+    go : (b : Bool) (defaults : List Text) → defaults ≡ [] → (if b then rows else default_rows a.id (reading_by a) defaults rows) ≡ rows
+    go true defaults e = refl
+    go false defaults e = rw e refl
+
+-- a rule without a default adds none
+pub no_default-given : (c : List Rule) (a : Rule) → a.defaults ≡ [] → (rows : List Row) → AreGiven c rows → AreGiven c (with_default rows a)
+no_default-given c a none rows given = rw (no_default rows a none) given
+
 -- a rule that is the first of its id, and whose uses set one value or more
 pub set_gives : (c : List Rule) (a : Rule) → a.defaults ≡ [] → action_of a ≡ Set → (unwrap_or_range a.range).start_inclusive ≡ 1 → arg_by_id c a.id ≡ Some a → GivesValue c a
-set_gives c a none sets least own = record { no_default = none; uses = uses }
+set_gives c a none sets least own = record { default = no_default-given c a none; uses = uses }
   where
     uses : (again : Bool) (values : List Text) (rows : List Row) → use_fault again a values rows ≡ [] → AreGiven c rows → AreGiven c (used a values rows)
     uses again [] rows e given =
@@ -127,6 +138,36 @@ set_gives c a none sets least own = record { no_default = none; uses = uses }
         (with_values-given c a.id (reading_by a) CommandLine (v ∷ vs) (without a.id rows) tt
         (λ b is. let same : a ≡ b = cc (sym own ∙ is) in (ap reading_by same, subst (λ (r : Rule). values_fault r (v ∷ vs) ≡ []) same pass.1))
         (without-given c a.id rows given))
+
+-- a flag that is the first of its id: it is `false`, and a use of it makes it `true`
+pub flag_gives : (c : List Rule) (a : Rule) → a.defaults ≡ codes "false" ∷ [] → a.missing ≡ codes "true" ∷ [] → action_of a ≡ SetTrue → values_fault a (codes "false" ∷ []) ≡ []
+    → arg_by_id c a.id ≡ Some a → GivesValue c a
+flag_gives c a off on sets passes own = record { default = default; uses = uses }
+  where
+    own_passes : (values : List Text) → values_fault a values ≡ [] → Passes c a.id (reading_by a) values
+    own_passes values pass b is = let same : a ≡ b = cc (sym own ∙ is) in (ap reading_by same, subst (λ (r : Rule). values_fault r values ≡ []) same pass)
+
+    setting : (again : Bool) (values : List Text) (rows : List Row) → HasValue values → action_fault (action_of a) again a values rows ≡ [] → AreGiven c rows
+        → AreGiven c (used_as (action_of a) a.id (reading_by a) values rows)
+    setting again values rows some e given =
+        let faultless : set_fault again a values rows ≡ [] = ap (λ (action : ArgAction). action_fault action again a values rows) (sym sets) ∙ e in
+        let pass = both_empty (repeat_fault again a.id rows) (values_fault a values) faultless in
+        rw sets (with_values-given c a.id (reading_by a) CommandLine values (without a.id rows) some (own_passes values pass.1) (without-given c a.id rows given))
+
+    uses : (again : Bool) (values : List Text) (rows : List Row) → use_fault again a values rows ≡ [] → AreGiven c rows → AreGiven c (used a values rows)
+    uses again [] rows e given =
+        let parts = both_empty (range_kinds (unwrap_or_range a.range).start_inclusive (most_values a) 0) (action_fault (action_of a) again a a.missing rows) e in
+        setting again a.missing rows (subst HasValue (sym on) tt) parts.1 given
+    uses again (v ∷ vs) rows e given =
+        let parts = both_empty (range_kinds (unwrap_or_range a.range).start_inclusive (most_values a) (length (v ∷ vs))) (action_fault (action_of a) again a (v ∷ vs) rows) e in
+        setting again (v ∷ vs) rows tt parts.1 given
+
+    default : (rows : List Row) → AreGiven c rows → AreGiven c (with_default rows a)
+    default rows given = go (has_row a.id rows) a.defaults off
+      where
+        go : (b : Bool) (defaults : List Text) → defaults ≡ codes "false" ∷ [] → AreGiven c (if b then rows else default_rows a.id (reading_by a) defaults rows)
+        go true defaults e = given
+        go false defaults e = rw e (with_values-given c a.id (reading_by a) DefaultValue (codes "false" ∷ []) rows tt (own_passes (codes "false" ∷ []) passes) given)
 
 -- ---- the walk over the words of a command
 
@@ -283,16 +324,9 @@ module _ (s : Shape) (names : Names) (all : GiveValues s.rules s.rules) where
       let parts = both_empty (turn_fault s names w word) (walk_fault s names (walked s.rules names w word) words) e in
       walk-given (walked s.rules names w word) words parts.1 (turn-given w word parts.0 given)
 
-no_default : (rows : List Row) (a : Rule) → a.defaults ≡ [] → with_default rows a ≡ rows
-no_default rows a none = go (has_row a.id rows) a.defaults none
-  where
-    go : (b : Bool) (defaults : List Text) → defaults ≡ [] → (if b then rows else default_rows a.id (reading_by a) defaults rows) ≡ rows
-    go true defaults e = refl
-    go false defaults e = rw e refl
-
-no_defaults : (c : List Rule) (rows : List Row) (rules : List Rule) → GiveValues c rules → fold with_default rows rules ≡ rows
-no_defaults c rows [] all = refl
-no_defaults c rows (a ∷ rest) all = rw (no_default rows a all.0.no_default) (no_defaults c rows rest all.1)
+defaults-given : (c : List Rule) (rows : List Row) (rules : List Rule) → GiveValues c rules → AreGiven c rows → AreGiven c (fold with_default rows rules)
+defaults-given c rows [] all given = given
+defaults-given c rows (a ∷ rest) all given = defaults-given c (with_default rows a) rest all.1 (all.0.default rows given)
 
 -- no step of a level has a fault
 pub level_parts : (s : Shape) (names : Names) (words : List Text) (has : Bool) (below : Kinds) → level_fault s names nothing_held words has below ≡ []
@@ -314,7 +348,7 @@ pub level-given : (s : Shape) (names : Names) (words : List Text) (has : Bool) (
 level-given s names words has below all e =
     let parts = level_parts s names words has below e in
     let end = (walk s.rules names nothing_held words).held in
-    rw (no_defaults s.rules (settled s.rules end).rows s.rules all)
+    defaults-given s.rules (settled s.rules end).rows s.rules all
     (settled-given s.rules s.args_override_self all end parts.2 (walk-given s names all (walk_from nothing_held) words parts.0 tt))
 
 -- ---- arguments that are found

@@ -1,5 +1,5 @@
 -- Which command lines clap takes for the program: those that name one of its commands and give it its texts.
-use Rattle.std.proofs.Common.{◌≡◌, ◌==◌, ◌∙◌, ℕ, Bool, true, false, List, [], ◌∷◌, Option, Some, None, arith, is_some, refl, subst, sym, ap, ap₂, codes, get_or, if◌then◌else◌, option_map}
+use Rattle.std.proofs.Common.{◌≡◌, ◌==◌, ◌∙◌, ◌⊎◌, ℕ, Bool, true, false, List, [], ◌∷◌, Option, Some, None, arith, is_some, refl, subst, sym, ap, ap₂, inl, inr, codes, get_or, if◌then◌else◌, option_map}
 use Rattle.std.specs.Prelude.{⊤, ◌&&◌, ◌||◌, IfSome, IsOk, IsSome, Result, Ok, Err, find, not, Box, pos, unwrap_or}
 use Rattle.std.specs.Borrow.{Bor}
 use Rattle.std.specs.Box.{box_value}
@@ -30,8 +30,8 @@ use Rattle.cc_word.specs.declared.refusal.Refusal.TheVariants.{Syntax}
 use Rattle.cc_plan.specs.declared.align.Align.{Align}
 use Rattle.cc_plan.specs.declared.align.Align.TheVariants.{One, Sixteen}
 use Rattle.cc_script.specs.Commands.{align_in}
-use Rattle.cheri_cap.specs.Invocation.{HasAlign, HasItsTexts, HasLimit, HasText, IsAlign, IsLimit, IsLimitText, IsWhole, align_option, decimal_value, program, slots_option}
-use Rattle.cheri_cap.proofs.GivenLemmas.{GiveValues, GivesValue, IsTaken, level-given, level_parts, required_given, set_gives, taken}
+use Rattle.cheri_cap.specs.Invocation.{HasAlign, HasItsTexts, HasLimit, HasLine, HasText, IsAlign, IsGiven, IsLimit, IsLimitText, IsWhole, align_option, decimal_value, line_option, program, slots_option}
+use Rattle.cheri_cap.proofs.GivenLemmas.{GiveValues, GivesValue, IsTaken, flag_gives, level-given, level_parts, no_default-given, required_given, set_gives, taken}
 
 -- ---- numbers
 
@@ -122,7 +122,7 @@ align_one (Some text) read other =
     go false true not_sixteen read = absurd (not_sixteen refl)
     go false false not_sixteen read = cc read
 
--- ---- what the commands want
+-- ---- names
 
 -- two names that the test tells apart
 other : (a b : Text) → bytes_eq a b ≡ false → a ≡ b → ⊥
@@ -131,10 +131,41 @@ other a b differ same =
     let bad : false ≡ true = sym differ ∙ equal in
     cc bad
 
-show_whole : (rows : List Row) → HasText (codes "word") rows → IsWhole (codes "show") rows
-show_whole rows text = record {
+-- ---- flags
+
+has_line : (rows : List Row) → IsTaken (filled line_option) (first_of (codes "line") rows) (one_of (codes "line") rows) → HasLine rows
+has_line rows taken = let line = go (first_of (codes "line") rows) (one_of (codes "line") rows) taken in record { read = line.0; value = line.1 }
+  where
+    either : (text : Text) (on off : Bool) → (on ≡ true → text ≡ codes "true") → (off ≡ true → text ≡ codes "false") → (on || off) ≡ true
+        → (text ≡ codes "true") ⊎ (text ≡ codes "false")
+    either text true off is_on is_off e = inl (is_on refl)
+    either text false true is_on is_off e = inr (is_off refl)
+    either text false false is_on is_off e = cc e
+
+    go : (given read : Option Text) → IsTaken (filled line_option) given read → (read ≡ given) × IfSome given (λ text. (text ≡ codes "true") ⊎ (text ≡ codes "false"))
+    go None read is = (is, tt)
+    go (Some text) read is = (
+      is.0,
+      either text (bytes_eq text (codes "true")) (bytes_eq text (codes "false")) (λ e. (bytes_eq-Decides text (codes "true")).0 e)
+          (λ e. (bytes_eq-Decides text (codes "false")).0 e) is.1,
+    )
+
+-- what is read of a flag
+pub flag_read : (value : Option Text) (flag : Bool) → IfSome value (λ text. (text ≡ codes "true") ⊎ (text ≡ codes "false")) → (value ≡ None → flag ≡ false)
+    → (value ≡ Some (codes "true") → flag ≡ true) → (value ≡ Some (codes "false") → flag ≡ false) → IsGiven value flag
+flag_read None flag either none on off = (λ is. let no : true ≡ false = sym is ∙ none refl in cc no, λ is. cc is)
+flag_read (Some text) flag either none on off = elim either [
+  | inl is ↦ (λ _. ap Some is, λ _. on (ap Some is))
+  | inr is ↦ (
+    λ set. let no : true ≡ false = sym set ∙ off (ap Some is) in cc no,
+    λ given. let same : codes "true" ≡ codes "false" = cc (sym given ∙ ap Some is) in absurd (other (codes "true") (codes "false") refl same),
+  )
+]
+
+show_whole : (rows : List Row) → HasText (codes "word") rows → HasLine rows → IsWhole (codes "show") rows
+show_whole rows text line = record {
   known = refl;
-  show = λ _. text;
+  show = λ _. (text, line);
   round = λ same. absurd (other (codes "show") (codes "round") refl same);
   run = λ same. absurd (other (codes "show") (codes "run") refl same);
   plan = λ same. absurd (other (codes "show") (codes "plan") refl same);
@@ -184,10 +215,10 @@ module _ (aligns : Bor (List (Bor Text))) (are : texts aligns.now ≡ codes "1" 
 
   -- a call for help is a fault, and no row's
   help_gives : (c : List Rule) → GivesValue c (filled help_rule)
-  help_gives c = record { no_default = refl; uses = λ again values rows e given. given }
+  help_gives c = record { default = no_default-given c (filled help_rule) refl; uses = λ again values rows e given. given }
 
   show_gives : GiveValues show.rules show.rules
-  show_gives = (set_gives show.rules _ refl refl refl refl, (help_gives show.rules, tt))
+  show_gives = (flag_gives show.rules _ refl refl refl refl refl, (set_gives show.rules _ refl refl refl refl, (help_gives show.rules, tt)))
 
   round_gives : GiveValues round.rules round.rules
   round_gives = (set_gives round.rules _ refl refl refl refl, (help_gives round.rules, tt))
@@ -217,7 +248,8 @@ module _ (aligns : Bor (List (Bor Text))) (are : texts aligns.now ≡ codes "1" 
   show_serves : Serves show
   show_serves words e =
       let rows = rows_after show.rules [] words in
-      (codes "show", rows, refl, show_whole rows ((required_given show words show_gives e).0 refl))
+      let line = has_line rows (taken show.rules (codes "line") (filled line_option) rows (level-given show [] words false [] show_gives e) refl) in
+      (codes "show", rows, refl, show_whole rows ((required_given show words show_gives e).1.0 refl) line)
 
   round_serves : Serves round
   round_serves words e =

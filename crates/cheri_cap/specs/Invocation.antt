@@ -1,5 +1,5 @@
 -- What a command line asks for.
-use Rattle.std.specs.Prelude.{◌≡◌, ◌≤◌, ℕ, true, pos, List, [], ◌∷◌, Option, Some, None, IfSome, Ok, IsOk, codes, option_map}
+use Rattle.std.specs.Prelude.{◌≡◌, ◌≤◌, ◌⊎◌, ◌↔◌, ℕ, Bool, IsTrue, true, pos, List, [], ◌∷◌, Option, Some, None, IfSome, Ok, IsOk, codes, option_map}
 use Rattle.std.specs.Borrow.{Bor}
 use Rattle.std.specs.List.{list_any}
 use Rattle.std.specs.Option.{option_map_or}
@@ -7,7 +7,7 @@ use Rattle.std.specs.Str.{bytes_eq}
 use Rattle.std.specs.Str.Parse.{IsNumeral, digits_value, without_leading_plus}
 use Rattle.clap.specs.Walk.{texts}
 use Rattle.clap.specs.Words.{App, Row, Rule, Text, first_of, new_app, new_rule, one_of, with_rule, with_subcommand}
-use Rattle.clap.specs.declared.builder.action.ArgAction.TheVariants.{Set}
+use Rattle.clap.specs.declared.builder.action.ArgAction.TheVariants.{Set, SetTrue}
 use Rattle.clap.specs.declared.builder.value_parser.ValueParser.TheVariants.{Names, Signed}
 use Rattle.cc_plan.specs.declared.align.Align.{Align}
 use Rattle.cc_plan.specs.declared.align.Align.TheVariants.{One}
@@ -39,9 +39,13 @@ align_option aligns = record (optional_argument (codes "align")) {
   parser = Some (Names aligns);
 }
 
--- the command `show WORD`
+-- the option `--line`, which has no value
+abbrev pub line_option : Rule
+line_option = record (new_rule (codes "line")) { long = Some (codes "line"); action = Some SetTrue }
+
+-- the command `show [--line] WORD`
 abbrev pub show_command : App
-show_command = with_rule (new_app (codes "show")) (wanted_argument (codes "word"))
+show_command = with_rule (with_rule (new_app (codes "show")) line_option) (wanted_argument (codes "word"))
 
 -- the command `round N`
 abbrev pub round_command : App
@@ -102,16 +106,20 @@ abbrev pub IsAlign : (given : Option Text) → Align → Type 0
 IsAlign None align = align ≡ One
 IsAlign (Some text) align = align_in text ≡ Ok align
 
+-- whether the option was given: clap has the value `true` for one that was
+abbrev pub IsGiven : (value : Option Text) → Bool → Type 0
+IsGiven value given = IsTrue given ↔ (value ≡ Some (codes "true"))
+
 -- the name of the command
 abbrev pub command_of : Invocation → Text
-command_of (Show word) = codes "show"
+command_of (Show word as_line) = codes "show"
 command_of (Round size) = codes "round"
 command_of (Run limit file) = codes "run"
 command_of (Plan limit pool align file) = codes "plan"
 
 -- each text of the command is the value of its name, and none where the name has no value
 abbrev pub HasValues : List Row → Invocation → Type 0
-HasValues rows (Show word) = first_of (codes "word") rows ≡ Some word.now
+HasValues rows (Show word as_line) = (first_of (codes "word") rows ≡ Some word.now) × IsGiven (first_of (codes "line") rows) as_line
 HasValues rows (Round size) = first_of (codes "length") rows ≡ Some size.now
 HasValues rows (Run limit file) =
     IsLimit (first_of (codes "slots") rows) limit × (first_of (codes "file") rows ≡ option_map (λ text. text.now) file)
@@ -141,6 +149,11 @@ pub record HasLimit (rows : List Row) : Type 0 where
   pub read : one_of (codes "slots") rows ≡ first_of (codes "slots") rows
   pub limit : IfSome (first_of (codes "slots") rows) IsLimitText
 
+-- the value of `--line`, where it has one, is `true` or `false`, and is read as it is written
+pub record HasLine (rows : List Row) : Type 0 where
+  pub read : one_of (codes "line") rows ≡ first_of (codes "line") rows
+  pub value : IfSome (first_of (codes "line") rows) (λ text. (text ≡ codes "true") ⊎ (text ≡ codes "false"))
+
 -- the value of `--align`, where it has one, spells an alignment
 abbrev pub HasAlign : List Row → Type 0
 HasAlign rows = IfSome (first_of (codes "align") rows) (λ text. IsOk (align_in text))
@@ -148,7 +161,7 @@ HasAlign rows = IfSome (first_of (codes "align") rows) (λ text. IsOk (align_in 
 -- the command of this name is one of the program's, and has what it wants
 pub record IsWhole (name : Text) (rows : List Row) : Type 0 where
   pub known : list_any (λ command. bytes_eq command name) (codes "show" ∷ codes "round" ∷ codes "run" ∷ codes "plan" ∷ []) ≡ true
-  pub show : name ≡ codes "show" → HasText (codes "word") rows
+  pub show : name ≡ codes "show" → HasText (codes "word") rows × HasLine rows
   pub round : name ≡ codes "round" → HasText (codes "length") rows
   pub run : name ≡ codes "run" → HasLimit rows
   pub plan : name ≡ codes "plan" → HasText (codes "base") rows × HasText (codes "length") rows × HasLimit rows × HasAlign rows

@@ -3,7 +3,7 @@ ghost use Rattle.std.specs.Prelude.{◌≡◌, ◌∷◌, [], IfErr, IfOk, IsSom
 ghost use Rattle.clap.specs.Walk.{texts};
 ghost use Rattle.clap.specs.Words.{App, FailsBy, app_of, fault_of, first_of, first_value, found_of, kind_of, new_app, rows_of, rule_of, subcommand_of, subcommand_rows_of, takes};
 ghost use Rattle.clap.specs.declared.builder.command.Command.TheViews.{out-Command};
-ghost use Rattle.cheri_cap.specs.Invocation.{HasAlign, HasItsTexts, HasLimit, IsAlign, IsInvocation, IsLimit, IsProgram, align_option, bare_program, optional_argument, plan_command, plan_options, program, round_command, run_command, show_command, slots_option, wanted_argument};
+ghost use Rattle.cheri_cap.specs.Invocation.{HasAlign, HasItsTexts, HasLimit, HasLine, IsAlign, IsGiven, IsInvocation, IsLimit, IsProgram, align_option, bare_program, line_option, optional_argument, plan_command, plan_options, program, round_command, run_command, show_command, slots_option, wanted_argument};
 
 use cc_command::PoolTexts;
 use cc_machine::Align;
@@ -15,10 +15,12 @@ use std::alloc::{AllocError, Global};
 /// What the program is asked to do.
 #[derive(Clone, Copy, Debug, PartialEq, Eq)]
 pub enum Invocation<'a> {
-    /// `show WORD`: the listing of a word.
+    /// `show [--line] WORD`: the listing of a word, or its line.
     Show {
         /// The text that stands for the word, which may be none.
         word: &'a str,
+        /// Whether the word is shown on one line.
+        as_line: bool,
     },
     /// `round N`: the length that bounds of `N` bytes take, and its alignment.
     Round {
@@ -69,12 +71,18 @@ const SHOW_ABOUT: &str = "Shows the fields of a capability word, one on each lin
 const WORD_HELP: &str = "\
 The word: its 128 bits as 32 hexadecimal digits, the highest first, in either case and without 0x";
 
+const LINE_HELP: &str = "Show the word on one line: its address, permissions, base and top";
+
 const SHOW_AFTER_HELP: &str = "\
 The word is in the form that stands in memory, where the null capability is all zeros. Any 32 digits
 are a word; for any other text the answer is `error 1 syntax`, with exit status 1.
 
+On its line a word is shown as one that has its tag: LOAD is r, STORE w, EXECUTE x, LOAD_CAP R and
+STORE_CAP W, and behind the bounds stands (sentry) or (sealed) for a type that is not unsealed.
+
 Example:
-  cheri-cap show ffff0000048190040000000000001000";
+  cheri-cap show --line ffff0000048190040000000000001000
+  0x1000 [rwxRW,0x1000-0x1200]";
 
 const ROUND_ABOUT: &str =
     "Shows how many bytes an allocation of N bytes has to set aside, and how to align it";
@@ -191,13 +199,15 @@ fn program<'a>(alloc: Global, aligns: &'a [&'a str]) -> Result<Command<'a>, Allo
         .subcommand(plan_command(alloc, aligns)?)
 }
 
-/// `show WORD`.
+/// `show [--line] WORD`.
 fn show_command<'a>(alloc: Global) -> Result<Command<'a>, AllocError>
     ensures shape { IfOk result (λ command. app_of command ≡ show_command) }
     ensures local { IfOk result (λ command. (out-Command command).has_globals ≡ false) }
 {
     let word = wanted_argument(alloc, "word", "WORD", WORD_HELP);
-    bare_command(alloc, "show", SHOW_ABOUT, SHOW_AFTER_HELP).arg(word)
+    bare_command(alloc, "show", SHOW_ABOUT, SHOW_AFTER_HELP)
+        .arg(line_option(alloc))?
+        .arg(word)
 }
 
 /// `round N`.
@@ -299,6 +309,17 @@ fn optional_argument<'a>(
         .action(ArgAction::Set)
 }
 
+/// The option `--line`.
+fn line_option<'a>(alloc: Global) -> Arg<'a>
+    ensures rule { rule_of result ≡ line_option }
+    ensures local { result.global ≡ false }
+{
+    Arg::new(alloc, "line")
+        .help(LINE_HELP)
+        .long("line")
+        .action(ArgAction::SetTrue)
+}
+
 /// The option `--slots N`.
 fn slots_option<'a>(alloc: Global) -> Arg<'a>
     ensures rule { rule_of result ≡ slots_option }
@@ -327,6 +348,7 @@ fn invocation_of<'a>(matches: &ArgMatches<'a>) -> Invocation<'a>
     match matches.subcommand() {
         Some(("show", show)) => Invocation::Show {
             word: wanted_text(show, "word"),
+            as_line: is_line_given(show),
         },
         Some(("round", round)) => Invocation::Round {
             length: wanted_text(round, "length"),
@@ -357,6 +379,14 @@ fn wanted_text<'a>(matches: &ArgMatches<'a>, name: &str) -> &'a str
         Some(text) => text,
         None => unreachable!(),
     }
+}
+
+/// Whether `--line` is given.
+fn is_line_given(matches: &ArgMatches<'_>) -> bool
+    requires { HasLine (rows_of (found_of matches.now)) }
+    ensures { IsGiven (first_of (codes "line") (rows_of (found_of matches.now))) result }
+{
+    matches.get_flag("line")
 }
 
 /// The value of `--slots`, or the default.

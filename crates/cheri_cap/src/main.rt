@@ -13,7 +13,7 @@ mod invocation;
 mod outcome;
 mod running;
 
-use cc_command::{show_round, show_word};
+use cc_command::{show_line, show_round, show_word};
 use cc_script::{FromWriter, Summary};
 use clap::Error;
 use clap::error::ErrorKind;
@@ -99,7 +99,14 @@ fn answer<R: AllocGlobal + Files + Input + Print>(
 {
     let mut output = FromWriter::new(io::writer(rt));
     match invocation {
-        Invocation::Show { word } => Ok(show_word(word.as_bytes(), &mut output)?),
+        Invocation::Show {
+            word,
+            as_line: false,
+        } => Ok(show_word(word.as_bytes(), &mut output)?),
+        Invocation::Show {
+            word,
+            as_line: true,
+        } => Ok(show_line(word.as_bytes(), &mut output)?),
         Invocation::Round { length } => Ok(show_round(length.as_bytes(), &mut output)?),
         Invocation::Run { limit, file } => running::run(rt, limit, file),
         Invocation::Plan {

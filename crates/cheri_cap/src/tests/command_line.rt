@@ -17,20 +17,24 @@ fn words_of(alloc: Global, line: &str) -> Result<Vec<&str>, AllocError> {
     Ok(words)
 }
 
-const SHOWN: [(&str, &str); 5] = [
-    ("show 12", "12"),
-    ("show ", ""),
-    ("show -- 12", "12"),
-    ("show -- -5", "-5"),
-    ("show round", "round"),
+const SHOWN: [(&str, &str, bool); 9] = [
+    ("show 12", "12", false),
+    ("show ", "", false),
+    ("show -- 12", "12", false),
+    ("show -- -5", "-5", false),
+    ("show round", "round", false),
+    ("show --line 12", "12", true),
+    ("show 12 --line", "12", true),
+    ("show -- --line", "--line", false),
+    ("show line", "line", false),
 ];
 
 #[test]
 fn show_is_taken(rt: HostRuntime) -> Result<(), Fail> {
-    for (line, word) in SHOWN {
+    for (line, word, as_line) in SHOWN {
         let words = words_of(rt.alloc(), line)?;
         let taken = read_words(rt.alloc(), words.as_slice())?;
-        assert_eq!(rt; taken, Invocation::Show { word }, "{line}");
+        assert_eq!(rt; taken, Invocation::Show { word, as_line }, "{line}");
     }
     Ok(())
 }
@@ -194,12 +198,15 @@ fn refusal(alloc: Global, words: &[&str]) -> Option<(ErrorKind, bool)> {
 }
 
 #[rattlefmt::skip]
-const REFUSED: [(&str, ErrorKind); 27] = [
+const REFUSED: [(&str, ErrorKind); 30] = [
     ("show", ErrorKind::MissingRequiredArgument),
     ("show 1 2", ErrorKind::UnknownArgument),
     ("show -5", ErrorKind::UnknownArgument),
     ("show --length 1", ErrorKind::UnknownArgument),
     ("show --slots=5 1", ErrorKind::UnknownArgument),
+    ("show --line", ErrorKind::MissingRequiredArgument),
+    ("show --line=1 1", ErrorKind::TooManyValues),
+    ("show --line --line 1", ErrorKind::ArgumentConflict),
     ("round", ErrorKind::MissingRequiredArgument),
     ("round 1 2", ErrorKind::UnknownArgument),
     ("round -5", ErrorKind::UnknownArgument),

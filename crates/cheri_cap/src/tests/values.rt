@@ -148,6 +148,8 @@ fn invocations_are_told_apart(rt: HostRuntime) {
         file: None,
     };
     assert!(rt; plan(5, pool, None) != aligned);
-    assert!(rt; Invocation::Show { word: "1" } != Invocation::Round { length: "1" });
-    assert!(rt; Invocation::Show { word: "1" } != Invocation::Show { word: "2" });
+    let show = |word, as_line| Invocation::Show { word, as_line };
+    assert!(rt; show("1", false) != Invocation::Round { length: "1" });
+    assert!(rt; show("1", false) != show("2", false));
+    assert!(rt; show("1", false) != show("1", true));
 }

@@ -9,7 +9,14 @@ wanted_text-requires c =
     let here = c.in-Some-show-default in
     let f = found_of here.show.now in
     let is = command_is c.args.matches.now (codes "show") (rows_of f) (sym (ap Some here.is-show) ∙ here.ensures.name) here.ensures.rows in
-    has_text f (codes "word") ((whole _ (codes "show") (rows_of f) is c.requires).show refl)
+    has_text f (codes "word") ((whole _ (codes "show") (rows_of f) is c.requires).show refl).0
+
+pub is_line_given-requires : goal.is_line_given-requires
+is_line_given-requires c =
+    let here = c.in-Some-show-default in
+    let f = found_of here.show.now in
+    let is = command_is c.args.matches.now (codes "show") (rows_of f) (sym (ap Some here.is-show) ∙ here.ensures.name) here.ensures.rows in
+    ((whole _ (codes "show") (rows_of f) is c.requires).show refl).1
 
 pub wanted_text-requires-in-Some-round-default : goal.wanted_text-requires-in-Some-round-default
 wanted_text-requires-in-Some-round-default c =
@@ -59,7 +66,7 @@ returns-in-Some-show-default c =
     let f = found_of here.show.now in (
       rows_of f,
       command_is c.args.matches.now (codes "show") (rows_of f) (sym (ap Some here.is-show) ∙ here.ensures.name) here.ensures.rows,
-      sym (first_value-rows f (codes "word")) ∙ c.wanted_text.ensures,
+      (sym (first_value-rows f (codes "word")) ∙ c.wanted_text.ensures, c.is_line_given.ensures),
     )
 
 pub returns-in-Some-round-default : goal.returns-in-Some-round-default

@@ -1,0 +1,59 @@
+//! The calls for many words at once: an answer for each word, at its place.
+//!
+//! Each answer is the one that the call for a single word gives. The room for the answers has as many
+//! places as there are words.
+ghost use Rattle.std.specs.Prelude.{◌≡◌, ◌↔◌, IsTrue, length, slice_index};
+ghost use Rattle.cc_cap.specs.Canonical.{IsCanonical};
+ghost use Rattle.cc_cap.specs.Many.{AnswersEach, IsSpanOf, TellsRepresentable};
+
+use cc_bounds::{Set, Span};
+use cc_word::unpack;
+
+/// Writes the bounds that each word decodes to, as [`cc_bounds::decode`] has them.
+pub fn decode(words: &[u128], spans: &mut [Span])
+    requires { length words.now ≡ length spans.old }
+    ensures { AnswersEach (λ i span. IsSpanOf (slice_index words.now i) span) spans.new (length words.now) }
+{
+    for (i, span) in spans.iter_mut().enumerate() {
+        *span = decoded(words[i]);
+    }
+}
+
+/// Writes whether each word is canonical, as [`crate::is_canonical`] tells it.
+pub fn is_canonical(words: &[u128], answers: &mut [bool])
+    requires { length words.now ≡ length answers.old }
+    ensures { AnswersEach (λ i answer. IsTrue answer ↔ IsCanonical (slice_index words.now i)) answers.new (length words.now) }
+{
+    for (i, answer) in answers.iter_mut().enumerate() {
+        *answer = crate::is_canonical(words[i]);
+    }
+}
+
+/// Writes of each word and the address at its place whether the word stores a sound span for which the
+/// address is representable, as [`Set::of_fields`] and [`cc_bounds::represents`] tell it.
+pub fn represents(words: &[u128], addresses: &[u64], answers: &mut [bool])
+    requires addresses { length words.now ≡ length addresses.now }
+    requires answers { length words.now ≡ length answers.old }
+    ensures { AnswersEach (λ i answer. TellsRepresentable (slice_index words.now i) (slice_index addresses.now i) answer) answers.new (length words.now) }
+{
+    for (i, answer) in answers.iter_mut().enumerate() {
+        *answer = represented(words[i], addresses[i]);
+    }
+}
+
+// The bounds that a word decodes to.
+fn decoded(word: u128) -> Span
+    ensures { IsSpanOf word result }
+{
+    cc_bounds::decode(&unpack(word))
+}
+
+// Whether a word stores a sound span for which the address is representable.
+fn represented(word: u128, address: u64) -> bool
+    ensures { TellsRepresentable word address result }
+{
+    match Set::of_fields(&unpack(word)) {
+        Some(set) => cc_bounds::represents(&set, address),
+        None => false,
+    }
+}

@@ -1,0 +1,92 @@
+//! Many words at once: an answer for each word, at its place.
+//!
+//! A slice crosses as a pointer and a count, so each array has a count of its own. Where they differ, the
+//! least counts: as many answers are written, and the count of these is told.
+ghost use Rattle.std.specs.Prelude.{◌≡◌, length, min, slice_index};
+ghost use Rattle.std.specs.List.{SameFrom};
+ghost use Rattle.cc_cap.specs.Canonical.{IsCanonical};
+ghost use Rattle.cc_cap.specs.Many.{AnswersEach};
+ghost use Rattle.cc_ffi.specs.Numbers.{value_of};
+ghost use Rattle.cc_ffi.specs.Words.{OfFields};
+ghost use Rattle.cc_ffi.specs.Bounds.{IsDecoded};
+ghost use Rattle.cc_ffi.specs.Many.{IsOneIf, IsOneIfRepresentable, word_at};
+
+use crate::bounds::{cheri_cap_decode, cheri_cap_represents};
+use crate::structs::{Bounds, Halves};
+use crate::words::cheri_cap_is_canonical;
+
+/// Writes the base, the top and the exponent of each word, and answers of how many.
+#[unsafe(no_mangle)]
+pub extern "C" fn cheri_cap_decode_many(words: &[Halves], bounds: &mut [Bounds]) -> usize
+    ensures count { result ≡ min (length words.now) (length bounds.old) }
+    ensures decoded { AnswersEach (λ i told. OfFields (word_at words.now i) (λ fields. IsDecoded fields told)) bounds.new result }
+    ensures rest { SameFrom bounds.old bounds.new result }
+{
+    let count = words.len().min(bounds.len());
+    for i in 0..count {
+        bounds[i] = decoded(words[i]);
+    }
+    count
+}
+
+/// Writes 1 for each canonical word and 0 for each other, and answers of how many.
+#[unsafe(no_mangle)]
+pub extern "C" fn cheri_cap_is_canonical_many(words: &[Halves], answers: &mut [u8]) -> usize
+    ensures count { result ≡ min (length words.now) (length answers.old) }
+    ensures told { AnswersEach (λ i answer. IsOneIf (IsCanonical (word_at words.now i)) answer) answers.new result }
+    ensures rest { SameFrom answers.old answers.new result }
+{
+    let count = words.len().min(answers.len());
+    for i in 0..count {
+        answers[i] = canonical(words[i]);
+    }
+    count
+}
+
+/// Writes 1 for each word that stores its bounds as setting bounds stores them and for which the address
+/// at its place is representable, and 0 for each other, and answers of how many.
+#[unsafe(no_mangle)]
+pub extern "C" fn cheri_cap_represents_many(
+    words: &[Halves],
+    addresses: &[u64],
+    answers: &mut [u8],
+) -> usize
+    ensures count { result ≡ min (length words.now) (min (length addresses.now) (length answers.old)) }
+    ensures told { AnswersEach (λ i answer. IsOneIfRepresentable (word_at words.now i) (slice_index addresses.now i) answer) answers.new result }
+    ensures rest { SameFrom answers.old answers.new result }
+{
+    let count = words.len().min(addresses.len().min(answers.len()));
+    for i in 0..count {
+        answers[i] = represented(words[i], addresses[i]);
+    }
+    count
+}
+
+/// The base, the top and the exponent of a word.
+fn decoded(word: Halves) -> Bounds
+    ensures { OfFields (value_of word) (λ fields. IsDecoded fields result) }
+{
+    cheri_cap_decode(word.high, word.low)
+}
+
+/// 1 for a canonical word, and 0 for any other.
+fn canonical(word: Halves) -> u8
+    ensures { IsOneIf (IsCanonical (value_of word)) result }
+{
+    if cheri_cap_is_canonical(word.high, word.low) {
+        1
+    } else {
+        0
+    }
+}
+
+/// 1 for a word that stores a sound span for which the address is representable, and 0 for any other.
+fn represented(word: Halves, address: u64) -> u8
+    ensures { IsOneIfRepresentable (value_of word) address result }
+{
+    if cheri_cap_represents(word.high, word.low, address) {
+        1
+    } else {
+        0
+    }
+}
