@@ -5,6 +5,8 @@ mod answers;
 mod engine;
 mod format;
 mod rows;
+#[cfg(test)]
+mod tests;
 
 pub use engine::decode_words;
 pub use format::Format;

@@ -153,8 +153,7 @@ Example:
   freed 1 revoked 0 held 100
   swept 1 revoked 1 held 0";
 
-const DECODE_ABOUT: &str =
-    "Shows what each word of a text holds, one on each line: words in bulk, from a trace or a dump";
+const DECODE_ABOUT: &str = "Shows what each word of a text holds, one on each line";
 
 const FORMAT_HELP: &str = "\
 How the answer to a word is written: its values in columns, or the line that debuggers show
@@ -163,8 +162,8 @@ How the answer to a word is written: its values in columns, or the line that deb
 const WORDS_FILE_HELP: &str = "The words' file; standard input where it is `-` or left out";
 
 const DECODE_AFTER_HELP: &str = "\
-Each line is a word: 32 hexadecimal digits of either case. The answers stand in the order of the
-lines, one on each line:
+Each line is a word: 32 hexadecimal digits of either case, as a trace or a dump has them. The
+answers stand in the order of the lines, one on each line:
   columns   WORD BASE TOP PERMS FLAG TYPE EXPONENT CANONICAL, as `cheri-cap show` spells them
   text      ADDRESS [LETTERS,BASE-TOP], and `(sealed)` or `(sentry)`
 A line that is no word is answered by `error 1 syntax`, and a rest without a line feed by
@@ -174,10 +173,9 @@ The exit status is 0, or 1 where an answer is an error, 2 for a command line tha
 and 3 where FILE cannot be opened, or the input or output failed.
 
 Example:
-  echo ffff0000000f803d0000000000010070 | cheri-cap decode
+  printf 'ffff0000000f803d0000000000010070\\n02001fffc48190040000000000001000\\n' | cheri-cap decode
   ffff0000000f803d0000000000010070 0x10070 0x12070 ffff 0 3ffff 1 yes
-  echo ffff0000000f803d0000000000010070 | cheri-cap decode --format text
-  0x10070 [rwxRW,0x10070-0x12070]";
+  02001fffc48190040000000000001000 0x1000 0x1200 0200 0 00007 0 yes";
 
 const SLOTS_HELP: &str = "\
 How many slots the machine can have, and how many objects, from 1 to 65536 [default: 4096]";
