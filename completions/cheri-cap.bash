@@ -4,23 +4,25 @@ _cheri_cap() {
   local word=${COMP_WORDS[COMP_CWORD]} before=${COMP_WORDS[COMP_CWORD - 1]} command=${COMP_WORDS[1]} options='-h --help'
   COMPREPLY=()
   if ((COMP_CWORD == 1)); then
-    mapfile -t COMPREPLY < <(compgen -W 'show round run plan -h --help -V --version' -- "$word")
+    mapfile -t COMPREPLY < <(compgen -W 'show round run plan decode -h --help -V --version' -- "$word")
     return
   fi
   case $command in
     run) options+=' --slots' ;;
     plan) options+=' --slots --align' ;;
+    decode) options+=' --format' ;;
     show) options+=' --line' ;;
     round) ;;
     *) return ;;
   esac
   case $before in
     --slots) ;;
+    --format) mapfile -t COMPREPLY < <(compgen -W 'columns text' -- "$word") ;;
     --align) mapfile -t COMPREPLY < <(compgen -W '1 16' -- "$word") ;;
     *)
       if [[ $word == -* ]]; then
         mapfile -t COMPREPLY < <(compgen -W "$options" -- "$word")
-      elif [[ $command == run || $command == plan ]]; then
+      elif [[ $command == run || $command == plan || $command == decode ]]; then
         compopt -o filenames 2>/dev/null
         mapfile -t COMPREPLY < <(compgen -f -- "$word")
       fi

@@ -4,12 +4,13 @@ ghost use Rattle.std.specs.Prelude.{◌≡◌, ◌^◌, false};
 use crate::devices::{Failed, Sink, Source};
 use std::io::{Read, Write};
 
-/// The most bytes that a [`FromReader`] gives.
+/// The most bytes that a [`FromReader`] gives that is made without a limit of its own.
 const MOST_BYTES: usize = 1 << 30;
 
 /// A source over a reader. Any error of the reader is a failure, an interruption too.
 ///
-/// The read that would begin behind its first 2^30 bytes fails, so a script through it has fewer.
+/// The read that would begin behind its limit fails: behind its first 2^30 bytes, where it has no limit of its
+/// own, so that a script through it has fewer.
 #[derive(Drop)]
 pub struct FromReader<R> {
     reader: R,
@@ -24,9 +25,18 @@ impl<R: Read> FromReader<R> {
         ensures most_to_come { ⟦<FromReader<R> as Source>⟧.most_to_come result ≡ 2 ^ 30 }
         ensures failed { ⟦<FromReader<R> as Source>⟧.has_failed result ≡ false }
     {
+        FromReader::with_limit(reader, MOST_BYTES)
+    }
+
+    /// The same, but the read that would begin behind its first `limit` bytes fails.
+    pub fn with_limit(reader: R, limit: usize) -> Self
+        ensures to_come { ⟦<FromReader<R> as Source>⟧.to_come result ≡ R.remaining reader }
+        ensures most_to_come { ⟦<FromReader<R> as Source>⟧.most_to_come result ≡ limit }
+        ensures failed { ⟦<FromReader<R> as Source>⟧.has_failed result ≡ false }
+    {
         FromReader {
             reader,
-            left: MOST_BYTES,
+            left: limit,
             has_failed: false,
         }
     }

@@ -30,7 +30,10 @@ use Rattle.cc_word.specs.declared.refusal.Refusal.TheVariants.{Syntax}
 use Rattle.cc_plan.specs.declared.align.Align.{Align}
 use Rattle.cc_plan.specs.declared.align.Align.TheVariants.{One, Sixteen}
 use Rattle.cc_script.specs.Commands.{align_in}
-use Rattle.cheri_cap.specs.Invocation.{HasAlign, HasItsTexts, HasLimit, HasLine, HasText, IsAlign, IsGiven, IsLimit, IsLimitText, IsWhole, align_option, decimal_value, line_option, program, slots_option}
+use Rattle.cc_decode.specs.declared.format.Format.{Format}
+use Rattle.cc_decode.specs.declared.format.Format.TheVariants.{Columns}
+use Rattle.cc_decode.specs.declared.format.Format.TheVariants as format
+use Rattle.cheri_cap.specs.Invocation.{HasAlign, HasFormat, HasItsTexts, HasLimit, HasLine, HasText, IsAlign, IsFormat, IsGiven, IsLimit, IsLimitText, IsWhole, align_option, decimal_value, format_in, format_names, format_option, line_option, program, slots_option}
 use Rattle.cheri_cap.proofs.GivenLemmas.{GiveValues, GivesValue, IsTaken, flag_gives, level-given, level_parts, no_default-given, required_given, set_gives, taken}
 
 -- ---- numbers
@@ -122,6 +125,42 @@ align_one (Some text) read other =
     go false true not_sixteen read = absurd (not_sixteen refl)
     go false false not_sixteen read = cc read
 
+-- ---- formats
+
+-- what has a name is a format
+format_read : (text : Text) → list_any (λ name. bytes_eq name text) format_names ≡ true → IsSome (format_in text)
+format_read text among = go (bytes_eq (codes "columns") text) (bytes_eq (codes "text") text) refl refl among
+  where
+    go : (columns line : Bool) → bytes_eq (codes "columns") text ≡ columns → bytes_eq (codes "text") text ≡ line
+        → (columns || (line || false)) ≡ true → IsSome (format_in text)
+    go true line is other e = subst (λ (t : Text). IsSome (format_in t)) ((bytes_eq-Decides (codes "columns") text).0 is) refl
+    go false true other is e = subst (λ (t : Text). IsSome (format_in t)) ((bytes_eq-Decides (codes "text") text).0 is) refl
+    go false false one two e = cc e
+
+has_format : (formats : Bor (List (Bor Text))) → texts formats.now ≡ format_names → (rows : List Row)
+    → IsTaken (filled (format_option formats)) (first_of (codes "format") rows) (one_of (codes "format") rows) → HasFormat rows
+has_format formats are rows taken = go (first_of (codes "format") rows) (one_of (codes "format") rows) taken
+  where
+    go : (given read : Option Text) → IsTaken (filled (format_option formats)) given read → IfSome given (λ text. IsSome (format_in text))
+    go None read is = tt
+    go (Some text) read is =
+        let among = sym (among_texts formats.now text) ∙ is.1 in
+        format_read text (subst (λ (names : List Text). list_any (λ name. bytes_eq name text) names ≡ true) are among)
+
+-- what is read of a format that is not the line
+pub format_columns : (given : Option Text) → IfSome given (λ text. IsSome (format_in text)) → (given ≡ Some (codes "text") → ⊥) → IsFormat given Columns
+format_columns None read other = refl
+format_columns (Some text) read other =
+    go (bytes_eq text (codes "columns")) (bytes_eq text (codes "text")) (λ is. other (ap Some ((bytes_eq-Decides text (codes "text")).0 is))) read
+  where
+    named : (columns line : Bool) → Option Format
+    named columns line = if columns then Some Columns else if line then Some format.Text else None
+
+    go : (columns line : Bool) → (line ≡ true → ⊥) → IsSome (named columns line) → named columns line ≡ Some Columns
+    go true line not_line read = refl
+    go false true not_line read = absurd (not_line refl)
+    go false false not_line read = cc read
+
 -- ---- names
 
 -- two names that the test tells apart
@@ -169,6 +208,7 @@ show_whole rows text line = record {
   round = λ same. absurd (other (codes "show") (codes "round") refl same);
   run = λ same. absurd (other (codes "show") (codes "run") refl same);
   plan = λ same. absurd (other (codes "show") (codes "plan") refl same);
+  decode = λ same. absurd (other (codes "show") (codes "decode") refl same);
 }
 
 round_whole : (rows : List Row) → HasText (codes "length") rows → IsWhole (codes "round") rows
@@ -178,6 +218,7 @@ round_whole rows text = record {
   round = λ _. text;
   run = λ same. absurd (other (codes "round") (codes "run") refl same);
   plan = λ same. absurd (other (codes "round") (codes "plan") refl same);
+  decode = λ same. absurd (other (codes "round") (codes "decode") refl same);
 }
 
 run_whole : (rows : List Row) → HasLimit rows → IsWhole (codes "run") rows
@@ -187,6 +228,7 @@ run_whole rows limit = record {
   round = λ same. absurd (other (codes "run") (codes "round") refl same);
   run = λ _. limit;
   plan = λ same. absurd (other (codes "run") (codes "plan") refl same);
+  decode = λ same. absurd (other (codes "run") (codes "decode") refl same);
 }
 
 plan_whole : (rows : List Row) → HasText (codes "base") rows → HasText (codes "length") rows → HasLimit rows → HasAlign rows → IsWhole (codes "plan") rows
@@ -196,22 +238,36 @@ plan_whole rows base size limit align = record {
   round = λ same. absurd (other (codes "plan") (codes "round") refl same);
   run = λ same. absurd (other (codes "plan") (codes "run") refl same);
   plan = λ _. (base, size, limit, align);
+  decode = λ same. absurd (other (codes "plan") (codes "decode") refl same);
+}
+
+decode_whole : (rows : List Row) → HasFormat rows → IsWhole (codes "decode") rows
+decode_whole rows format = record {
+  known = refl;
+  show = λ same. absurd (other (codes "decode") (codes "show") refl same);
+  round = λ same. absurd (other (codes "decode") (codes "round") refl same);
+  run = λ same. absurd (other (codes "decode") (codes "run") refl same);
+  plan = λ same. absurd (other (codes "decode") (codes "plan") refl same);
+  decode = λ _. format;
 }
 
 -- ---- the commands, as building leaves them
 
-module _ (aligns : Bor (List (Bor Text))) (are : texts aligns.now ≡ codes "1" ∷ codes "16" ∷ []) where
+module _ (aligns : Bor (List (Bor Text))) (are : texts aligns.now ≡ codes "1" ∷ codes "16" ∷ []) (formats : Bor (List (Bor Text))) (are_formats : texts formats.now ≡ format_names) where
   abbrev show : Shape
-  show = get_or (built (program aligns)).subs 0 help_shape
+  show = get_or (built (program aligns formats)).subs 0 help_shape
 
   abbrev round : Shape
-  round = get_or (built (program aligns)).subs 1 help_shape
+  round = get_or (built (program aligns formats)).subs 1 help_shape
 
   abbrev run : Shape
-  run = get_or (built (program aligns)).subs 2 help_shape
+  run = get_or (built (program aligns formats)).subs 2 help_shape
 
   abbrev plan : Shape
-  plan = get_or (built (program aligns)).subs 3 help_shape
+  plan = get_or (built (program aligns formats)).subs 3 help_shape
+
+  abbrev decode : Shape
+  decode = get_or (built (program aligns formats)).subs 4 help_shape
 
   -- a call for help is a fault, and no row's
   help_gives : (c : List Rule) → GivesValue c (filled help_rule)
@@ -240,6 +296,9 @@ module _ (aligns : Bor (List (Bor Text))) (are : texts aligns.now ≡ codes "1" 
       ),
     ),
   )
+
+  decode_gives : GiveValues decode.rules decode.rules
+  decode_gives = (set_gives decode.rules _ refl refl refl refl, (set_gives decode.rules _ refl refl refl refl, (help_gives decode.rules, tt)))
 
   -- a command whose words have no fault has what it wants
   abbrev Serves : Shape → Type 0
@@ -276,12 +335,18 @@ module _ (aligns : Bor (List (Bor Text))) (are : texts aligns.now ≡ codes "1" 
       let align = has_align aligns are rows (taken plan.rules (codes "align") (filled (align_option aligns)) rows (level-given plan [] words false [] plan_gives e) refl) in
       (codes "plan", rows, refl, plan_whole rows (wanted.1.1.0 refl) (wanted.1.1.1.0 refl) limit align)
 
+  decode_serves : Serves decode
+  decode_serves words e =
+      let rows = rows_after decode.rules [] words in
+      let format = has_format formats are_formats rows (taken decode.rules (codes "format") (filled (format_option formats)) rows (level-given decode [] words false [] decode_gives e) refl) in
+      (codes "decode", rows, refl, decode_whole rows format)
+
   abbrev AllServe : List Shape → Type 0
   AllServe [] = ⊤
   AllServe (s ∷ rest) = Serves s × AllServe rest
 
-  all_serve : AllServe (built (program aligns)).subs
-  all_serve = (show_serves, (round_serves, (run_serves, (plan_serves, tt))))
+  all_serve : AllServe (built (program aligns formats)).subs
+  all_serve = (show_serves, (round_serves, (run_serves, (plan_serves, (decode_serves, tt)))))
 
   -- ---- the program
 
@@ -290,37 +355,37 @@ module _ (aligns : Bor (List (Bor Text))) (are : texts aligns.now ≡ codes "1" 
   wanted_by false b e = cc e
 
   -- a command is wanted
-  wanted : (rows : List Row) → check_fault (built (program aligns)).top rows false ≡ [] → ⊥
+  wanted : (rows : List Row) → check_fault (built (program aligns formats)).top rows false ≡ [] → ⊥
   wanted rows e =
       wanted_by (not (list_any (λ (r : Row). explicit_source r.source) rows))
-      (list_any (λ (a : Rule). a.required && not (is_given a.id rows)) (built (program aligns)).top.rules) e
+      (list_any (λ (a : Rule). a.required && not (is_given a.id rows)) (built (program aligns formats)).top.rules) e
 
   by_name : (is_named : Shape → Bool) (commands : List Shape) (words : List Text) (rows : List Row) → AllServe commands
       → option_map_or (λ s. level_fault s [] nothing_held words false []) (find is_named commands) [] ≡ []
-      → check_fault (built (program aligns)).top rows (is_some (option_map (λ s. rows_at s words) (find is_named commands))) ≡ []
+      → check_fault (built (program aligns formats)).top rows (is_some (option_map (λ s. rows_at s words) (find is_named commands))) ≡ []
       → HasItsTexts (option_map (λ s. rows_at s words) (find is_named commands))
   by_name is_named [] words rows all below e = absurd (wanted rows e)
   by_name is_named (s ∷ rest) words rows all below e = go (is_named s) below e (by_name is_named rest words rows all.1)
     where
       go : (b : Bool) → option_map_or (λ s. level_fault s [] nothing_held words false []) (if b then Some s else find is_named rest) [] ≡ []
-          → check_fault (built (program aligns)).top rows (is_some (option_map (λ s. rows_at s words) (if b then Some s else find is_named rest))) ≡ []
+          → check_fault (built (program aligns formats)).top rows (is_some (option_map (λ s. rows_at s words) (if b then Some s else find is_named rest))) ≡ []
           → (option_map_or (λ s. level_fault s [] nothing_held words false []) (find is_named rest) [] ≡ []
-          → check_fault (built (program aligns)).top rows (is_some (option_map (λ s. rows_at s words) (find is_named rest))) ≡ []
+          → check_fault (built (program aligns formats)).top rows (is_some (option_map (λ s. rows_at s words) (find is_named rest))) ≡ []
           → HasItsTexts (option_map (λ s. rows_at s words) (find is_named rest)))
           → HasItsTexts (option_map (λ s. rows_at s words) (if b then Some s else find is_named rest))
       go true below e later = all.0 words below
       go false below e later = later below e
 
-  by_stop : (stop : Option (Text × List Text)) (rows : List Row) → entered_fault (built (program aligns)) stop ≡ []
-      → check_fault (built (program aligns)).top rows (is_some (entered (built (program aligns)) stop)) ≡ [] → HasItsTexts (entered (built (program aligns)) stop)
+  by_stop : (stop : Option (Text × List Text)) (rows : List Row) → entered_fault (built (program aligns formats)) stop ≡ []
+      → check_fault (built (program aligns formats)).top rows (is_some (entered (built (program aligns formats)) stop)) ≡ [] → HasItsTexts (entered (built (program aligns formats)) stop)
   by_stop None rows below e = absurd (wanted rows e)
-  by_stop (Some p) rows below e = by_name (λ s. answers_to p.0 (label_of s)) (built (program aligns)).subs p.1 rows all_serve below e
+  by_stop (Some p) rows below e = by_name (λ s. answers_to p.0 (label_of s)) (built (program aligns formats)).subs p.1 rows all_serve below e
 
   -- words without a fault name a command and give it its texts
-  pub found : (words : List Text) → fault_of (program aligns) words ≡ [] → HasItsTexts (subcommand_of (program aligns) words)
+  pub found : (words : List Text) → fault_of (program aligns formats) words ≡ [] → HasItsTexts (subcommand_of (program aligns formats) words)
   found words e =
-      let app = built (program aligns) in
-      let rest = argument_words (program aligns) words in
+      let app = built (program aligns formats) in
+      let rest = argument_words (program aligns formats) words in
       let end = walk app.top.rules (names_of app) nothing_held rest in
       let parts = level_parts app.top (names_of app) rest (is_some (entered app end.stopped)) (entered_fault app end.stopped) e in
       by_stop end.stopped (rows_after app.top.rules (names_of app) rest) parts.1 parts.3

@@ -1,5 +1,5 @@
 -- What a command line asks for.
-use Rattle.std.specs.Prelude.{◌≡◌, ◌≤◌, ◌⊎◌, ◌↔◌, ℕ, Bool, IsTrue, true, pos, List, [], ◌∷◌, Option, Some, None, IfSome, Ok, IsOk, codes, option_map}
+use Rattle.std.specs.Prelude.{◌≡◌, ◌≤◌, ◌⊎◌, ◌↔◌, ℕ, Bool, IsTrue, true, pos, List, [], ◌∷◌, Option, Some, None, IfSome, IsSome, Ok, IsOk, codes, option_map, if◌then◌else◌}
 use Rattle.std.specs.Borrow.{Bor}
 use Rattle.std.specs.List.{list_any}
 use Rattle.std.specs.Option.{option_map_or}
@@ -12,8 +12,11 @@ use Rattle.clap.specs.declared.builder.value_parser.ValueParser.TheVariants.{Nam
 use Rattle.cc_plan.specs.declared.align.Align.{Align}
 use Rattle.cc_plan.specs.declared.align.Align.TheVariants.{One}
 use Rattle.cc_script.specs.Commands.{align_in}
+use Rattle.cc_decode.specs.declared.format.Format.{Format}
+use Rattle.cc_decode.specs.declared.format.Format.TheVariants.{Columns}
+use Rattle.cc_decode.specs.declared.format.Format.TheVariants as format
 use Rattle.cheri_cap.specs.declared.invocation.Invocation.{Invocation}
-use Rattle.cheri_cap.specs.declared.invocation.Invocation.TheVariants.{Plan, Round, Run, Show}
+use Rattle.cheri_cap.specs.declared.invocation.Invocation.TheVariants.{Decode, Plan, Round, Run, Show}
 
 -- ---- the program as clap reads it
 
@@ -37,6 +40,13 @@ abbrev pub align_option : Bor (List (Bor Text)) → Rule
 align_option aligns = record (optional_argument (codes "align")) {
   long = Some (codes "align");
   parser = Some (Names aligns);
+}
+
+-- the option `--format FORMAT`, whose value is one of these texts
+abbrev pub format_option : Bor (List (Bor Text)) → Rule
+format_option formats = record (optional_argument (codes "format")) {
+  long = Some (codes "format");
+  parser = Some (Names formats);
 }
 
 -- the option `--line`, which has no value
@@ -65,6 +75,15 @@ plan_command aligns =
     let pool = with_rule (with_rule (plan_options aligns) (wanted_argument (codes "base"))) (wanted_argument (codes "length")) in
     with_rule pool (optional_argument (codes "file"))
 
+-- the names of the formats
+abbrev pub format_names : List Text
+format_names = codes "columns" ∷ codes "text" ∷ []
+
+-- the command `decode [--format FORMAT] [FILE]`
+abbrev pub decode_command : Bor (List (Bor Text)) → App
+decode_command formats =
+    with_rule (with_rule (new_app (codes "decode")) (format_option formats)) (optional_argument (codes "file"))
+
 -- a program that wants one of its commands and has a version, before its commands are added
 abbrev pub bare_program : App
 bare_program = let bare = new_app (codes "cheri-cap") in record bare {
@@ -76,17 +95,21 @@ bare_program = let bare = new_app (codes "cheri-cap") in record bare {
   };
 }
 
--- the program as clap reads it, where `--align` takes these texts
-abbrev pub program : Bor (List (Bor Text)) → App
-program aligns =
+-- the program as clap reads it, where `--align` and `--format` take these texts
+abbrev pub program : (aligns formats : Bor (List (Bor Text))) → App
+program aligns formats =
     let words = with_subcommand (with_subcommand bare_program show_command.top) round_command.top in
-    with_subcommand (with_subcommand words run_command.top) (plan_command aligns).top
+    let scripts = with_subcommand (with_subcommand words run_command.top) (plan_command aligns).top in
+    with_subcommand scripts (decode_command formats).top
 
--- the program as clap reads it, where `--align` takes 1 and 16, wherever in memory these two texts stand
+-- the program as clap reads it, where `--align` takes 1 and 16, and `--format` the names of the formats, wherever
+-- in memory these texts stand
 pub record IsProgram (app : App) : Type 0 where
   pub aligns : Bor (List (Bor Text))
   pub are : texts aligns.now ≡ codes "1" ∷ codes "16" ∷ []
-  pub is : app ≡ program aligns
+  pub formats : Bor (List (Bor Text))
+  pub are_formats : texts formats.now ≡ format_names
+  pub is : app ≡ program aligns formats
 
 -- ---- what clap found, and what it asks for
 
@@ -106,6 +129,15 @@ abbrev pub IsAlign : (given : Option Text) → Align → Type 0
 IsAlign None align = align ≡ One
 IsAlign (Some text) align = align_in text ≡ Ok align
 
+-- the format that a text names
+abbrev pub format_in : Text → Option Format
+format_in text = if bytes_eq text (codes "columns") then Some Columns else if bytes_eq text (codes "text") then Some format.Text else None
+
+-- the format is the one that the value of `--format` names, or columns where it is not given
+abbrev pub IsFormat : (given : Option Text) → Format → Type 0
+IsFormat None format = format ≡ Columns
+IsFormat (Some text) format = format_in text ≡ Some format
+
 -- whether the option was given: clap has the value `true` for one that was
 abbrev pub IsGiven : (value : Option Text) → Bool → Type 0
 IsGiven value given = IsTrue given ↔ (value ≡ Some (codes "true"))
@@ -116,6 +148,7 @@ command_of (Show word as_line) = codes "show"
 command_of (Round size) = codes "round"
 command_of (Run limit file) = codes "run"
 command_of (Plan limit pool align file) = codes "plan"
+command_of (Decode format file) = codes "decode"
 
 -- each text of the command is the value of its name, and none where the name has no value
 abbrev pub HasValues : List Row → Invocation → Type 0
@@ -127,6 +160,8 @@ HasValues rows (Plan limit pool align file) =
     IsLimit (first_of (codes "slots") rows) limit × IsAlign (first_of (codes "align") rows) align
     × (first_of (codes "base") rows ≡ Some pool.base.now) × (first_of (codes "length") rows ≡ Some pool.length.now)
     × (first_of (codes "file") rows ≡ option_map (λ text. text.now) file)
+HasValues rows (Decode format file) =
+    IsFormat (first_of (codes "format") rows) format × (first_of (codes "file") rows ≡ option_map (λ text. text.now) file)
 
 -- the command is the subcommand that clap found, and each text is the value that it gives to its name
 abbrev pub IsInvocation : Option (Text × List Row) → Invocation → Type 0
@@ -158,13 +193,18 @@ pub record HasLine (rows : List Row) : Type 0 where
 abbrev pub HasAlign : List Row → Type 0
 HasAlign rows = IfSome (first_of (codes "align") rows) (λ text. IsOk (align_in text))
 
+-- the value of `--format`, where it has one, names a format
+abbrev pub HasFormat : List Row → Type 0
+HasFormat rows = IfSome (first_of (codes "format") rows) (λ text. IsSome (format_in text))
+
 -- the command of this name is one of the program's, and has what it wants
 pub record IsWhole (name : Text) (rows : List Row) : Type 0 where
-  pub known : list_any (λ command. bytes_eq command name) (codes "show" ∷ codes "round" ∷ codes "run" ∷ codes "plan" ∷ []) ≡ true
+  pub known : list_any (λ command. bytes_eq command name) (codes "show" ∷ codes "round" ∷ codes "run" ∷ codes "plan" ∷ codes "decode" ∷ []) ≡ true
   pub show : name ≡ codes "show" → HasText (codes "word") rows × HasLine rows
   pub round : name ≡ codes "round" → HasText (codes "length") rows
   pub run : name ≡ codes "run" → HasLimit rows
   pub plan : name ≡ codes "plan" → HasText (codes "base") rows × HasText (codes "length") rows × HasLimit rows × HasAlign rows
+  pub decode : name ≡ codes "decode" → HasFormat rows
 
 -- a command was found that has what it wants
 abbrev pub HasItsTexts : Option (Text × List Row) → Type 0

@@ -3,9 +3,10 @@ ghost use Rattle.std.specs.Prelude.{◌≡◌, ◌∷◌, [], IfErr, IfOk, IsSom
 ghost use Rattle.clap.specs.Walk.{texts};
 ghost use Rattle.clap.specs.Words.{App, FailsBy, app_of, fault_of, first_of, first_value, found_of, kind_of, new_app, rows_of, rule_of, subcommand_of, subcommand_rows_of, takes};
 ghost use Rattle.clap.specs.declared.builder.command.Command.TheViews.{out-Command};
-ghost use Rattle.cheri_cap.specs.Invocation.{HasAlign, HasItsTexts, HasLimit, HasLine, IsAlign, IsGiven, IsInvocation, IsLimit, IsProgram, align_option, bare_program, line_option, optional_argument, plan_command, plan_options, program, round_command, run_command, show_command, slots_option, wanted_argument};
+ghost use Rattle.cheri_cap.specs.Invocation.{HasAlign, HasFormat, HasItsTexts, HasLimit, HasLine, IsAlign, IsFormat, IsGiven, IsInvocation, IsLimit, IsProgram, align_option, bare_program, decode_command, format_names, format_option, line_option, optional_argument, plan_command, plan_options, program, round_command, run_command, show_command, slots_option, wanted_argument};
 
 use cc_command::PoolTexts;
+use cc_decode::Format;
 use cc_machine::Align;
 use clap::builder::ValueParser;
 use clap::error::ErrorKind;
@@ -43,6 +44,13 @@ pub enum Invocation<'a> {
         /// The pool's alignment.
         align: Align,
         /// The script's file. Standard input where there is none, or where it is `-`.
+        file: Option<&'a str>,
+    },
+    /// `decode [--format FORMAT] [FILE]`: what each word of a text holds.
+    Decode {
+        /// How the answers are written.
+        format: Format,
+        /// The text's file. Standard input where there is none, or where it is `-`.
         file: Option<&'a str>,
     },
 }
@@ -155,6 +163,30 @@ Example:
   freed 1 revoked 0 held 100
   swept 1 revoked 1 held 0";
 
+const DECODE_ABOUT: &str = "Shows what each word of a text holds, one on each line";
+
+const FORMAT_HELP: &str = "\
+How the answer to a word is written: its values in columns, or the line that debuggers show
+[default: columns]";
+
+const WORDS_FILE_HELP: &str = "The words' file; standard input where it is `-` or left out";
+
+const DECODE_AFTER_HELP: &str = "\
+Each line is a word: 32 hexadecimal digits of either case, as a trace or a dump has them. The
+answers stand in the order of the lines, one on each line:
+  columns   WORD BASE TOP PERMS FLAG TYPE EXPONENT CANONICAL, as `cheri-cap show` spells them
+  text      ADDRESS [LETTERS,BASE-TOP], and `(sealed)` or `(sentry)`
+A line that is no word is answered by `error 1 syntax`, and a rest without a line feed by
+`error 2 unfinished`. Each line is answered for itself, so that parts of a text can be decoded apart.
+
+The exit status is 0, or 1 where an answer is an error, 2 for a command line that is not understood,
+and 3 where FILE cannot be opened, or the input or output failed.
+
+Example:
+  printf 'ffff0000000f803d0000000000010070\\n02001fffc48190040000000000001000\\n' | cheri-cap decode
+  ffff0000000f803d0000000000010070 0x10070 0x12070 ffff 0 3ffff 1 yes
+  02001fffc48190040000000000001000 0x1000 0x1200 0200 0 00007 0 yes";
+
 const SLOTS_HELP: &str = "\
 How many slots the machine can have, and how many objects, from 1 to 65536 [default: 4096]";
 
@@ -174,7 +206,7 @@ pub fn read_words<'a>(alloc: Global, words: &'a [&'a str]) -> Result<Invocation<
         (app : App) × IsProgram app × (takes app (texts words.now) ≡ true → kind_of error ≡ ErrorKind.OutOfMemory)) }
     ensures kinds { (app : App) × IsProgram app × FailsBy (fault_of app (texts words.now)) result }
 {
-    let mut command = program(alloc, aligns())?;
+    let mut command = program(alloc, aligns(), formats())?;
     match command.try_get_matches_from_mut(words) {
         Ok(matches) => Ok(invocation_of(&matches)),
         Err(error) => Err(error),
@@ -188,15 +220,27 @@ fn aligns<'a>() -> &'a [&'a str]
     &["1", "16"]
 }
 
+/// The values that `--format` takes.
+fn formats<'a>() -> &'a [&'a str]
+    ensures { texts result.now ≡ format_names }
+{
+    &["columns", "text"]
+}
+
 /// The program as clap reads it.
-fn program<'a>(alloc: Global, aligns: &'a [&'a str]) -> Result<Command<'a>, AllocError>
-    ensures { IfOk result (λ command. app_of command ≡ program aligns.entry) }
+fn program<'a>(
+    alloc: Global,
+    aligns: &'a [&'a str],
+    formats: &'a [&'a str],
+) -> Result<Command<'a>, AllocError>
+    ensures { IfOk result (λ command. app_of command ≡ program aligns.entry formats.entry) }
 {
     bare_program(alloc)?
         .subcommand(show_command(alloc)?)?
         .subcommand(round_command(alloc)?)?
         .subcommand(run_command(alloc)?)?
-        .subcommand(plan_command(alloc, aligns)?)
+        .subcommand(plan_command(alloc, aligns)?)?
+        .subcommand(decode_command(alloc, formats)?)
 }
 
 /// `show [--line] WORD`.
@@ -252,6 +296,17 @@ fn plan_options<'a>(alloc: Global, aligns: &'a [&'a str]) -> Result<Command<'a>,
     bare_command(alloc, "plan", PLAN_ABOUT, PLAN_AFTER_HELP)
         .arg(slots_option(alloc))?
         .arg(align_option(alloc, aligns))
+}
+
+/// `decode [--format FORMAT] [FILE]`.
+fn decode_command<'a>(alloc: Global, formats: &'a [&'a str]) -> Result<Command<'a>, AllocError>
+    ensures shape { IfOk result (λ command. app_of command ≡ decode_command formats.entry) }
+    ensures local { IfOk result (λ command. (out-Command command).has_globals ≡ false) }
+{
+    let file = optional_argument(alloc, "file", "FILE", WORDS_FILE_HELP);
+    bare_command(alloc, "decode", DECODE_ABOUT, DECODE_AFTER_HELP)
+        .arg(format_option(alloc, formats))?
+        .arg(file)
 }
 
 /// The program without its commands.
@@ -340,6 +395,16 @@ fn align_option<'a>(alloc: Global, aligns: &'a [&'a str]) -> Arg<'a>
         .value_parser(ValueParser::Names(aligns))
 }
 
+/// The option `--format FORMAT`, whose value is one of these texts.
+fn format_option<'a>(alloc: Global, formats: &'a [&'a str]) -> Arg<'a>
+    ensures rule { rule_of result ≡ format_option formats.entry }
+    ensures local { result.global ≡ false }
+{
+    optional_argument(alloc, "format", "FORMAT", FORMAT_HELP)
+        .long("format")
+        .value_parser(ValueParser::Names(formats))
+}
+
 /// What the command that clap found asks for.
 fn invocation_of<'a>(matches: &ArgMatches<'a>) -> Invocation<'a>
     requires { HasItsTexts (subcommand_rows_of matches.now) }
@@ -365,6 +430,10 @@ fn invocation_of<'a>(matches: &ArgMatches<'a>) -> Invocation<'a>
             },
             align: align_of(plan),
             file: plan.get_str("file"),
+        },
+        Some(("decode", decode)) => Invocation::Decode {
+            format: format_of(decode),
+            file: decode.get_str("file"),
         },
         _ => unreachable!(),
     }
@@ -405,5 +474,16 @@ fn align_of(matches: &ArgMatches<'_>) -> Align
     match matches.get_str("align") {
         Some("16") => Align::Sixteen,
         _ => Align::One,
+    }
+}
+
+/// The value of `--format`, or columns.
+fn format_of(matches: &ArgMatches<'_>) -> Format
+    requires { HasFormat (rows_of (found_of matches.now)) }
+    ensures { IsFormat (first_of (codes "format") (rows_of (found_of matches.now))) result }
+{
+    match matches.get_str("format") {
+        Some("text") => Format::Text,
+        _ => Format::Columns,
     }
 }

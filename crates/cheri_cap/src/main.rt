@@ -115,6 +115,7 @@ fn answer<R: AllocGlobal + Files + Input + Print>(
             align,
             file,
         } => running::plan(rt, limit, pool, align, file),
+        Invocation::Decode { format, file } => running::decode(rt, format, file),
     }
 }
 

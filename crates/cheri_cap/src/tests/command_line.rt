@@ -2,6 +2,7 @@
 //! space between each two.
 use crate::invocation::{Invocation, read_words};
 use cc_command::PoolTexts;
+use cc_decode::Format;
 use cc_machine::Align;
 use clap::error::ErrorKind;
 use std::alloc::{AllocError, Global};
@@ -80,6 +81,26 @@ fn run_is_taken(rt: HostRuntime) -> Result<(), Fail> {
         let words = words_of(rt.alloc(), line)?;
         let taken = read_words(rt.alloc(), words.as_slice())?;
         assert_eq!(rt; taken, Invocation::Run { limit, file }, "{line}");
+    }
+    Ok(())
+}
+
+const DECODE: [(&str, Format, Option<&str>); 7] = [
+    ("decode", Format::Columns, None),
+    ("decode a", Format::Columns, Some("a")),
+    ("decode -", Format::Columns, Some("-")),
+    ("decode --format columns", Format::Columns, None),
+    ("decode --format=text", Format::Text, None),
+    ("decode a --format text", Format::Text, Some("a")),
+    ("decode -- --format", Format::Columns, Some("--format")),
+];
+
+#[test]
+fn decode_is_taken(rt: HostRuntime) -> Result<(), Fail> {
+    for (line, format, file) in DECODE {
+        let words = words_of(rt.alloc(), line)?;
+        let taken = read_words(rt.alloc(), words.as_slice())?;
+        assert_eq!(rt; taken, Invocation::Decode { format, file }, "{line}");
     }
     Ok(())
 }

@@ -101,3 +101,19 @@ returns-in-Some-plan-default c =
         sym (first_value-rows f (codes "file")) ∙ sym c.get_str-in-Some-plan-default.ensures,
       ),
     )
+
+pub format_of-requires : goal.format_of-requires
+format_of-requires c =
+    let here = c.in-Some-decode-default in
+    let rows = rows_of (found_of here.decode.now) in
+    let is = command_is c.args.matches.now (codes "decode") rows (sym (ap Some here.is-decode) ∙ here.ensures.name) here.ensures.rows in
+    (whole _ (codes "decode") rows is c.requires).decode refl
+
+pub returns-in-Some-decode-default : goal.returns-in-Some-decode-default
+returns-in-Some-decode-default c =
+    let here = c.in-Some-decode-default in
+    let f = found_of here.decode.now in (
+      rows_of f,
+      command_is c.args.matches.now (codes "decode") (rows_of f) (sym (ap Some here.is-decode) ∙ here.ensures.name) here.ensures.rows,
+      (c.format_of.ensures, sym (first_value-rows f (codes "file")) ∙ sym c.get_str-in-Some-decode-default.ensures),
+    )

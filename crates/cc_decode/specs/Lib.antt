@@ -1,0 +1,5 @@
+-- In reading order.
+pub mod Row
+pub mod Output
+pub mod Correct
+pub mod Engine

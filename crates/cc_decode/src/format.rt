@@ -1,0 +1,10 @@
+//! How words are written.
+
+/// How the answer to a word is written.
+#[derive(Clone, Copy, Debug, PartialEq, Eq)]
+pub enum Format {
+    /// `WORD BASE TOP PERMS FLAG TYPE EXPONENT CANONICAL`, with one space between, in the spellings of `show`.
+    Columns,
+    /// The line of a tagged word, as debuggers show it: `0x10070 [rwxRW,0x10070-0x12070]`.
+    Text,
+}

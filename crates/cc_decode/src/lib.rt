@@ -1,0 +1,12 @@
+//! Words in bulk: the lines of a text, and the answer to each, between two devices.
+#![tactic(auto)]
+
+mod answers;
+mod engine;
+mod format;
+mod rows;
+#[cfg(test)]
+mod tests;
+
+pub use engine::decode_words;
+pub use format::Format;

@@ -1,0 +1,4 @@
+//! Worked answers, by topic.
+
+mod devices;
+mod rows;
