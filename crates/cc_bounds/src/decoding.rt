@@ -67,6 +67,7 @@ pub fn exponent(fields: &Fields) -> u8
 
 /// Whether every bit of the bounds fields counts in what they decode to: the exponent is not cut, and no bit
 /// of B stands past the end of the address space.
+#[inline(always)]
 #[tactic(auto, using(crate::proofs::StoredLemmas::base_dropped))]
 pub(crate) fn every_bit_counts(fields: &Fields) -> bool
     ensures { IsTrue result ↔ EveryBitCounts fields.now }
