@@ -1,7 +1,9 @@
 -- Where B stands, found in 64 bits from the section of the address.
 use Rattle.std.proofs.Common.{◌≡◌, ℕ, ◌+◌, ◌-◌, ◌*◌, ◌<◌, ◌≤◌, ◌/◌, ◌%◌, ◌^◌, sym, ◌∙◌, ap, arith, bit_and}
-use Rattle.std.proofs.Math.Nat.{add-mul-div_right}
-use Rattle.std.proofs.lemmas.Nat.{pow-add, and_mask, mul-mod_first}
+use Rattle.std.proofs.Math.Nat.{add-mul-div_right, div-le_self}
+use Rattle.std.proofs.lemmas.Nat.{pow-add, mul-mod_first}
+use Rattle.std.proofs.lemmas.Nat.Bits.{and_high_mask}
+use Rattle.std.proofs.Math.Pow.{shr-shr}
 use Rattle.cc_word.specs.declared.fields.Fields.{Fields}
 use Rattle.cc_bounds.specs.Window.{section_of}
 use Rattle.cc_bounds.specs.Decoding.{stored_exponent, base_mantissa, raised, first_section, IsDecodedBase}
@@ -113,11 +115,28 @@ module _ (fields : Fields) where
         kept = laps_dropped (base_units address mantissa) laps other _ unit kept_other whole place;
       }
 
--- the same, with the masks that keep the low bits
+-- the units of an address above the window's start, whole windows of them, and B above those
+abbrev above_start : (units mantissa : ℕ) → ℕ
+above_start units mantissa = (units + (2 ^ 64 - (mantissa / 2 ^ 11 * 2 ^ 11 + (2 ^ 64 - 2 ^ 11)) % 2 ^ 64)) % 2 ^ 64
+
+windows_same : (units address low mantissa : ℕ) → units ≡ address * 2 ^ 11 + low → low < 2 ^ 11 → units < 2 ^ 64 → mantissa < 2 ^ 14
+    → (above_start units mantissa / 2 ^ 14 * 2 ^ 14 + mantissa) % 2 ^ 64 % 2 ^ 64 ≡ base_units address mantissa % 2 ^ 64
+windows_same units address low mantissa is_units low_fits units_fit fits = omega arith
+
+-- B stands in the window as the code finds it, by whole windows in units of 2 ^ exponent
 pub decoded_base_masked : (fields : Fields) (scale mantissa : ℕ) → scale ≡ stored_exponent fields → mantissa ≡ base_mantissa fields
-    → let address : ℕ = fields.address / 2 ^ (scale + 11) in
-    let above : ℕ = bit_and ((address + (2 ^ 64 - (mantissa / 2048 + (2 ^ 64 - 1)) % 2 ^ 64)) % 2 ^ 64) 7 in
-    let section : ℕ = ((address + (2 ^ 64 - above)) % 2 ^ 64 + 1) % 2 ^ 64 in
-    IsDecodedBase fields ((section * 2048 % 2 ^ 64 + bit_and mantissa 2047) * 2 ^ scale % 2 ^ 64)
+    → let start : ℕ = (bit_and mantissa 14336 + (2 ^ 64 - 2048)) % 2 ^ 64 in
+    let above : ℕ = (fields.address / 2 ^ scale + (2 ^ 64 - start)) % 2 ^ 64 in
+    IsDecodedBase fields ((bit_and above 18446744073709535232 + mantissa) % 2 ^ 64 * 2 ^ scale % 2 ^ 64)
 decoded_base_masked fields scale mantissa is_scale is_mantissa =
-    rw (is_scale, is_mantissa, and_mask _ 3, and_mask _ 11) (decoded_base-is fields)
+    let e : ℕ = stored_exponent fields in
+    let b : ℕ = base_mantissa fields in
+    let fits : b < 2 ^ 14 = base_mantissa-fits fields in
+    let units : ℕ = fields.address / 2 ^ e in
+    let units_fit : units < 2 ^ 64 = let less = div-le_self fields.address (2 ^ e) in let own = fields.address_fits in omega (arith, less, own) in
+    let sections : units / 2 ^ 11 ≡ fields.address / 2 ^ (e + 11) = shr-shr fields.address e 11 in
+    let same = windows_same units (fields.address / 2 ^ (e + 11)) (units % 2 ^ 11) b (omega (arith, sections)) (omega arith) units_fit fits in
+    let scaled = scaled_same _ _ (2 ^ e) (2 ^ 64) same in
+    let section = and_high_mask 14 11 (omega arith) b fits in
+    let windows = and_high_mask 64 14 (omega arith) (above_start units b) (omega arith) in
+    rw (is_scale, is_mantissa, section, windows, scaled) (decoded_base-is fields)

@@ -13,7 +13,7 @@ use Rattle.cc_bounds.proofs.DecodedSpanLemmas.{top-above, length-fits}
 use Rattle.cc_bounds.proofs.ExactlyOneLemmas.{one-span}
 
 -- from exponent 51 up the window is so large that 65 bits of a place are those of its mantissa
-mantissa_kept : (exponent mantissa sum place : ℕ) → 51 ≤ exponent → exponent ≤ 52
+pub mantissa_kept : (exponent mantissa sum place : ℕ) → 51 ≤ exponent → exponent ≤ 52
     → place % (8 * 2 ^ (exponent + 11)) ≡ mantissa * 2 ^ exponent → mantissa ≡ sum % 2 ^ 14
     → place % 2 ^ 65 ≡ sum * 2 ^ exponent % 2 ^ 65
 mantissa_kept exponent mantissa sum place large small scaled is_mantissa =

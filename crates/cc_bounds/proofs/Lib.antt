@@ -14,5 +14,6 @@ pub mod SoundDecodingLemmas
 pub mod TightestLemmas
 pub mod WindowLemmas
 pub mod LawLemmas
+pub mod StoredLemmas
 pub mod FieldsLemmas
 pub mod DecisionLemmas

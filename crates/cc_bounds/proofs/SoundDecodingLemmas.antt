@@ -11,7 +11,7 @@ use Rattle.cc_bounds.specs.Span.{IsSpan, length_of}
 use Rattle.cc_bounds.specs.Granule.{IsSound, exponent_of}
 use Rattle.cc_bounds.specs.Window.{IsRepresentable, Represents}
 use Rattle.cc_bounds.specs.Encoding.{HasBoundsFields, ie_of, t_of, b_of}
-use Rattle.cc_bounds.specs.Decoding.{stored_exponent, without_exponent, base_mantissa, IsTopMantissa, DecodesTo}
+use Rattle.cc_bounds.specs.Decoding.{exponent_digits, stored_exponent, without_exponent, base_mantissa, IsTopMantissa, DecodesTo}
 use Rattle.cc_bounds.specs.Tightest.{DecodesBack, IsDecoded}
 use Rattle.cc_bounds.proofs.DecodedSpanLemmas.{word_representable}
 use Rattle.cc_bounds.proofs.ComputingLemmas.{bounds_fields-is, bounds_fields-are, AreBoundsFields, exponent_of-short}
@@ -19,13 +19,14 @@ use Rattle.cc_bounds.proofs.EncodingLemmas.{IsLongSpan, sound-long, granule-unit
 use Rattle.cc_bounds.proofs.RoundTripLemmas.{IsSpanOf, IsRaised, raise_of, decodes_back}
 
 -- what the fields of a span of 4096 bytes or more decode with
-record LongStores (span : Span) (fields : Fields) (first last : ℕ) : Type 0 where
-  is_ie : fields.ie ≡ true
-  is_e : exponent_of span ≡ stored_exponent fields
-  is_b : 8 * first % 2 ^ 14 ≡ base_mantissa fields
-  is_t : IsTopMantissa fields (8 * last % 2 ^ 14)
+pub record LongStores (span : Span) (fields : Fields) (first last : ℕ) : Type 0 where
+  pub is_ie : fields.ie ≡ true
+  pub digits : exponent_digits fields ≡ exponent_of span
+  pub is_e : exponent_of span ≡ stored_exponent fields
+  pub is_b : 8 * first % 2 ^ 14 ≡ base_mantissa fields
+  pub is_t : IsTopMantissa fields (8 * last % 2 ^ 14)
 
-long_stores : (span : Span) (fields : Fields) (first last : ℕ) → 4096 ≤ length_of span → IsLongSpan span first last
+pub long_stores : (span : Span) (fields : Fields) (first last : ℕ) → 4096 ≤ length_of span → IsLongSpan span first last
     → AreBoundsFields span fields.ie fields.t fields.b → LongStores span fields first last
 long_stores span fields first last long h are =
     let e : ℕ = exponent_of span in
@@ -36,11 +37,12 @@ long_stores span fields first last long h are =
     let ie : fields.ie ≡ true = are.is_ie ∙ flag in
     let t : fields.t ≡ 8 * last % 2 ^ 12 + e / 8 = are.is_t ∙ ap (λ (n : ℕ). n % 2 ^ 12 + e / 8) h.top_units in
     let b : fields.b ≡ 8 * first % 2 ^ 14 + e % 8 = are.is_b ∙ ap (λ (n : ℕ). n % 2 ^ 14 + e % 8) h.base_units in
-    let digits : 8 * (fields.t % 8) + fields.b % 8 ≡ e = omega (arith, t, b, fits) in
+    let digits : exponent_digits fields ≡ e = omega (arith, t, b, fits) in
     let is_b : 8 * first % 2 ^ 14 ≡ base_mantissa fields = rw ie (omega (arith, b, fits)) in
     let low : 8 * last % 2 ^ 12 ≡ without_exponent fields.ie fields.t = rw ie (omega (arith, t, fits)) in
     record {
       is_ie = ie;
+      digits = digits;
       is_e = rw ie (omega (arith, digits, fits));
       is_b = is_b;
       is_t = record {

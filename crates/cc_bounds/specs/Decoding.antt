@@ -1,14 +1,18 @@
 -- The bounds that a word decodes to. Every word has them, canonical or not.
-use Rattle.std.specs.Prelude.{ℕ, Bool, ◌≡◌, ◌+◌, ◌-◌, ◌*◌, ◌/◌, ◌%◌, ◌^◌, ◌<◌, ◌≤◌, min, if◌then◌else◌}
+use Rattle.std.specs.Prelude.{ℕ, Bool, ◌≡◌, ◌+◌, ◌-◌, ◌*◌, ◌/◌, ◌%◌, ◌^◌, ◌<◌, ◌≤◌, IsTrue, min, if◌then◌else◌}
 use Rattle.cc_word.specs.Word.{bit_of}
 use Rattle.cc_word.specs.declared.fields.Fields.{Fields}
 use Rattle.cc_bounds.specs.declared.span.Span.{Span}
 use Rattle.cc_bounds.specs.Window.{section_of}
 
--- The exponent: 0 without IE. With IE it has six bits, the high three stored in the low three of the T
--- field and the low three in those of the B field, and more than 52 counts as 52.
+-- the exponent's digits to base 8: the high one in the low three bits of the T field, the low one in those of
+-- the B field
+abbrev pub exponent_digits : Fields → ℕ
+exponent_digits fields = 8 * (fields.t % 8) + fields.b % 8
+
+-- the exponent: 0 without IE, and with IE its digits, of which more than 52 counts as 52
 abbrev pub stored_exponent : Fields → ℕ
-stored_exponent fields = if fields.ie then min 52 (8 * (fields.t % 8) + fields.b % 8) else 0
+stored_exponent fields = if fields.ie then min 52 (exponent_digits fields) else 0
 
 -- a stored field without the exponent's bits: with IE its low three bits count as zero
 abbrev pub without_exponent : (ie : Bool) (field : ℕ) → ℕ
@@ -82,6 +86,12 @@ pub record IsDecodedTop (fields : Fields) (base top : ℕ) : Type 0 where
 pub record DecodesTo (fields : Fields) (span : Span) : Type 0 where
   pub is_base : IsDecodedBase fields span.base
   pub is_top : IsDecodedTop fields span.base span.top
+
+-- Every bit of the bounds fields counts in what they decode to: the exponent's digits are at most 52, and B
+-- has no bit that stands above bit 63, where none is kept of the base. Up to exponent 50 B has none.
+pub record EveryBitCounts (fields : Fields) : Type 0 where
+  pub digits : IsTrue fields.ie → exponent_digits fields ≤ 52
+  pub base : base_mantissa fields * 2 ^ stored_exponent fields < 2 ^ 64
 
 -- exactly one value has the property
 pub record ExactlyOne {V : Type 0} (P : V → Type 0) : Type 0 where

@@ -1,6 +1,6 @@
 //! The bounds that a word decodes to.
-ghost use Rattle.std.specs.Prelude.{◌≡◌, ◌+◌, ◌-◌, ◌*◌, ◌%◌, ◌^◌, ◌<◌, ◌≤◌};
-ghost use Rattle.cc_bounds.specs.Decoding.{stored_exponent, base_mantissa, IsTopMantissa, IsDecodedBase, IsDecodedTop, DecodesTo};
+ghost use Rattle.std.specs.Prelude.{◌≡◌, ◌+◌, ◌-◌, ◌*◌, ◌%◌, ◌^◌, ◌<◌, ◌≤◌, ◌↔◌, IsTrue, if◌then◌else◌};
+ghost use Rattle.cc_bounds.specs.Decoding.{exponent_digits, stored_exponent, without_exponent, base_mantissa, IsTopMantissa, IsDecodedBase, IsDecodedTop, DecodesTo, EveryBitCounts};
 ghost use Rattle.cc_bounds.specs.Window.{IsRepresentable};
 ghost use Rattle.cc_bounds.specs.declared.span.Span.{Span as SpanSpec};
 
@@ -10,8 +10,48 @@ use cc_word::Fields;
 /// The largest exponent that bounds decode with. A larger exponent field counts as this.
 const MAX_EXPONENT: u8 = 52;
 
-/// The width of what of a mantissa, or of an address, stands within one section of the window.
-const SECTION_WIDTH: u32 = 11;
+/// From this exponent up the window has all addresses, and all bits that are kept of the top are bits of T.
+pub(crate) const FIRST_LARGE_EXPONENT: u8 = 51;
+
+/// The bits of a mantissa.
+const MANTISSA_BITS: u64 = 0x3fff;
+
+/// The bits of a mantissa that tell its section of the window.
+const SECTION_BITS: u64 = 0x3800;
+
+/// How many units of 2^exponent a section has.
+const SECTION: u64 = 0x800;
+
+/// The exponent's digits to base 8, as they are stored: the high one in T's low three bits, the low one in
+/// B's.
+fn exponent_digits(fields: &Fields) -> u8
+    ensures { result ≡ exponent_digits fields.now }
+{
+    let high = fields.t & 0x7;
+    let low = fields.b & 0x7;
+    ((high << 3) | low) as u8
+}
+
+/// The bits of a stored field that are the exponent's: with IE the low three, else none.
+fn exponent_bits(ie: bool) -> u16
+    ensures { result ≡ (if ie then 7 else 0) }
+{
+    if ie { 0x7 } else { 0 }
+}
+
+/// What a stored field has of the exponent: with IE the number of its low three bits, else nothing.
+fn exponent_digit(ie: bool, field: u16) -> u16
+    ensures { result ≡ (if ie then field % 8 else 0) }
+{
+    field & exponent_bits(ie)
+}
+
+/// A stored field without the exponent's bits.
+fn without_exponent(ie: bool, field: u16) -> u16
+    ensures { result ≡ without_exponent ie field }
+{
+    field & !exponent_bits(ie)
+}
 
 /// The exponent of a word's bounds, from 0 to 52.
 ///
@@ -20,17 +60,27 @@ const SECTION_WIDTH: u32 = 11;
 pub fn exponent(fields: &Fields) -> u8
     ensures { result ≡ stored_exponent fields.now }
 {
-    let high = fields.t & 0x7;
-    let low = fields.b & 0x7;
-    let stored = (((high << 3) | low) as u8).min(MAX_EXPONENT);
-    if fields.ie { stored } else { 0 }
+    let high = exponent_digit(fields.ie, fields.t);
+    let low = exponent_digit(fields.ie, fields.b);
+    (((high << 3) | low) as u8).min(MAX_EXPONENT)
+}
+
+/// Whether every bit of the bounds fields counts in what they decode to: the exponent is not cut, and no bit
+/// of B stands past the end of the address space.
+#[inline(always)]
+#[tactic(auto, using(crate::proofs::StoredLemmas::base_dropped))]
+pub(crate) fn every_bit_counts(fields: &Fields) -> bool
+    ensures { IsTrue result ↔ EveryBitCounts fields.now }
+{
+    let dropped = u64::from(fields.b >> 3) >> (61 - exponent(fields));
+    dropped == 0 && !(fields.ie && exponent_digits(fields) > MAX_EXPONENT)
 }
 
 /// The B field without the exponent's bits.
 fn base_mantissa(fields: &Fields) -> u16
     ensures { result ≡ base_mantissa fields.now }
 {
-    if fields.ie { fields.b & !0x7 } else { fields.b }
+    without_exponent(fields.ie, fields.b)
 }
 
 /// How far the mantissa T stands above the mantissa B, going round at 2^14.
@@ -41,26 +91,24 @@ fn mantissa_length(fields: &Fields) -> u16
     ensures top { IsTopMantissa fields.now ((base_mantissa fields.now + result) % 2 ^ 14) }
     ensures fits { result < 2 ^ 13 }
 {
-    let top = if fields.ie { fields.t & !0x7 } else { fields.t };
+    let top = without_exponent(fields.ie, fields.t);
     let low = top.wrapping_sub(base_mantissa(fields)) & 0xfff;
     (u16::from(fields.ie) << 12) | low
 }
 
 /// Where B stands, of which 64 bits are kept.
 ///
-/// The window begins with the section below that of B, and the address stands at most seven above it. B
-/// stands in the next one.
+/// In units of 2^exponent the window has 2^14 numbers, and the lowest one begins one section below that of
+/// B. The address stands some whole windows above that, and B as many above what its 14 bits say.
 #[tactic(auto, using(crate::proofs::DecodedBaseLemmas::decoded_base_masked))]
 fn decoded_base(fields: &Fields) -> u64
     ensures { IsDecodedBase fields.now result }
 {
     let scale = u32::from(exponent(fields));
     let mantissa = u64::from(base_mantissa(fields));
-    let address_section = fields.address >> (scale + SECTION_WIDTH);
-    let first_section = (mantissa >> SECTION_WIDTH).wrapping_sub(1);
-    let above_first = address_section.wrapping_sub(first_section) & 0x7;
-    let base_section = address_section.wrapping_sub(above_first).wrapping_add(1);
-    ((base_section << SECTION_WIDTH) + (mantissa & 0x7ff)) << scale
+    let start = (mantissa & SECTION_BITS).wrapping_sub(SECTION);
+    let above_start = (fields.address >> scale).wrapping_sub(start);
+    (above_start & !MANTISSA_BITS).wrapping_add(mantissa) << scale
 }
 
 /// The top of the bounds with this base: T stands as far above B as the mantissas are apart.
@@ -71,10 +119,9 @@ fn top_above(fields: &Fields, base: u64) -> u128
 {
     let scale = exponent(fields);
     let length = mantissa_length(fields);
-    if scale < MAX_EXPONENT - 1 {
+    if scale < FIRST_LARGE_EXPONENT {
         u128::from(base) + u128::from(u64::from(length) << scale)
     } else {
-        // From exponent 51 up all bits that are kept of the top are bits of T.
         let mantissa = u128::from(base_mantissa(fields) + length);
         (mantissa << scale) & 0x1_ffff_ffff_ffff_ffff
     }

@@ -3,14 +3,18 @@ ghost use Rattle.std.specs.Prelude.{◌≡◌, ◌+◌, ◌/◌, ◌%◌, ◌^�
 ghost use Rattle.cc_bounds.specs.Span.{IsSpan, span_from, length_of};
 ghost use Rattle.cc_bounds.specs.Granule.{IsExponent, IsGranted, IsSound, IsExact, exponent_of};
 ghost use Rattle.cc_bounds.specs.Encoding.{HasBoundsFields, StoresSpan, ie_of, t_of, b_of};
+ghost use Rattle.cc_bounds.specs.Decoding.{DecodesTo};
 ghost use Rattle.cc_bounds.specs.declared.span.Span.{Span as SpanSpec};
 ghost use Rattle.cc_bounds.specs.Tightest.{DecodesBack, IsTight, IsTightest};
 
-use crate::decoding::decode;
+use crate::decoding::{FIRST_LARGE_EXPONENT, decode, every_bit_counts, exponent};
 use crate::rounding::{granule_power, rounded};
 use crate::span::Span;
 use cc_word::Fields;
 use std::marker::Model;
+
+/// How many bytes the address space has.
+const ADDRESS_SPACE: u128 = 1 << 64;
 
 /// The bounds of a capability as its word stores them: a sound span with its exponent and its bounds
 /// fields, and whether the request that asked for it was exact.
@@ -69,13 +73,8 @@ impl Set {
             → result ≡ Some (record { granted = span; exact = true }) }
     {
         let span = decode(fields);
-        if !is_span(&span) {
-            return None;
-        }
-        // A span that some word decodes to is sound, so that this grants the span itself.
-        let set = encode(&span);
-        if has_fields(&set, fields) {
-            Some(set)
+        if is_stored(fields, &span) {
+            Some(stored_encoding(fields, span))
         } else {
             None
         }
@@ -146,16 +145,38 @@ impl Set {
 fn is_span(span: &Span) -> bool
     ensures { IsTrue result ↔ IsSpan span.now }
 {
-    u128::from(span.base) <= span.top && span.top <= 1 << 64
+    u128::from(span.base) <= span.top && span.top <= ADDRESS_SPACE
 }
 
-/// Whether the fields are those that the encoding stores.
-fn has_fields(set: &Set, fields: &Fields) -> bool
-    ensures { let span = set.now.granted in
-        IsTrue result
-        ↔ ((fields.now.ie ≡ ie_of span) × (fields.now.t ≡ t_of span) × (fields.now.b ≡ b_of span)) }
+/// Whether the fields store the span that they decode to.
+///
+/// Below exponent 51 the top is not below the base, and every bit of the fields counts.
+#[inline(always)]
+fn is_stored(fields: &Fields, span: &Span) -> bool
+    requires { DecodesTo fields.now span.now }
+    ensures { IsTrue result ↔ StoresSpan fields.now span.now }
 {
-    (fields.ie, fields.t, fields.b) == (set.ie, set.t, set.b)
+    if exponent(fields) < FIRST_LARGE_EXPONENT {
+        span.top <= ADDRESS_SPACE
+    } else {
+        is_span(span) && every_bit_counts(fields)
+    }
+}
+
+/// The encoding of the span that the fields store.
+#[inline(always)]
+fn stored_encoding(fields: &Fields, span: Span) -> Set
+    requires { StoresSpan fields.now span }
+    ensures { result ≡ record { granted = span; exact = true } }
+{
+    Set {
+        exponent: exponent(fields),
+        ie: fields.ie,
+        t: fields.t,
+        b: fields.b,
+        granted: span,
+        exact: true,
+    }
 }
 
 /// The T field of a granted span: its top in units of 2^exponent bytes, with the exponent's high digit.

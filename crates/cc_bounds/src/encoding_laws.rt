@@ -1,9 +1,11 @@
 //! What holds of every request and of every sound span.
 ghost use Rattle.std.specs.Prelude.{ℕ, Bool, ◌≡◌, ◌+◌, ◌%◌, ◌/◌, ◌^◌, ◌≤◌, ◌↔◌};
+ghost use Rattle.cc_word.specs.declared.fields.Fields.{Fields as FieldsSpec};
 ghost use Rattle.cc_bounds.specs.declared.span.Span.{Span as SpanSpec};
 ghost use Rattle.cc_bounds.specs.Span.{IsSpan, span_from, from_zero};
 ghost use Rattle.cc_bounds.specs.Granule.{IsGranule, IsExponent, IsGranted, IsSound, granule_of, exponent_of, granted_span, padded_size};
-ghost use Rattle.cc_bounds.specs.Encoding.{HasBoundsFields, ie_of, t_of, b_of};
+ghost use Rattle.cc_bounds.specs.Encoding.{HasBoundsFields, StoresSpan, ie_of, t_of, b_of};
+ghost use Rattle.cc_bounds.specs.Decoding.{DecodesTo, EveryBitCounts};
 ghost use Rattle.cc_bounds.specs.Tightest.{IsDecoded};
 
 /// Every request has exactly one granule, one exponent and one granted span, and every span has one set of
@@ -30,6 +32,13 @@ pub fn granted_spans_are_sound()
 /// A span is sound exactly if some word decodes to it.
 pub fn sound_spans_are_those_decoded()
     ensures { (span : SpanSpec) → IsSpan span → (IsSound span ↔ IsDecoded span) }
+{}
+
+/// A word stores the span that it decodes to, exactly if that is a span of the address space and every bit
+/// of the word's bounds fields counts. So nothing has to be encoded to tell whether a word is canonical.
+pub fn words_store_what_they_decode_to()
+    ensures { (fields : FieldsSpec) (span : SpanSpec) → DecodesTo fields span
+        → (StoresSpan fields span ↔ (IsSpan span × EveryBitCounts fields)) }
 {}
 
 /// A span that begins at a multiple of the granule of a length, and has its representable length, is

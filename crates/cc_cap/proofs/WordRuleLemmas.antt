@@ -1,5 +1,6 @@
 -- The rules on words.
-use Rattle.std.proofs.Common.{ℕ, ◌≡◌, ◌+◌, ◌<◌, ◌≤◌, ◌^◌, Result, Ok, Err, refl, sym, ap, subst, inl, inr, arith}
+use Rattle.std.proofs.Common.{ℕ, ◌≡◌, ◌+◌, ◌<◌, ◌^◌, Result, Ok, Err, sym, ap, subst, inl, inr, arith}
+use Rattle.std.specs.Prelude.{IfOk}
 use Rattle.cc_word.specs.declared.fields.Fields.{Fields}
 use Rattle.cc_word.specs.Word.{word_of}
 use Rattle.cc_word.proofs.WordLemmas.{word_of-same}
@@ -15,7 +16,7 @@ use Rattle.cc_cap.specs.Permissions.{HasAll}
 use Rattle.cc_cap.specs.Capability.{Capability, IsCapability, GrantsNoMore}
 use Rattle.cc_cap.specs.Canonical.{IsFieldsOf, IsWordOf, IsCanonical}
 use Rattle.cc_cap.specs.Cap.{IsRefusedBounds}
-use Rattle.cc_cap.specs.Derivation.{SetsBounds, SetsExactBounds}
+use Rattle.cc_cap.specs.Derivation.{SetsBounds, SetsExactBounds, Rebuilds}
 use Rattle.cc_cap.specs.WordRules.{InWords, OnWord, OnWords, IsSubset}
 use Rattle.cc_cap.proofs.CanonicalLemmas.{IsWordOf-same}
 
@@ -73,6 +74,18 @@ SetsBounds-refused cap len refusal (inr outside) = inl (outside.0, inr (outside.
 pub SetsExactBounds-refused : (cap : Capability) (len : ℕ) (refusal : Refusal) → IsRefusedBounds cap len refusal → SetsExactBounds cap len (Err refusal)
 SetsExactBounds-refused cap len refusal (inl sealed) = inr (sealed.0, ap Err sealed.1)
 SetsExactBounds-refused cap len refusal (inr outside) = inl (outside.0, inr (outside.1, ap Err outside.2))
+
+-- ---- rebuilding
+
+-- what is rebuilt of a word has that word
+pub Rebuilds-word : (authority : Capability) (word : ℕ) (made : Result Capability Refusal) → Rebuilds authority word made
+    → IfOk made (λ cap. IsWordOf cap word)
+Rebuilds-word authority word (Err refusal) is = tt
+Rebuilds-word authority word (Ok cap) (inr sealed) = absurd (cc sealed.1)
+Rebuilds-word authority word (Ok cap) (inl (unsealed, inr none)) = absurd (cc none.1)
+Rebuilds-word authority word (Ok cap) (inl (unsealed, inl (canonical, (own, has, inr exceeds)))) = absurd (cc exceeds.1)
+Rebuilds-word authority word (Ok cap) (inl (unsealed, inl (canonical, (own, has, inl (allowed, same))))) =
+    let is : own ≡ cap = cc same in subst (λ c. IsWordOf c word) is has
 
 -- ---- subsets
 

@@ -366,14 +366,6 @@ impl Cap {
             && !self.is_sealed()
     }
 
-    // The capability of a word, for the rules on words: one copy of `of_word`, which each of them calls.
-    #[inline(never)]
-    pub(crate) fn of_any_word(word: u128) -> Option<Cap>
-        ensures { MatchOption result (¬ IsCanonical word) (λ cap. IsWordOf cap word) }
-    {
-        Cap::of_word(word)
-    }
-
     // The capability of a word, and `None` for a word that is not canonical.
     #[inline(always)]
     pub(crate) fn of_word(word: u128) -> Option<Cap>

@@ -4,7 +4,7 @@
 //! capability, or a refusal: `NotCanonical`, before anything else is looked at, for a word that no
 //! capability has, and then what that call refuses. Tags are the caller's: a word goes in as if it were
 //! tagged, and no [`Cap`] comes out.
-ghost use Rattle.std.specs.Prelude.{◌≡◌, ◌↔◌, ◌<◌, ◌^◌, IsTrue};
+ghost use Rattle.std.specs.Prelude.{◌≡◌, ◌↔◌, ◌<◌, ◌^◌, IsTrue, IfOk};
 ghost use Rattle.cc_word.specs.Word.{word_of};
 ghost use Rattle.cc_word.specs.declared.fields.Fields.{Fields as FieldsSpec};
 ghost use Rattle.cc_bounds.specs.Span.{IsWithin};
@@ -123,7 +123,7 @@ pub fn rebuild(authority: u128, word: u128) -> Result<u128, Refusal>
     ensures made { OnWord (λ cap. Rebuilds cap word) authority result }
 {
     let authority = read(authority)?;
-    in_words(Cap::rebuild(&authority, word))
+    own_word(Cap::rebuild(&authority, word), word)
 }
 
 /// Whether all bytes and permissions of the inner word are within those of the outer, for any two words,
@@ -152,10 +152,11 @@ fn is_within(inner: &Span, outer: &Span) -> bool
 }
 
 // The capability of a word.
+#[inline(always)]
 fn read(word: u128) -> Result<Cap, Refusal>
     ensures { IsReadFrom word result }
 {
-    match Cap::of_any_word(word) {
+    match Cap::of_word(word) {
         Some(cap) => Ok(cap),
         None => Err(Refusal::NotCanonical),
     }
@@ -167,6 +168,17 @@ fn in_words(made: Result<Cap, Refusal>) -> Result<u128, Refusal>
 {
     match made {
         Ok(cap) => Ok(cap.word()),
+        Err(refusal) => Err(refusal),
+    }
+}
+
+// The word again, where its capability was made.
+fn own_word(made: Result<Cap, Refusal>, word: u128) -> Result<u128, Refusal>
+    requires { IfOk made (λ cap. IsWordOf cap word) }
+    ensures { InWords made result }
+{
+    match made {
+        Ok(_) => Ok(word),
         Err(refusal) => Err(refusal),
     }
 }

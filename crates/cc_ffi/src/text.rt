@@ -40,7 +40,7 @@ pub extern "C" fn cheri_cap_read_word(text: &[u8]) -> ReadWord
 pub extern "C" fn cheri_cap_write_word(high: u64, low: u64, text: &mut [u8; 32])
     ensures { text.new ≡ digits_of 32 (number_of high low) }
 {
-    *text = cc_word::write_word(number(high, low));
+    cc_word::write_word_to(number(high, low), text);
 }
 
 /// Writes the line of a word and a zero byte, and answers how many bytes stand before that zero byte.

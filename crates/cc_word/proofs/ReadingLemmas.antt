@@ -1,8 +1,9 @@
 -- Words read from their digits, eight at a time.
 use Rattle.std.proofs.Common.{◌-◌, ◌<◌, ◌≤◌, ◌≡◌, ◌↔◌, ℕ, Bool, true, false, ◌+◌, ◌*◌, ◌^◌, List, [], ◌∷◌, ◌++◌, length, drop, take, slice_index, ◌==◌, ◌&&◌, Option, Some, None, is_some, if◌then◌else◌, refl, sym, ◌∙◌, ap, arith}
 use Rattle.std.proofs.lemmas.Bool.{eqb-true, agree_below_at}
-use Rattle.std.proofs.lemmas.Nat.{pow-add}
-use Rattle.std.proofs.lemmas.List.{drop_all, drop_more, take_all, take-append-drop, length-drop}
+use Rattle.std.proofs.lemmas.Nat.{pow-add, le_or_l, le_or_r, or_of_32}
+use Rattle.std.specs.Int.Bits.{bit_or}
+use Rattle.std.proofs.lemmas.List.{drop_all, drop_more, take_all, take-append-drop, length-drop, length-take}
 use Rattle.std.proofs.lemmas.List.Sums.{AllPass-from_list_all, list_all-from_AllPass}
 use Rattle.std.proofs.lemmas.List.Folds.{list_all-append}
 use Rattle.std.proofs.Math.Pow.{pow_mono}
@@ -175,6 +176,53 @@ parts_pass k ds h =
           ∙ rw (list_all-from_AllPass is_hex_digit (take k ds) parts.0, list_all-from_AllPass is_hex_digit (drop k ds) parts.1) refl
           ),
     )
+
+-- the four parts of a text, as slices are read
+pub record InEights (ds a b c d : List ℕ) : Type 0 where
+  pub digits : AllPass is_hex_digit ds → (AllPass is_hex_digit a × AllPass is_hex_digit b) × (AllPass is_hex_digit c × AllPass is_hex_digit d)
+  pub all : (AllPass is_hex_digit a × AllPass is_hex_digit b) × (AllPass is_hex_digit c × AllPass is_hex_digit d) → AllPass is_hex_digit ds
+  pub value : digits_value 16 ds
+      ≡ (digits_value 16 a * 2 ^ 32 + digits_value 16 b) * 2 ^ 64 + (digits_value 16 c * 2 ^ 32 + digits_value 16 d)
+
+pub in_eights : (ds : List ℕ) → length ds ≡ 32
+    → InEights ds (take 8 (take 16 ds)) (take 8 (drop 8 (take 16 ds))) (take 8 (take 16 (drop 16 ds))) (take 8 (drop 8 (take 16 (drop 16 ds))))
+in_eights ds h =
+    let high : length (take 16 ds) ≡ 16 = omega (arith, h, length-take 16 ds) in
+    let low : length (take 16 (drop 16 ds)) ≡ 16 = omega (arith, h, length-take 16 (drop 16 ds), length-drop 16 ds) in
+    let whole = parts_pass 16 ds h in
+    let first = parts_pass 8 (take 16 ds) high in
+    let second = parts_pass 8 (take 16 (drop 16 ds)) low in
+    record {
+      digits = λ passes. let both = whole.0 passes in (first.0 both.0, second.0 both.1);
+      all = λ parts. whole.1 (first.1 parts.0, second.1 parts.1);
+      value = omega (arith, value_of_two_sixteens ds h, value_of_two_eights (take 16 ds) high, value_of_two_eights (take 16 (drop 16 ds)) low);
+    }
+
+-- numbers whose bits together are below 2 ^ 32 are each below it
+pub record AreSmall (a b c d : ℕ) : Type 0 where
+  pub first : a < 2 ^ 32
+  pub second : b < 2 ^ 32
+  pub third : c < 2 ^ 32
+  pub fourth : d < 2 ^ 32
+
+pub joined-small : (a b c d : ℕ) → bit_or (bit_or (bit_or a b) c) d < 2 ^ 32 → AreSmall a b c d
+joined-small a b c d small =
+    let d_below = le_or_r (bit_or (bit_or a b) c) d in
+    let c_below = le_or_r (bit_or a b) c in
+    let abc_below = le_or_l (bit_or (bit_or a b) c) d in
+    let ab_below = le_or_l (bit_or a b) c in
+    let a_below = le_or_l a b in
+    let b_below = le_or_r a b in
+    record {
+      first = omega (arith, small, abc_below, ab_below, a_below);
+      second = omega (arith, small, abc_below, ab_below, b_below);
+      third = omega (arith, small, abc_below, c_below);
+      fourth = omega (arith, small, d_below);
+    }
+
+pub small-joined : (a b c d : ℕ) → AreSmall a b c d → bit_or (bit_or (bit_or a b) c) d < 2 ^ 32
+small-joined a b c d h =
+    or_of_32 (bit_or (bit_or a b) c) d (or_of_32 (bit_or a b) c (or_of_32 a b h.first h.second) h.third) h.fourth
 
 -- ---- the overflows of the sum
 

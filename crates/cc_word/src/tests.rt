@@ -1,4 +1,4 @@
-use crate::{Refusal, pack, read_word, unpack, write_half, write_word};
+use crate::{Refusal, pack, read_word, unpack, write_half, write_word, write_word_to};
 use std::process::Abort;
 use std::test::Fail;
 
@@ -62,6 +62,9 @@ fn vectors(rt: HostRuntime) -> Result<(), Fail> {
 fn texts(rt: HostRuntime) {
     let word = 0xfedc_ba98_7654_3210_0123_4567_89ab_cdef;
     assert_eq!(rt; write_word(word), *b"fedcba98765432100123456789abcdef");
+    let mut text = [0; 32];
+    write_word_to(word, &mut text);
+    assert_eq!(rt; text, *b"fedcba98765432100123456789abcdef");
     assert_eq!(rt; write_half(0xfedc_ba98_7654_3210), *b"fedcba9876543210");
     assert_eq!(rt; read_word(b"FEDCBA98765432100123456789AbCdEf"), Some(word));
     assert_eq!(rt; read_word(b""), None);

@@ -88,22 +88,6 @@ fn value_of_eight(digits: &[u8]) -> u64
     number
 }
 
-/// The number that sixteen digits spell, and `None` where a byte is no digit.
-#[inline(always)]
-fn value_of_sixteen(digits: &[u8]) -> Option<u64>
-    requires { length digits.now ≡ 16 }
-    ensures found { IsSome result ↔ AllPass is_hex_digit digits.now }
-    ensures value { IfSome result (λ number. number ≡ digits_value 16 digits.now) }
-{
-    let high = value_of_eight(&digits[..8]);
-    let low = value_of_eight(&digits[8..16]);
-    if high < NONE && low < NONE {
-        Some(high * NONE + low)
-    } else {
-        None
-    }
-}
-
 /// Writes the hexadecimal digits of bytes, two for each, in lower case.
 #[inline(always)]
 fn write_digits(bytes: &[u8], text: &mut [u8])
@@ -133,9 +117,17 @@ pub fn read_word(text: &[u8]) -> Option<u128>
     if text.len() != 32 {
         return None;
     }
-    let high = value_of_sixteen(&text[..16])?;
-    let low = value_of_sixteen(&text[16..32])?;
-    Some((u128::from(high) << 64) + u128::from(low))
+    let (high, low) = (&text[..16], &text[16..32]);
+    let a = value_of_eight(&high[..8]);
+    let b = value_of_eight(&high[8..16]);
+    let c = value_of_eight(&low[..8]);
+    let d = value_of_eight(&low[8..16]);
+    // One test of all four: a byte that is no digit leaves a bit above the low 32.
+    if a | b | c | d < NONE {
+        Some((u128::from(a * NONE + b) << 64) + u128::from(c * NONE + d))
+    } else {
+        None
+    }
 }
 
 /// The 32 hexadecimal digits of a word, in lower case, the highest first: what [`read_word`] reads back.
@@ -144,8 +136,16 @@ pub fn write_word(word: u128) -> [u8; 32]
     ensures { result ≡ digits_of 32 word }
 {
     let mut text = [0; 32];
-    write_digits(&bytes_of_word(word), &mut text);
+    write_word_to(word, &mut text);
     text
+}
+
+/// Writes the digits of [`write_word`] to room that the caller has.
+#[inline(always)]
+pub fn write_word_to(word: u128, text: &mut [u8; 32])
+    ensures { text.new ≡ digits_of 32 word }
+{
+    write_digits(&bytes_of_word(word), text);
 }
 
 /// The 16 hexadecimal digits of half a word, as of an address, in lower case, the highest first.

@@ -1,27 +1,24 @@
-use Rattle.std.proofs.Common.{◌≡◌, Some, ap, subst, IsTrue}
-use Rattle.cc_bounds.specs.Span.{IsSpan}
-use Rattle.cc_bounds.proofs.FieldsLemmas.{stored-decodes, stored-found, stored-fields, found-stored}
+use Rattle.std.proofs.Common.{◌≡◌, ◌∙◌, Some, true, ap, subst, sym, IsTrue}
+use Rattle.cc_bounds.specs.declared.span.Span.{Span}
+use Rattle.cc_bounds.specs.Encoding.{Encoding, StoresSpan}
+use Rattle.cc_bounds.proofs.FieldsLemmas.{stored-decodes}
 use Rattle.cc_bounds.proofs.encoding.Set.of_fields.Goals as goal
 
-pub returns-then-not-is_span-clause-only : goal.returns-then-not-is_span-clause-only
-returns-then-not-is_span-clause-only c span h =
+pub returns-then-is_stored-clause-only : goal.returns-then-is_stored-clause-only
+returns-then-is_stored-clause-only c span h =
     let own : span ≡ c.decode-span.result = c.decode-span.ensures.only span (stored-decodes c.args.fields.now span h) in
-    let yes : IsTrue c.is_span.result = c.is_span.ensures.1 (subst IsSpan own h.is_span) in
-    absurd (cc (yes, c.if-not-is_span.true))
+    ap Some (c.stored_encoding.ensures ∙ ap (λ (s : Span). record { granted = s; exact = true }) (sym own))
 
-pub returns-then-has_fields-clause-found : goal.returns-then-has_fields-clause-found
-returns-then-has_fields-clause-found c =
-    found-stored c.args.fields.now c.decode-span.result c.encode-set.result c.decode-span.ensures.decodes
-    c.decode-span.ensures.only c.encode-set.ensures.granted c.encode-set.ensures.exact
-    (c.is_span.ensures.0 c.if-not-is_span.false) (c.has_fields.ensures.0 c.if-has_fields.true)
+pub returns-else-is_stored-clause-only : goal.returns-else-is_stored-clause-only
+returns-else-is_stored-clause-only c span h =
+    let own : span ≡ c.decode-span.result = c.decode-span.ensures.only span (stored-decodes c.args.fields.now span h) in
+    let yes : IsTrue c.is_stored.result = c.is_stored.ensures.1 (subst (StoresSpan c.args.fields.now) own h) in
+    absurd (cc (yes, c.if-is_stored.false))
 
-pub returns-then-has_fields-clause-only : goal.returns-then-has_fields-clause-only
-returns-then-has_fields-clause-only c span h =
-    ap Some (stored-found c.args.fields.now c.decode-span.result c.encode-set.result c.decode-span.ensures.decodes
-    c.decode-span.ensures.only c.encode-set.ensures.granted c.encode-set.ensures.exact span h)
+pub stored_encoding-requires : goal.stored_encoding-requires
+stored_encoding-requires c = c.is_stored.ensures.0 c.if-is_stored.true
 
-pub returns-else-has_fields-clause-only : goal.returns-else-has_fields-clause-only
-returns-else-has_fields-clause-only c span h =
-    let yes = c.has_fields.ensures.1 (stored-fields c.args.fields.now c.decode-span.result c.encode-set.result
-    c.decode-span.ensures.decodes c.decode-span.ensures.only c.encode-set.ensures.granted c.encode-set.ensures.exact span h) in
-    absurd (cc (yes, c.if-has_fields.false))
+pub returns-then-is_stored-clause-found : goal.returns-then-is_stored-clause-found
+returns-then-is_stored-clause-found c =
+    subst (λ (set : Encoding). StoresSpan c.args.fields.now set.granted) (sym c.stored_encoding.ensures)
+    (c.is_stored.ensures.0 c.if-is_stored.true)
