@@ -4,13 +4,13 @@ _cheri_cap() {
   local word=${COMP_WORDS[COMP_CWORD]} before=${COMP_WORDS[COMP_CWORD - 1]} command=${COMP_WORDS[1]} options='-h --help'
   COMPREPLY=()
   if ((COMP_CWORD == 1)); then
-    mapfile -t COMPREPLY < <(compgen -W 'show round run plan -h --help -V --version' -- "$word")
+    mapfile -t COMPREPLY < <(compgen -W 'show round run plan explain -h --help -V --version' -- "$word")
     return
   fi
   case $command in
     run) options+=' --slots' ;;
     plan) options+=' --slots --align' ;;
-    show | round) ;;
+    show | round | explain) ;;
     *) return ;;
   esac
   case $before in

@@ -3,6 +3,7 @@
 mod conformance;
 mod conformance_table;
 mod devices;
+mod explaining;
 mod planning;
 mod rounding;
 mod rows;

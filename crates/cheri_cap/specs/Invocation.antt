@@ -13,7 +13,7 @@ use Rattle.cc_plan.specs.declared.align.Align.{Align}
 use Rattle.cc_plan.specs.declared.align.Align.TheVariants.{One}
 use Rattle.cc_script.specs.Commands.{align_in}
 use Rattle.cheri_cap.specs.declared.invocation.Invocation.{Invocation}
-use Rattle.cheri_cap.specs.declared.invocation.Invocation.TheVariants.{Plan, Round, Run, Show}
+use Rattle.cheri_cap.specs.declared.invocation.Invocation.TheVariants.{Explain, Plan, Round, Run, Show}
 
 -- ---- the program as clap reads it
 
@@ -42,6 +42,10 @@ align_option aligns = record (optional_argument (codes "align")) {
 -- the command `show WORD`
 abbrev pub show_command : App
 show_command = with_rule (new_app (codes "show")) (wanted_argument (codes "word"))
+
+-- the command `explain WORD`
+abbrev pub explain_command : App
+explain_command = with_rule (new_app (codes "explain")) (wanted_argument (codes "word"))
 
 -- the command `round N`
 abbrev pub round_command : App
@@ -76,7 +80,8 @@ bare_program = let bare = new_app (codes "cheri-cap") in record bare {
 abbrev pub program : Bor (List (Bor Text)) → App
 program aligns =
     let words = with_subcommand (with_subcommand bare_program show_command.top) round_command.top in
-    with_subcommand (with_subcommand words run_command.top) (plan_command aligns).top
+    let scripts = with_subcommand (with_subcommand words run_command.top) (plan_command aligns).top in
+    with_subcommand scripts explain_command.top
 
 -- the program as clap reads it, where `--align` takes 1 and 16, wherever in memory these two texts stand
 pub record IsProgram (app : App) : Type 0 where
@@ -105,6 +110,7 @@ IsAlign (Some text) align = align_in text ≡ Ok align
 -- the name of the command
 abbrev pub command_of : Invocation → Text
 command_of (Show word) = codes "show"
+command_of (Explain word) = codes "explain"
 command_of (Round size) = codes "round"
 command_of (Run limit file) = codes "run"
 command_of (Plan limit pool align file) = codes "plan"
@@ -112,6 +118,7 @@ command_of (Plan limit pool align file) = codes "plan"
 -- each text of the command is the value of its name, and none where the name has no value
 abbrev pub HasValues : List Row → Invocation → Type 0
 HasValues rows (Show word) = first_of (codes "word") rows ≡ Some word.now
+HasValues rows (Explain word) = first_of (codes "word") rows ≡ Some word.now
 HasValues rows (Round size) = first_of (codes "length") rows ≡ Some size.now
 HasValues rows (Run limit file) =
     IsLimit (first_of (codes "slots") rows) limit × (first_of (codes "file") rows ≡ option_map (λ text. text.now) file)
@@ -147,11 +154,12 @@ HasAlign rows = IfSome (first_of (codes "align") rows) (λ text. IsOk (align_in 
 
 -- the command of this name is one of the program's, and has what it wants
 pub record IsWhole (name : Text) (rows : List Row) : Type 0 where
-  pub known : list_any (λ command. bytes_eq command name) (codes "show" ∷ codes "round" ∷ codes "run" ∷ codes "plan" ∷ []) ≡ true
+  pub known : list_any (λ command. bytes_eq command name) (codes "show" ∷ codes "round" ∷ codes "run" ∷ codes "plan" ∷ codes "explain" ∷ []) ≡ true
   pub show : name ≡ codes "show" → HasText (codes "word") rows
   pub round : name ≡ codes "round" → HasText (codes "length") rows
   pub run : name ≡ codes "run" → HasLimit rows
   pub plan : name ≡ codes "plan" → HasText (codes "base") rows × HasText (codes "length") rows × HasLimit rows × HasAlign rows
+  pub explain : name ≡ codes "explain" → HasText (codes "word") rows
 
 -- a command was found that has what it wants
 abbrev pub HasItsTexts : Option (Text × List Row) → Type 0

@@ -3,7 +3,7 @@ ghost use Rattle.std.specs.Prelude.{◌≡◌, ◌∷◌, [], IfErr, IfOk, IsSom
 ghost use Rattle.clap.specs.Walk.{texts};
 ghost use Rattle.clap.specs.Words.{App, FailsBy, app_of, fault_of, first_of, first_value, found_of, kind_of, new_app, rows_of, rule_of, subcommand_of, subcommand_rows_of, takes};
 ghost use Rattle.clap.specs.declared.builder.command.Command.TheViews.{out-Command};
-ghost use Rattle.cheri_cap.specs.Invocation.{HasAlign, HasItsTexts, HasLimit, IsAlign, IsInvocation, IsLimit, IsProgram, align_option, bare_program, optional_argument, plan_command, plan_options, program, round_command, run_command, show_command, slots_option, wanted_argument};
+ghost use Rattle.cheri_cap.specs.Invocation.{HasAlign, HasItsTexts, HasLimit, IsAlign, IsInvocation, IsLimit, IsProgram, align_option, bare_program, explain_command, optional_argument, plan_command, plan_options, program, round_command, run_command, show_command, slots_option, wanted_argument};
 
 use cc_command::PoolTexts;
 use cc_machine::Align;
@@ -17,6 +17,11 @@ use std::alloc::{AllocError, Global};
 pub enum Invocation<'a> {
     /// `show WORD`: the listing of a word.
     Show {
+        /// The text that stands for the word, which may be none.
+        word: &'a str,
+    },
+    /// `explain WORD`: how a word is decoded.
+    Explain {
         /// The text that stands for the word, which may be none.
         word: &'a str,
     },
@@ -73,6 +78,19 @@ are a word; for any other text the answer is `error 1 syntax`, with exit status 
 
 Example:
   cheri-cap show ffff0000048190040000000000001000";
+
+const EXPLAIN_ABOUT: &str =
+    "Explains how a capability word is decoded, step by step, with a picture";
+
+const EXPLAIN_AFTER_HELP: &str = "\
+The answer has the word's fields, its exponent, granule and mantissas, its window, in which its
+address may move while its bounds stay as they are, its base and its top, whether it is canonical,
+and if not why. Under them stands a picture of the window in 64 cells, eight to each of its eight
+sections: `#` marks the cells that hold bytes of the bounds, B, T and A that of the base, of the top
+and of the address. For a text that is no word the answer is `error 1 syntax`, with exit status 1.
+
+Example:
+  cheri-cap explain ffff0000048190040000000000001000";
 
 const ROUND_ABOUT: &str =
     "Shows how many bytes an allocation of N bytes has to set aside, and how to align it";
@@ -186,7 +204,8 @@ fn program<'a>(alloc: Global, aligns: &'a [&'a str]) -> Result<Command<'a>, Allo
         .subcommand(show_command(alloc)?)?
         .subcommand(round_command(alloc)?)?
         .subcommand(run_command(alloc)?)?
-        .subcommand(plan_command(alloc, aligns)?)
+        .subcommand(plan_command(alloc, aligns)?)?
+        .subcommand(explain_command(alloc)?)
 }
 
 /// `show WORD`.
@@ -196,6 +215,15 @@ fn show_command<'a>(alloc: Global) -> Result<Command<'a>, AllocError>
 {
     let word = wanted_argument(alloc, "word", "WORD", WORD_HELP);
     bare_command(alloc, "show", SHOW_ABOUT, SHOW_AFTER_HELP).arg(word)
+}
+
+/// `explain WORD`.
+fn explain_command<'a>(alloc: Global) -> Result<Command<'a>, AllocError>
+    ensures shape { IfOk result (λ command. app_of command ≡ explain_command) }
+    ensures local { IfOk result (λ command. (out-Command command).has_globals ≡ false) }
+{
+    let word = wanted_argument(alloc, "word", "WORD", WORD_HELP);
+    bare_command(alloc, "explain", EXPLAIN_ABOUT, EXPLAIN_AFTER_HELP).arg(word)
 }
 
 /// `round N`.
@@ -341,6 +369,9 @@ fn invocation_of<'a>(matches: &ArgMatches<'a>) -> Invocation<'a>
             },
             align: align_of(plan),
             file: plan.get_str("file"),
+        },
+        Some(("explain", explain)) => Invocation::Explain {
+            word: wanted_text(explain, "word"),
         },
         _ => unreachable!(),
     }

@@ -1,5 +1,5 @@
-//! The program `cheri-cap`: shows what CHERI Concentrate capability words hold, how lengths are rounded, and
-//! what a machine of capabilities replies to a script.
+//! The program `cheri-cap`: shows and explains what CHERI Concentrate capability words hold, how lengths are
+//! rounded, and what a machine of capabilities replies to a script.
 #![tactic(auto)]
 
 ghost use Rattle.std.specs.Prelude.{◌≡◌, false, List, Option};
@@ -13,7 +13,7 @@ mod invocation;
 mod outcome;
 mod running;
 
-use cc_command::{show_round, show_word};
+use cc_command::{explain_word, show_round, show_word};
 use cc_script::{FromWriter, Summary};
 use clap::Error;
 use clap::error::ErrorKind;
@@ -100,6 +100,7 @@ fn answer<R: AllocGlobal + Files + Input + Print>(
     let mut output = FromWriter::new(io::writer(rt));
     match invocation {
         Invocation::Show { word } => Ok(show_word(word.as_bytes(), &mut output)?),
+        Invocation::Explain { word } => Ok(explain_word(word.as_bytes(), &mut output)?),
         Invocation::Round { length } => Ok(show_round(length.as_bytes(), &mut output)?),
         Invocation::Run { limit, file } => running::run(rt, limit, file),
         Invocation::Plan {

@@ -14,6 +14,9 @@ returns c =
     let with_run =
     c.in_ok-subcommand-3.ensures.shape c.in_ok-run_command.ensures.local
     ∙ ap₂ with_subcommand with_round (ap (λ (a : App). a.top) c.in_ok-run_command.ensures.shape) in
-    IfOk-weaker c.subcommand-4.result _ _
-    (λ r added. added.shape c.in_ok-plan_command.ensures.local ∙ ap₂ with_subcommand with_run (ap (λ (a : App). a.top) c.in_ok-plan_command.ensures.shape))
-    c.subcommand-4.ensures
+    let with_plan =
+    c.in_ok-subcommand-4.ensures.shape c.in_ok-plan_command.ensures.local
+    ∙ ap₂ with_subcommand with_run (ap (λ (a : App). a.top) c.in_ok-plan_command.ensures.shape) in
+    IfOk-weaker c.subcommand-5.result _ _
+    (λ r added. added.shape c.in_ok-explain_command.ensures.local ∙ ap₂ with_subcommand with_plan (ap (λ (a : App). a.top) c.in_ok-explain_command.ensures.shape))
+    c.subcommand-5.ensures
