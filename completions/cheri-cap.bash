@@ -4,7 +4,7 @@ _cheri_cap() {
   local word=${COMP_WORDS[COMP_CWORD]} before=${COMP_WORDS[COMP_CWORD - 1]} command=${COMP_WORDS[1]} options='-h --help'
   COMPREPLY=()
   if ((COMP_CWORD == 1)); then
-    mapfile -t COMPREPLY < <(compgen -W 'show round run plan decode -h --help -V --version' -- "$word")
+    mapfile -t COMPREPLY < <(compgen -W 'show round run plan decode explain -h --help -V --version' -- "$word")
     return
   fi
   case $command in
@@ -12,7 +12,7 @@ _cheri_cap() {
     plan) options+=' --slots --align' ;;
     decode) options+=' --format' ;;
     show) options+=' --line' ;;
-    round) ;;
+    round | explain) ;;
     *) return ;;
   esac
   case $before in

@@ -1,1 +1,3 @@
 mod PermissionLemmas
+mod StepLemmas
+mod StandingLemmas

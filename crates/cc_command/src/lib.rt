@@ -3,16 +3,23 @@
 #![tactic(auto)]
 
 mod answers;
+mod explained_steps;
+mod explaining;
 mod listing;
+mod numbered;
 mod permissions;
+mod picture;
 mod planning;
 mod rounding;
+mod standing;
+mod steps;
 #[cfg(test)]
 mod tests;
 mod text;
 mod word_line;
 
 pub use answers::write_refusal;
+pub use explaining::explain_word;
 pub use listing::show_word;
 pub use planning::{PoolTexts, plan_numbers, plan_script};
 pub use rounding::show_round;

@@ -1,6 +1,7 @@
 //! Worked answers, by topic.
 
 mod devices;
+mod explaining;
 mod planning;
 mod rounding;
 mod rows;

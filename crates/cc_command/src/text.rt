@@ -6,7 +6,7 @@ use cc_script::Line;
 use std::marker::Model;
 
 /// The most bytes of a text: more than any answer of the program has.
-pub(crate) const ROOM: usize = 1024;
+pub(crate) const ROOM: usize = 4096;
 
 /// Text of at most [`ROOM`] bytes, which is grown at its end and never allocates.
 #[derive(Drop)]

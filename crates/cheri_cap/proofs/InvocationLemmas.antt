@@ -209,6 +209,7 @@ show_whole rows text line = record {
   run = λ same. absurd (other (codes "show") (codes "run") refl same);
   plan = λ same. absurd (other (codes "show") (codes "plan") refl same);
   decode = λ same. absurd (other (codes "show") (codes "decode") refl same);
+  explain = λ same. absurd (other (codes "show") (codes "explain") refl same);
 }
 
 round_whole : (rows : List Row) → HasText (codes "length") rows → IsWhole (codes "round") rows
@@ -219,6 +220,7 @@ round_whole rows text = record {
   run = λ same. absurd (other (codes "round") (codes "run") refl same);
   plan = λ same. absurd (other (codes "round") (codes "plan") refl same);
   decode = λ same. absurd (other (codes "round") (codes "decode") refl same);
+  explain = λ same. absurd (other (codes "round") (codes "explain") refl same);
 }
 
 run_whole : (rows : List Row) → HasLimit rows → IsWhole (codes "run") rows
@@ -229,6 +231,7 @@ run_whole rows limit = record {
   run = λ _. limit;
   plan = λ same. absurd (other (codes "run") (codes "plan") refl same);
   decode = λ same. absurd (other (codes "run") (codes "decode") refl same);
+  explain = λ same. absurd (other (codes "run") (codes "explain") refl same);
 }
 
 plan_whole : (rows : List Row) → HasText (codes "base") rows → HasText (codes "length") rows → HasLimit rows → HasAlign rows → IsWhole (codes "plan") rows
@@ -239,6 +242,7 @@ plan_whole rows base size limit align = record {
   run = λ same. absurd (other (codes "plan") (codes "run") refl same);
   plan = λ _. (base, size, limit, align);
   decode = λ same. absurd (other (codes "plan") (codes "decode") refl same);
+  explain = λ same. absurd (other (codes "plan") (codes "explain") refl same);
 }
 
 decode_whole : (rows : List Row) → HasFormat rows → IsWhole (codes "decode") rows
@@ -249,6 +253,18 @@ decode_whole rows format = record {
   run = λ same. absurd (other (codes "decode") (codes "run") refl same);
   plan = λ same. absurd (other (codes "decode") (codes "plan") refl same);
   decode = λ _. format;
+  explain = λ same. absurd (other (codes "decode") (codes "explain") refl same);
+}
+
+explain_whole : (rows : List Row) → HasText (codes "word") rows → IsWhole (codes "explain") rows
+explain_whole rows text = record {
+  known = refl;
+  show = λ same. absurd (other (codes "explain") (codes "show") refl same);
+  round = λ same. absurd (other (codes "explain") (codes "round") refl same);
+  run = λ same. absurd (other (codes "explain") (codes "run") refl same);
+  plan = λ same. absurd (other (codes "explain") (codes "plan") refl same);
+  decode = λ same. absurd (other (codes "explain") (codes "decode") refl same);
+  explain = λ _. text;
 }
 
 -- ---- the commands, as building leaves them
@@ -269,6 +285,9 @@ module _ (aligns : Bor (List (Bor Text))) (are : texts aligns.now ≡ codes "1" 
   abbrev decode : Shape
   decode = get_or (built (program aligns formats)).subs 4 help_shape
 
+  abbrev explain : Shape
+  explain = get_or (built (program aligns formats)).subs 5 help_shape
+
   -- a call for help is a fault, and no row's
   help_gives : (c : List Rule) → GivesValue c (filled help_rule)
   help_gives c = record { default = no_default-given c (filled help_rule) refl; uses = λ again values rows e given. given }
@@ -278,6 +297,9 @@ module _ (aligns : Bor (List (Bor Text))) (are : texts aligns.now ≡ codes "1" 
 
   round_gives : GiveValues round.rules round.rules
   round_gives = (set_gives round.rules _ refl refl refl refl, (help_gives round.rules, tt))
+
+  explain_gives : GiveValues explain.rules explain.rules
+  explain_gives = (set_gives explain.rules _ refl refl refl refl, (help_gives explain.rules, tt))
 
   run_gives : GiveValues run.rules run.rules
   run_gives = (set_gives run.rules _ refl refl refl refl, (set_gives run.rules _ refl refl refl refl, (help_gives run.rules, tt)))
@@ -315,6 +337,11 @@ module _ (aligns : Bor (List (Bor Text))) (are : texts aligns.now ≡ codes "1" 
       let rows = rows_after round.rules [] words in
       (codes "round", rows, refl, round_whole rows ((required_given round words round_gives e).0 refl))
 
+  explain_serves : Serves explain
+  explain_serves words e =
+      let rows = rows_after explain.rules [] words in
+      (codes "explain", rows, refl, explain_whole rows ((required_given explain words explain_gives e).0 refl))
+
   -- the value of `--slots`
   limit_served : (s : Shape) (words : List Text) → GiveValues s.rules s.rules → arg_by_id s.rules (codes "slots") ≡ Some (filled slots_option)
       → level_fault s [] nothing_held words false [] ≡ [] → HasLimit (rows_after s.rules [] words)
@@ -346,7 +373,7 @@ module _ (aligns : Bor (List (Bor Text))) (are : texts aligns.now ≡ codes "1" 
   AllServe (s ∷ rest) = Serves s × AllServe rest
 
   all_serve : AllServe (built (program aligns formats)).subs
-  all_serve = (show_serves, (round_serves, (run_serves, (plan_serves, (decode_serves, tt)))))
+  all_serve = (show_serves, (round_serves, (run_serves, (plan_serves, (decode_serves, (explain_serves, tt))))))
 
   -- ---- the program
 

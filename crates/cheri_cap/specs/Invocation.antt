@@ -16,7 +16,7 @@ use Rattle.cc_decode.specs.declared.format.Format.{Format}
 use Rattle.cc_decode.specs.declared.format.Format.TheVariants.{Columns}
 use Rattle.cc_decode.specs.declared.format.Format.TheVariants as format
 use Rattle.cheri_cap.specs.declared.invocation.Invocation.{Invocation}
-use Rattle.cheri_cap.specs.declared.invocation.Invocation.TheVariants.{Decode, Plan, Round, Run, Show}
+use Rattle.cheri_cap.specs.declared.invocation.Invocation.TheVariants.{Decode, Explain, Plan, Round, Run, Show}
 
 -- ---- the program as clap reads it
 
@@ -56,6 +56,10 @@ line_option = record (new_rule (codes "line")) { long = Some (codes "line"); act
 -- the command `show [--line] WORD`
 abbrev pub show_command : App
 show_command = with_rule (with_rule (new_app (codes "show")) line_option) (wanted_argument (codes "word"))
+
+-- the command `explain WORD`
+abbrev pub explain_command : App
+explain_command = with_rule (new_app (codes "explain")) (wanted_argument (codes "word"))
 
 -- the command `round N`
 abbrev pub round_command : App
@@ -100,7 +104,7 @@ abbrev pub program : (aligns formats : Bor (List (Bor Text))) → App
 program aligns formats =
     let words = with_subcommand (with_subcommand bare_program show_command.top) round_command.top in
     let scripts = with_subcommand (with_subcommand words run_command.top) (plan_command aligns).top in
-    with_subcommand scripts (decode_command formats).top
+    with_subcommand (with_subcommand scripts (decode_command formats).top) explain_command.top
 
 -- the program as clap reads it, where `--align` takes 1 and 16, and `--format` the names of the formats, wherever
 -- in memory these texts stand
@@ -145,6 +149,7 @@ IsGiven value given = IsTrue given ↔ (value ≡ Some (codes "true"))
 -- the name of the command
 abbrev pub command_of : Invocation → Text
 command_of (Show word as_line) = codes "show"
+command_of (Explain word) = codes "explain"
 command_of (Round size) = codes "round"
 command_of (Run limit file) = codes "run"
 command_of (Plan limit pool align file) = codes "plan"
@@ -153,6 +158,7 @@ command_of (Decode format file) = codes "decode"
 -- each text of the command is the value of its name, and none where the name has no value
 abbrev pub HasValues : List Row → Invocation → Type 0
 HasValues rows (Show word as_line) = (first_of (codes "word") rows ≡ Some word.now) × IsGiven (first_of (codes "line") rows) as_line
+HasValues rows (Explain word) = first_of (codes "word") rows ≡ Some word.now
 HasValues rows (Round size) = first_of (codes "length") rows ≡ Some size.now
 HasValues rows (Run limit file) =
     IsLimit (first_of (codes "slots") rows) limit × (first_of (codes "file") rows ≡ option_map (λ text. text.now) file)
@@ -199,12 +205,13 @@ HasFormat rows = IfSome (first_of (codes "format") rows) (λ text. IsSome (forma
 
 -- the command of this name is one of the program's, and has what it wants
 pub record IsWhole (name : Text) (rows : List Row) : Type 0 where
-  pub known : list_any (λ command. bytes_eq command name) (codes "show" ∷ codes "round" ∷ codes "run" ∷ codes "plan" ∷ codes "decode" ∷ []) ≡ true
+  pub known : list_any (λ command. bytes_eq command name) (codes "show" ∷ codes "round" ∷ codes "run" ∷ codes "plan" ∷ codes "decode" ∷ codes "explain" ∷ []) ≡ true
   pub show : name ≡ codes "show" → HasText (codes "word") rows × HasLine rows
   pub round : name ≡ codes "round" → HasText (codes "length") rows
   pub run : name ≡ codes "run" → HasLimit rows
   pub plan : name ≡ codes "plan" → HasText (codes "base") rows × HasText (codes "length") rows × HasLimit rows × HasAlign rows
   pub decode : name ≡ codes "decode" → HasFormat rows
+  pub explain : name ≡ codes "explain" → HasText (codes "word") rows
 
 -- a command was found that has what it wants
 abbrev pub HasItsTexts : Option (Text × List Row) → Type 0

@@ -3,7 +3,7 @@ ghost use Rattle.std.specs.Prelude.{◌≡◌, ◌∷◌, [], IfErr, IfOk, IsSom
 ghost use Rattle.clap.specs.Walk.{texts};
 ghost use Rattle.clap.specs.Words.{App, FailsBy, app_of, fault_of, first_of, first_value, found_of, kind_of, new_app, rows_of, rule_of, subcommand_of, subcommand_rows_of, takes};
 ghost use Rattle.clap.specs.declared.builder.command.Command.TheViews.{out-Command};
-ghost use Rattle.cheri_cap.specs.Invocation.{HasAlign, HasFormat, HasItsTexts, HasLimit, HasLine, IsAlign, IsFormat, IsGiven, IsInvocation, IsLimit, IsProgram, align_option, bare_program, decode_command, format_names, format_option, line_option, optional_argument, plan_command, plan_options, program, round_command, run_command, show_command, slots_option, wanted_argument};
+ghost use Rattle.cheri_cap.specs.Invocation.{HasAlign, HasFormat, HasItsTexts, HasLimit, HasLine, IsAlign, IsFormat, IsGiven, IsInvocation, IsLimit, IsProgram, align_option, bare_program, decode_command, explain_command, format_names, format_option, line_option, optional_argument, plan_command, plan_options, program, round_command, run_command, show_command, slots_option, wanted_argument};
 
 use cc_command::PoolTexts;
 use cc_decode::Format;
@@ -22,6 +22,11 @@ pub enum Invocation<'a> {
         word: &'a str,
         /// Whether the word is shown on one line.
         as_line: bool,
+    },
+    /// `explain WORD`: how a word is decoded.
+    Explain {
+        /// The text that stands for the word, which may be none.
+        word: &'a str,
     },
     /// `round N`: the length that bounds of `N` bytes take, and its alignment.
     Round {
@@ -91,6 +96,19 @@ STORE_CAP W, and behind the bounds stands (sentry) or (sealed) for a type that i
 Example:
   cheri-cap show --line ffff0000048190040000000000001000
   0x1000 [rwxRW,0x1000-0x1200]";
+
+const EXPLAIN_ABOUT: &str =
+    "Explains how a capability word is decoded, step by step, with a picture";
+
+const EXPLAIN_AFTER_HELP: &str = "\
+The answer has the word's fields, its exponent, granule and mantissas, its window, in which its
+address may move while its bounds stay as they are, its base and its top, whether it is canonical,
+and if not why. Under them stands a picture of the window in 64 cells, eight to each of its eight
+sections: `#` marks the cells that hold bytes of the bounds, B, T and A that of the base, of the top
+and of the address. For a text that is no word the answer is `error 1 syntax`, with exit status 1.
+
+Example:
+  cheri-cap explain ffff0000048190040000000000001000";
 
 const ROUND_ABOUT: &str =
     "Shows how many bytes an allocation of N bytes has to set aside, and how to align it";
@@ -240,7 +258,8 @@ fn program<'a>(
         .subcommand(round_command(alloc)?)?
         .subcommand(run_command(alloc)?)?
         .subcommand(plan_command(alloc, aligns)?)?
-        .subcommand(decode_command(alloc, formats)?)
+        .subcommand(decode_command(alloc, formats)?)?
+        .subcommand(explain_command(alloc)?)
 }
 
 /// `show [--line] WORD`.
@@ -252,6 +271,15 @@ fn show_command<'a>(alloc: Global) -> Result<Command<'a>, AllocError>
     bare_command(alloc, "show", SHOW_ABOUT, SHOW_AFTER_HELP)
         .arg(line_option(alloc))?
         .arg(word)
+}
+
+/// `explain WORD`.
+fn explain_command<'a>(alloc: Global) -> Result<Command<'a>, AllocError>
+    ensures shape { IfOk result (λ command. app_of command ≡ explain_command) }
+    ensures local { IfOk result (λ command. (out-Command command).has_globals ≡ false) }
+{
+    let word = wanted_argument(alloc, "word", "WORD", WORD_HELP);
+    bare_command(alloc, "explain", EXPLAIN_ABOUT, EXPLAIN_AFTER_HELP).arg(word)
 }
 
 /// `round N`.
@@ -434,6 +462,9 @@ fn invocation_of<'a>(matches: &ArgMatches<'a>) -> Invocation<'a>
         Some(("decode", decode)) => Invocation::Decode {
             format: format_of(decode),
             file: decode.get_str("file"),
+        },
+        Some(("explain", explain)) => Invocation::Explain {
+            word: wanted_text(explain, "word"),
         },
         _ => unreachable!(),
     }

@@ -1,5 +1,5 @@
-//! The program `cheri-cap`: shows what CHERI Concentrate capability words hold, how lengths are rounded, and
-//! what a machine of capabilities replies to a script.
+//! The program `cheri-cap`: shows and explains what CHERI Concentrate capability words hold, how lengths are
+//! rounded, and what a machine of capabilities replies to a script.
 #![tactic(auto)]
 
 ghost use Rattle.std.specs.Prelude.{◌≡◌, false, List, Option};
@@ -13,7 +13,7 @@ mod invocation;
 mod outcome;
 mod running;
 
-use cc_command::{show_line, show_round, show_word};
+use cc_command::{explain_word, show_line, show_round, show_word};
 use cc_script::{FromWriter, Summary};
 use clap::Error;
 use clap::error::ErrorKind;
@@ -107,6 +107,7 @@ fn answer<R: AllocGlobal + Files + Input + Print>(
             word,
             as_line: true,
         } => Ok(show_line(word.as_bytes(), &mut output)?),
+        Invocation::Explain { word } => Ok(explain_word(word.as_bytes(), &mut output)?),
         Invocation::Round { length } => Ok(show_round(length.as_bytes(), &mut output)?),
         Invocation::Run { limit, file } => running::run(rt, limit, file),
         Invocation::Plan {

@@ -40,6 +40,22 @@ fn show_is_taken(rt: HostRuntime) -> Result<(), Fail> {
     Ok(())
 }
 
+const EXPLAINED: [(&str, &str); 3] = [
+    ("explain 12", "12"),
+    ("explain ", ""),
+    ("explain -- -5", "-5"),
+];
+
+#[test]
+fn explain_is_taken(rt: HostRuntime) -> Result<(), Fail> {
+    for (line, word) in EXPLAINED {
+        let words = words_of(rt.alloc(), line)?;
+        let taken = read_words(rt.alloc(), words.as_slice())?;
+        assert_eq!(rt; taken, Invocation::Explain { word }, "{line}");
+    }
+    Ok(())
+}
+
 const ROUNDED: [(&str, &str); 6] = [
     ("round 0x10", "0x10"),
     ("round ", ""),

@@ -117,3 +117,19 @@ returns-in-Some-decode-default c =
       command_is c.args.matches.now (codes "decode") (rows_of f) (sym (ap Some here.is-decode) ∙ here.ensures.name) here.ensures.rows,
       (c.format_of.ensures, sym (first_value-rows f (codes "file")) ∙ sym c.get_str-in-Some-decode-default.ensures),
     )
+
+pub wanted_text-requires-in-Some-explain-default : goal.wanted_text-requires-in-Some-explain-default
+wanted_text-requires-in-Some-explain-default c =
+    let here = c.in-Some-explain-default in
+    let f = found_of here.explain.now in
+    let is = command_is c.args.matches.now (codes "explain") (rows_of f) (sym (ap Some here.is-explain) ∙ here.ensures.name) here.ensures.rows in
+    has_text f (codes "word") ((whole _ (codes "explain") (rows_of f) is c.requires).explain refl)
+
+pub returns-in-Some-explain-default : goal.returns-in-Some-explain-default
+returns-in-Some-explain-default c =
+    let here = c.in-Some-explain-default in
+    let f = found_of here.explain.now in (
+      rows_of f,
+      command_is c.args.matches.now (codes "explain") (rows_of f) (sym (ap Some here.is-explain) ∙ here.ensures.name) here.ensures.rows,
+      sym (first_value-rows f (codes "word")) ∙ c.wanted_text-in-Some-explain-default.ensures,
+    )
