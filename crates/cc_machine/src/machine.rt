@@ -10,7 +10,7 @@ use crate::rules::{
 };
 use crate::slot::Slot;
 use cc_cap::Cap;
-use cc_plan::{Align, ObjectId, Planner, TreePlacer};
+use cc_plan::{Align, ObjectId, Planner, BlockPlacer};
 use cc_word::Refusal;
 use std::alloc::{AllocError, Global};
 use std::marker::Model;
@@ -29,7 +29,7 @@ pub struct Machine {
     limit: u32,
     slots: Vec<Slot>,
     pool: Option<u32>,
-    planner: Planner<TreePlacer>,
+    planner: Planner<BlockPlacer>,
     /// The slot of each object, in the order of their numbers.
     object_slots: Vec<u32>,
     /// How many slots belong to no object, and then how many to each, in the order of their numbers.
@@ -168,7 +168,7 @@ impl Machine {
     }
 
     /// The planner, which holds the bounds of the held objects.
-    pub fn planner(&self) -> &Planner<TreePlacer>
+    pub fn planner(&self) -> &Planner<BlockPlacer>
         ensures { HaveSameSpans (planned_spans result.now.objects) (held_spans self.now) }
     {
         &self.planner

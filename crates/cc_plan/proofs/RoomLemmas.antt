@@ -161,3 +161,31 @@ needed_any size align long from to start fits from_start ends aligned =
           let near = room_near from to start size (omega (arith, fits)) from_start ends in
           rw (← same) near
     ]
+
+-- ---- Gaps within gaps.
+
+-- a gap has no more room than bytes
+pub room_at_most : (from to : ℕ) → from ≤ to → to ≤ 2 ^ 64 → room_of from to ≤ to - from
+unfolding room_of
+room_at_most from to in_order fits =
+    let some = unit_some (to - from) (omega arith) in
+    let covers = le-div_ceil from (unit_of (to - from)) (omega (arith, some)) in
+    omega (arith, covers)
+
+-- nor has one more room than a gap around it
+pub room_within : (from to lower higher : ℕ) → lower ≤ from → from ≤ to → to ≤ higher → higher ≤ 2 ^ 64
+    → room_of from to ≤ room_of lower higher
+unfolding room_of
+room_within from to lower higher low in_order high fits =
+    let some = unit_some (higher - lower) (omega arith) in
+    let at_most = room_at_most from to in_order (omega arith) in
+    elim (cases_lt (to - from) (512 * unit_of (higher - lower))) [
+      | inl few ↦ omega (arith, at_most, few)
+      | inr many ↦
+          let same = unit_same (to - from) (higher - lower) (omega (arith, some, many)) (omega arith) (omega arith) many in
+          let first = first_multiple (unit_of (higher - lower)) lower
+          (div_ceil from (unit_of (higher - lower)) * unit_of (higher - lower)) (omega (arith, some))
+          (omega (arith, le-div_ceil from (unit_of (higher - lower)) (omega (arith, some))))
+          (mul-mod_left (div_ceil from (unit_of (higher - lower))) (unit_of (higher - lower))) in
+          rw (← same) (omega (arith, first))
+    ]

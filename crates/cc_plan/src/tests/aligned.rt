@@ -2,7 +2,7 @@
 ghost use Rattle.std.specs.Prelude.{◌≤◌};
 
 use super::pool;
-use crate::{Align, ObjectId, Placer, Planner, ScanPlacer, SortedPlacer, TreePlacer};
+use crate::{Align, BlockPlacer, ObjectId, Placer, Planner, ScanPlacer, SortedPlacer};
 use cc_bounds::Span;
 use cc_cap::Cap;
 use cc_word::Refusal;
@@ -130,7 +130,7 @@ fn check_size(rt: &impl Abort, alloc: Global, size: u128, align: Align) -> Resul
     if size == 0 || size > 1 << 64 {
         return Ok(());
     }
-    let mut planner: Planner<TreePlacer> = with_pool(alloc, Cap::root(), align)?;
+    let mut planner: Planner<BlockPlacer> = with_pool(alloc, Cap::root(), align)?;
     planner.alloc(1)?;
     let expected = searched(size, align);
     assert_eq!(rt; placed(rt, &mut planner, size), expected, "size {size}");
@@ -180,7 +180,7 @@ fn check_set_aside(
     unit: u64,
     bytes: u128,
 ) -> Result<(), Fail> {
-    let mut planner: Planner<TreePlacer> = with_pool(alloc, Cap::root(), align)?;
+    let mut planner: Planner<BlockPlacer> = with_pool(alloc, Cap::root(), align)?;
     planner.alloc(1)?;
     let top = u128::from(unit).saturating_add(bytes);
     let expected = Span { base: unit, top };
@@ -201,7 +201,7 @@ fn set_aside_for_a_dozen_sizes(rt: HostRuntime) -> Result<(), Fail> {
 fn rows_of_alignment_16(rt: HostRuntime) -> Result<(), Fail> {
     check_rows::<ScanPlacer>(&rt, rt.alloc())?;
     check_rows::<SortedPlacer>(&rt, rt.alloc())?;
-    check_rows::<TreePlacer>(&rt, rt.alloc())
+    check_rows::<BlockPlacer>(&rt, rt.alloc())
 }
 
 #[test]

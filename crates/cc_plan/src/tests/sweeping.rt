@@ -2,7 +2,7 @@
 
 use super::pool;
 use crate::{
-    ObjectId, ObjectState, Placer, PlanCall, Planner, ScanPlacer, SortedPlacer, TreePlacer,
+    BlockPlacer, ObjectId, ObjectState, Placer, PlanCall, Planner, ScanPlacer, SortedPlacer,
 };
 use cc_bounds::Span;
 use cc_word::Refusal;
@@ -189,13 +189,13 @@ fn swept_in_order(rt: HostRuntime) -> Result<(), Fail> {
 }
 
 #[test]
-fn swept_in_a_tree(rt: HostRuntime) -> Result<(), Fail> {
-    check_sweeps::<TreePlacer>(&rt, rt.alloc())
+fn swept_in_blocks(rt: HostRuntime) -> Result<(), Fail> {
+    check_sweeps::<BlockPlacer>(&rt, rt.alloc())
 }
 
 #[test]
 fn held_by_a_plain_list(rt: HostRuntime) -> Result<(), Fail> {
     check_held::<ScanPlacer>(&rt, rt.alloc())?;
     check_held::<SortedPlacer>(&rt, rt.alloc())?;
-    check_held::<TreePlacer>(&rt, rt.alloc())
+    check_held::<BlockPlacer>(&rt, rt.alloc())
 }

@@ -1,0 +1,16 @@
+use Rattle.std.proofs.Common.{◌<◌, ◌≤◌, ◌-◌, ℕ, length}
+use Rattle.std.specs.List.{slice_index_or}
+use Rattle.cc_plan.specs.BlockState.{BlockState}
+use Rattle.cc_plan.proofs.block_row.position_for.Given as goal
+
+-- the block below the low position ends below the base, and the one at the high position does not
+abbrev pub invariant-loop-low : goal.invariant-loop-low
+invariant-loop-low l = record {
+  in_order : l.low ≤ l.high;
+  within : l.high ≤ length l.blocks;
+  below : (d : BlockState) → 0 < l.low → (slice_index_or l.blocks (l.low - 1) d).last < l.base;
+  above : (d : BlockState) → l.high < length l.blocks → l.base ≤ (slice_index_or l.blocks l.high d).last;
+}
+
+abbrev pub decreases-loop-low : goal.decreases-loop-low
+decreases-loop-low l = l.high - l.low

@@ -1,0 +1,10 @@
+use Rattle.std.proofs.Common.{rules, arith, ap, suc, length, ◌≡◌, ◌-◌}
+use Rattle.cc_plan.specs.BlockState.{BlockState}
+use Rattle.cc_plan.proofs.BlockRowLemmas.{end_last}
+use Rattle.cc_plan.proofs.block_row.row_end.Goals as goal
+
+pub returns-else-count-eq0 : goal.returns-else-count-eq0
+returns-else-count-eq0 c =
+    let all : suc (length c.args.blocks.now - 1) ≡ length c.args.blocks.now = search rules in
+    let ends = end_last c.args.end c.args.blocks.now (length c.args.blocks.now - 1) c.index-blocks-count.result all in
+    omega (arith, ends, c.from-else-count-eq0.ensures, c.last.ensures, ap (λ (b : BlockState). b.last) c.index-blocks-count.is)

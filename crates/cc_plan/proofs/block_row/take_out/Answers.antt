@@ -1,0 +1,132 @@
+use Rattle.std.proofs.Common.{rules, arith, ap, ◌∙◌, ◌≡◌, ◌<◌, ◌≤◌, [], List, length}
+use Rattle.cc_plan.specs.BlockState.{BlockState}
+use Rattle.cc_plan.proofs.BlockRowLemmas.{block_at, find_held, taken_gone, taken_left}
+use Rattle.cc_plan.proofs.block_row.take_out.Goals as goal
+
+pub end_before-before-requires-clause-fits : goal.end_before-before-requires-clause-fits
+end_before-before-requires-clause-fits c =
+    let held = find_held c.args.end c.args.blocks.now.items c.deref.result.now c.position_for-at.result (record { spans = []; bound = 0; last = 0 }) c.args.span
+    c.requires.blocks c.requires.held c.deref.ensures.value c.position_for-at.ensures.within c.position_for-at.ensures.below
+    c.position_for-at.ensures.above in
+    rw c.deref-2.ensures.value held.fits
+
+pub index_mut-block-requires : goal.index_mut-block-requires
+index_mut-block-requires c =
+    let held = find_held c.args.end c.args.blocks.now.items c.deref.result.now c.position_for-at.result (record { spans = []; bound = 0; last = 0 }) c.args.span
+    c.requires.blocks c.requires.held c.deref.ensures.value c.position_for-at.ensures.within c.position_for-at.ensures.below
+    c.position_for-at.ensures.above in
+    let within = held.within in
+    search rules
+
+pub remove-requires-clause-block : goal.remove-requires-clause-block
+remove-requires-clause-block c =
+    let held = find_held c.args.end c.args.blocks.now.items c.deref.result.now c.position_for-at.result c.index_mut-block.result.now c.args.span
+    c.requires.blocks c.requires.held c.deref.ensures.value c.position_for-at.ensures.within c.position_for-at.ensures.below
+    c.position_for-at.ensures.above in
+    let is = block_at c.args.end c.args.blocks.now.items c.position_for-at.result c.index_mut-block.result.now c.requires.blocks held.within in
+    rw (c.end_before-before.ensures, c.deref-2.ensures.value, c.index_mut-block.ensures.value) is.here
+
+pub remove-requires-clause-held : goal.remove-requires-clause-held
+remove-requires-clause-held c =
+    let held = find_held c.args.end c.args.blocks.now.items c.deref.result.now c.position_for-at.result c.index_mut-block.result.now c.args.span
+    c.requires.blocks c.requires.held c.deref.ensures.value c.position_for-at.ensures.within c.position_for-at.ensures.below
+    c.position_for-at.ensures.above in
+    rw c.index_mut-block.ensures.value held.held
+
+pub remove-requires-then-len-eq0 : goal.remove-requires-then-len-eq0
+remove-requires-then-len-eq0 c =
+    let held = find_held c.args.end c.args.blocks.now.items c.deref.result.now c.position_for-at.result (record { spans = []; bound = 0; last = 0 }) c.args.span
+    c.requires.blocks c.requires.held c.deref.ensures.value c.position_for-at.ensures.within c.position_for-at.ensures.below
+    c.position_for-at.ensures.above in
+    let within = held.within in
+    search rules
+
+pub widen_at-requires-clause-loose : goal.widen_at-requires-clause-loose
+widen_at-requires-clause-loose c =
+    let held = find_held c.args.end c.args.blocks.now.items c.deref.result.now c.position_for-at.result c.index_mut-block.result.now c.args.span
+    c.requires.blocks c.requires.held c.deref.ensures.value c.position_for-at.ensures.within c.position_for-at.ensures.below
+    c.position_for-at.ensures.above in
+    let none : length c.remove.new.self.spans ≡ 0 = search rules in
+    let taken = taken_gone c.args.end c.args.blocks.now.items c.position_for-at.result c.index_mut-block.result.now c.remove.new.self c.args.span
+    c.requires.blocks held.within none (rw c.index_mut-block.ensures.value at c.remove.ensures.spans) in
+    rw c.remove-then-len-eq0.ensures.items taken.loose
+
+pub widen_at-requires-else-len-eq0-clause-loose : goal.widen_at-requires-else-len-eq0-clause-loose
+widen_at-requires-else-len-eq0-clause-loose c =
+    let held = find_held c.args.end c.args.blocks.now.items c.deref.result.now c.position_for-at.result c.index_mut-block.result.now c.args.span
+    c.requires.blocks c.requires.held c.deref.ensures.value c.position_for-at.ensures.within c.position_for-at.ensures.below
+    c.position_for-at.ensures.above in
+    let is = block_at c.args.end c.args.blocks.now.items c.position_for-at.result c.index_mut-block.result.now c.requires.blocks held.within in
+    let before = rw c.deref-2.ensures.value at c.end_before-before.ensures in
+    let some : 0 < length c.remove.new.self.spans = search rules in
+    let taken = taken_left c.args.end c.args.blocks.now.items c.position_for-at.result c.index_mut-block.result.now c.remove.new.self c.args.span
+    c.requires.blocks held.within (rw before at c.remove.ensures.block some)
+    (let last : c.remove.new.self.last ≤ c.index_mut-block.result.now.last = c.remove.ensures.last some in
+    omega (arith, last, ap (λ (b : BlockState). b.last) c.index_mut-block.ensures.value))
+    (rw c.index_mut-block.ensures.value at c.remove.ensures.spans) in
+    taken.loose
+
+pub widen_at-requires-else-len-eq0-clause-within : goal.widen_at-requires-else-len-eq0-clause-within
+widen_at-requires-else-len-eq0-clause-within c =
+    let held = find_held c.args.end c.args.blocks.now.items c.deref.result.now c.position_for-at.result c.index_mut-block.result.now c.args.span
+    c.requires.blocks c.requires.held c.deref.ensures.value c.position_for-at.ensures.within c.position_for-at.ensures.below
+    c.position_for-at.ensures.above in
+    let is = block_at c.args.end c.args.blocks.now.items c.position_for-at.result c.index_mut-block.result.now c.requires.blocks held.within in
+    let before = rw c.deref-2.ensures.value at c.end_before-before.ensures in
+    let some : 0 < length c.remove.new.self.spans = search rules in
+    let taken = taken_left c.args.end c.args.blocks.now.items c.position_for-at.result c.index_mut-block.result.now c.remove.new.self c.args.span
+    c.requires.blocks held.within (rw before at c.remove.ensures.block some)
+    (let last : c.remove.new.self.last ≤ c.index_mut-block.result.now.last = c.remove.ensures.last some in
+    omega (arith, last, ap (λ (b : BlockState). b.last) c.index_mut-block.ensures.value))
+    (rw c.index_mut-block.ensures.value at c.remove.ensures.spans) in
+    taken.within
+
+pub returns-then-len-eq0-clause-spans : goal.returns-then-len-eq0-clause-spans
+returns-then-len-eq0-clause-spans c =
+    let held = find_held c.args.end c.args.blocks.now.items c.deref.result.now c.position_for-at.result c.index_mut-block.result.now c.args.span
+    c.requires.blocks c.requires.held c.deref.ensures.value c.position_for-at.ensures.within c.position_for-at.ensures.below
+    c.position_for-at.ensures.above in
+    let none : length c.remove.new.self.spans ≡ 0 = search rules in
+    let taken = taken_gone c.args.end c.args.blocks.now.items c.position_for-at.result c.index_mut-block.result.now c.remove.new.self c.args.span
+    c.requires.blocks held.within none (rw c.index_mut-block.ensures.value at c.remove.ensures.spans) in
+    rw (c.widen_at.ensures.spans, c.remove-then-len-eq0.ensures.items) taken.spans
+
+pub returns-then-len-eq0-clause-end : goal.returns-then-len-eq0-clause-end
+returns-then-len-eq0-clause-end c =
+    let held = find_held c.args.end c.args.blocks.now.items c.deref.result.now c.position_for-at.result c.index_mut-block.result.now c.args.span
+    c.requires.blocks c.requires.held c.deref.ensures.value c.position_for-at.ensures.within c.position_for-at.ensures.below
+    c.position_for-at.ensures.above in
+    let none : length c.remove.new.self.spans ≡ 0 = search rules in
+    let taken = taken_gone c.args.end c.args.blocks.now.items c.position_for-at.result c.index_mut-block.result.now c.remove.new.self c.args.span
+    c.requires.blocks held.within none (rw c.index_mut-block.ensures.value at c.remove.ensures.spans) in
+    rw (c.widen_at.ensures.end, c.remove-then-len-eq0.ensures.items) taken.ends
+
+pub returns-else-len-eq0-clause-spans : goal.returns-else-len-eq0-clause-spans
+returns-else-len-eq0-clause-spans c =
+    let held = find_held c.args.end c.args.blocks.now.items c.deref.result.now c.position_for-at.result c.index_mut-block.result.now c.args.span
+    c.requires.blocks c.requires.held c.deref.ensures.value c.position_for-at.ensures.within c.position_for-at.ensures.below
+    c.position_for-at.ensures.above in
+    let is = block_at c.args.end c.args.blocks.now.items c.position_for-at.result c.index_mut-block.result.now c.requires.blocks held.within in
+    let before = rw c.deref-2.ensures.value at c.end_before-before.ensures in
+    let some : 0 < length c.remove.new.self.spans = search rules in
+    let taken = taken_left c.args.end c.args.blocks.now.items c.position_for-at.result c.index_mut-block.result.now c.remove.new.self c.args.span
+    c.requires.blocks held.within (rw before at c.remove.ensures.block some)
+    (let last : c.remove.new.self.last ≤ c.index_mut-block.result.now.last = c.remove.ensures.last some in
+    omega (arith, last, ap (λ (b : BlockState). b.last) c.index_mut-block.ensures.value))
+    (rw c.index_mut-block.ensures.value at c.remove.ensures.spans) in
+    rw c.widen_at-else-len-eq0.ensures.spans taken.spans
+
+pub returns-else-len-eq0-clause-end : goal.returns-else-len-eq0-clause-end
+returns-else-len-eq0-clause-end c =
+    let held = find_held c.args.end c.args.blocks.now.items c.deref.result.now c.position_for-at.result c.index_mut-block.result.now c.args.span
+    c.requires.blocks c.requires.held c.deref.ensures.value c.position_for-at.ensures.within c.position_for-at.ensures.below
+    c.position_for-at.ensures.above in
+    let is = block_at c.args.end c.args.blocks.now.items c.position_for-at.result c.index_mut-block.result.now c.requires.blocks held.within in
+    let before = rw c.deref-2.ensures.value at c.end_before-before.ensures in
+    let some : 0 < length c.remove.new.self.spans = search rules in
+    let taken = taken_left c.args.end c.args.blocks.now.items c.position_for-at.result c.index_mut-block.result.now c.remove.new.self c.args.span
+    c.requires.blocks held.within (rw before at c.remove.ensures.block some)
+    (let last : c.remove.new.self.last ≤ c.index_mut-block.result.now.last = c.remove.ensures.last some in
+    omega (arith, last, ap (λ (b : BlockState). b.last) c.index_mut-block.ensures.value))
+    (rw c.index_mut-block.ensures.value at c.remove.ensures.spans) in
+    rw c.widen_at-else-len-eq0.ensures.end taken.ends

@@ -1,0 +1,40 @@
+-- Blocks of spans in the order of their addresses. No public clause cites this file.
+use Rattle.std.specs.Prelude.{ℕ, ◌≡◌, ◌+◌, ◌<◌, ◌≤◌, ◌^◌, List, [], ◌∷◌, ◌++◌, Option, Some, None, length, take, drop}
+use Rattle.cc_bounds.specs.declared.span.Span.{Span}
+use Rattle.cc_plan.specs.BlockState.{BlockState}
+use Rattle.cc_plan.specs.Chain.{IsChain, end_of, most_room}
+
+-- the block has spans, the first of which follows an end, and its bound and its last byte are right
+pub record IsBlock (end : ℕ) (block : BlockState) : Type 0 where
+  pub some : 0 < length block.spans
+  pub chain : IsChain end (block.last + 1) block.spans
+  pub ends : end_of end block.spans ≡ block.last + 1
+  pub bound : most_room end block.spans ≤ block.bound
+  pub fits : block.last < 2 ^ 64
+
+-- the blocks follow an end, and each the one before
+abbrev pub AreBlocks : ℕ → List BlockState → Type 0
+AreBlocks end [] = Unit {0}
+AreBlocks end (block ∷ blocks) = IsBlock end block × AreBlocks (block.last + 1) blocks
+
+-- where the blocks end that follow an end
+abbrev pub blocks_end : ℕ → List BlockState → ℕ
+blocks_end end [] = end
+blocks_end end (block ∷ blocks) = blocks_end (block.last + 1) blocks
+
+-- the spans of the blocks
+abbrev pub spans_in : List BlockState → List Span
+spans_in [] = []
+spans_in (block ∷ blocks) = block.spans ++ spans_in blocks
+
+-- a block and the one that was split off behind it, if there is one
+abbrev pub with_upper : BlockState → Option BlockState → List BlockState
+with_upper block None = block ∷ []
+with_upper block (Some upper) = block ∷ upper ∷ []
+
+-- the blocks from a position on follow an end where those before it end, or above
+pub record AreLooseAt (end at : ℕ) (blocks : List BlockState) : Type 0 where
+  pub from : ℕ
+  pub low : AreBlocks end (take at blocks)
+  pub above : blocks_end end (take at blocks) ≤ from
+  pub high : AreBlocks from (drop at blocks)

@@ -1,0 +1,309 @@
+//! A block of spans in the order of their addresses.
+ghost use Rattle.std.specs.Prelude.{◌≡◌, ◌↔◌, ◌+◌, ◌<◌, ◌≤◌, ◌^◌, ◌∷◌, ◌++◌, ℕ, [], length, max, take, vec_len, vec_capacity, Contains, IfOk, IsTrue};
+ghost use Rattle.cc_plan.specs.Placement.{IsApartFrom};
+ghost use Rattle.cc_plan.specs.PlacerState.{IsSomeBytes};
+ghost use Rattle.cc_plan.specs.Blocks.{AreBlocks, IsBlock, blocks_end, spans_in, with_upper};
+ghost use Rattle.cc_plan.specs.Chain.{IsChain, IsGapPlace, IsOneMore, end_of, most_room};
+ghost use Rattle.cc_plan.specs.Gap.{IsNeeded, room_of};
+
+use crate::gap::room;
+use crate::rounding::fit;
+use crate::sorted::position_for;
+use cc_bounds::Span;
+use std::alloc::{AllocError, Global};
+use std::marker::Model;
+
+/// How many spans a block holds at most.
+const MOST_SPANS: usize = 64;
+
+/// How many spans each half of a full block has.
+const HALF: usize = 32;
+
+/// Some spans in the order of their addresses, no two of which share a byte, with room reserved for `MOST_SPANS`.
+///
+/// What it keeps besides them speaks of the gaps before its spans: the first of them begins where the block
+/// before ends, or where the pool does.
+#[derive(Drop)]
+pub(crate) struct Block {
+    spans: Vec<Span>,
+    /// No gap before one of the spans has more room.
+    bound: u64,
+    /// The last byte of the last span.
+    last: u64,
+}
+
+impl Model for Block {
+    ghost use Rattle.std.specs.Prelude.{◌≤◌, length, vec_capacity};
+    ghost use Rattle.cc_plan.specs.BlockState.{BlockState};
+
+    ghost Value = { BlockState };
+
+    ghost view = { λ b. record { spans = b.spans.items; bound = b.bound; last = b.last } };
+
+    ghost invariant = { λ b. (length b.spans.items ≤ 64) × (64 ≤ vec_capacity b.spans) };
+}
+
+impl Block {
+    /// A block with no span, in memory of its own.
+    pub(crate) fn empty(alloc: Global) -> Result<Block, AllocError>
+        ensures { IfOk result (λ block. block.spans ≡ []) }
+    {
+        Ok(Block {
+            spans: Vec::with_capacity(alloc, MOST_SPANS)?,
+            bound: 0,
+            last: 0,
+        })
+    }
+
+    /// How many spans it has.
+    #[inline(always)]
+    pub(crate) fn len(&self) -> usize
+        ensures value { result ≡ length self.now.spans }
+        ensures few { result ≤ 64 }
+    {
+        self.spans.len()
+    }
+
+    #[inline(always)]
+    pub(crate) fn is_full(&self) -> bool
+        ensures full { IsTrue result ↔ (length self.now.spans ≡ 64) }
+        ensures few { length self.now.spans ≤ 64 }
+    {
+        self.spans.len() >= MOST_SPANS
+    }
+
+    /// The last byte of its last span.
+    #[inline(always)]
+    pub(crate) fn last(&self) -> u64
+        ensures { result ≡ self.now.last }
+    {
+        self.last
+    }
+
+    /// The bound of the room of the gap before each of its spans.
+    #[inline(always)]
+    pub(crate) fn bound(&self) -> u64
+        ensures { result ≡ self.now.bound }
+    {
+        self.bound
+    }
+
+    /// Puts a span in below the last one.
+    pub(crate) fn insert(&mut self, end: u64, span: Span)
+        requires block { IsBlock end self.old }
+        requires fewer { length self.old.spans < 64 }
+        requires some { IsSomeBytes span }
+        requires apart { IsApartFrom self.old.spans span }
+        requires above { end ≤ span.base }
+        requires below { span.base ≤ self.old.last }
+        ensures spans { IsOneMore self.old.spans span self.new.spans }
+        ensures block { IsBlock end self.new }
+        ensures last { self.new.last ≡ self.old.last }
+    {
+        let at = position_for(&self.spans, span.base);
+        let next = self.spans[at].base;
+        let gap = room(end_before(&self.spans, at, end), next);
+        self.spans.insert(at, span).unwrap();
+        if gap >= self.bound {
+            self.bound = widest(&self.spans, end);
+        }
+    }
+
+    /// Puts a span in below the last one. A full block is split first: its upper half is handed out, in a spare
+    /// block.
+    pub(crate) fn insert_or_split(
+        &mut self,
+        end: u64,
+        span: Span,
+        spare: &mut Vec<Block>,
+    ) -> Option<Block>
+        requires block { IsBlock end self.old }
+        requires spare { 0 < vec_len spare.old }
+        requires some { IsSomeBytes span }
+        requires apart { IsApartFrom self.old.spans span }
+        requires above { end ≤ span.base }
+        requires below { span.base ≤ self.old.last }
+        ensures spans { IsOneMore self.old.spans span (spans_in (with_upper self.new result)) }
+        ensures blocks { AreBlocks end (with_upper self.new result) }
+        ensures end { blocks_end end (with_upper self.new result) ≡ self.old.last + 1 }
+        ensures spare { vec_len spare.new + length (with_upper self.new result) ≡ vec_len spare.old + 1 }
+        ensures capacity { vec_capacity spare.new ≡ vec_capacity spare.old }
+    {
+        if !self.is_full() {
+            self.insert(end, span);
+            return None;
+        }
+        let mut upper = spare.pop().unwrap();
+        self.split(end, &mut upper);
+        let last = self.last;
+        if span.base <= last {
+            self.insert(end, span);
+            return Some(upper);
+        }
+        upper.insert(last + 1, span);
+        Some(upper)
+    }
+
+    /// Takes a span away. The block may be left with none, and then what it keeps besides says nothing.
+    pub(crate) fn remove(&mut self, end: u64, span: Span)
+        requires block { IsBlock end self.old }
+        requires held { Contains self.old.spans span }
+        ensures spans { IsOneMore self.new.spans span self.old.spans }
+        ensures block { 0 < length self.new.spans → IsBlock end self.new }
+        ensures last { 0 < length self.new.spans → self.new.last ≤ self.old.last }
+    {
+        let at = position_for(&self.spans, span.base);
+        let before = end_before(&self.spans, at, end);
+        self.spans.remove(at);
+        if at < self.spans.len() {
+            self.bound = wider(self.bound, before, self.spans[at].base);
+        } else if at > 0 {
+            self.last = before - 1;
+        }
+    }
+
+    /// Puts a span behind the last one.
+    pub(crate) fn push(&mut self, span: Span)
+        requires fewer { length self.old.spans < 64 }
+        requires some { IsSomeBytes span }
+        requires above { self.old.last < span.base }
+        ensures spans { self.new.spans ≡ self.old.spans ++ span ∷ [] }
+        ensures block { (end : ℕ) → IsBlock end self.old → IsBlock end self.new }
+        ensures last { self.new.last + 1 ≡ span.top }
+    {
+        self.bound = wider(self.bound, self.last + 1, span.base);
+        self.spans.push_reserved(span);
+        self.last = (span.top - 1) as u64;
+    }
+
+    /// Makes a span that follows an end its only one.
+    pub(crate) fn start(&mut self, end: u64, span: Span)
+        requires some { IsSomeBytes span }
+        requires above { end ≤ span.base }
+        ensures spans { self.new.spans ≡ span ∷ [] }
+        ensures block { IsBlock end self.new }
+        ensures last { self.new.last + 1 ≡ span.top }
+    {
+        self.spans.clear();
+        self.spans.push_reserved(span);
+        self.bound = room(end, span.base);
+        self.last = (span.top - 1) as u64;
+    }
+
+    /// Moves its upper half into another block, and all that was there is forgotten.
+    pub(crate) fn split(&mut self, end: u64, upper: &mut Block)
+        requires block { IsBlock end self.old }
+        requires full { length self.old.spans ≡ 64 }
+        ensures spans { self.old.spans ≡ self.new.spans ++ upper.new.spans }
+        ensures lower { IsBlock end self.new }
+        ensures upper { IsBlock (self.new.last + 1) upper.new }
+        ensures lower_half { length self.new.spans ≡ 32 }
+        ensures upper_half { length upper.new.spans ≡ 32 }
+        ensures last { upper.new.last ≡ self.old.last }
+    {
+        upper.spans.clear();
+        upper.spans.extend_from_slice(&self.spans[HALF..]).unwrap();
+        self.spans.truncate(HALF);
+        let middle = self.spans[HALF - 1].top as u64;
+        upper.bound = widest(&upper.spans, middle);
+        upper.last = self.last;
+        self.bound = widest(&self.spans, end);
+        self.last = middle - 1;
+    }
+
+    /// Puts the spans of the block that follows behind its own.
+    pub(crate) fn take_in(&mut self, upper: &Block)
+        requires few { length self.old.spans + length upper.now.spans ≤ 64 }
+        ensures spans { self.new.spans ≡ self.old.spans ++ upper.now.spans }
+        ensures block { (end : ℕ) → IsBlock end self.old → IsBlock (self.old.last + 1) upper.now → IsBlock end self.new }
+        ensures last { self.new.last ≡ upper.now.last }
+    {
+        self.spans.extend_from_slice(&upper.spans).unwrap();
+        self.bound = self.bound.max(upper.bound);
+        self.last = upper.last;
+    }
+
+    /// Lets its first gap begin at an end that is lower than before.
+    pub(crate) fn widen(&mut self, end: u64)
+        requires some { 0 < length self.old.spans }
+        requires chain { IsChain end (2 ^ 64) self.old.spans }
+        ensures spans { self.new.spans ≡ self.old.spans }
+        ensures block { (old : ℕ) → end ≤ old → IsBlock old self.old → IsBlock end self.new }
+        ensures last { self.new.last ≡ self.old.last }
+    {
+        self.bound = wider(self.bound, end, self.spans[0].base);
+    }
+
+    /// The least start of `len` bytes, at a multiple of `align`, in the gaps before its spans. No gap with less room
+    /// than `needed` has one.
+    #[inline(always)]
+    pub(crate) fn place(&self, end: u64, len: u128, align: u64, needed: u128) -> Option<u64>
+        requires block { IsBlock end self.now }
+        requires some { 0 < len }
+        requires aligned { 0 < align }
+        requires needed { IsNeeded len align needed }
+        ensures { IsGapPlace self.now.spans end len align result }
+    {
+        if u128::from(self.bound) < needed {
+            return None;
+        }
+        place_between(&self.spans, u128::from(end), len, align)
+    }
+}
+
+/// The least start of `len` bytes, at a multiple of `align`, in the gaps before the spans, the first of which
+/// follows an end.
+fn place_between(spans: &[Span], end: u128, len: u128, align: u64) -> Option<u64>
+    requires chain { IsChain end (2 ^ 64) spans.now }
+    requires some { 0 < len }
+    requires aligned { 0 < align }
+    ensures { IsGapPlace spans.now end len align result }
+{
+    let mut from = end;
+    for span in spans {
+        if let Some(start) = fit(from, u128::from(span.base), len, align) {
+            return Some(start);
+        }
+        from = span.top;
+    }
+    None
+}
+
+/// Where the spans before a position end, the first of which follows an end.
+fn end_before(spans: &[Span], at: usize, end: u64) -> u64
+    requires within { at < length spans.now }
+    requires chain { IsChain end (2 ^ 64) spans.now }
+    ensures { result ≡ end_of end (take at spans.now) }
+{
+    if at == 0 {
+        end
+    } else {
+        spans[at - 1].top as u64
+    }
+}
+
+/// The most room of the gaps before the spans, the first of which follows an end.
+fn widest(spans: &[Span], end: u64) -> u64
+    requires { IsChain end (2 ^ 64) spans.now }
+    ensures { result ≡ most_room end spans.now }
+{
+    let mut end = u128::from(end);
+    let mut most = 0;
+    for span in spans {
+        most = wider(most, end as u64, span.base);
+        end = span.top;
+    }
+    most
+}
+
+/// The greater of a room and that of the gap.
+#[inline(always)]
+fn wider(most: u64, from: u64, to: u64) -> u64
+    requires { from ≤ to }
+    ensures { result ≡ max most (room_of from to) }
+{
+    if to - from <= most {
+        return most;
+    }
+    most.max(room(from, to))
+}

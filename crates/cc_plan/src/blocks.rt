@@ -1,0 +1,114 @@
+//! A placer that keeps its spans in blocks.
+ghost use Rattle.std.specs.Prelude.{◌<◌, ◌≤◌, ◌^◌};
+ghost use Rattle.cc_plan.specs.Blocks.{AreBlocks, blocks_end, spans_in};
+ghost use Rattle.cc_plan.specs.Placement.{IsRoom};
+
+use crate::block::Block;
+use crate::block_row::{place_among, put, row_end, take_out};
+use crate::gap::needed;
+use crate::placer::Placer;
+use crate::rounding::fit;
+use cc_bounds::Span;
+use std::alloc::{AllocError, Global};
+use std::marker::Model;
+
+/// For how many spans one more block is reserved.
+const SPANS_A_BLOCK: u32 = 24;
+
+/// A placer that holds its spans in blocks of up to 64, in the order of their addresses, where each block has a
+/// bound of the most room of a gap before one of its spans.
+///
+/// To hold a span or to give one back takes a binary search over the blocks and one in a block. To find room takes
+/// a walk over the bounds of the blocks, and over the gaps of those that may have room.
+/// The blocks are reserved when it is made, and each is used again.
+#[derive(Drop)]
+pub struct BlockPlacer {
+    limit: u32,
+    count: u32,
+    pool: Option<Span>,
+    blocks: Vec<Block>,
+    /// The blocks that have no spans.
+    spare: Vec<Block>,
+}
+
+impl Model for BlockPlacer {
+    ghost use Rattle.std.specs.Prelude.{vec_len, vec_capacity};
+    ghost use Rattle.cc_plan.specs.PlacerState.{PlacerState};
+    ghost use Rattle.cc_plan.specs.Blocks.{spans_in};
+    ghost use Rattle.cc_plan.specs.BlockPlacer.{IsBlockPlacer};
+
+    ghost Value = { PlacerState };
+
+    ghost view = { λ p. record { limit = p.limit; pool = p.pool; held = spans_in p.blocks.items } };
+
+    ghost invariant = { λ p.
+        IsBlockPlacer p.limit p.count p.pool p.blocks.items (vec_len p.spare) (vec_capacity p.blocks)
+        (vec_capacity p.spare) };
+}
+
+impl Placer for BlockPlacer {
+    ghost limit = { λ placer. placer.limit };
+
+    ghost pool = { λ placer. placer.pool };
+
+    ghost held = { λ placer. placer.held };
+
+    fn with_limit(alloc: Global, n: u32) -> Result<Self, AllocError> {
+        let count = (n / SPANS_A_BLOCK + 2) as usize;
+        let blocks = Vec::with_capacity(alloc, count)?;
+        let mut spare = Vec::with_capacity(alloc, count)?;
+        for made in 0..count {
+            spare.push_reserved(Block::empty(alloc)?);
+        }
+        Ok(BlockPlacer {
+            limit: n,
+            count: 0,
+            pool: None,
+            blocks,
+            spare,
+        })
+    }
+
+    fn set_pool(&mut self, span: Span) {
+        self.pool = Some(span);
+    }
+
+    fn room(&self, len: u128, align: u64) -> Option<u64> {
+        room_in(&self.blocks, self.pool?, len, align)
+    }
+
+    fn hold(&mut self, span: Span) {
+        let Some(pool) = self.pool else {
+            unreachable!()
+        };
+        put(&mut self.blocks, &mut self.spare, pool.base, span);
+        self.count += 1;
+    }
+
+    fn give_back(&mut self, span: Span) {
+        let Some(pool) = self.pool else {
+            unreachable!()
+        };
+        take_out(&mut self.blocks, &mut self.spare, pool.base, span);
+        self.count -= 1;
+    }
+
+    fn count(&self) -> u32 {
+        self.count
+    }
+}
+
+/// The least start of `len` bytes of the pool, at a multiple of `align`, between the spans of the blocks.
+fn room_in(blocks: &[Block], pool: Span, len: u128, align: u64) -> Option<u64>
+    requires blocks { AreBlocks pool.base blocks.now }
+    requires within { blocks_end pool.base blocks.now ≤ pool.top }
+    requires fits { pool.top ≤ 2 ^ 64 }
+    requires some { 0 < len }
+    requires aligned { 0 < align }
+    ensures { IsRoom pool (spans_in blocks.now) len align result }
+{
+    if let Some(start) = place_among(blocks, pool.base, len, align, needed(len, align)) {
+        return Some(start);
+    }
+    fit(row_end(blocks, pool.base), pool.top, len, align)
+}
