@@ -10,7 +10,7 @@ use crate::rules::{
 };
 use crate::slot::Slot;
 use cc_cap::Cap;
-use cc_plan::{Align, ObjectId, Planner, BlockPlacer};
+use cc_plan::{Align, BlockPlacer, ObjectId, Planner};
 use cc_word::Refusal;
 use std::alloc::{AllocError, Global};
 use std::marker::Model;
