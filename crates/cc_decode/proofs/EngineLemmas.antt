@@ -1,5 +1,5 @@
 -- What is answered in a text, from what is answered in its parts.
-use Rattle.std.proofs.Common.{◌≡◌, ℕ, ◌+◌, ◌≤◌, List, [], ◌∷◌, ◌++◌, length, take, refl, sym, ◌∙◌, ap, subst, append_assoc, append-nil, arith, length-append, ◌==◌, Bool, true, false, ◌||◌, not, Option, Some, None, IfSome, Result, Ok, Err, inl, inr}
+use Rattle.std.proofs.Common.{◌≡◌, ℕ, ◌+◌, List, [], ◌∷◌, ◌++◌, length, take, refl, sym, ◌∙◌, ap, subst, append_assoc, append-nil, arith, length-append, ◌==◌, Bool, true, false, ◌||◌, not, Option, Some, None, IfSome, Result, Ok, Err, inl, inr}
 use Rattle.std.proofs.lemmas.List.{take_all}
 use Rattle.std.proofs.Math.Seq.{take-append-add}
 use Rattle.std.proofs.lemmas.List.Folds.{list_any-append}
@@ -15,7 +15,7 @@ use Rattle.cc_script.proofs.DeviceLemmas.{then_kept, appends_none, appends_twice
 use Rattle.cc_script.proofs.LineLemmas.{lines_further, rest_further, start_longer, no_lines, all_rest}
 use Rattle.cc_script.proofs.SplitLemmas.{lines_line, rest_line}
 use Rattle.cc_decode.specs.Output.{Answer, IsAnswer, AreAnswers, answers_text}
-use Rattle.cc_decode.specs.Correct.{WritesListing, WritesAnswers, StopsInAnswers, StopsAfterAnswers, Lists, ListsWhole}
+use Rattle.cc_decode.specs.Correct.{WritesListing, StopsInAnswers, StopsAfterAnswers, Lists, ListsWhole}
 use Rattle.cc_decode.specs.Engine.{AnswersLine, CutsLine, Answers, AnswersPart, Reads}
 use Rattle.cc_decode.specs.declared.format.Format.{Format}
 use Rattle.cc_decode.proofs.AnswerLemmas.{answers_behind, answers_text-append}

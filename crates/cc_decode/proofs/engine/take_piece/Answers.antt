@@ -1,6 +1,6 @@
 use Rattle.std.proofs.Common.{rules}
 use Rattle.cc_script.specs.Lines.{IsLine}
-use Rattle.cc_decode.proofs.EngineLemmas.{part_begins, part_more, part_stops, part_ends, answers_kept, answers_stop}
+use Rattle.cc_decode.proofs.EngineLemmas.{part_more, part_stops, part_ends, answers_kept, answers_stop}
 use Rattle.cc_decode.proofs.engine.take_piece.Goals as goal
 
 pub lines-preserved : goal.lines-preserved
