@@ -115,7 +115,7 @@ window_addresses_text steps =
 abbrev pub window_text : Steps → List ℕ
 window_text steps =
     window_addresses_text steps
-    ++ line_with_decimal (codes ": eight sections from ") steps.first_section (codes " on, the one below that of B")
+    ++ line_with_decimal (codes ": eight sections from ") steps.first_section (codes " on, one below that of B")
 
 -- the bounds
 abbrev pub bounds_text : Span → List ℕ

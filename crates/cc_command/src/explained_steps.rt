@@ -251,7 +251,7 @@ fn push_window(text: &mut Text, steps: &Steps)
         text,
         b": eight sections from ",
         first,
-        b" on, the one below that of B",
+        b" on, one below that of B",
     );
 }
 

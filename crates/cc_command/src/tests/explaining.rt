@@ -15,7 +15,7 @@ T         0x1200, the T field, and above it 1 as the 2 implied bits
 T - B     0x200 modulo 0x4000: the implied bits put it within 0x0 to 0xfff
 section   0x800 bytes, 2^(E+11)
 sections  2 of B, 2 of T, 2 of the address
-window    0x800 to 0x47ff: eight sections from 1 on, the one below that of B
+window    0x800 to 0x47ff: eight sections from 1 on, one below that of B
 base      0x1000, where B * 2^E stands in the window
 top       0x1200, where T * 2^E stands in the window
 canonical yes
@@ -39,7 +39,7 @@ T         0x1000, the T field with its low 3 bits as 0, and above it 1 as the 2 
 T - B     0x1100 modulo 0x4000: the implied bits put it within 0x1000 to 0x1fff
 section   0x1000 bytes, 2^(E+11)
 sections  7 of B, 2 of T, 0 of the address
-window    0x1e000 to 0x25fff: eight sections from 6 on, the one below that of B
+window    0x1e000 to 0x25fff: eight sections from 6 on, one below that of B
 base      0x1fe00, where B * 2^E stands in the window
 top       0x22000, where T * 2^E stands in the window
 canonical yes
@@ -63,7 +63,7 @@ T         0x1000, the T field with its low 3 bits as 0, and above it 1 as the 2 
 T - B     0x1000 modulo 0x4000: the implied bits put it within 0x1000 to 0x1fff
 section   0x8000000000000000 bytes, 2^(E+11)
 sections  0 of B, 2 of T, 0 of the address
-window    every address: eight sections from 7 on, the one below that of B
+window    every address: eight sections from 7 on, one below that of B
 base      0x0, where B * 2^E stands in the window
 top       0x10000000000000000, where T * 2^E stands in the window
 canonical no: setting these bounds stores IE 1, T field 0x006, B field 0x0004
