@@ -1,9 +1,8 @@
 -- Spans of one block: where one is put in or taken away, and the bound of the room of gaps.
-use Rattle.std.proofs.Common.{ℕ, zero, suc, ◌≡◌, ◌+◌, ◌-◌, ◌<◌, ◌≤◌, ◌^◌, ◌⊎◌, List, [], ◌∷◌, ◌++◌, Contains, All, length, take, drop, get_or, insert, remove, max, arith, refl, sym, ap, ◌∙◌, inl, inr, length-append}
+use Rattle.std.proofs.Common.{ℕ, zero, suc, ◌≡◌, ◌+◌, ◌-◌, ◌<◌, ◌≤◌, ◌^◌, List, [], ◌∷◌, ◌++◌, Contains, All, length, take, drop, get_or, insert, remove, max, arith, refl, sym, ap, ◌∙◌, inl, inr, length-append}
 use Rattle.std.proofs.lemmas.List.{drop_more, get_or-take, take-append-drop, take_rest}
 use Rattle.std.proofs.lemmas.List.Edits.{length-insert}
 use Rattle.cc_bounds.specs.declared.span.Span.{Span}
-use Rattle.cc_bounds.specs.Span.{SharesByte}
 use Rattle.cc_plan.specs.Placement.{IsApartFrom}
 use Rattle.cc_plan.specs.PlacerState.{AreInOrder, IsSomeBytes}
 use Rattle.cc_plan.specs.Gap.{room_of}
@@ -11,7 +10,7 @@ use Rattle.cc_plan.specs.Chain.{IsChain, IsOneMore, end_of, most_room}
 use Rattle.cc_plan.specs.BlockState.{BlockState}
 use Rattle.cc_plan.specs.Blocks.{IsBlock}
 use Rattle.cc_plan.proofs.RoomLemmas.{room_within}
-use Rattle.cc_plan.proofs.ChainLemmas.{LiesIn, chain_end, chain_fewer, chain_wider, contains_cases, contains_head, contains_tail, end_around, lies_in, lower_ends_first, most_room_around, shares_sym}
+use Rattle.cc_plan.proofs.ChainLemmas.{LiesIn, chain_end, chain_fewer, chain_wider, contains_cases, contains_head, contains_tail, lies_in, lower_ends_first, shares_sym}
 
 -- ---- The spans of a chain by their places.
 

@@ -563,21 +563,26 @@ place_under from to low high size align start chain found =
 
 -- ---- The blocks one after another.
 
-pub record IsRowNext (from : ℕ) (blocks : List BlockState) (k : ℕ) (block : BlockState) : Type 0 where
-  pub here : IsBlock from block
-  pub high : AreBlocks (block.last + 1) (drop (k + 1) blocks)
-  pub spans : spans_in (drop k blocks) ≡ block.spans ++ spans_in (drop (k + 1) blocks)
-  pub chain : IsChain from (blocks_end from (drop k blocks)) (block.spans ++ spans_in (drop (k + 1) blocks))
+-- the block at a position, and those behind it
+pub record IsRowAt (end : ℕ) (blocks : List BlockState) (at : ℕ) (d : BlockState) : Type 0 where
+  pub here : IsBlock (blocks_end end (take at blocks)) (get_or blocks at d)
+  pub spans : spans_in (drop at blocks) ≡ (get_or blocks at d).spans ++ spans_in (drop (at + 1) blocks)
+  pub to : ℕ
+  pub chain : IsChain (blocks_end end (take at blocks)) to ((get_or blocks at d).spans ++ spans_in (drop (at + 1) blocks))
+  pub ends : end_of (blocks_end end (take at blocks)) (get_or blocks at d).spans ≡ blocks_end end (take (at + 1) blocks)
 
-pub row_next : (from : ℕ) (blocks : List BlockState) (k : ℕ) (block : BlockState) → k < length blocks
-    → AreBlocks from (drop k blocks) → block ≡ get_or blocks k block → IsRowNext from blocks k block
-row_next from blocks k block within are is =
-    let split : drop k blocks ≡ block ∷ drop (k + 1) blocks
-    = drop_more blocks k block within ∙ ap (λ (b : BlockState). b ∷ drop (k + 1) blocks) (sym is) in
-    let row = subst (AreBlocks from) split are in
+pub row_at : (end : ℕ) (blocks : List BlockState) (at : ℕ) (d : BlockState) → AreBlocks end blocks → at < length blocks
+    → IsRowAt end blocks at d
+row_at end blocks at d are within =
+    let is = block_at end blocks at d are within in
+    let next : at + 1 ≡ suc at = omega arith in
+    let last : ℕ = (get_or blocks at d).last + 1 in
     record {
-      here = row.0;
-      high = row.1;
-      spans = ap (λ (bs : List BlockState). spans_in bs) split;
-      chain = rw split (row_chain from (blocks_end (block.last + 1) (drop (k + 1) blocks)) (block ∷ drop (k + 1) blocks) row (omega arith));
+      here = is.here;
+      spans = ap (λ (bs : List BlockState). spans_in bs) (drop_more blocks at d within);
+      to = blocks_end last (drop (suc at) blocks);
+      chain = rw next
+          (row_chain (blocks_end end (take at blocks)) (blocks_end last (drop (suc at) blocks))
+          (get_or blocks at d ∷ drop (suc at) blocks) (is.here, is.high) (omega arith));
+      ends = rw next (is.here.ends ∙ sym (end_after end blocks at d within));
     }

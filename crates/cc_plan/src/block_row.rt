@@ -211,14 +211,41 @@ pub(crate) fn place_among(
     requires needed { IsNeeded len align needed }
     ensures { IsGapPlace (spans_in blocks.now) end len align result }
 {
-    let mut from = u128::from(end);
-    for block in blocks {
-        if let Some(start) = block.place(from as u64, len, align, needed) {
+    let least = u64::try_from(needed).unwrap_or(u64::MAX);
+    for at in 0..blocks.len() {
+        if let Some(start) = place_at(blocks, at, end, len, align, needed, least) {
             return Some(start);
         }
-        from = u128::from(block.last()) + 1;
     }
     None
+}
+
+/// The least start of `len` bytes, at a multiple of `align`, in the gaps before the spans of the block at a position.
+/// A block whose bound is below `least` is not looked at any further: `needed` is at least that.
+#[inline(always)]
+fn place_at(
+    blocks: &[Block],
+    at: usize,
+    end: u64,
+    len: u128,
+    align: u64,
+    needed: u128,
+    least: u64,
+) -> Option<u64>
+    requires blocks { AreBlocks end blocks.now }
+    requires within { at < length blocks.now }
+    requires some { 0 < len }
+    requires aligned { 0 < align }
+    requires needed { IsNeeded len align needed }
+    requires least { least ≤ needed }
+    ensures { (d : BlockState)
+        → IsGapPlace (slice_index_or blocks.now at d).spans (blocks_end end (take at blocks.now)) len align result }
+{
+    let block = &blocks[at];
+    if block.bound() < least {
+        return None;
+    }
+    block.place(end_before(blocks, at, end), len, align, needed)
 }
 
 /// Where a span with this base belongs: before are the blocks that end below it.

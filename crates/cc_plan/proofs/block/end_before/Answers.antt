@@ -1,7 +1,5 @@
-use Rattle.std.proofs.Common.{◌≡◌, ◌-◌, ◌+◌, ◌^◌, suc, arith, ◌∙◌, sym, ap, ℕ, List, take}
-use Rattle.cc_bounds.specs.declared.span.Span.{Span}
-use Rattle.cc_plan.specs.Chain.{end_of}
-use Rattle.cc_plan.proofs.BlockLemmas.{end_at, end_below, lies_at, before_one}
+use Rattle.std.proofs.Common.{◌^◌, arith}
+use Rattle.cc_plan.proofs.BlockLemmas.{end_below, lies_at, before_one}
 use Rattle.cc_plan.proofs.block.end_before.Goals as goal
 
 pub overflow_cast-result : goal.overflow_cast-result

@@ -1,6 +1,5 @@
-use Rattle.std.proofs.Common.{◌≡◌, ◌+◌, ◌∷◌, ◌^◌, [], List, Some, None, get_or, drop, arith}
+use Rattle.std.proofs.Common.{◌+◌, ◌^◌, [], Some, None, get_or, drop, arith}
 use Rattle.std.proofs.lemmas.List.{drop_all}
-use Rattle.cc_bounds.specs.declared.span.Span.{Span}
 use Rattle.cc_plan.proofs.BlockLemmas.{chain_next}
 use Rattle.cc_plan.proofs.GapLemmas.{place_after, place_at}
 use Rattle.cc_plan.proofs.block.place_between.Goals as goal

@@ -1,7 +1,5 @@
-use Rattle.std.proofs.Common.{◌≡◌, ◌+◌, ◌∷◌, ◌^◌, [], List, get_or, drop, max, arith}
-use Rattle.std.proofs.lemmas.List.{drop_all, drop_more}
-use Rattle.cc_bounds.specs.declared.span.Span.{Span}
-use Rattle.cc_plan.specs.Chain.{IsChain, most_room}
+use Rattle.std.proofs.Common.{◌^◌, arith}
+use Rattle.std.proofs.lemmas.List.{drop_all}
 use Rattle.cc_plan.proofs.BlockLemmas.{chain_next}
 use Rattle.cc_plan.proofs.block.widest.Goals as goal
 

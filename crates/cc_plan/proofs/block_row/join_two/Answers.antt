@@ -1,4 +1,4 @@
-use Rattle.std.proofs.Common.{rules, arith, length}
+use Rattle.std.proofs.Common.{rules, arith}
 use Rattle.cc_plan.proofs.BlockRowLemmas.{crowded, joined_at}
 use Rattle.cc_plan.proofs.block_row.join_two.Goals as goal
 

@@ -1,4 +1,4 @@
-use Rattle.std.proofs.Common.{◌<◌, ◌≤◌, ◌-◌, ℕ, length}
+use Rattle.std.proofs.Common.{◌<◌, ◌≤◌, ◌-◌, length}
 use Rattle.std.specs.List.{slice_index_or}
 use Rattle.cc_plan.specs.BlockState.{BlockState}
 use Rattle.cc_plan.proofs.block_row.position_for.Given as goal

@@ -1,4 +1,3 @@
-use Rattle.std.proofs.Common.{List}
 use Rattle.cc_plan.proofs.block_row.put.Goals as goal
 
 pub put_with_spare-requires-2-clause-apart : goal.put_with_spare-requires-2-clause-apart

@@ -1,4 +1,4 @@
-use Rattle.std.proofs.Common.{rules, arith, ap, refl, ◌∙◌, ◌≡◌, ◌+◌, ◌-◌, ◌∷◌, [], ℕ, List, suc, length, take}
+use Rattle.std.proofs.Common.{rules, arith, ap, ◌≡◌, ◌-◌, suc, length, take}
 use Rattle.cc_plan.specs.BlockState.{BlockState}
 use Rattle.cc_plan.specs.Blocks.{blocks_end}
 use Rattle.cc_plan.proofs.BlockRowLemmas.{block_at, end_last, push_last, push_new}

@@ -1,4 +1,4 @@
-use Rattle.std.proofs.Common.{rules, arith, ap, ◌∙◌, ◌≡◌, ◌+◌, ◌∷◌, [], ℕ, List, insert, set}
+use Rattle.std.proofs.Common.{rules, ap, ◌∙◌, ◌≡◌, ◌+◌, ◌∷◌, [], ℕ, insert, set}
 use Rattle.cc_plan.specs.BlockState.{BlockState}
 use Rattle.cc_plan.proofs.BlockRowLemmas.{apart_at, block_at, insert_behind, replaced, set_in}
 use Rattle.cc_plan.proofs.block_row.put_inside.Goals as goal

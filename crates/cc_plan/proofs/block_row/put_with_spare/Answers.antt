@@ -1,4 +1,4 @@
-use Rattle.std.proofs.Common.{rules, arith, length, ◌≤◌}
+use Rattle.std.proofs.Common.{rules}
 use Rattle.cc_plan.proofs.BlockRowLemmas.{low_end, row_low_end}
 use Rattle.cc_plan.proofs.block_row.put_with_spare.Goals as goal
 

@@ -1,4 +1,4 @@
-use Rattle.std.proofs.Common.{rules, arith, ap, ◌∙◌, ◌≡◌, ◌<◌, ◌≤◌, [], List, length}
+use Rattle.std.proofs.Common.{rules, arith, ap, ◌≡◌, ◌<◌, ◌≤◌, [], length}
 use Rattle.cc_plan.specs.BlockState.{BlockState}
 use Rattle.cc_plan.proofs.BlockRowLemmas.{block_at, find_held, taken_gone, taken_left}
 use Rattle.cc_plan.proofs.block_row.take_out.Goals as goal

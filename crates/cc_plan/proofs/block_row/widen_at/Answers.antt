@@ -1,4 +1,4 @@
-use Rattle.std.proofs.Common.{rules, arith, ap, ◌∙◌, ◌≡◌, ◌+◌, ◌<◌, ◌^◌, ℕ, List, [], length}
+use Rattle.std.proofs.Common.{rules, arith, ap, ◌∙◌, ◌+◌, ◌<◌, ◌^◌, [], length}
 use Rattle.cc_plan.specs.BlockState.{BlockState}
 use Rattle.cc_plan.specs.Blocks.{IsBlock}
 use Rattle.cc_plan.proofs.ChainLemmas.{chain_wider}

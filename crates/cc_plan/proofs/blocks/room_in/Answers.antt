@@ -1,4 +1,3 @@
-use Rattle.std.proofs.Common.{◌^◌, arith}
 use Rattle.cc_plan.specs.Blocks.{spans_in}
 use Rattle.cc_plan.proofs.BlockRowLemmas.{row_chain, row_ends}
 use Rattle.cc_plan.proofs.GapLemmas.{room_after, room_before}

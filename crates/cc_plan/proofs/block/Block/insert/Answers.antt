@@ -1,4 +1,4 @@
-use Rattle.std.proofs.Common.{rules, arith, ap, ◌∙◌, ◌≡◌, ◌<◌, ◌+◌, ◌^◌, length, insert, List}
+use Rattle.std.proofs.Common.{rules, arith, ap, ◌∙◌, ◌≡◌, ◌+◌, ◌^◌, length, insert, List}
 use Rattle.cc_bounds.specs.declared.span.Span.{Span}
 use Rattle.cc_plan.specs.BlockState.{BlockState}
 use Rattle.cc_plan.proofs.ChainLemmas.{chain_wider}

@@ -1,5 +1,5 @@
 use Rattle.std.proofs.lemmas.List.Elements.{Contains-append_left, Contains-append_right}
-use Rattle.cc_plan.proofs.BlockRowLemmas.{one_more_lower, one_more_upper}
+use Rattle.cc_plan.proofs.BlockRowLemmas.{one_more_upper}
 use Rattle.cc_plan.proofs.block.Block.insert_or_split.Goals as goal
 
 pub insert-requires-then-span-last-clause-apart : goal.insert-requires-then-span-last-clause-apart

@@ -1,4 +1,4 @@
-use Rattle.std.proofs.Common.{rules, arith, ap, ◌≡◌, ◌∷◌, ◌++◌, ◌-◌, []}
+use Rattle.std.proofs.Common.{arith, ap, ◌-◌}
 use Rattle.cc_plan.specs.BlockState.{BlockState}
 use Rattle.cc_plan.proofs.BlockLemmas.{block_push}
 use Rattle.cc_plan.proofs.block.Block.push.Goals as goal

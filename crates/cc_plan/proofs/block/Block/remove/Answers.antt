@@ -1,6 +1,4 @@
-use Rattle.std.proofs.Common.{rules, arith, ap, sym, ◌∙◌, ◌≡◌, ◌<◌, ◌≤◌, ◌+◌, ◌-◌, ◌^◌, length, remove, take, List, ℕ}
-use Rattle.cc_bounds.specs.declared.span.Span.{Span}
-use Rattle.cc_plan.specs.Chain.{end_of}
+use Rattle.std.proofs.Common.{rules, arith, ap, ◌∙◌, ◌<◌, ◌≤◌, ◌+◌, ◌-◌, ◌^◌, length, remove}
 use Rattle.cc_plan.specs.BlockState.{BlockState}
 use Rattle.cc_plan.proofs.BlockLemmas.{before_one, block_chain, block_without, block_without_last, chain_in_order, chain_some, end_below, found_in_block, lies_at, one_more_at, without_at}
 use Rattle.cc_plan.proofs.block.Block.remove.Goals as goal
