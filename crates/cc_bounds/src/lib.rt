@@ -6,10 +6,6 @@ mod decoding;
 mod decoding_laws;
 mod encoding;
 mod encoding_laws;
-#[cfg(test)]
-mod encoding_tests;
-#[cfg(test)]
-mod plain_search;
 mod rounding;
 mod span;
 mod window;

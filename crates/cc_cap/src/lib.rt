@@ -21,5 +21,3 @@ pub use obj_type::ObjType;
 pub use perms::Perms;
 pub use word_line::WordLine;
 
-#[cfg(test)]
-mod tests;

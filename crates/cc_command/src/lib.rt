@@ -13,8 +13,6 @@ mod planning;
 mod rounding;
 mod standing;
 mod steps;
-#[cfg(test)]
-mod tests;
 mod text;
 mod word_line;
 

@@ -5,8 +5,6 @@ mod answers;
 mod engine;
 mod format;
 mod rows;
-#[cfg(test)]
-mod tests;
 
 pub use engine::decode_words;
 pub use format::Format;

@@ -1,6 +1,7 @@
 //! Slots of capabilities, the operations on them, who was derived from whom, and the objects of a pool.
 #![tactic(auto)]
 
+mod counterexamples;
 mod laws;
 mod len;
 mod machine;
@@ -10,8 +11,6 @@ mod owners;
 mod reply;
 mod rules;
 mod slot;
-#[cfg(test)]
-mod tests;
 
 pub use cc_plan::{Align, ObjectState};
 pub use laws::{

@@ -5,8 +5,6 @@
 mod fields;
 mod layout;
 mod refusal;
-#[cfg(test)]
-mod tests;
 mod text;
 
 pub use fields::Fields;

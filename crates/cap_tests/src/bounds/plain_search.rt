@@ -1,0 +1,73 @@
+//! Setting bounds by a plain search, which tries one granule after another: an oracle for [`set_bounds`].
+ghost use Rattle.std.specs.Prelude.{◌<◌, ◌≤◌};
+
+use cc_bounds::{Span, set_bounds};
+use std::process::Abort;
+
+/// The power of two of the largest granule.
+const MAX_POWER: u32 = 55;
+
+/// How many granules of 2^power bytes the request touches.
+fn granules_touched(request: &Span, power: u32) -> u128
+    requires { power ≤ MAX_POWER }
+{
+    let granule = 1 << power;
+    request
+        .top
+        .div_ceil(granule)
+        .saturating_sub(u128::from(request.base) / granule)
+}
+
+/// The granule of a request as a power of two: the first of 8, 16, 32 and so on of which the request
+/// touches at most 1023.
+fn granule_power(request: &Span) -> u32
+    ensures fits { result ≤ MAX_POWER }
+{
+    if request.top.saturating_sub(u128::from(request.base)) < 4096 {
+        return 0;
+    }
+    for power in 3..MAX_POWER {
+        if granules_touched(request, power) <= 1023 {
+            return power;
+        }
+    }
+    MAX_POWER
+}
+
+/// What a request is granted: e, ie, t and b; the granted span; exact.
+fn searched(request: Span) -> ((u8, bool, u16, u16), Span, bool) {
+    let power = granule_power(&request);
+    let exponent = power.saturating_sub(3);
+    let granted = Span {
+        base: (request.base >> power) << power,
+        top: request.top.div_ceil(1 << power) << power,
+    };
+    let t = ((granted.top >> exponent) & 0xfff) as u16 + (exponent >> 3) as u16;
+    let b = ((granted.base >> exponent) & 0x3fff) as u16 + (exponent & 0x7) as u16;
+    let fields = (exponent as u8, power > 0, t, b);
+    (fields, granted, granted == request)
+}
+
+/// Compares both at each length from 4000 to 8300.
+fn check_lengths(rt: &impl Abort, base: u64)
+    requires { base < 64 }
+{
+    for len in 4000..8301_u32 {
+        let len = u128::from(len);
+        let set = set_bounds(base, len);
+        let fields = (set.e(), set.ie(), set.t(), set.b());
+        let request = Span {
+            base,
+            top: u128::from(base) + len,
+        };
+        let found = (fields, set.granted(), set.exact());
+        assert_eq!(rt; found, searched(request), "base {base} length {len}");
+    }
+}
+
+#[test]
+fn bounds_as_searched(rt: HostRuntime) {
+    for base in 0..64 {
+        check_lengths(&rt, base);
+    }
+}

@@ -1,0 +1,100 @@
+use cc_word::{Refusal, pack, read_word, unpack, write_half, write_word, write_word_to};
+use std::process::Abort;
+use std::test::Fail;
+
+// A word's text, and of its fields: permissions, reserved bits, flag, type, IE, T field, B field, address.
+type Row<'a> = (&'a [u8; 32], u16, u8, bool, u32, bool, u16, u16, u64);
+
+#[rattlefmt::skip]
+const VECTORS: [Row; 24] = [
+    (b"00000000000000000000000000000000", 0x0000, 0, false, 0x3ffff, true, 0x006, 0x0004, 0),
+    (b"ffff0000000000000000000000000000", 0xffff, 0, false, 0x3ffff, true, 0x006, 0x0004, 0),
+    (b"ffff0000048190040000000000001000", 0xffff, 0, false, 0x3ffff, false, 0x200, 0x1000, 0x1000),
+    (b"ffff000007fe40040000000000000000", 0xffff, 0, false, 0x3ffff, false, 0xfff, 0x0000, 0),
+    (b"ffff0000000180040000000000000000", 0xffff, 0, false, 0x3ffff, true, 0x000, 0x0000, 0),
+    (b"ffff0000000180050000000000000000", 0xffff, 0, false, 0x3ffff, true, 0x000, 0x0001, 0),
+    (b"ffff0000027f89fd00000000000113f0", 0xffff, 0, false, 0x3ffff, true, 0x9f8, 0x09f9, 0x113f0),
+    (b"ffff0000000190000000000000010000", 0xffff, 0, false, 0x3ffff, true, 0x000, 0x1004, 0x10000),
+    (b"ffff00000401bf04ffffffffffffff00", 0xffff, 0, false, 0x3ffff, false, 0x000, 0x3f00, 0xffffffffffffff00),
+    (b"ffff000004818004fffffffffffff800", 0xffff, 0, false, 0x3ffff, false, 0x200, 0x0000, 0xfffffffffffff800),
+    (b"ffff0000000010078000000000000000", 0xffff, 0, false, 0x3ffff, true, 0x006, 0x1003, 0x8000000000000000),
+    (b"ffff0000000010070000000000000000", 0xffff, 0, false, 0x3ffff, true, 0x006, 0x1003, 0),
+    (b"ffff1ffff80000000000000000000000", 0xffff, 0, false, 0x00000, true, 0x006, 0x0004, 0),
+    (b"ffff0000800000000000000000000000", 0xffff, 0, false, 0x3ffef, true, 0x006, 0x0004, 0),
+    (b"ffff0000780000000000000000000000", 0xffff, 0, false, 0x3fff0, true, 0x006, 0x0004, 0),
+    (b"ffff0000080000000000000000000000", 0xffff, 0, false, 0x3fffe, true, 0x006, 0x0004, 0),
+    (b"ffff0000000000010000000000000000", 0xffff, 0, false, 0x3ffff, true, 0x006, 0x0005, 0),
+    (b"ffff0000000040030000000000000000", 0xffff, 0, false, 0x3ffff, true, 0x007, 0x0007, 0),
+    (b"ffff0000000020000000000000000000", 0xffff, 0, false, 0x3ffff, true, 0x006, 0x2004, 0),
+    (b"ffff0000000030070000000000000000", 0xffff, 0, false, 0x3ffff, true, 0x006, 0x3003, 0),
+    (b"ffff00000441bf04ffffffffffffff00", 0xffff, 0, false, 0x3ffff, false, 0x100, 0x3f00, 0xffffffffffffff00),
+    (b"ffff4000000000000000000000000000", 0xffff, 1, false, 0x3ffff, true, 0x006, 0x0004, 0),
+    (b"ffff2000000000000000000000000000", 0xffff, 0, true, 0x3ffff, true, 0x006, 0x0004, 0),
+    (b"ffffffffffffffffffffffffffffffff", 0xffff, 3, true, 0x00000, false, 0xff9, 0x3ffb, 0xffffffffffffffff),
+];
+
+fn vector(rt: &impl Abort, row: &Row) -> Result<(), Fail> {
+    let (text, perms, reserved, flag, otype, ie, t, b, address) = *row;
+    let word = read_word(text).ok_or("no word")?;
+    let fields = unpack(word);
+    assert_eq!(rt; fields.perms, perms);
+    assert_eq!(rt; fields.reserved, reserved);
+    assert_eq!(rt; fields.flag, flag);
+    assert_eq!(rt; fields.otype, otype);
+    assert_eq!(rt; fields.ie, ie);
+    assert_eq!(rt; fields.t, t);
+    assert_eq!(rt; fields.b, b);
+    assert_eq!(rt; fields.address, address);
+    assert_eq!(rt; pack(&fields), word);
+    assert_eq!(rt; write_word(word), *text);
+    Ok(())
+}
+
+#[test]
+fn vectors(rt: HostRuntime) -> Result<(), Fail> {
+    for row in &VECTORS {
+        vector(&rt, row)?;
+    }
+    Ok(())
+}
+
+#[test]
+fn texts(rt: HostRuntime) {
+    let word = 0xfedc_ba98_7654_3210_0123_4567_89ab_cdef;
+    assert_eq!(rt; write_word(word), *b"fedcba98765432100123456789abcdef");
+    let mut text = [0; 32];
+    write_word_to(word, &mut text);
+    assert_eq!(rt; text, *b"fedcba98765432100123456789abcdef");
+    assert_eq!(rt; write_half(0xfedc_ba98_7654_3210), *b"fedcba9876543210");
+    assert_eq!(rt; read_word(b"FEDCBA98765432100123456789AbCdEf"), Some(word));
+    assert_eq!(rt; read_word(b""), None);
+    assert_eq!(rt; read_word(b"fedcba98765432100123456789abcde"), None);
+    assert_eq!(rt; read_word(b"fedcba98765432100123456789abcdef0"), None);
+    assert_eq!(rt; read_word(b"0xdcba98765432100123456789abcdef"), None);
+    assert_eq!(rt; read_word(b"fedcba98765432100123456789abcdeg"), None);
+}
+
+#[test]
+fn refusals(rt: HostRuntime) {
+    assert_eq!(rt; Refusal::Syntax.code(), 1);
+    assert_eq!(rt; Refusal::Full.code(), 22);
+    assert_eq!(rt; Refusal::ReservedType.name(), "type");
+    let sealed = unpack(0x0000_1fff_f800_0000_0000_0000_0000_0000);
+    assert_eq!(rt; sealed.otype, 0);
+    assert!(rt; sealed != unpack(0));
+}
+
+// What `==` and `Clone` are has no contract of its own: each of these values is told from the others, and is its clone.
+#[test]
+fn values_are_told_apart(rt: HostRuntime) -> Result<(), Fail> {
+    assert!(rt; Refusal::Sealed != Refusal::Unsealed);
+    assert!(rt; Refusal::Syntax != Refusal::Full);
+    let null = unpack(0);
+    for bit in [0u32, 63, 64, 78, 90, 91, 109, 110, 112, 127] {
+        let fields = unpack(1 << bit);
+        assert!(rt; fields != null, "bit {bit}");
+        assert!(rt; fields.clone()? == fields, "bit {bit}");
+    }
+    assert!(rt; Refusal::Sealed.clone()? == Refusal::Sealed);
+    Ok(())
+}

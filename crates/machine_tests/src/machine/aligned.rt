@@ -1,0 +1,67 @@
+//! A pool of alignment 16: what each object is given, and what no alignment changes.
+use super::{Ask, Told, length, replies};
+use cc_machine::{Align, Machine, Op, Reply};
+use cc_bounds::Span;
+use cc_word::Refusal;
+use std::alloc::Global;
+use std::process::Abort;
+use std::test::Fail;
+
+#[rattlefmt::skip]
+const PLANNED: [(Ask, Told); 9] = [
+    (Ask::Op(Op::Addr(0, 0x10000)), Told::Whole(1, 0xffff0000000000000000000000010000)),
+    (Ask::Exact(1, 0x10000), Told::Made(2, 0xffff0000000190000000000000010000, 0x10000, 0x20000)),
+    (Ask::Op(Op::Pool(2, Align::Sixteen)), Told::PoolSet(2, 0x10000, 0x20000, Align::Sixteen)),
+    (Ask::Alloc(100), Told::Allocated(1, 3, 0xffff0000041d80040000000000010000, 0x10000, 0x10070, 112)),
+    (Ask::Alloc(5000), Told::Allocated(2, 4, 0xffff0000010180740000000000010070, 0x10070, 0x11400, 5120)),
+    (Ask::Alloc(1), Told::Allocated(3, 5, 0xffff0000050594040000000000011400, 0x11400, 0x11410, 5136)),
+    (Ask::Alloc(8184), Told::Allocated(4, 6, 0xffff000002838a0d0000000000011410, 0x11410, 0x13410, 13328)),
+    (Ask::Alloc(4095), Told::Allocated(5, 7, 0xffff00000105b4140000000000013410, 0x13410, 0x14410, 17424)),
+    (Ask::Op(Op::Pool(2, Align::One)), Told::Refused(Refusal::PoolAlreadySet)),
+];
+
+/// A pool of 64 kibibytes and alignment 16, and five objects: the fourth has 8,184 bytes, of granule 8, and is
+/// given 8,192, of granule 16.
+fn planned(rt: &impl Abort, alloc: Global) -> Result<Machine, Fail> {
+    let mut machine = Machine::with_limit(alloc, 64)?;
+    replies(rt, &mut machine, &PLANNED);
+    Ok(machine)
+}
+
+#[test]
+fn objects_of_alignment_16(rt: HostRuntime) -> Result<(), Fail> {
+    let machine = planned(&rt, rt.alloc())?;
+    assert_eq!(rt; machine.held_bytes(), 17424);
+    assert_eq!(rt; machine.slots(), 8);
+    Ok(())
+}
+
+#[test]
+fn round_knows_no_alignment(rt: HostRuntime) -> Result<(), Fail> {
+    let mut machine = planned(&rt, rt.alloc())?;
+    let rounded = Reply::Rounded {
+        rounded: 100,
+        granule: 1,
+        mask: u64::MAX,
+    };
+    assert_eq!(rt; machine.step(&Op::Round(length(100)?)), rounded);
+    Ok(())
+}
+
+#[rattlefmt::skip]
+const SWEPT_BYTES_ARE_PLACED_AGAIN_IN_ALIGNMENT_16: [(Ask, Told); 3] = [
+    (Ask::Op(Op::Free(2)), Told::Freed(2, 17424)),
+    (Ask::Op(Op::Sweep), Told::Swept(1, 1, 12416)),
+    (Ask::Alloc(5000), Told::Allocated(6, 8, 0xffff0000010180740000000000010070, 0x10070, 0x11400, 17424)),
+];
+
+#[test]
+fn swept_bytes_are_placed_again_in_alignment_16(rt: HostRuntime) -> Result<(), Fail> {
+    let mut machine = planned(&rt, rt.alloc())?;
+    replies(
+        &rt,
+        &mut machine,
+        &SWEPT_BYTES_ARE_PLACED_AGAIN_IN_ALIGNMENT_16,
+    );
+    Ok(())
+}

@@ -1,0 +1,41 @@
+//! Opening where memory is refused: the next attempt succeeds. In an ordinary run none is refused; the script
+//! `tests/opening` has each request of these tests refused in turn.
+use cc_plan::{BlockPlacer, ObjectId, Placer, Planner, ScanPlacer, SortedPlacer};
+use std::alloc::{AllocError, Global};
+use std::process::Abort;
+use std::test::Fail;
+
+fn opens<P: Placer>(rt: &impl Abort, alloc: Global, most: u32) -> Result<(), Fail> {
+    for limit in [1, 2, most] {
+        assert!(rt; limit >= 1 && limit <= 4096);
+        let placer = match P::with_limit(alloc, limit) {
+            Ok(placer) => placer,
+            Err(AllocError) => P::with_limit(alloc, limit)?,
+        };
+        assert_eq!(rt; placer.count(), 0);
+        let mut planner: Planner<P> = match Planner::with_limit(alloc, limit) {
+            Ok(planner) => planner,
+            Err(AllocError) => Planner::with_limit(alloc, limit)?,
+        };
+        planner.give_pool(super::pool(0x1000, 0x100)?)?;
+        planner.alloc(16)?;
+        assert_eq!(rt; planner.free(ObjectId(1)), Ok(()));
+        assert_eq!(rt; planner.sweep(), 1);
+    }
+    Ok(())
+}
+
+#[test]
+fn scanning_placer_opens_again(rt: HostRuntime) -> Result<(), Fail> {
+    opens::<ScanPlacer>(&rt, rt.alloc(), 4096)
+}
+
+#[test]
+fn sorted_placer_opens_again(rt: HostRuntime) -> Result<(), Fail> {
+    opens::<SortedPlacer>(&rt, rt.alloc(), 4096)
+}
+
+#[test]
+fn block_placer_opens_again(rt: HostRuntime) -> Result<(), Fail> {
+    opens::<BlockPlacer>(&rt, rt.alloc(), 16)
+}

@@ -1,0 +1,248 @@
+//! Starts, bounds and held bytes of lists of calls, for each placer.
+
+use super::pool;
+use cc_plan::{Align, BlockPlacer, ObjectId, Placer, PlanCall, Planner, ScanPlacer, SortedPlacer};
+use cc_cap::Cap;
+use cc_word::Refusal;
+use std::alloc::Global;
+use std::process::Abort;
+use std::test::Fail;
+
+// What a call is to answer: the number and the bounds of the object that it makes, or a refusal.
+#[derive(Clone, Copy, PartialEq, Eq, Debug)]
+enum Answer {
+    Placed(u32, u64, u128),
+    Freed,
+    Swept(u32),
+    Refused(Refusal),
+}
+
+use Answer::{Freed, Placed, Refused, Swept};
+use PlanCall::{Alloc, Free, Sweep};
+
+// A call, its answer, and how many bytes are held after it.
+type Row = (PlanCall, Answer, u128);
+
+const FIRST_FIT: [Row; 9] = [
+    (Alloc(24), Placed(1, 0x10000, 0x10018), 24),
+    (Alloc(40), Placed(2, 0x10018, 0x10040), 64),
+    (Alloc(8), Placed(3, 0x10040, 0x10048), 72),
+    (Free(ObjectId(2)), Freed, 72),
+    (Sweep, Swept(1), 32),
+    (Alloc(32), Placed(4, 0x10018, 0x10038), 64),
+    (Alloc(16), Placed(5, 0x10048, 0x10058), 80),
+    (Alloc(8), Placed(6, 0x10038, 0x10040), 88),
+    (Free(ObjectId(2)), Refused(Refusal::NoObject), 88),
+];
+
+const PADDED: [Row; 11] = [
+    (Alloc(100), Placed(1, 0x10000, 0x10064), 100),
+    (Alloc(5000), Placed(2, 0x10068, 0x113f0), 5100),
+    (Alloc(4), Placed(3, 0x10064, 0x10068), 5104),
+    (Alloc(8191), Placed(4, 0x113f0, 0x133f0), 13296),
+    (Free(ObjectId(2)), Freed, 13296),
+    (Sweep, Swept(1), 8296),
+    (Alloc(4097), Placed(5, 0x10068, 0x11070), 12400),
+    (Alloc(65537), Refused(Refusal::NoRoom), 12400),
+    (Alloc(0), Refused(Refusal::ZeroSize), 12400),
+    (Free(ObjectId(1)), Freed, 12400),
+    (Sweep, Swept(1), 12300),
+];
+
+const BETWEEN_TWO_OBJECTS: [Row; 12] = [
+    (Alloc(16), Placed(1, 0x10000, 0x10010), 16),
+    (Alloc(16), Placed(2, 0x10010, 0x10020), 32),
+    (Alloc(16), Placed(3, 0x10020, 0x10030), 48),
+    (Alloc(16), Placed(4, 0x10030, 0x10040), 64),
+    (Free(ObjectId(1)), Freed, 64),
+    (Sweep, Swept(1), 48),
+    (Free(ObjectId(3)), Freed, 48),
+    (Sweep, Swept(1), 32),
+    (Alloc(17), Placed(5, 0x10040, 0x10051), 49),
+    (Alloc(15), Placed(6, 0x10000, 0x1000f), 64),
+    (Alloc(16), Placed(7, 0x10020, 0x10030), 80),
+    (Alloc(1), Placed(8, 0x1000f, 0x10010), 81),
+];
+
+// A gap of 4,096 bytes whose first multiple of 8 is 4 bytes from its start.
+const LONG_GAP_WITHOUT_A_PLACE: [Row; 10] = [
+    (Alloc(4), Placed(1, 0x10000, 0x10004), 4),
+    (Alloc(2048), Placed(2, 0x10004, 0x10804), 2052),
+    (Alloc(2048), Placed(3, 0x10804, 0x11004), 4100),
+    (Alloc(4), Placed(4, 0x11004, 0x11008), 4104),
+    (Free(ObjectId(2)), Freed, 4104),
+    (Free(ObjectId(3)), Freed, 4104),
+    (Sweep, Swept(2), 8),
+    (Alloc(4096), Placed(5, 0x11008, 0x12008), 4104),
+    (Alloc(4095), Placed(6, 0x10004, 0x11003), 8199),
+    (Alloc(1), Placed(7, 0x11003, 0x11004), 8200),
+];
+
+// A gap of 8,192 bytes that begins at a multiple of 8, and at none of 16.
+const LONG_GAP_OF_FINER_OBJECTS: [Row; 11] = [
+    (Alloc(8), Placed(1, 0x10000, 0x10008), 8),
+    (Alloc(4088), Placed(2, 0x10008, 0x11000), 4096),
+    (Alloc(4088), Placed(3, 0x11000, 0x11ff8), 8184),
+    (Alloc(16), Placed(4, 0x11ff8, 0x12008), 8200),
+    (Alloc(8), Placed(5, 0x12008, 0x12010), 8208),
+    (Free(ObjectId(2)), Freed, 8208),
+    (Free(ObjectId(4)), Freed, 8208),
+    (Free(ObjectId(3)), Freed, 8208),
+    (Sweep, Swept(3), 16),
+    (Alloc(8192), Placed(6, 0x12010, 0x14010), 8208),
+    (Alloc(8184), Placed(7, 0x10008, 0x12000), 16392),
+];
+
+// The bytes of a freed object are placed again after a sweep, and not before it.
+const SAME_BYTES: [Row; 7] = [
+    (Alloc(100), Placed(1, 0x10000, 0x10064), 100),
+    (Alloc(5000), Placed(2, 0x10068, 0x113f0), 5100),
+    (Alloc(8), Placed(3, 0x113f0, 0x113f8), 5108),
+    (Free(ObjectId(2)), Freed, 5108),
+    (Alloc(5000), Placed(4, 0x113f8, 0x12780), 10108),
+    (Sweep, Swept(1), 5108),
+    (Alloc(5000), Placed(5, 0x10068, 0x113f0), 10108),
+];
+
+const END_OF_ADDRESS_SPACE: [Row; 6] = [
+    (Alloc(8192), Placed(1, 0xffffffffffffe000, 1 << 64), 8192),
+    (Alloc(1), Refused(Refusal::NoRoom), 8192),
+    (Free(ObjectId(1)), Freed, 8192),
+    (Sweep, Swept(1), 0),
+    (Alloc(8191), Placed(2, 0xffffffffffffe000, 1 << 64), 8192),
+    (Alloc(1 << 64), Refused(Refusal::NoRoom), 8192),
+];
+
+const WHOLE_ADDRESS_SPACE: [Row; 4] = [
+    (Alloc(1 << 64), Placed(1, 0, 1 << 64), 1 << 64),
+    (Alloc(1), Refused(Refusal::NoRoom), 1 << 64),
+    (Free(ObjectId(1)), Freed, 1 << 64),
+    (Sweep, Swept(1), 0),
+];
+
+const NO_BYTES: [Row; 3] = [
+    (Alloc(1), Refused(Refusal::NoRoom), 0),
+    (Alloc(0), Refused(Refusal::ZeroSize), 0),
+    (Free(ObjectId(1)), Refused(Refusal::NoObject), 0),
+];
+
+// In pools of alignment 16. Four objects fill a pool; one is freed, and its bytes are placed again after a sweep.
+const QUARANTINE_OF_16: [Row; 9] = [
+    (Alloc(10), Placed(1, 0x10000, 0x10010), 16),
+    (Alloc(10), Placed(2, 0x10010, 0x10020), 32),
+    (Alloc(10), Placed(3, 0x10020, 0x10030), 48),
+    (Alloc(10), Placed(4, 0x10030, 0x10040), 64),
+    (Free(ObjectId(2)), Freed, 64),
+    (Alloc(1), Refused(Refusal::NoRoom), 64),
+    (Sweep, Swept(1), 48),
+    (Alloc(17), Refused(Refusal::NoRoom), 48),
+    (Alloc(16), Placed(5, 0x10010, 0x10020), 64),
+];
+
+// A pool of 71 bytes from 0x10001.
+const UNEVEN_ENDS: [Row; 4] = [
+    (Alloc(49), Refused(Refusal::NoRoom), 0),
+    (Alloc(17), Placed(1, 0x10010, 0x10030), 32),
+    (Alloc(1), Placed(2, 0x10030, 0x10040), 48),
+    (Alloc(1), Refused(Refusal::NoRoom), 48),
+];
+
+const NO_MULTIPLE_OF_16: [Row; 2] = [
+    (Alloc(1), Refused(Refusal::NoRoom), 0),
+    (Alloc(16), Refused(Refusal::NoRoom), 0),
+];
+
+const ONE_MULTIPLE_OF_16: [Row; 2] = [
+    (Alloc(1), Placed(1, 0x10000, 0x10010), 16),
+    (Alloc(1), Refused(Refusal::NoRoom), 16),
+];
+
+const WHOLE_ADDRESS_SPACE_OF_16: [Row; 2] = [
+    (Alloc(1 << 64), Placed(1, 0, 1 << 64), 1 << 64),
+    (Alloc(1), Refused(Refusal::NoRoom), 1 << 64),
+];
+
+fn made<P: Placer>(rt: &impl Abort, planner: &mut Planner<P>, call: PlanCall) -> Answer {
+    match call {
+        Alloc(size) => {
+            assert!(rt; size <= 1 << 64);
+            match planner.alloc(size) {
+                Ok((id, cap)) => {
+                    assert_eq!(rt; cap.address(), cap.span().base);
+                    Placed(id.0, cap.span().base, cap.span().top)
+                }
+                Err(refusal) => Refused(refusal),
+            }
+        }
+        Free(id) => match planner.free(id) {
+            Ok(()) => Freed,
+            Err(refusal) => Refused(refusal),
+        },
+        Sweep => Swept(planner.sweep()),
+    }
+}
+
+fn check_rows<P: Placer>(
+    rt: &impl Abort,
+    alloc: Global,
+    pool: Cap,
+    align: Align,
+    rows: &[Row],
+) -> Result<(), Fail> {
+    let mut planner: Planner<P> = Planner::with_limit(alloc, 16)?;
+    planner.give_pool_aligned(pool, align)?;
+    for (call, expected, held) in rows {
+        assert_eq!(rt; made(rt, &mut planner, *call), *expected);
+        assert_eq!(rt; planner.held_bytes(), *held);
+    }
+    Ok(())
+}
+
+fn check_pools_of_1<P: Placer>(rt: &impl Abort, alloc: Global) -> Result<(), Fail> {
+    let small = pool(0x10000, 0x10000)?;
+    let end = pool(0xffffffffffffe000, 0x2000)?;
+    check_rows::<P>(rt, alloc, small, Align::One, &FIRST_FIT)?;
+    check_rows::<P>(rt, alloc, small, Align::One, &PADDED)?;
+    check_rows::<P>(rt, alloc, small, Align::One, &BETWEEN_TWO_OBJECTS)?;
+    check_rows::<P>(rt, alloc, small, Align::One, &LONG_GAP_WITHOUT_A_PLACE)?;
+    check_rows::<P>(rt, alloc, small, Align::One, &LONG_GAP_OF_FINER_OBJECTS)?;
+    check_rows::<P>(rt, alloc, small, Align::One, &SAME_BYTES)?;
+    check_rows::<P>(rt, alloc, end, Align::One, &END_OF_ADDRESS_SPACE)?;
+    check_rows::<P>(rt, alloc, Cap::root(), Align::One, &WHOLE_ADDRESS_SPACE)?;
+    check_rows::<P>(rt, alloc, pool(0x1000, 0)?, Align::One, &NO_BYTES)
+}
+
+fn check_pools_of_16<P: Placer>(rt: &impl Abort, alloc: Global) -> Result<(), Fail> {
+    let four = pool(0x10000, 64)?;
+    let uneven = pool(0x10001, 0x47)?;
+    let whole = Cap::root();
+    check_rows::<P>(rt, alloc, four, Align::Sixteen, &QUARANTINE_OF_16)?;
+    check_rows::<P>(rt, alloc, uneven, Align::Sixteen, &UNEVEN_ENDS)?;
+    for (base, length) in [(0x10008, 16), (0x10000, 15), (0x10000, 0)] {
+        let without = pool(base, length)?;
+        check_rows::<P>(rt, alloc, without, Align::Sixteen, &NO_MULTIPLE_OF_16)?;
+    }
+    let one = pool(0x10000, 16)?;
+    check_rows::<P>(rt, alloc, one, Align::Sixteen, &ONE_MULTIPLE_OF_16)?;
+    check_rows::<P>(rt, alloc, whole, Align::Sixteen, &WHOLE_ADDRESS_SPACE_OF_16)
+}
+
+fn check_table<P: Placer>(rt: &impl Abort, alloc: Global) -> Result<(), Fail> {
+    check_pools_of_1::<P>(rt, alloc)?;
+    check_pools_of_16::<P>(rt, alloc)
+}
+
+#[test]
+fn placed_by_scanning(rt: HostRuntime) -> Result<(), Fail> {
+    check_table::<ScanPlacer>(&rt, rt.alloc())
+}
+
+#[test]
+fn placed_in_order(rt: HostRuntime) -> Result<(), Fail> {
+    check_table::<SortedPlacer>(&rt, rt.alloc())
+}
+
+#[test]
+fn placed_by_blocks(rt: HostRuntime) -> Result<(), Fail> {
+    check_table::<BlockPlacer>(&rt, rt.alloc())
+}

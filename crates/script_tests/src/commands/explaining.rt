@@ -1,0 +1,143 @@
+//! Worked answers of `explain`.
+use cc_command::explain_word;
+use cc_script::{SliceSink, Summary};
+use std::process::Abort;
+
+/// The first worked word of docs/FORMAT.md: an exponent of 0, which is not stored.
+const SHORT: &str = "\
+word      ffff0000048190040000000000001000
+fields    permissions ffff, reserved 0, flag 0, type 3ffff
+          IE 0, T field 0x200, B field 0x1000, address 0x1000
+exponent  E = 0, as IE is 0
+granule   1 byte
+B         0x1000, the B field
+T         0x1200, the T field, and above it 1 as the 2 implied bits
+T - B     0x200 modulo 0x4000: the implied bits put it within 0x0 to 0xfff
+section   0x800 bytes, 2^(E+11)
+sections  2 of B, 2 of T, 2 of the address
+window    0x800 to 0x47ff: eight sections from 1 on, one below that of B
+base      0x1000, where B * 2^E stands in the window
+top       0x1200, where T * 2^E stands in the window
+canonical yes
+picture   the window, in cells of 0x100 bytes, 2^(E+8)
+section   1-------2-------3-------4-------5-------6-------7-------0-------
+bytes     ........##......................................................
+base      ........B.......................................................
+top       ..........T.....................................................
+address   ........A.......................................................
+";
+
+/// The one whose decoding docs/FORMAT.md works out: an exponent of 1, and a window past a multiple of its size.
+const LONG: &str = "\
+word      ffff00000001bf050000000000020010
+fields    permissions ffff, reserved 0, flag 0, type 3ffff
+          IE 1, T field 0x000, B field 0x3f01, address 0x20010
+exponent  E = 1: 8 * 0 + 1, from the low 3 bits of the T field and of the B field; at most 52
+granule   0x10 bytes, 2^(E+3)
+B         0x3f00, the B field with its low 3 bits as 0
+T         0x1000, the T field with its low 3 bits as 0, and above it 1 as the 2 implied bits
+T - B     0x1100 modulo 0x4000: the implied bits put it within 0x1000 to 0x1fff
+section   0x1000 bytes, 2^(E+11)
+sections  7 of B, 2 of T, 0 of the address
+window    0x1e000 to 0x25fff: eight sections from 6 on, one below that of B
+base      0x1fe00, where B * 2^E stands in the window
+top       0x22000, where T * 2^E stands in the window
+canonical yes
+picture   the window, in cells of 0x200 bytes, 2^(E+8)
+section   6-------7-------0-------1-------2-------3-------4-------5-------
+bytes     ...............#################................................
+base      ...............B................................................
+top       ................................T...............................
+address   ................A...............................................
+";
+
+/// Null, but for the exponent field, which is 53 and counts as 52.
+const OTHER_EXPONENT: &str = "\
+word      00000000000000010000000000000000
+fields    permissions 0000, reserved 0, flag 0, type 3ffff
+          IE 1, T field 0x006, B field 0x0005, address 0x0
+exponent  E = 52: 8 * 6 + 5, from the low 3 bits of the T field and of the B field; at most 52
+granule   0x80000000000000 bytes, 2^(E+3)
+B         0x0, the B field with its low 3 bits as 0
+T         0x1000, the T field with its low 3 bits as 0, and above it 1 as the 2 implied bits
+T - B     0x1000 modulo 0x4000: the implied bits put it within 0x1000 to 0x1fff
+section   0x8000000000000000 bytes, 2^(E+11)
+sections  0 of B, 2 of T, 0 of the address
+window    every address: eight sections from 7 on, one below that of B
+base      0x0, where B * 2^E stands in the window
+top       0x10000000000000000, where T * 2^E stands in the window
+canonical no: setting these bounds stores IE 1, T field 0x006, B field 0x0004
+picture   the window, in cells of 0x1000000000000000 bytes, 2^(E+8)
+section   7-------0-------1-------2-------3-------4-------5-------6-------
+bytes     ........################........................................
+base      ........B.......................................................
+top       ........................T.......................................
+address   ........A.......................................................
+";
+
+const NO_WORD: &str = "error 1 syntax\n";
+
+const EXPLAINED: [(&str, &str, bool); 4] = [
+    ("ffff0000048190040000000000001000", SHORT, false),
+    ("FFFF00000001bf050000000000020010", LONG, false),
+    ("00000000000000010000000000000000", OTHER_EXPONENT, false),
+    ("0x000000000000000000000000000000", NO_WORD, true),
+];
+
+/// Explains the text into ample room, and compares what was written and how it ended.
+fn assert_explained(rt: &impl Abort, text: &str, answer: &str, any_error: bool) {
+    let mut room = [0; 2048];
+    let mut sink = SliceSink::new(&mut room, 500, None);
+    let outcome = explain_word(text.as_bytes(), &mut sink);
+    let taken = sink.taken();
+    assert_eq!(rt; outcome, Ok(Summary { any_error }), "at {text}");
+    assert_eq!(rt; room.get(..taken), Some(answer.as_bytes()), "at {text}");
+}
+
+#[test]
+fn words_are_explained(rt: HostRuntime) {
+    for (text, answer, any_error) in EXPLAINED {
+        assert_explained(&rt, text, answer, any_error);
+    }
+}
+
+/// Words that are not canonical, each with the end of its line that says why.
+const FAULTY: [(&str, &str); 5] = [
+    (
+        "ffff8000048190040000000000001000",
+        "no: a reserved bit is set\n",
+    ),
+    (
+        "ffff0000348190040000000000001000",
+        "no: the type is reserved\n",
+    ),
+    (
+        "ffff0000000030070000000000000000",
+        "no: the top is below the base\n",
+    ),
+    (
+        "ffff00000441bf04ffffffffffffff00",
+        "no: the top is above 2^64\n",
+    ),
+    (
+        "ffffffffffffffffffffffffffffffff",
+        "no: a reserved bit is set\n",
+    ),
+];
+
+/// Explains the text, and looks for the reason in what was written.
+fn assert_reason(rt: &impl Abort, text: &str, reason: &str) {
+    let mut room = [0; 2048];
+    let mut sink = SliceSink::new(&mut room, 2048, None);
+    let outcome = explain_word(text.as_bytes(), &mut sink);
+    assert_eq!(rt; outcome, Ok(Summary { any_error: false }), "at {text}");
+    let answer = str::from_utf8(&room).unwrap_or("");
+    assert!(rt; answer.contains(reason), "at {text}");
+}
+
+#[test]
+fn words_of_no_capability_are_told_why(rt: HostRuntime) {
+    for (text, reason) in FAULTY {
+        assert_reason(&rt, text, reason);
+    }
+}

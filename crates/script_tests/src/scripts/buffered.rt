@@ -1,0 +1,191 @@
+//! A sink with lent room.
+use cc_script::{
+    Buffered, Failed, FromReader, FromWriter, Sink, SliceSink, SliceSource, Summary, run_script,
+};
+use cc_machine::Machine;
+use std::alloc::AllocError;
+use std::cell::Cell;
+use std::io;
+use std::io::{Read, Write};
+
+#[test]
+fn bytes_wait_until_passed_on(rt: HostRuntime) {
+    let mut taken = [0u8; 16];
+    let mut room = [0u8; 4];
+    let mut sink = Buffered::new(SliceSink::new(&mut taken, 16, None), &mut room);
+    assert!(rt; sink.write(b"abc") == Ok(3));
+    assert!(rt; sink.inner().taken() == 0);
+    assert!(rt; sink.write(b"de") == Ok(2));
+    assert!(rt; sink.inner().taken() == 3);
+    assert!(rt; sink.before_read() == Ok(()));
+    assert!(rt; sink.inner().taken() == 5);
+    assert!(rt; sink.write(b"fghij") == Ok(5));
+    assert!(rt; sink.inner().taken() == 10);
+    assert!(rt; sink.write(b"k") == Ok(1));
+    assert!(rt; sink.flush() == Ok(()));
+    assert!(rt; sink.inner().taken() == 11);
+    assert!(rt; taken == *b"abcdefghijk\0\0\0\0\0");
+}
+
+#[test]
+fn bytes_not_taken_go_on_waiting(rt: HostRuntime) {
+    let mut taken = [0u8; 16];
+    let mut room = [0u8; 8];
+    let mut sink = Buffered::new(SliceSink::new(&mut taken, 2, Some(2)), &mut room);
+    assert!(rt; sink.write(b"abcde") == Ok(5));
+    assert!(rt; sink.before_read() == Err(Failed));
+    assert!(rt; sink.inner().taken() == 2);
+    assert!(rt; sink.write(b"f") == Err(Failed));
+    assert!(rt; sink.flush() == Err(Failed));
+    assert!(rt; sink.inner().taken() == 2);
+}
+
+#[test]
+fn replies_are_the_same_in_any_room(rt: HostRuntime) -> Result<(), AllocError> {
+    let script = b"round 512\n\nshow 0\nshow 1\nx";
+    let mut alone = [0u8; 256];
+    let mut machine = Machine::with_limit(rt.alloc(), 4)?;
+    let mut source = SliceSource::new(script, 100, None);
+    let mut sink = SliceSink::new(&mut alone, 256, None);
+    let whole = run_script(&mut machine, &mut source, &mut sink);
+    assert!(rt; whole == Ok(Summary { any_error: true }));
+    let most = sink.taken();
+    for size in 0..200usize {
+        let mut taken = [0u8; 256];
+        let mut room = [0u8; 200];
+        let mut machine = Machine::with_limit(rt.alloc(), 4)?;
+        let mut source = SliceSource::new(script, 1 + size / 8, None);
+        let mut sink = Buffered::new(SliceSink::new(&mut taken, 7, None), &mut room[..size]);
+        let result = run_script(&mut machine, &mut source, &mut sink);
+        assert!(rt; result == Ok(Summary { any_error: true }));
+        assert!(rt; sink.inner().taken() == most);
+        assert!(rt; taken == alone);
+    }
+    Ok(())
+}
+
+#[test]
+fn reply_that_fills_the_room_waits(rt: HostRuntime) -> Result<(), AllocError> {
+    // each reply of this script has fifteen bytes
+    let script = b"a\nb\nc\n";
+    let replies = b"error 1 syntax\nerror 1 syntax\nerror 1 syntax\n";
+    for size in [14usize, 15, 16, 29, 30, 31, 44, 45, 46] {
+        let mut taken = [0u8; 64];
+        let mut room = [0u8; 64];
+        let mut machine = Machine::with_limit(rt.alloc(), 4)?;
+        let mut source = SliceSource::new(script, 100, None);
+        let mut sink = Buffered::new(SliceSink::new(&mut taken, 64, None), &mut room[..size]);
+        let result = run_script(&mut machine, &mut source, &mut sink);
+        assert!(rt; result == Ok(Summary { any_error: true }));
+        assert!(rt; sink.inner().taken() == replies.len());
+        assert!(rt; taken.starts_with(replies));
+    }
+    Ok(())
+}
+
+#[test]
+fn full_room_is_passed_on_at_the_next_byte(rt: HostRuntime) {
+    let mut taken = [0u8; 16];
+    let mut room = [0u8; 4];
+    let mut sink = Buffered::new(SliceSink::new(&mut taken, 16, None), &mut room);
+    assert!(rt; sink.write(b"abcd") == Ok(4));
+    assert!(rt; sink.inner().taken() == 0);
+    assert!(rt; sink.write(b"") == Ok(0));
+    assert!(rt; sink.inner().taken() == 0);
+    assert!(rt; sink.write(b"e") == Ok(1));
+    assert!(rt; sink.inner().taken() == 4);
+    assert!(rt; sink.flush() == Ok(()));
+    assert!(rt; taken == *b"abcde\0\0\0\0\0\0\0\0\0\0\0");
+}
+
+#[test]
+fn failed_flush_behind_is_told(rt: HostRuntime) {
+    let mut taken = [0u8; 16];
+    let mut room = [0u8; 4];
+    let mut sink = Buffered::new(SliceSink::new(&mut taken, 16, Some(2)), &mut room);
+    assert!(rt; sink.write(b"abc") == Ok(3));
+    assert!(rt; sink.flush() == Err(Failed));
+    assert!(rt; sink.inner().taken() == 3);
+    assert!(rt; sink.flush() == Err(Failed));
+}
+
+#[test]
+fn failed_passing_on_behind_is_told(rt: HostRuntime) {
+    let mut taken = [0u8; 16];
+    let (mut near, mut far) = ([0u8; 4], [0u8; 8]);
+    let behind = Buffered::new(SliceSink::new(&mut taken, 16, Some(1)), &mut far);
+    let mut sink = Buffered::new(behind, &mut near);
+    assert!(rt; sink.write(b"abc") == Ok(3));
+    assert!(rt; sink.before_read() == Err(Failed));
+    assert!(rt; sink.inner().inner().taken() == 0);
+    assert!(rt; sink.before_read() == Err(Failed));
+    assert!(rt; sink.flush() == Err(Failed));
+}
+
+/// A writer that tells how many bytes it took.
+#[derive(Drop)]
+struct Told<'a> {
+    taken: &'a Cell<usize>,
+}
+
+impl<'a> Write for Told<'a> {
+    fn write(&mut self, piece: &[u8]) -> io::Result<usize> {
+        self.taken.set(self.taken.get().saturating_add(piece.len()));
+        Ok(piece.len())
+    }
+
+    fn flush(&mut self) -> io::Result<()> {
+        Ok(())
+    }
+}
+
+/// A reader that gives its next piece only where the replies to the lines before were written.
+#[derive(Drop)]
+struct Waits<'a> {
+    taken: &'a Cell<usize>,
+    pieces: &'a [(usize, &'a [u8])],
+}
+
+impl<'a> Read for Waits<'a> {
+    fn read(&mut self, room: &mut [u8]) -> io::Result<usize> {
+        let [(wanted, piece), rest @ ..] = self.pieces else {
+            return Ok(0);
+        };
+        if self.taken.get() != *wanted {
+            return Err(io::ErrorKind::WouldBlock.into());
+        }
+        self.pieces = rest;
+        let count = piece.len().min(room.len());
+        room[..count].copy_from_slice(&piece[..count]);
+        Ok(count)
+    }
+}
+
+#[test]
+fn replies_come_before_the_next_read(rt: HostRuntime) -> Result<(), AllocError> {
+    // each reply has fifteen bytes
+    let pieces: [(usize, &[u8]); 7] = [
+        (0, b"a\n"),
+        (15, b"b\nc\n"),
+        (45, b"d"),
+        (45, b"e\nf"),
+        (60, b"g"),
+        (60, b"\n"),
+        (75, b"h"),
+    ];
+    for size in [0usize, 1, 14, 15, 16, 64] {
+        let taken = Cell::new(0usize);
+        let mut room = [0u8; 64];
+        let mut machine = Machine::with_limit(rt.alloc(), 4)?;
+        let mut source = FromReader::new(Waits {
+            taken: &taken,
+            pieces: &pieces,
+        });
+        let writer = FromWriter::new(Told { taken: &taken });
+        let mut sink = Buffered::new(writer, &mut room[..size]);
+        let result = run_script(&mut machine, &mut source, &mut sink);
+        assert!(rt; result == Ok(Summary { any_error: true }));
+        assert!(rt; taken.get() == 94);
+    }
+    Ok(())
+}

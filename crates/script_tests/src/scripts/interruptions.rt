@@ -1,0 +1,62 @@
+//! Devices over readers and writers that fail once, and would go on after it.
+use cc_script::{Failed, FromReader, FromWriter, Sink, Source};
+use std::io;
+use std::io::{Read, Write};
+
+/// Is interrupted at its first call, and does each of the later ones.
+#[derive(Drop)]
+struct InterruptedOnce {
+    has_failed: bool,
+}
+
+impl InterruptedOnce {
+    fn call(&mut self) -> io::Result<()> {
+        if self.has_failed {
+            return Ok(());
+        }
+        self.has_failed = true;
+        Err(io::ErrorKind::Interrupted.into())
+    }
+}
+
+impl Read for InterruptedOnce {
+    fn read(&mut self, room: &mut [u8]) -> io::Result<usize> {
+        self.call()?;
+        Ok(room.len())
+    }
+}
+
+impl Write for InterruptedOnce {
+    fn write(&mut self, piece: &[u8]) -> io::Result<usize> {
+        self.call()?;
+        Ok(piece.len())
+    }
+
+    fn flush(&mut self) -> io::Result<()> {
+        self.call()
+    }
+}
+
+const FIRST: InterruptedOnce = InterruptedOnce { has_failed: false };
+
+#[test]
+fn interrupted_reader_is_not_read_again(rt: HostRuntime) {
+    let mut source = FromReader::new(FIRST);
+    let mut piece = [0u8; 8];
+    assert!(rt; source.read(&mut piece) == Err(Failed));
+    assert!(rt; source.read(&mut piece) == Err(Failed));
+}
+
+#[test]
+fn interrupted_writer_is_not_written_again(rt: HostRuntime) {
+    let mut sink = FromWriter::new(FIRST);
+    assert!(rt; sink.write(b"abc") == Err(Failed));
+    assert!(rt; sink.write(b"abc") == Err(Failed));
+}
+
+#[test]
+fn flush_reaches_the_writer(rt: HostRuntime) {
+    let mut sink = FromWriter::new(FIRST);
+    assert!(rt; sink.flush() == Err(Failed));
+    assert!(rt; sink.flush() == Err(Failed));
+}

@@ -1,0 +1,144 @@
+//! Lines as users write them.
+use cc_script::parse_line;
+use cc_cap::Perms;
+use cc_machine::{Align, Len, Op};
+use cc_word::Refusal;
+use cc_word::Refusal::{OutOfRange, Syntax, TooLong};
+
+#[rattlefmt::skip]
+const PLAIN: [(&str, Op); 13] = [
+    ("show 0", Op::Show(0)),
+    ("show 4294967295", Op::Show(u32::MAX)),
+    ("addr 0 0xffffffffffffffff", Op::Addr(0, u64::MAX)),
+    ("inc 2 0x800", Op::Inc(2, 0x800)),
+    ("flag 0 1", Op::Flag(0, true)),
+    ("seal 2 3", Op::Seal(2, 3)),
+    ("unseal 4 3", Op::Unseal(4, 3)),
+    ("rebuild 0 FFFF0000048190040000000000001000", Op::Rebuild(0, 0xffff_0000_0481_9004_0000_0000_0000_1000)),
+    ("pool 2", Op::Pool(2, Align::One)),
+    ("pool 2 1", Op::Pool(2, Align::One)),
+    ("pool 0x2 16", Op::Pool(2, Align::Sixteen)),
+    ("free 1", Op::Free(1)),
+    ("sweep", Op::Sweep),
+];
+
+#[test]
+fn lines_spell_operations(rt: HostRuntime) {
+    for (line, op) in &PLAIN {
+        assert!(rt; parse_line(line.as_bytes()) == Ok(*op), "{line}");
+    }
+}
+
+#[test]
+fn lengths_and_permissions_are_spelled(rt: HostRuntime) {
+    let len = Len::new(0x200).expect(&rt, "a length");
+    assert!(rt; parse_line(b"bounds 1 0x200") == Ok(Op::Bounds(1, len)));
+    assert!(rt; parse_line(b"exact 1 512") == Ok(Op::Exact(1, len)));
+    assert!(rt; parse_line(b"round 0x200") == Ok(Op::Round(len)));
+    assert!(rt; parse_line(b"alloc 512") == Ok(Op::Alloc(len)));
+    let none = Perms::from_bits(0).expect(&rt, "no permission");
+    assert!(rt; parse_line(b"perms 0 LOAD+LOAD") == Ok(Op::Perms(0, Perms::LOAD)));
+    assert!(rt; parse_line(b"perms 0 -") == Ok(Op::Perms(0, none)));
+}
+
+#[rattlefmt::skip]
+const FAULTS: [(&str, Refusal); 42] = [
+    ("", Syntax),
+    (" ", Syntax),
+    ("show", Syntax),
+    ("show ", Syntax),
+    ("show  0", Syntax),
+    (" show 0", Syntax),
+    ("show 0 ", Syntax),
+    ("show\t0", Syntax),
+    ("show 0\r", Syntax),
+    ("\0", Syntax),
+    ("SHOW 0", Syntax),
+    ("shown 0", Syntax),
+    ("show 0 0", Syntax),
+    ("bounds 0", Syntax),
+    ("sweep 0", Syntax),
+    ("sweep ", Syntax),
+    (" sweep", Syntax),
+    ("sweep  ", Syntax),
+    ("sweep sweep", Syntax),
+    ("sweep 0 0", Syntax),
+    ("sweep 4294967296", Syntax),
+    ("sweeps", Syntax),
+    ("SWEEP", Syntax),
+    ("free", Syntax),
+    ("bounds 0 1 2", Syntax),
+    ("show 0X0", Syntax),
+    ("show +0", Syntax),
+    ("show -1", Syntax),
+    ("flag 0 01", Syntax),
+    ("flag 4294967296 2", Syntax),
+    ("bounds 4294967296 q", Syntax),
+    ("perms 0 READ", Syntax),
+    ("perms 0 load", Syntax),
+    ("perms 0 LOAD+", Syntax),
+    ("perms 0 LOAD+-", Syntax),
+    ("rebuild 0 ffff", Syntax),
+    ("rebuild 4294967296 0000000000000000000000000000000g", Syntax),
+    ("show 4294967296", OutOfRange),
+    ("show 340282366920938463463374607431768211456", OutOfRange),
+    ("addr 0 0x10000000000000000", OutOfRange),
+    ("round 0x10000000000000001", OutOfRange),
+    ("seal 0 4294967296", OutOfRange),
+];
+
+#[test]
+fn faults_in_their_order(rt: HostRuntime) {
+    for (line, fault) in &FAULTS {
+        assert!(rt; parse_line(line.as_bytes()) == Err(*fault), "{line}");
+    }
+}
+
+#[test]
+fn lines_of_more_than_128_bytes(rt: HostRuntime) {
+    let mut line = [b'0'; 129];
+    line[..5].copy_from_slice(b"show ");
+    assert!(rt; parse_line(&line[..128]) == Ok(Op::Show(0)));
+    assert!(rt; parse_line(&line) == Err(TooLong));
+    assert!(rt; parse_line(&[0xff; 128]) == Err(Syntax));
+    assert!(rt; parse_line(&[0xff; 129]) == Err(TooLong));
+    let mut number = [b'9'; 128];
+    number[..6].copy_from_slice(b"alloc ");
+    assert!(rt; parse_line(&number) == Err(OutOfRange));
+}
+
+const NAMES: [&str; 16] = [
+    "GLOBAL",
+    "EXECUTE",
+    "LOAD",
+    "STORE",
+    "LOAD_CAP",
+    "STORE_CAP",
+    "STORE_LOCAL_CAP",
+    "SEAL",
+    "CINVOKE",
+    "UNSEAL",
+    "SYSTEM_REGS",
+    "SET_CID",
+    "USER0",
+    "USER1",
+    "USER2",
+    "USER3",
+];
+
+#[test]
+fn every_name_of_a_permission(rt: HostRuntime) {
+    let mut bit = 1u16;
+    for name in &NAMES {
+        let mut line = [0u8; 64];
+        let end = 8 + name.len();
+        line[..8].copy_from_slice(b"perms 0 ");
+        line[8..end].copy_from_slice(name.as_bytes());
+        let perms = Perms::from_bits(bit).expect(&rt, "a bit");
+        assert!(rt;
+            parse_line(&line[..end]) == Ok(Op::Perms(0, perms)),
+            "{name}"
+        );
+        bit = bit.wrapping_mul(2);
+    }
+}

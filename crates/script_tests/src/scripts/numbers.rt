@@ -1,0 +1,48 @@
+//! Numbers as users write them.
+use cc_script::read_length;
+use cc_word::Refusal;
+use cc_word::Refusal::{OutOfRange, Syntax};
+
+/// The greatest length: the whole address space.
+const WHOLE: u128 = 1 << 64;
+
+type Row<'a> = (&'a str, Result<u128, Refusal>);
+
+#[rattlefmt::skip]
+const NUMBERS: [Row; 22] = [
+    ("0", Ok(0)),
+    ("8191", Ok(8191)),
+    ("0xfFfF", Ok(65_535)),
+    ("00000000000000000000000000000000000000000000000000000000000000000000000000000007", Ok(7)),
+    ("0x10000000000000000", Ok(WHOLE)),
+    ("18446744073709551616", Ok(WHOLE)),
+    ("0x10000000000000001", Err(OutOfRange)),
+    ("18446744073709551617", Err(OutOfRange)),
+    // 2^128, which a number of 128 bits that wraps would take for 0
+    ("340282366920938463463374607431768211456", Err(OutOfRange)),
+    ("0x100000000000000000000000000000000", Err(OutOfRange)),
+    ("", Err(Syntax)),
+    ("q", Err(Syntax)),
+    ("0x", Err(Syntax)),
+    ("0xg", Err(Syntax)),
+    ("0X0", Err(Syntax)),
+    ("x0", Err(Syntax)),
+    ("12f", Err(Syntax)),
+    ("+0", Err(Syntax)),
+    ("-1", Err(Syntax)),
+    (" 1", Err(Syntax)),
+    ("1 ", Err(Syntax)),
+    ("1_000", Err(Syntax)),
+];
+
+/// The number that a text spells as a length.
+fn number_of(text: &str) -> Result<u128, Refusal> {
+    Ok(read_length(text.as_bytes())?.get())
+}
+
+#[test]
+fn numbers_read_as_they_are_spelled(rt: HostRuntime) {
+    for (text, number) in &NUMBERS {
+        assert!(rt; number_of(text) == *number, "{text}");
+    }
+}
