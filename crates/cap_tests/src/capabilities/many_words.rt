@@ -1,7 +1,7 @@
 //! Many words at once: the root's word, one of 512 bytes, and one whose bounds no capability stores.
 use super::END;
-use cc_cap::many;
 use cc_bounds::Span;
+use cc_cap::many;
 
 const WORDS: [u128; 3] = [
     0xffff0000000000000000000000000000,

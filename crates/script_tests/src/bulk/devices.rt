@@ -1,7 +1,6 @@
 //! Devices that fail.
 use super::rows::{COLUMNS, TEXT};
-use cc_decode::decode_words;
-use cc_decode::Format;
+use cc_decode::{Format, decode_words};
 use cc_script::{ScriptFault, SliceSink, SliceSource};
 
 /// How many line feeds the first bytes of a text have.

@@ -1,6 +1,5 @@
 //! Worked answers, whatever the pieces in which the text comes.
-use cc_decode::decode_words;
-use cc_decode::Format;
+use cc_decode::{Format, decode_words};
 use cc_script::{SliceSink, SliceSource, Summary};
 use std::process::Abort;
 

@@ -1,9 +1,9 @@
 //! A sink with lent room.
+use cc_machine::Machine;
 use cc_script::{
     Buffered, Failed, FromReader, FromWriter, Sink, SliceSink, SliceSource, Summary, run_script,
 };
-use cc_machine::Machine;
-use std::alloc::AllocError;
+use std::alloc::{AllocError, Global};
 use std::cell::Cell;
 use std::io;
 use std::io::{Read, Write};
@@ -40,45 +40,45 @@ fn bytes_not_taken_go_on_waiting(rt: HostRuntime) {
     assert!(rt; sink.inner().taken() == 2);
 }
 
-#[test]
-fn replies_are_the_same_in_any_room(rt: HostRuntime) -> Result<(), AllocError> {
-    let script = b"round 512\n\nshow 0\nshow 1\nx";
-    let mut alone = [0u8; 256];
-    let mut machine = Machine::with_limit(rt.alloc(), 4)?;
-    let mut source = SliceSource::new(script, 100, None);
-    let mut sink = SliceSink::new(&mut alone, 256, None);
-    let whole = run_script(&mut machine, &mut source, &mut sink);
-    assert!(rt; whole == Ok(Summary { any_error: true }));
-    let most = sink.taken();
-    for size in 0..200usize {
-        let mut taken = [0u8; 256];
-        let mut room = [0u8; 200];
-        let mut machine = Machine::with_limit(rt.alloc(), 4)?;
-        let mut source = SliceSource::new(script, 1 + size / 8, None);
-        let mut sink = Buffered::new(SliceSink::new(&mut taken, 7, None), &mut room[..size]);
-        let result = run_script(&mut machine, &mut source, &mut sink);
-        assert!(rt; result == Ok(Summary { any_error: true }));
-        assert!(rt; sink.inner().taken() == most);
-        assert!(rt; taken == alone);
-    }
-    Ok(())
+/// A script, its replies, and the rooms in which they wait: less than a reply, as much, and all of them.
+#[rattlefmt::skip]
+const SCRIPTS: [(&[u8], &[u8], [usize; 9]); 2] = [
+    (
+        b"round 512\n\nshow 0\nshow 1\nx",
+        b"round 0x200 0x1 0xffffffffffffffff\nerror 1 syntax\ncap ffff0000000000000000000000000000 0x0 0x10000000000000000 ffff 0 3ffff -\nerror 5 slot\nerror 2 unfinished\n",
+        [0, 1, 2, 7, 34, 35, 36, 64, 200],
+    ),
+    // each reply has fifteen bytes
+    (
+        b"a\nb\nc\n",
+        b"error 1 syntax\nerror 1 syntax\nerror 1 syntax\n",
+        [14, 15, 16, 29, 30, 31, 44, 45, 46],
+    ),
+];
+
+/// How many bytes of replies reach the slice through room of this size.
+fn replied(
+    alloc: Global,
+    script: &[u8],
+    size: usize,
+    taken: &mut [u8],
+) -> Result<usize, AllocError> {
+    let mut room = [0u8; 200];
+    let mut machine = Machine::with_limit(alloc, 4)?;
+    let mut source = SliceSource::new(script, 1 + size / 8, None);
+    let mut sink = Buffered::new(SliceSink::new(taken, 7, None), &mut room[..size.min(200)]);
+    let _ = run_script(&mut machine, &mut source, &mut sink);
+    Ok(sink.inner().taken())
 }
 
 #[test]
-fn reply_that_fills_the_room_waits(rt: HostRuntime) -> Result<(), AllocError> {
-    // each reply of this script has fifteen bytes
-    let script = b"a\nb\nc\n";
-    let replies = b"error 1 syntax\nerror 1 syntax\nerror 1 syntax\n";
-    for size in [14usize, 15, 16, 29, 30, 31, 44, 45, 46] {
-        let mut taken = [0u8; 64];
-        let mut room = [0u8; 64];
-        let mut machine = Machine::with_limit(rt.alloc(), 4)?;
-        let mut source = SliceSource::new(script, 100, None);
-        let mut sink = Buffered::new(SliceSink::new(&mut taken, 64, None), &mut room[..size]);
-        let result = run_script(&mut machine, &mut source, &mut sink);
-        assert!(rt; result == Ok(Summary { any_error: true }));
-        assert!(rt; sink.inner().taken() == replies.len());
-        assert!(rt; taken.starts_with(replies));
+fn replies_are_the_same_in_any_room(rt: HostRuntime) -> Result<(), AllocError> {
+    for (script, replies, sizes) in &SCRIPTS {
+        for size in sizes {
+            let mut taken = [0u8; 256];
+            let count = replied(rt.alloc(), script, *size, &mut taken)?;
+            assert!(rt; taken.get(..count) == Some(*replies), "{size}");
+        }
     }
     Ok(())
 }

@@ -1,7 +1,7 @@
 //! One script cut after each of its bytes, and with each call of its devices failing in turn, to a sink that
 //! passes each reply on and to sinks in which replies wait. A machine's state is told by how it goes on.
-use cc_script::{Buffered, ScriptFault, SliceSink, SliceSource, Summary, run_script};
 use cc_machine::Machine;
+use cc_script::{Buffered, ScriptFault, SliceSink, SliceSource, Summary, run_script};
 use std::alloc::{AllocError, Global};
 use std::process::Abort;
 use std::test::Fail;

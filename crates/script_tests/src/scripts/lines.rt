@@ -1,7 +1,7 @@
 //! Lines as users write them.
-use cc_script::parse_line;
 use cc_cap::Perms;
 use cc_machine::{Align, Len, Op};
+use cc_script::parse_line;
 use cc_word::Refusal;
 use cc_word::Refusal::{OutOfRange, Syntax, TooLong};
 

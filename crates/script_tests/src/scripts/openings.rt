@@ -1,8 +1,8 @@
 //! Scripts that begin with operations.
 
-use cc_script::{ScriptFault, SliceSink, SliceSource, Summary, run_script_after};
 use cc_machine::{Len, Machine, Op};
 use cc_plan::Align;
+use cc_script::{ScriptFault, SliceSink, SliceSource, Summary, run_script_after};
 use std::alloc::Global;
 use std::process::Abort;
 use std::test::Fail;

@@ -1,8 +1,8 @@
 //! Replies as users read them.
-use cc_script::reply_line;
 use cc_bounds::Span;
 use cc_cap::{ObjType, Perms};
 use cc_machine::{Align, Reply};
+use cc_script::reply_line;
 use cc_word::Refusal;
 
 const ALL: Span = Span {

@@ -1,6 +1,6 @@
 //! Worked scripts, each on a machine of its own.
-use cc_script::{ScriptFault, SliceSink, SliceSource, Summary, run_script};
 use cc_machine::Machine;
+use cc_script::{ScriptFault, SliceSink, SliceSource, Summary, run_script};
 use std::process::Abort;
 use std::test::Fail;
 

@@ -1,8 +1,8 @@
 //! Scripts over slices.
 ghost use Rattle.std.specs.Prelude.{None};
 
-use cc_script::{Failed, ScriptFault, Sink, SliceSink, SliceSource, Summary, run_script};
 use cc_machine::Machine;
+use cc_script::{Failed, ScriptFault, Sink, SliceSink, SliceSource, Summary, run_script};
 use std::alloc::{AllocError, Global};
 use std::process::Abort;
 use std::test::Fail;
