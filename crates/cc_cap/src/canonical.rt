@@ -8,6 +8,7 @@ use crate::cap::Cap;
 ///
 /// It is not where a reserved bit is set, the type is reserved, or the bounds fields and the address are
 /// those of no sound span: another exponent field or other mantissas may decode to the same bounds.
+#[inline(always)]
 pub fn is_canonical(word: u128) -> bool
     ensures { IsTrue result ↔ IsCanonical word }
 {

@@ -120,10 +120,11 @@ impl Perms {
     pub(crate) fn unsealed_by(self, authority: Perms) -> Perms
         ensures { bits_of result ≡ unsealed_permissions (bits_of self) (bits_of authority) }
     {
-        if authority.contains(Perms::GLOBAL) {
-            self
+        let kept = if authority.contains(Perms::GLOBAL) {
+            Perms::all()
         } else {
-            self.difference(Perms::GLOBAL)
-        }
+            Perms::all().difference(Perms::GLOBAL)
+        };
+        self.intersection(kept)
     }
 }

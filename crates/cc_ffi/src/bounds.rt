@@ -90,6 +90,7 @@ pub extern "C" fn cheri_cap_set_bounds(
 
 /// Whether a word stores its bounds as setting bounds stores them, and the address is representable for
 /// them. The reserved bits and the type are not looked at.
+#[inline(always)]
 #[unsafe(no_mangle)]
 pub extern "C" fn cheri_cap_represents(high: u64, low: u64, address: u64) -> bool
     ensures stored { OfFields (number_of high low) (λ fields.

@@ -77,6 +77,7 @@ pub extern "C" fn cheri_cap_pack(given: WordFields) -> Halves
 }
 
 /// Whether the word is canonical: the word of some capability, sealed or not.
+#[inline(always)]
 #[unsafe(no_mangle)]
 pub extern "C" fn cheri_cap_is_canonical(high: u64, low: u64) -> bool
     ensures { IsTrue result ↔ IsCanonical (number_of high low) }

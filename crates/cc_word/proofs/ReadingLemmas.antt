@@ -13,7 +13,7 @@ use Rattle.cc_word.proofs.TextLemmas.{digit_value-hex}
 use Rattle.std.specs.Char.{digit_value}
 use Rattle.std.specs.Str.Parse.{AllDigits, digits_value, digits_value_after}
 use Rattle.std.proofs.lemmas.Int.Digits.{digits_value-lt}
-use Rattle.cc_word.specs.declared.text.TheConstants.{DIGIT_VALUES}
+use Rattle.cc_word.specs.declared.text.TheConstants.{DIGIT_VALUES, FIRST_DIGIT_VALUES}
 
 -- what the table has for a byte
 abbrev pub worth : ℕ → ℕ
@@ -23,6 +23,12 @@ pub value_listed : (byte : ℕ) → byte < 256 → slice_index DIGIT_VALUES byte
 value_listed byte fits =
     eqb-true (slice_index DIGIT_VALUES byte) (worth byte)
     (agree_below_at (λ b. slice_index DIGIT_VALUES b == worth b) (λ b. true) 256 byte refl fits)
+
+pub first_value_listed : (byte : ℕ) → byte < 256
+    → slice_index FIRST_DIGIT_VALUES byte ≡ 16 * (if is_hex_digit byte then digit_value byte else 2 ^ 32)
+first_value_listed byte fits =
+    eqb-true (slice_index FIRST_DIGIT_VALUES byte) (16 * worth byte)
+    (agree_below_at (λ b. slice_index FIRST_DIGIT_VALUES b == 16 * worth b) (λ b. true) 256 byte refl fits)
 
 pub worth-most : (byte : ℕ) → byte < 256 → worth byte ≤ 2 ^ 32
 worth-most byte fits =
@@ -38,6 +44,17 @@ pub gathered_more : (before i : ℕ) (bytes : List ℕ) → i < length bytes
     → gathered (before * 16 + worth (slice_index bytes i)) (drop (i + 1) bytes) ≡ gathered before (drop i bytes)
 unfolding gathered
 gathered_more before i bytes within = rw (drop_more bytes i 0 within) refl
+
+-- two at a time
+pub gathered_pair : (before i : ℕ) (bytes : List ℕ) → 2 * i + 1 < length bytes
+    → gathered (before * 256 + 16 * worth (slice_index bytes (2 * i)) + worth (slice_index bytes (2 * i + 1))) (drop (2 * (i + 1)) bytes)
+    ≡ gathered before (drop (2 * i) bytes)
+gathered_pair before i bytes within =
+    let first : ℕ = before * 16 + worth (slice_index bytes (2 * i)) in
+    let joined : before * 256 + 16 * worth (slice_index bytes (2 * i)) + worth (slice_index bytes (2 * i + 1))
+    ≡ first * 16 + worth (slice_index bytes (2 * i + 1)) = omega arith in
+    let place : 2 * (i + 1) ≡ 2 * i + 1 + 1 = omega arith in
+    rw (joined, place) (gathered_more first (2 * i + 1) bytes within ∙ gathered_more before (2 * i) bytes (omega arith))
 
 -- it is never less
 gathered-least : (before : ℕ) (bytes : List ℕ) → before ≤ gathered before bytes
@@ -226,12 +243,12 @@ small-joined a b c d h =
 
 -- ---- the overflows of the sum
 
-pub room_further : (i number value : ℕ) → number + 2 ^ 32 ≤ 2 ^ (32 + 4 * i) → value ≤ 2 ^ 32
-    → number * 16 + value + 2 ^ 32 ≤ 2 ^ (32 + 4 * (i + 1))
-room_further i number value room most =
-    let more : 32 + 4 * (i + 1) ≡ 32 + 4 * i + 4 = omega arith in
-    let power : 2 ^ (32 + 4 * i + 4) ≡ 2 ^ (32 + 4 * i) * 2 ^ 4 = pow-add 2 (32 + 4 * i) 4 in
-    rw more (omega (arith, power, room, most))
+pub room_further : (i number first second : ℕ) → number + 2 ^ 32 ≤ 2 ^ (32 + 8 * i) → first ≤ 2 ^ 32 → second ≤ 2 ^ 32
+    → number * 256 + 16 * first + second + 2 ^ 32 ≤ 2 ^ (32 + 8 * (i + 1))
+room_further i number first second room most also =
+    let more : 32 + 8 * (i + 1) ≡ 32 + 8 * i + 8 = omega arith in
+    let power : 2 ^ (32 + 8 * i + 8) ≡ 2 ^ (32 + 8 * i) * 2 ^ 8 = pow-add 2 (32 + 8 * i) 8 in
+    rw more (omega (arith, power, room, most, also))
 
-pub room_fits : (i : ℕ) → i ≤ 8 → 2 ^ (32 + 4 * i) ≤ 2 ^ 64
-room_fits i few = let most : 32 + 4 * i ≤ 64 = omega arith in pow_mono most
+pub room_fits : (i : ℕ) → i ≤ 4 → 2 ^ (32 + 8 * i) ≤ 2 ^ 64
+room_fits i few = let most : 32 + 8 * i ≤ 64 = omega arith in pow_mono most

@@ -30,6 +30,30 @@ const DIGIT_VALUES: [u64; 256] = [
     NONE, NONE, NONE, NONE, NONE, NONE, NONE, NONE, NONE, NONE, NONE, NONE, NONE, NONE, NONE, NONE,
 ];
 
+/// What stands in the table of first digits for a byte that is no digit: sixteen times as much.
+const MORE: u64 = 16 * NONE;
+
+/// The value of each byte as the first of two hexadecimal digits: sixteen times that of [`DIGIT_VALUES`].
+#[rattlefmt::skip]
+const FIRST_DIGIT_VALUES: [u64; 256] = [
+    MORE, MORE, MORE, MORE, MORE, MORE, MORE, MORE, MORE, MORE, MORE, MORE, MORE, MORE, MORE, MORE,
+    MORE, MORE, MORE, MORE, MORE, MORE, MORE, MORE, MORE, MORE, MORE, MORE, MORE, MORE, MORE, MORE,
+    MORE, MORE, MORE, MORE, MORE, MORE, MORE, MORE, MORE, MORE, MORE, MORE, MORE, MORE, MORE, MORE,
+    0x00, 0x10, 0x20, 0x30, 0x40, 0x50, 0x60, 0x70, 0x80, 0x90, MORE, MORE, MORE, MORE, MORE, MORE,
+    MORE, 0xa0, 0xb0, 0xc0, 0xd0, 0xe0, 0xf0, MORE, MORE, MORE, MORE, MORE, MORE, MORE, MORE, MORE,
+    MORE, MORE, MORE, MORE, MORE, MORE, MORE, MORE, MORE, MORE, MORE, MORE, MORE, MORE, MORE, MORE,
+    MORE, 0xa0, 0xb0, 0xc0, 0xd0, 0xe0, 0xf0, MORE, MORE, MORE, MORE, MORE, MORE, MORE, MORE, MORE,
+    MORE, MORE, MORE, MORE, MORE, MORE, MORE, MORE, MORE, MORE, MORE, MORE, MORE, MORE, MORE, MORE,
+    MORE, MORE, MORE, MORE, MORE, MORE, MORE, MORE, MORE, MORE, MORE, MORE, MORE, MORE, MORE, MORE,
+    MORE, MORE, MORE, MORE, MORE, MORE, MORE, MORE, MORE, MORE, MORE, MORE, MORE, MORE, MORE, MORE,
+    MORE, MORE, MORE, MORE, MORE, MORE, MORE, MORE, MORE, MORE, MORE, MORE, MORE, MORE, MORE, MORE,
+    MORE, MORE, MORE, MORE, MORE, MORE, MORE, MORE, MORE, MORE, MORE, MORE, MORE, MORE, MORE, MORE,
+    MORE, MORE, MORE, MORE, MORE, MORE, MORE, MORE, MORE, MORE, MORE, MORE, MORE, MORE, MORE, MORE,
+    MORE, MORE, MORE, MORE, MORE, MORE, MORE, MORE, MORE, MORE, MORE, MORE, MORE, MORE, MORE, MORE,
+    MORE, MORE, MORE, MORE, MORE, MORE, MORE, MORE, MORE, MORE, MORE, MORE, MORE, MORE, MORE, MORE,
+    MORE, MORE, MORE, MORE, MORE, MORE, MORE, MORE, MORE, MORE, MORE, MORE, MORE, MORE, MORE, MORE,
+];
+
 /// The hexadecimal digits of each byte, in lower case: two for each.
 #[rattlefmt::skip]
 const BYTE_DIGITS: [u8; 512] = *b"\
@@ -58,6 +82,14 @@ fn value_of_digit(byte: u8) -> u64
     DIGIT_VALUES[usize::from(byte)]
 }
 
+/// Sixteen times the value of a digit, and sixteen times [`NONE`] for a byte that is no digit.
+#[tactic(auto, using(crate::proofs::ReadingLemmas::first_value_listed))]
+fn value_of_first_digit(byte: u8) -> u64
+    ensures { result ≡ 16 * (if is_hex_digit byte then digit_value byte else 2 ^ 32) }
+{
+    FIRST_DIGIT_VALUES[usize::from(byte)]
+}
+
 /// The first of the two hexadecimal digits of a byte.
 #[tactic(auto, using(crate::proofs::WritingLemmas::high_listed))]
 fn high_digit(byte: u8) -> u8
@@ -75,6 +107,8 @@ fn low_digit(byte: u8) -> u8
 }
 
 /// The number that eight digits spell, which is below 2^32, or a greater one where a byte is no digit.
+///
+/// Two digits at a time, each from its own table, so that no digit has to be shifted by itself.
 #[inline(always)]
 fn value_of_eight(digits: &[u8]) -> u64
     requires { length digits.now ≡ 8 }
@@ -82,8 +116,10 @@ fn value_of_eight(digits: &[u8]) -> u64
     ensures value { result < 2 ^ 32 → result ≡ digits_value 16 digits.now }
 {
     let mut number = 0;
-    for byte in digits {
-        number = number * 16 + value_of_digit(*byte);
+    for pair in 0..4 {
+        let first = value_of_first_digit(digits[2 * pair]);
+        let second = value_of_digit(digits[2 * pair + 1]);
+        number = number * 256 + first + second;
     }
     number
 }
