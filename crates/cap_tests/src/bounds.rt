@@ -1,4 +1,5 @@
-//! Decoded words, bounds that are set, and a plain search for the granule.
+//! Decoded words, bounds that are set, a plain search for the granule, and spans.
 mod decoding;
 mod encoding;
 mod plain_search;
+mod spans;

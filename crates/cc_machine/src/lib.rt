@@ -2,6 +2,7 @@
 #![tactic(auto)]
 
 mod counterexamples;
+mod derivations;
 mod laws;
 mod len;
 mod machine;
@@ -9,7 +10,6 @@ mod object;
 mod op;
 mod owners;
 mod reply;
-mod rules;
 mod slot;
 
 pub use cc_plan::{Align, ObjectState};

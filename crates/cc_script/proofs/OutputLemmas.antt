@@ -97,7 +97,7 @@ output_from old new end opening text output any_error earlier later replies comm
     )
 
 begins_in_reply : (old new end : State) (t u : Option (List ℕ)) (opening : List Op) (text output : List ℕ) (any_error : Bool)
-    → StopsInReply old (commands_of opening text) t u new → ScriptOutput old opening text output any_error end
+    → StopsInReply old (commands_of opening text) (Appends t u) new → ScriptOutput old opening text output any_error end
     → (count : ℕ) × Appends t u (take count output)
 begins_in_reply old new end t u opening text output any_error s whole =
     let reply : List ℕ = with_line_feed (reply_text s.reply) in
@@ -115,7 +115,7 @@ begins_in_reply old new end t u opening text output any_error s whole =
     (length front + s.count, subst (λ (l : List ℕ). Appends t u l) (sym part) s.written)
 
 begins_after_lines : (old new end : State) (t u : Option (List ℕ)) (opening : List Op) (text output : List ℕ) (any_error : Bool)
-    → StopsAfterLines old opening text t u new → ScriptOutput old opening text output any_error end
+    → StopsAfterLines old opening text (Appends t u) new → ScriptOutput old opening text output any_error end
     → (count : ℕ) × Appends t u (take count output)
 begins_after_lines old new end t u opening text output any_error s whole =
     let rest : List ℕ = rest_text (rest_of text) in
@@ -127,7 +127,7 @@ begins_after_lines old new end t u opening text output any_error s whole =
     (length (replies_text s.replies) + s.count, subst (λ (l : List ℕ). Appends t u l) (sym part) s.written)
 
 pub stopped_begins : (old new : State) (opening : List Op) (text : List ℕ) (t u : Option (List ℕ))
-    → StopsInReply old (commands_of opening text) t u new ⊎ StopsAfterLines old opening text t u new → BeginsOutput old opening text t u
+    → StopsInReply old (commands_of opening text) (Appends t u) new ⊎ StopsAfterLines old opening text (Appends t u) new → BeginsOutput old opening text (Appends t u)
 stopped_begins old new opening text t u (inl s) output any_error end whole =
     begins_in_reply old new end t u opening text output any_error s whole
 stopped_begins old new opening text t u (inr s) output any_error end whole =

@@ -1,6 +1,5 @@
--- A run over a source whose bytes are known, and what a run of commands does to the machine.
-use Rattle.std.proofs.Common.{◌≡◌, ℕ, Bool, List, [], ◌∷◌, ◌++◌, refl, sym, ◌∙◌, ap, subst, append-nil, Option, Some, None, IfSome, Result, Ok, Err, inl, inr}
-use Rattle.std.specs.Io.KnownBytes.{Consumes, IsAtEnd}
+-- What a run of commands does to the machine.
+use Rattle.std.proofs.Common.{ℕ, Bool, List, [], ◌∷◌, subst, Result, Ok, Err}
 use Rattle.cc_machine.specs.declared.reply.Reply.{Reply}
 use Rattle.cc_word.specs.declared.refusal.Refusal.{Refusal}
 use Rattle.cc_machine.specs.declared.op.Op.{Op}
@@ -12,49 +11,8 @@ use Rattle.cc_machine.proofs.TreeLemmas.{Keeps-reached, IsMonotonicTree-reached,
 use Rattle.cc_machine.proofs.ObjectLawLemmas.{KeepsObjectLaws-reached}
 use Rattle.cc_machine.proofs.ReachLemmas.{ReachesAll-run}
 use Rattle.cc_machine.proofs.ConfinementLemmas.{IsConfined-run}
-use Rattle.cc_script.specs.Output.{commands_of, Takes, TakesAll, with_operation, with_reply, operations_of, operation_replies}
+use Rattle.cc_script.specs.Output.{Takes, TakesAll, with_operation, with_reply, operations_of, operation_replies}
 use Rattle.cc_script.specs.Laws.{TakesWithin, TakesAllWithin, KeepsLaws}
-use Rattle.cc_script.specs.Correct.{StopsInReply, StopsAfterLines, WritesOutput, RunsAfter, RunsWhole}
-use Rattle.cc_script.specs.declared.summary.ScriptFault.{ScriptFault}
-use Rattle.cc_script.specs.declared.summary.ScriptFault.TheVariants.{Read, Write}
-use Rattle.cc_script.specs.declared.summary.Summary.{Summary}
-use Rattle.cc_script.proofs.EngineLemmas.{stops_in_longer}
-use Rattle.cc_script.proofs.OutputLemmas.{stopped_begins}
-
--- a source at its end has given all
-all_given : (input text : List ℕ) (left : Option (List ℕ)) → Consumes (Some input) left text → IsAtEnd left → (text ≡ input) × (left ≡ Some [])
-all_given input text None h k = absurd h
-all_given input text (Some rest) h k = (sym (h ∙ ap (λ (l : List ℕ). text ++ l) k ∙ append-nil text), ap Some k)
-
-runs_input : (a b : State) (opening : List Op) (input : List ℕ) (left t u : Option (List ℕ)) (result : Result Summary ScriptFault)
-    → RunsAfter opening a (Some input) left t u result b → RunsWhole a opening input left t u result b
-runs_input a b opening input left t u (Ok summary) r =
-    let all = all_given input r.text left r.given r.runs.0 in
-    (all.1, subst (λ (x : List ℕ). WritesOutput a opening x t u summary.any_error b) all.0 r.runs.1)
-runs_input a b opening input None t u (Err Read) r = absurd r.given
-runs_input a b opening input (Some rest) t u (Err Read) r = record {
-  given = r.text;
-  rest = rest;
-  text_is = r.given;
-  left_is = refl;
-  writes = r.runs;
-}
-runs_input a b opening input None t u (Err Write) r = absurd r.given
-runs_input a b opening input (Some rest) t u (Err Write) r = elim r.runs [
-  | inl s ↦
-      let q : StopsInReply a (commands_of opening input) t u b =
-      subst (λ (x : List ℕ). StopsInReply a (commands_of opening x) t u b) (sym r.given) (stops_in_longer a b t u opening r.text rest s) in
-      (inl q, stopped_begins a b opening input t u (inl q))
-  | inr s ↦
-      let q : StopsAfterLines a opening input t u b =
-      subst (λ (x : List ℕ). StopsAfterLines a opening x t u b) (all_given input r.text (Some rest) r.given s.0).0 s.1 in
-      (inr q, stopped_begins a b opening input t u (inr q))
-]
-
-pub runs_whole : (a b : State) (opening : List Op) (to_come left t u : Option (List ℕ)) (result : Result Summary ScriptFault)
-    → RunsAfter opening a to_come left t u result b → IfSome to_come (λ input. RunsWhole a opening input left t u result b)
-runs_whole a b opening None left t u result r = tt
-runs_whole a b opening (Some input) left t u result r = runs_input a b opening input left t u result r
 
 -- ---- the operations among commands
 

@@ -1,18 +1,18 @@
 //! Runs a script.
 ghost use Rattle.std.specs.Prelude.{◌≡◌, ℕ, true, false, List, [], ◌∷◌, ◌++◌, map, take, length, not, ◌==◌, ◌↔◌, Ok, Err, IfSome, IfOk, OnOk, OnErr, IsErr};
 ghost use Rattle.std.specs.Io.KnownBytes.{Appends};
+ghost use Rattle.cc_machine.specs.Run.{IsReached};
 ghost use Rattle.cc_script.specs.Lines.{IsLine};
 ghost use Rattle.cc_script.specs.Commands.{operation_of};
 ghost use Rattle.cc_script.specs.Replies.{refusal_text, reply_text, is_error};
 ghost use Rattle.cc_script.specs.Output.{Takes, with_line_feed, rest_text};
-ghost use Rattle.cc_script.specs.Laws.{KeepsLaws};
 ghost use Rattle.cc_script.specs.Devices.{TakesBeginning};
-ghost use Rattle.cc_script.specs.Correct.{StopsInReply, RunsAfter, RunsScript, RunsWhole};
+ghost use Rattle.cc_script.specs.Correct.{StopsInReply, AnswersScript, RunsScript, stand};
 ghost use Rattle.cc_script.specs.Engine.{AnswersLine, CutsLine, AnswersOpening, commands_from, Answers};
 
 use crate::devices::{Failed, Sink, Source};
 use crate::line::Line;
-use crate::lines::{LineStart, split_at_line_feed};
+use crate::line_start::{LineStart, split_at_line_feed};
 use crate::parsing::parse_line;
 use crate::printing::{push_refusal, push_reply, refusal_line};
 use crate::summary::{ScriptFault, Summary};
@@ -40,14 +40,10 @@ pub fn run_script<R: Source, W: Sink>(
 ) -> Result<Summary, ScriptFault>
     requires source { R.has_failed source.old ≡ false }
     requires sink { W.has_failed sink.old ≡ false }
-    ensures whole { IfSome (R.to_come source.old) (λ text.
-        RunsWhole machine.old [] text (R.to_come source.new) (W.taken_bytes sink.old) (W.taken_bytes sink.new) result machine.new) }
-    ensures runs { RunsScript machine.old (R.to_come source.old) (R.to_come source.new) (W.taken_bytes sink.old) (W.taken_bytes sink.new) result machine.new }
-    ensures read { (result ≡ Err ScriptFault.Read) ↔ (R.has_failed source.new ≡ true) }
-    ensures write { (result ≡ Err ScriptFault.Write) ↔ (W.has_failed sink.new ≡ true) }
-    ensures passed { OnOk result (W.waiting_bytes sink.new ≡ []) }
-    ensures passed_before_read { result ≡ Err ScriptFault.Read → W.waiting_bytes sink.old ≡ [] → W.waiting_bytes sink.new ≡ [] }
-    ensures laws { KeepsLaws machine.old machine.new }
+    ensures { RunsScript []
+        (stand machine.old (R.to_come source.old) (R.has_failed source.old) (W.taken_bytes sink.old) (W.waiting_bytes sink.old) (W.has_failed sink.old))
+        result
+        (stand machine.new (R.to_come source.new) (R.has_failed source.new) (W.taken_bytes sink.new) (W.waiting_bytes sink.new) (W.has_failed sink.new)) }
 {
     run_script_after(&[], machine, source, sink)
 }
@@ -63,20 +59,22 @@ pub fn run_script_after<R: Source, W: Sink>(
 ) -> Result<Summary, ScriptFault>
     requires source { R.has_failed source.old ≡ false }
     requires sink { W.has_failed sink.old ≡ false }
-    ensures whole { IfSome (R.to_come source.old) (λ text.
-        RunsWhole machine.old opening.now text (R.to_come source.new) (W.taken_bytes sink.old) (W.taken_bytes sink.new) result machine.new) }
-    ensures runs { RunsAfter opening.now machine.old (R.to_come source.old) (R.to_come source.new) (W.taken_bytes sink.old) (W.taken_bytes sink.new) result machine.new }
-    ensures read { (result ≡ Err ScriptFault.Read) ↔ (R.has_failed source.new ≡ true) }
-    ensures write { (result ≡ Err ScriptFault.Write) ↔ (W.has_failed sink.new ≡ true) }
-    ensures passed { OnOk result (W.waiting_bytes sink.new ≡ []) }
-    ensures passed_before_read { result ≡ Err ScriptFault.Read → W.waiting_bytes sink.old ≡ [] → W.waiting_bytes sink.new ≡ [] }
-    ensures laws { KeepsLaws machine.old machine.new }
+    ensures { RunsScript opening.now
+        (stand machine.old (R.to_come source.old) (R.has_failed source.old) (W.taken_bytes sink.old) (W.waiting_bytes sink.old) (W.has_failed sink.old))
+        result
+        (stand machine.new (R.to_come source.new) (R.has_failed source.new) (W.taken_bytes sink.new) (W.waiting_bytes sink.new) (W.has_failed sink.new)) }
 {
-    // A machine tells that a run leads to its state: this one tells it of the state before and of that after.
-    let _ = machine.slots();
+    tell_reached(machine);
     let result = run_pieces(opening, machine, source, sink);
-    let _ = machine.slots();
+    tell_reached(machine);
     result
+}
+
+/// Tells what is true of every machine: its state is one that a run leads to.
+fn tell_reached(machine: &Machine)
+    ensures { IsReached machine.now }
+{
+    let _ = machine.slots();
 }
 
 /// Runs the script, piece by piece.
@@ -88,7 +86,7 @@ fn run_pieces<R: Source, W: Sink>(
 ) -> Result<Summary, ScriptFault>
     requires source { R.has_failed source.old ≡ false }
     requires sink { W.has_failed sink.old ≡ false }
-    ensures runs { RunsAfter opening.now machine.old (R.to_come source.old) (R.to_come source.new) (W.taken_bytes sink.old) (W.taken_bytes sink.new) result machine.new }
+    ensures answers { AnswersScript machine.old opening.now (R.to_come source.old) (R.to_come source.new) (Appends (W.taken_bytes sink.old) (W.taken_bytes sink.new)) result machine.new }
     ensures read { (result ≡ Err ScriptFault.Read) ↔ (R.has_failed source.new ≡ true) }
     ensures write { (result ≡ Err ScriptFault.Write) ↔ (W.has_failed sink.new ≡ true) }
     ensures passed { OnOk result (W.waiting_bytes sink.new ≡ []) }
@@ -135,7 +133,7 @@ fn take_opening<W: Sink>(
     ensures ok { IfOk result (λ error.
         AnswersOpening machine.old opening.now (W.taken_bytes sink.old) (W.taken_bytes sink.new) error machine.new) }
     ensures err { OnErr result (
-        StopsInReply machine.old (map Ok opening.now) (W.taken_bytes sink.old) (W.taken_bytes sink.new) machine.new) }
+        StopsInReply machine.old (map Ok opening.now) (Appends (W.taken_bytes sink.old) (W.taken_bytes sink.new)) machine.new) }
     ensures passed { OnOk result (W.waiting_bytes sink.old ≡ [] → W.waiting_bytes sink.new ≡ []) }
     ensures fails { IsErr result ↔ (W.has_failed sink.new ≡ true) }
 {
@@ -169,7 +167,7 @@ fn take_piece<W: Sink>(
     ensures ok { (begun : List ℕ) → start.old ≡ take 129 begun → IfOk result (λ error.
         Answers machine.old begun piece.now start.new (W.taken_bytes sink.old) (W.taken_bytes sink.new) error machine.new) }
     ensures err { (begun : List ℕ) → start.old ≡ take 129 begun → OnErr result (
-        StopsInReply machine.old (commands_from begun piece.now) (W.taken_bytes sink.old) (W.taken_bytes sink.new) machine.new) }
+        StopsInReply machine.old (commands_from begun piece.now) (Appends (W.taken_bytes sink.old) (W.taken_bytes sink.new)) machine.new) }
     ensures passed { OnOk result (W.waiting_bytes sink.old ≡ [] → W.waiting_bytes sink.new ≡ []) }
     ensures fails { IsErr result ↔ (W.has_failed sink.new ≡ true) }
 {
@@ -208,7 +206,7 @@ fn end_line<W: Sink>(
     ensures ok { (begun : List ℕ) → start.old ≡ take 129 begun → IfOk result (λ error.
         Answers machine.old begun (end.now ++ 10 ∷ []) start.new (W.taken_bytes sink.old) (W.taken_bytes sink.new) error machine.new) }
     ensures err { (begun : List ℕ) → start.old ≡ take 129 begun → OnErr result (
-        StopsInReply machine.old (commands_from begun (end.now ++ 10 ∷ [])) (W.taken_bytes sink.old) (W.taken_bytes sink.new) machine.new) }
+        StopsInReply machine.old (commands_from begun (end.now ++ 10 ∷ [])) (Appends (W.taken_bytes sink.old) (W.taken_bytes sink.new)) machine.new) }
     ensures fails { IsErr result ↔ (W.has_failed sink.new ≡ true) }
 {
     if start.is_empty() {

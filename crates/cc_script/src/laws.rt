@@ -1,5 +1,6 @@
 //! What the definitions come to. Each function's contract is a law, and its body is empty.
 ghost use Rattle.std.specs.Prelude.{◌≡◌, ◌⊎◌, ℕ, Bool, List, Option, Result};
+ghost use Rattle.std.specs.Io.KnownBytes.{Appends};
 ghost use Rattle.std.specs.List.{AllByRecursion};
 ghost use Rattle.cc_word.specs.declared.refusal.Refusal.{Refusal};
 ghost use Rattle.cc_machine.specs.declared.op.Op.{Op};
@@ -50,6 +51,6 @@ pub fn every_script_has_an_output()
 /// Where a sink failed, what it took is a beginning of the output of the script.
 pub fn stopped_output_begins()
     ensures { (old new : State) (opening : List Op) (text : List ℕ) (taken taken_now : Option (List ℕ))
-        → StopsInReply old (commands_of opening text) taken taken_now new ⊎ StopsAfterLines old opening text taken taken_now new
-        → BeginsOutput old opening text taken taken_now }
+        → StopsInReply old (commands_of opening text) (Appends taken taken_now) new ⊎ StopsAfterLines old opening text (Appends taken taken_now) new
+        → BeginsOutput old opening text (Appends taken taken_now) }
 {}
