@@ -143,6 +143,3 @@ pub fn decode(fields: &Fields) -> Span
     let top = top_above(fields, base);
     Span { base, top }
 }
-
-#[cfg(test)]
-mod tests;

@@ -9,12 +9,9 @@ ghost use Rattle.cc_bounds.specs.Tightest.{DecodesBack, IsTight, IsTightest};
 
 use crate::decoding::{FIRST_LARGE_EXPONENT, decode, every_bit_counts, exponent};
 use crate::rounding::{granule_power, rounded};
-use crate::span::Span;
+use crate::span::{ADDRESS_SPACE, Span};
 use cc_word::Fields;
 use std::marker::Model;
-
-/// How many bytes the address space has.
-const ADDRESS_SPACE: u128 = 1 << 64;
 
 /// The bounds of a capability as its word stores them: a sound span with its exponent and its bounds
 /// fields, and whether the request that asked for it was exact.

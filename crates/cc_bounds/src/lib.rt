@@ -3,24 +3,20 @@
 #![tactic(auto)]
 
 mod decoding;
-mod decoding_laws;
 mod encoding;
-mod encoding_laws;
-#[cfg(test)]
-mod encoding_tests;
-#[cfg(test)]
-mod plain_search;
+mod laws;
 mod rounding;
 mod span;
+#[cfg(test)]
+mod tests;
 mod window;
 
 pub use decoding::{decode, exponent};
-pub use decoding_laws::every_word_decodes_once;
 pub use encoding::{Set, set_bounds};
-pub use encoding_laws::{
-    every_request_is_encoded_once, granted_spans_are_sound, padded_spans_are_sound,
-    sound_spans_are_those_decoded, words_store_what_they_decode_to,
+pub use laws::{
+    every_request_is_encoded_once, every_word_decodes_once, granted_spans_are_sound,
+    padded_spans_are_sound, sound_spans_are_those_decoded, words_store_what_they_decode_to,
 };
 pub use rounding::{alignment_mask, granule, round_length};
-pub use span::Span;
+pub use span::{ADDRESS_SPACE, Span};
 pub use window::represents;

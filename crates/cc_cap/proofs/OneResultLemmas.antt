@@ -1,19 +1,19 @@
 -- Each rule of derivation has one result.
-use Rattle.std.proofs.Common.{ℕ, Bool, ◌≡◌, ◌∙◌, ◌+◌, ◌%◌, ◌^◌, Result, Ok, refl, sym, ap, subst, inl, inr, arith}
+use Rattle.std.proofs.Common.{ℕ, Bool, ◌≡◌, ◌∙◌, ◌+◌, ◌%◌, ◌^◌, Result, Ok, Err, sym, ap, subst, inl, inr, arith}
 use Rattle.std.proofs.lemmas.Bool.{cases_lt}
+use Rattle.cc_word.specs.Refusal.{RefusedUnless}
 use Rattle.cc_word.specs.declared.refusal.Refusal.{Refusal}
 use Rattle.cc_word.specs.declared.refusal.Refusal.TheVariants.{ExceedsAuthority}
 use Rattle.cc_bounds.specs.declared.span.Span.{Span}
 use Rattle.cc_bounds.specs.Span.{length_of}
 use Rattle.cc_bounds.specs.Granule.{IsGranule, IsGranted, rounded_to}
 use Rattle.cc_cap.specs.Capability.{Capability, IsUnsealed, GrantsNoMore, with_span}
-use Rattle.cc_cap.specs.Canonical.{IsWordOf}
-use Rattle.cc_cap.specs.Derivation.{RefusedUnless, request_of, SetsAddress, Increments, SetsBounds, SetsExactBounds, MasksPermissions, SetsFlag, Seals, Unseals, Rebuilds}
+use Rattle.cc_cap.specs.Derivation.{request_of, SetsAddress, Increments, SetsBounds, SetsExactBounds, MasksPermissions, SetsFlag, Seals, Unseals, Rebuilds}
 use Rattle.cc_cap.proofs.CanonicalLemmas.{IsWordOf-same}
 
 -- one check has one result, where the rest has
 one_result : {condition rest rest' : Type 0} {refusal : Refusal} {result result' : Result Capability Refusal}
-    → RefusedUnless condition refusal result rest → RefusedUnless condition refusal result' rest'
+    → RefusedUnless condition (result ≡ Err refusal) rest → RefusedUnless condition (result' ≡ Err refusal) rest'
     → (rest → rest' → result ≡ result') → result ≡ result'
 one_result (inl one) (inl other) same = same one.1 other.1
 one_result (inl one) (inr other) same = absurd (other.0 one.0)
@@ -44,7 +44,7 @@ pub SetsFlag-one : (cap : Capability) (flag : Bool) (result result' : Result Cap
 SetsFlag-one cap flag result result' one other = one_result one other (λ e e'. e ∙ sym e')
 
 -- a request has one granule
-IsGranule-same : (request : Span) (one other : ℕ) → IsGranule request one → IsGranule request other → one ≡ other
+pub IsGranule-same : (request : Span) (one other : ℕ) → IsGranule request one → IsGranule request other → one ≡ other
 IsGranule-same request one other is is' = elim (cases_lt (length_of request) 4096) [
   | inl short ↦ is.small short ∙ sym (is'.small short)
   | inr long ↦ omega (arith, is.least other long (is'.large long), is'.least one long (is.large long))
@@ -78,5 +78,5 @@ Rebuilds-one by word result result' one other =
     one_result one other (λ first first'. one_result first first' (λ read read'.
     let same : read'.0 ≡ read.0 = IsWordOf-same read'.0 read.0 word read'.1 read.1 in
     let P : Capability → Type 0 =
-    λ c. RefusedUnless (IsUnsealed c × GrantsNoMore c by) ExceedsAuthority result' (result' ≡ Ok c) in
+    λ c. RefusedUnless (IsUnsealed c × GrantsNoMore c by) (result' ≡ Err ExceedsAuthority) (result' ≡ Ok c) in
     one_result read.2 (subst P same read'.2) (λ e e'. e ∙ sym e')))

@@ -4,6 +4,7 @@ use Rattle.std.proofs.Math.Decide.{map_dec, ℕ_discrete, dec_le, dec_lt}
 use Rattle.std.proofs.lemmas.Nat.{and_le_l}
 use Rattle.std.specs.Int.RustNames.{bit_and}
 use Rattle.cc_word.specs.declared.fields.Fields.{Fields}
+use Rattle.cc_word.specs.Refusal.{RefusedUnless}
 use Rattle.cc_word.specs.declared.refusal.Refusal.{Refusal}
 use Rattle.cc_word.specs.declared.refusal.Refusal.TheVariants.{ExceedsAuthority}
 use Rattle.cc_word.specs.Word.{word_of}
@@ -24,7 +25,7 @@ use Rattle.cc_cap.specs.ObjType.{IsObjType, last_sealing_type, unsealed_type}
 use Rattle.cc_cap.specs.Permissions.{HasAll, global_permission, seal_permission, unseal_permission, unsealed_permissions}
 use Rattle.cc_cap.specs.Capability.{Capability, IsCapability, IsUnsealed, GrantsNoMore, at_address, with_span, with_permissions, with_flag, sealed_with, unsealed_by}
 use Rattle.cc_cap.specs.Canonical.{IsWordOf, IsCanonical}
-use Rattle.cc_cap.specs.Derivation.{RefusedUnless, request_of, SetsAddress, Increments, SetsBounds, SetsExactBounds, MasksPermissions, SetsFlag, Seals, Unseals, Rebuilds}
+use Rattle.cc_cap.specs.Derivation.{request_of, SetsAddress, Increments, SetsBounds, SetsExactBounds, MasksPermissions, SetsFlag, Seals, Unseals, Rebuilds}
 use Rattle.cc_cap.proofs.CanonicalLemmas.{IsWordOf-read}
 
 -- ---- words
@@ -152,7 +153,7 @@ made cap is = record {
 
 -- one of which the first condition is decided
 unless : (condition : Type 0) (refusal : Refusal) (Rest : Result Capability Refusal → Type 0) → Dec condition
-    → (condition → HasResult Rest) → HasResult (λ result. RefusedUnless condition refusal result (Rest result))
+    → (condition → HasResult Rest) → HasResult (λ result. RefusedUnless condition (result ≡ Err refusal) (Rest result))
 unless condition refusal Rest (yes holds) rest =
     let next = rest holds in record { result = next.result; holds = inl (holds, next.holds); exists = next.exists }
 unless condition refusal Rest (no not) rest =

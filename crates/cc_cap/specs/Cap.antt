@@ -1,6 +1,7 @@
 -- How a `Cap` keeps its capability. No public clause cites this file.
 use Rattle.std.proofs.Common.{sym}
-use Rattle.std.specs.Prelude.{ℕ, true, ◌≡◌, ◌⊎◌, ◌↔◌, IsTrue, Result, IsOk, MatchResult}
+use Rattle.std.specs.Prelude.{ℕ, true, ◌≡◌, ◌⊎◌, ◌↔◌, IsTrue, Result, Err, IsOk, MatchResult}
+use Rattle.cc_word.specs.Refusal.{RefusedUnless}
 use Rattle.cc_word.specs.declared.refusal.Refusal.{Refusal}
 use Rattle.cc_word.specs.declared.refusal.Refusal.TheVariants.{Sealed, OutOfBounds, MissingPermission, NotCanonical}
 use Rattle.cc_bounds.specs.Span.{IsSpan, IsWithin}
@@ -12,7 +13,7 @@ use Rattle.cc_cap.specs.Bounds.{encoding_of}
 use Rattle.cc_cap.specs.Permissions.{bits_of, HasAll}
 use Rattle.cc_cap.specs.Capability.{Capability, IsCapability, IsUnsealed, Grants}
 use Rattle.cc_cap.specs.Canonical.{IsWordOf, IsCanonical}
-use Rattle.cc_cap.specs.Derivation.{RefusedUnless, request_of}
+use Rattle.cc_cap.specs.Derivation.{request_of}
 
 -- the capability that is kept
 abbrev pub value_of : Inside → Capability
@@ -65,8 +66,8 @@ IsRefusedBounds cap length refusal =
 -- whether an authority has a permission and grants its own address
 abbrev pub ChecksAuthority : Capability → ℕ → Result Unit Refusal → Type 0
 ChecksAuthority authority permission result =
-    RefusedUnless (HasAll authority.permissions permission) MissingPermission result (
-    RefusedUnless (Grants authority authority.address) OutOfBounds result (
+    RefusedUnless (HasAll authority.permissions permission) (result ≡ Err MissingPermission) (
+    RefusedUnless (Grants authority authority.address) (result ≡ Err OutOfBounds) (
     IsOk result))
 
 -- the capability of a word is read, or the word has none

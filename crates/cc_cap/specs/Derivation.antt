@@ -1,7 +1,8 @@
 -- The rules by which one capability is derived from another. The checks of a rule stand in the order in
 -- which they are made, and the first that fails answers.
-use Rattle.std.specs.Prelude.{ℕ, Bool, ◌≡◌, ◌⊎◌, ◌+◌, ◌%◌, ◌^◌, ◌≤◌, Result, Ok, Err}
+use Rattle.std.specs.Prelude.{ℕ, Bool, ◌≡◌, ◌+◌, ◌%◌, ◌^◌, ◌≤◌, Result, Ok, Err}
 use Rattle.std.specs.Int.RustNames.{bit_and}
+use Rattle.cc_word.specs.Refusal.{RefusedUnless}
 use Rattle.cc_word.specs.declared.refusal.Refusal.{Refusal}
 use Rattle.cc_word.specs.declared.refusal.Refusal.TheVariants.{Sealed, Unsealed, OutOfBounds, Inexact, Unrepresentable, MissingPermission, ReservedType, TypeMismatch, NotCanonical, ExceedsAuthority}
 use Rattle.cc_bounds.specs.declared.span.Span.{Span}
@@ -13,15 +14,11 @@ use Rattle.cc_cap.specs.Permissions.{HasAll, seal_permission, unseal_permission}
 use Rattle.cc_cap.specs.Capability.{Capability, IsUnsealed, IsSealed, Grants, GrantsNoMore, at_address, with_span, with_permissions, with_flag, sealed_with, unsealed_by}
 use Rattle.cc_cap.specs.Canonical.{IsWordOf, IsCanonical}
 
--- the condition holds and the rest decides, or it fails and the result is this refusal
-abbrev pub RefusedUnless : {A : Type 0} → Type 0 → Refusal → Result A Refusal → Type 0 → Type 0
-RefusedUnless condition refusal result rest = (condition × rest) ⊎ ((¬ condition) × (result ≡ Err refusal))
-
 -- moving the address
 abbrev pub SetsAddress : Capability → ℕ → Result Capability Refusal → Type 0
 SetsAddress cap address result =
-    RefusedUnless (IsUnsealed cap) Sealed result (
-    RefusedUnless (Represents cap.span address) Unrepresentable result (
+    RefusedUnless (IsUnsealed cap) (result ≡ Err Sealed) (
+    RefusedUnless (Represents cap.span address) (result ≡ Err Unrepresentable) (
     result ≡ Ok (at_address cap address)))
 
 -- moving the address by an amount, round the end of the address space
@@ -35,53 +32,53 @@ request_of cap length = span_from cap.address length
 -- setting bounds, which may be rounded
 abbrev pub SetsBounds : Capability → ℕ → Result Capability Refusal → Type 0
 SetsBounds cap length result =
-    RefusedUnless (IsUnsealed cap) Sealed result (
-    RefusedUnless (IsWithin (request_of cap length) cap.span) OutOfBounds result (
+    RefusedUnless (IsUnsealed cap) (result ≡ Err Sealed) (
+    RefusedUnless (IsWithin (request_of cap length) cap.span) (result ≡ Err OutOfBounds) (
     (granted : Span) × IsGranted (request_of cap length) granted × (result ≡ Ok (with_span cap granted))))
 
 -- setting bounds that may not be rounded
 abbrev pub SetsExactBounds : Capability → ℕ → Result Capability Refusal → Type 0
 SetsExactBounds cap length result =
-    RefusedUnless (IsUnsealed cap) Sealed result (
-    RefusedUnless (IsWithin (request_of cap length) cap.span) OutOfBounds result (
-    RefusedUnless (IsExact (request_of cap length)) Inexact result (
+    RefusedUnless (IsUnsealed cap) (result ≡ Err Sealed) (
+    RefusedUnless (IsWithin (request_of cap length) cap.span) (result ≡ Err OutOfBounds) (
+    RefusedUnless (IsExact (request_of cap length)) (result ≡ Err Inexact) (
     result ≡ Ok (with_span cap (request_of cap length)))))
 
 -- keeping the permissions that are in the mask too
 abbrev pub MasksPermissions : Capability → ℕ → Result Capability Refusal → Type 0
 MasksPermissions cap mask result =
-    RefusedUnless (IsUnsealed cap) Sealed result (
+    RefusedUnless (IsUnsealed cap) (result ≡ Err Sealed) (
     result ≡ Ok (with_permissions cap (bit_and cap.permissions mask)))
 
 -- setting the flag
 abbrev pub SetsFlag : Capability → Bool → Result Capability Refusal → Type 0
 SetsFlag cap flag result =
-    RefusedUnless (IsUnsealed cap) Sealed result (
+    RefusedUnless (IsUnsealed cap) (result ≡ Err Sealed) (
     result ≡ Ok (with_flag cap flag))
 
 -- sealing with the authority's address as the type
 abbrev pub Seals : Capability → Capability → Result Capability Refusal → Type 0
 Seals cap authority result =
-    RefusedUnless (IsUnsealed cap × IsUnsealed authority) Sealed result (
-    RefusedUnless (HasAll authority.permissions seal_permission) MissingPermission result (
-    RefusedUnless (Grants authority authority.address) OutOfBounds result (
-    RefusedUnless (authority.address ≤ last_sealing_type) ReservedType result (
+    RefusedUnless (IsUnsealed cap × IsUnsealed authority) (result ≡ Err Sealed) (
+    RefusedUnless (HasAll authority.permissions seal_permission) (result ≡ Err MissingPermission) (
+    RefusedUnless (Grants authority authority.address) (result ≡ Err OutOfBounds) (
+    RefusedUnless (authority.address ≤ last_sealing_type) (result ≡ Err ReservedType) (
     result ≡ Ok (sealed_with cap authority.address)))))
 
 -- unsealing what is sealed with the authority's address; GLOBAL is kept only where both have it
 abbrev pub Unseals : Capability → Capability → Result Capability Refusal → Type 0
 Unseals cap authority result =
-    RefusedUnless (IsSealed cap) Unsealed result (
-    RefusedUnless (IsUnsealed authority) Sealed result (
-    RefusedUnless (HasAll authority.permissions unseal_permission) MissingPermission result (
-    RefusedUnless (Grants authority authority.address) OutOfBounds result (
-    RefusedUnless (authority.address ≡ cap.otype) TypeMismatch result (
+    RefusedUnless (IsSealed cap) (result ≡ Err Unsealed) (
+    RefusedUnless (IsUnsealed authority) (result ≡ Err Sealed) (
+    RefusedUnless (HasAll authority.permissions unseal_permission) (result ≡ Err MissingPermission) (
+    RefusedUnless (Grants authority authority.address) (result ≡ Err OutOfBounds) (
+    RefusedUnless (authority.address ≡ cap.otype) (result ≡ Err TypeMismatch) (
     result ≡ Ok (unsealed_by cap authority))))))
 
 -- rebuilding the capability of a word that grants no more than the authority
 abbrev pub Rebuilds : Capability → ℕ → Result Capability Refusal → Type 0
 Rebuilds authority word result =
-    RefusedUnless (IsUnsealed authority) Sealed result (
-    RefusedUnless (IsCanonical word) NotCanonical result (
+    RefusedUnless (IsUnsealed authority) (result ≡ Err Sealed) (
+    RefusedUnless (IsCanonical word) (result ≡ Err NotCanonical) (
     (cap : Capability) × IsWordOf cap word
-    × RefusedUnless (IsUnsealed cap × GrantsNoMore cap authority) ExceedsAuthority result (result ≡ Ok cap)))
+    × RefusedUnless (IsUnsealed cap × GrantsNoMore cap authority) (result ≡ Err ExceedsAuthority) (result ≡ Ok cap)))

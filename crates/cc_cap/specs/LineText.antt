@@ -1,16 +1,12 @@
 -- The text of a word on one line.
-use Rattle.std.specs.Prelude.{ℕ, Bool, ◌≡◌, ◌==◌, ◌-◌, ◌<◌, ◌≤◌, ◌^◌, List, [], ◌++◌, codes, false, if◌then◌else◌}
+use Rattle.std.specs.Prelude.{ℕ, Bool, ◌≡◌, ◌==◌, ◌-◌, ◌<◌, ◌≤◌, ◌^◌, List, [], ◌++◌, codes, if◌then◌else◌}
 use Rattle.std.specs.Int.RustNames.{bit_and}
-use Rattle.std.specs.Fmt.{digits}
 use Rattle.cc_word.specs.declared.fields.Fields.{Fields}
 use Rattle.cc_word.specs.Word.{word_of}
+use Rattle.cc_word.specs.WordText.{hexadecimal}
 use Rattle.cc_bounds.specs.declared.span.Span.{Span}
 use Rattle.cc_bounds.specs.Decoding.{DecodesTo}
 use Rattle.cc_cap.specs.ObjType.{sentry_type, unsealed_type}
-
--- `0x` and the digits of a number to base 16, in lower case and without leading zeros
-abbrev pub prefixed_digits : ℕ → List ℕ
-prefixed_digits number = codes "0x" ++ digits 16 false number
 
 -- a letter, where the set has the permission that it stands for
 abbrev pub letter_of : (letter : List ℕ) (permissions permission : ℕ) → List ℕ
@@ -34,8 +30,8 @@ marks_of otype tagged =
 -- the address, then in brackets the letters, the base and the top, and then the marks
 abbrev pub line_of : (fields : Fields) (bounds : Span) (tagged : Bool) → List ℕ
 line_of fields bounds tagged =
-    prefixed_digits fields.address ++ codes " [" ++ letters_of fields.perms ++ codes ","
-    ++ prefixed_digits bounds.base ++ codes "-" ++ prefixed_digits bounds.top ++ codes "]" ++ marks_of fields.otype tagged
+    hexadecimal fields.address ++ codes " [" ++ letters_of fields.perms ++ codes ","
+    ++ hexadecimal bounds.base ++ codes "-" ++ hexadecimal bounds.top ++ codes "]" ++ marks_of fields.otype tagged
 
 -- The line of a word: that of its fields and of the bounds that they decode to. There are no other such
 -- fields, and no other such bounds.

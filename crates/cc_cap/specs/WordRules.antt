@@ -1,6 +1,7 @@
 -- The rules of derivation on words: a word goes in, and a word or a refusal comes out.
 use Rattle.std.specs.Prelude.{ℕ, ◌≡◌, Result, Ok, Err}
 use Rattle.cc_word.specs.declared.fields.Fields.{Fields}
+use Rattle.cc_word.specs.Refusal.{RefusedUnless}
 use Rattle.cc_word.specs.declared.refusal.Refusal.{Refusal}
 use Rattle.cc_word.specs.declared.refusal.Refusal.TheVariants.{NotCanonical}
 use Rattle.cc_bounds.specs.declared.span.Span.{Span}
@@ -9,7 +10,6 @@ use Rattle.cc_bounds.specs.Decoding.{DecodesTo}
 use Rattle.cc_cap.specs.Permissions.{HasAll}
 use Rattle.cc_cap.specs.Capability.{Capability}
 use Rattle.cc_cap.specs.Canonical.{IsWordOf, IsCanonical}
-use Rattle.cc_cap.specs.Derivation.{RefusedUnless}
 
 -- a result in words: the word of the capability that was made, or the same refusal
 abbrev pub InWords : (made : Result Capability Refusal) (result : Result ℕ Refusal) → Type 0
@@ -27,13 +27,13 @@ pub record MakesWord (rule : Result Capability Refusal → Type 0) (result : Res
 -- A rule on a word. A word that is none of a capability is refused, before the rule is asked.
 abbrev pub OnWord : (rule : Capability → Result Capability Refusal → Type 0) (word : ℕ) (result : Result ℕ Refusal) → Type 0
 OnWord rule word result =
-    RefusedUnless (IsCanonical word) NotCanonical result (
+    RefusedUnless (IsCanonical word) (result ≡ Err NotCanonical) (
     (cap : Capability) × IsWordOf cap word × MakesWord (rule cap) result)
 
 -- a rule on a word and the word of an authority
 abbrev pub OnWords : (rule : Capability → Capability → Result Capability Refusal → Type 0) (word authority : ℕ) (result : Result ℕ Refusal) → Type 0
 OnWords rule word authority result =
-    RefusedUnless (IsCanonical word) NotCanonical result (
+    RefusedUnless (IsCanonical word) (result ≡ Err NotCanonical) (
     (cap : Capability) × IsWordOf cap word × OnWord (rule cap) authority result)
 
 -- where a capability has the word, the result is what the rule makes of that capability

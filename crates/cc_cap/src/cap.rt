@@ -2,12 +2,9 @@
 use crate::obj_type::ObjType;
 use crate::perms::Perms;
 use bitflags::Flags;
-use cc_bounds::{Set, Span, represents};
+use cc_bounds::{ADDRESS_SPACE, Set, Span, represents};
 use cc_word::{Fields, Refusal, pack, unpack};
 use std::marker::Model;
-
-/// How many bytes the address space has.
-const ADDRESS_SPACE: u128 = 1 << 64;
 
 /// A capability: bounds, an address, permissions, a flag and an object type.
 ///
@@ -347,7 +344,7 @@ impl Cap {
             return Err(Refusal::MissingPermission);
         }
         let span = self.span();
-        if self.address < span.base || u128::from(self.address) >= span.top {
+        if !span.contains(self.address) {
             return Err(Refusal::OutOfBounds);
         }
         Ok(())
@@ -358,10 +355,7 @@ impl Cap {
         ensures allowed { IsTrue result ↔ (IsUnsealed self.now × GrantsNoMore self.now authority.now) }
         ensures authority { IsCapability authority.now }
     {
-        let inner = self.span();
-        let outer = authority.span();
-        outer.base <= inner.base
-            && inner.top <= outer.top
+        self.span().is_within(&authority.span())
             && authority.perms.contains(self.perms)
             && !self.is_sealed()
     }

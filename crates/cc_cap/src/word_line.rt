@@ -1,8 +1,9 @@
 //! The text of a word on one line, in fixed room.
 ghost use Rattle.std.specs.Prelude.{◌≡◌, ◌+◌, ◌-◌, ◌^◌, ◌<◌, ◌≤◌, ◌++◌, [], length};
+ghost use Rattle.cc_word.specs.WordText.{hexadecimal};
 ghost use Rattle.cc_word.specs.declared.fields.Fields.{Fields as FieldsSpec};
 ghost use Rattle.cc_cap.specs.Permissions.{bits_of};
-ghost use Rattle.cc_cap.specs.LineText.{HasDigits, IsLine, letter_of, letters_of, line_of, marks_of, prefixed_digits};
+ghost use Rattle.cc_cap.specs.LineText.{HasDigits, IsLine, letter_of, letters_of, line_of, marks_of};
 
 use crate::obj_type::UNSEALED_TYPE;
 use crate::perms::Perms;
@@ -101,7 +102,7 @@ impl WordLine {
     fn push_number(&mut self, number: u128)
         requires small { number < 2 ^ 65 }
         requires room { length self.old + 19 < 96 }
-        ensures value { self.new ≡ self.old ++ prefixed_digits number }
+        ensures value { self.new ≡ self.old ++ hexadecimal number }
         ensures fits { length self.new ≤ length self.old + 19 }
     {
         self.push(b"0x");

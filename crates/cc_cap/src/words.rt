@@ -7,7 +7,6 @@
 ghost use Rattle.std.specs.Prelude.{◌≡◌, ◌↔◌, ◌<◌, ◌^◌, IsTrue, IfOk};
 ghost use Rattle.cc_word.specs.Word.{word_of};
 ghost use Rattle.cc_word.specs.declared.fields.Fields.{Fields as FieldsSpec};
-ghost use Rattle.cc_bounds.specs.Span.{IsWithin};
 ghost use Rattle.cc_cap.specs.Permissions.{bits_of};
 ghost use Rattle.cc_cap.specs.Capability.{Capability, IsCapability, GrantsNoMore};
 ghost use Rattle.cc_cap.specs.Canonical.{IsWordOf, IsCanonical};
@@ -17,11 +16,8 @@ ghost use Rattle.cc_cap.specs.WordRules.{InWords, OnWord, OnWords, IsSubset};
 
 use crate::cap::Cap;
 use crate::perms::Perms;
-use cc_bounds::{Span, decode};
+use cc_bounds::{ADDRESS_SPACE, decode};
 use cc_word::{Fields, Refusal, unpack};
-
-/// How many bytes the address space has.
-const ADDRESS_SPACE: u128 = 1 << 64;
 
 /// The word at another address, with the same bounds.
 ///
@@ -140,15 +136,8 @@ pub fn is_subset(inner: u128, outer: u128) -> bool
 fn is_subset_of(inner: &Fields, outer: &Fields) -> bool
     ensures { IsTrue result ↔ IsSubset inner.now outer.now }
 {
-    let bytes = is_within(&decode(inner), &decode(outer));
+    let bytes = decode(inner).is_within(&decode(outer));
     bytes && outer.perms & inner.perms == inner.perms
-}
-
-// Whether a span begins and ends within another.
-fn is_within(inner: &Span, outer: &Span) -> bool
-    ensures { IsTrue result ↔ IsWithin inner.now outer.now }
-{
-    outer.base <= inner.base && inner.top <= outer.top
 }
 
 // The capability of a word.

@@ -1,27 +1,21 @@
 -- What `show` writes for a text.
-use Rattle.std.specs.Prelude.{◌≡◌, ◌⊎◌, ℕ, List, ◌++◌, length, codes, decimal, Bool, IsTrue, ◌↔◌, if◌then◌else◌}
-use Rattle.std.specs.List.{AllPass}
-use Rattle.hex.specs.Hex.{is_hex_digit}
+use Rattle.std.specs.Prelude.{◌≡◌, ◌⊎◌, ℕ, List, ◌++◌, codes, decimal, Bool, IsTrue, ◌↔◌, if◌then◌else◌}
 use Rattle.cc_word.specs.Word.{word_of, bit_of}
 use Rattle.std.specs.Str.Parse.{digits_value}
-use Rattle.cc_word.specs.WordText.{digits_of}
+use Rattle.cc_word.specs.WordText.{digits_of, hexadecimal}
+pub use Rattle.cc_word.specs.WordText.{IsWordText}
 use Rattle.cc_word.specs.declared.fields.Fields.{Fields}
 use Rattle.cc_word.specs.declared.refusal.Refusal.TheVariants.{Syntax}
 use Rattle.cc_bounds.specs.declared.span.Span.{Span}
 use Rattle.cc_bounds.specs.Decoding.{stored_exponent, DecodesTo}
 use Rattle.cc_cap.specs.Canonical.{IsCanonical}
 use Rattle.cc_script.specs.Output.{with_line_feed}
-use Rattle.cc_script.specs.Replies.{hexadecimal}
 use Rattle.cc_command.specs.Answer.{IsRefusalLine}
 use Rattle.cc_command.specs.Permissions.{permissions_text}
 
 -- a name, one space, a value and the line feed
 abbrev pub line_of : (name value : List ℕ) → List ℕ
 line_of name value = with_line_feed (name ++ codes " " ++ value)
-
--- a text that spells a word: 32 hexadecimal digits of either case
-abbrev pub IsWordText : List ℕ → Type 0
-IsWordText text = (length text ≡ 32) × AllPass is_hex_digit text
 
 -- the lines of a word and of its fields
 abbrev pub field_lines_of : (word : ℕ) (fields : Fields) → List ℕ

@@ -1,8 +1,7 @@
 -- Pieces of text with a number in them. They are not unfolded by themselves, so that a proof on many of them does not
 -- look at each byte.
 use Rattle.std.specs.Prelude.{ℕ, List, [], ◌∷◌, ◌++◌, decimal}
-use Rattle.cc_word.specs.WordText.{digits_of}
-use Rattle.cc_script.specs.Replies.{hexadecimal}
+use Rattle.cc_word.specs.WordText.{digits_of, hexadecimal}
 
 -- the end of a line
 abbrev pub line_feed : List ℕ

@@ -9,7 +9,7 @@ ghost use Rattle.cc_cap.specs.ObjType.{IsObjType};
 ghost use Rattle.cc_command.specs.Standing.{IsStanding};
 ghost use Rattle.cc_command.specs.declared.standing.Standing.TheVariants.{StoredAs};
 
-use cc_bounds::{Span, set_bounds};
+use cc_bounds::{ADDRESS_SPACE, Span, set_bounds};
 use cc_cap::{ObjType, is_canonical};
 use cc_word::Fields;
 
@@ -44,7 +44,7 @@ pub(crate) fn standing_of(word: u128, fields: &Fields, bounds: &Span) -> Standin
         Standing::ReservedType
     } else if bounds.top < u128::from(bounds.base) {
         Standing::TopBelowBase
-    } else if bounds.top > 1 << 64 {
+    } else if bounds.top > ADDRESS_SPACE {
         Standing::TopPastEnd
     } else {
         stored_as(bounds)
@@ -64,7 +64,7 @@ fn stored_as(bounds: &Span) -> Standing
     requires decoded { IsDecoded bounds.now }
     ensures { result ≡ StoredAs (ie_of bounds.now) (t_of bounds.now) (b_of bounds.now) }
 {
-    let set = set_bounds(bounds.base, bounds.top - u128::from(bounds.base));
+    let set = set_bounds(bounds.base, bounds.len());
     Standing::StoredAs {
         ie: set.ie(),
         t: set.t(),

@@ -1,6 +1,5 @@
-ghost use Rattle.std.specs.Prelude.{◌≡◌, ◌≤◌, ◌^◌, ◌↔◌, length, IfOk, IsSome};
-ghost use Rattle.std.specs.List.{AllPass};
-ghost use Rattle.hex.specs.Hex.{is_hex_digit};
+ghost use Rattle.std.specs.Prelude.{◌≤◌, ◌^◌, ◌↔◌, IfOk, IsSome};
+ghost use Rattle.cc_word.specs.WordText.{IsWordText};
 ghost use Rattle.cc_cap.specs.Capability.{GrantsNoMore};
 
 use cc_bounds::{Span, decode};
@@ -9,7 +8,7 @@ use cc_word::{Refusal, read_word, unpack};
 
 /// The bounds that a text's word decodes to. Every 32 hexadecimal digits are a word.
 pub fn bounds_of(text: &[u8]) -> Option<Span>
-    ensures { IsSome result ↔ ((length text.now ≡ 32) × AllPass is_hex_digit text.now) }
+    ensures { IsSome result ↔ IsWordText text.now }
 {
     let word = read_word(text)?;
     Some(decode(&unpack(word)))

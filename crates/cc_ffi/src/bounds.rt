@@ -11,11 +11,8 @@ ghost use Rattle.cc_bounds.specs.declared.span.Span.{Span as SpanSpec};
 
 use crate::halves::{halves, number};
 use crate::structs::{Bounds, GrantedBounds};
-use cc_bounds::{Set, decode, exponent, represents, set_bounds};
+use cc_bounds::{ADDRESS_SPACE, Set, decode, exponent, represents, set_bounds};
 use cc_word::unpack;
-
-/// How many bytes the address space has.
-const ADDRESS_SPACE: u128 = 1 << 64;
 
 /// The base, the top and the exponent of a word, for every word.
 #[unsafe(no_mangle)]

@@ -6,9 +6,7 @@ ghost use Rattle.cc_bounds.specs.Granule.{IsGranule, granule_of, padded_size};
 
 use crate::halves::{halves, number};
 use crate::structs::Halves;
-
-/// The longest length: that of the whole address space.
-const MAX_LENGTH: u128 = 1 << 64;
+use cc_bounds::ADDRESS_SPACE;
 
 /// The granule of a length, and 0 for a length above 2^64.
 #[unsafe(no_mangle)]
@@ -17,7 +15,7 @@ pub extern "C" fn cheri_cap_granule(length_high: u64, length_low: u64) -> u64
     ensures too_long { 2 ^ 64 < number_of length_high length_low → result ≡ 0 }
 {
     let length = number(length_high, length_low);
-    if length > MAX_LENGTH {
+    if length > ADDRESS_SPACE {
         return 0;
     }
     cc_bounds::granule(length)
@@ -31,7 +29,7 @@ pub extern "C" fn cheri_cap_round_length(length_high: u64, length_low: u64) -> H
     ensures too_long { 2 ^ 64 < number_of length_high length_low → value_of result ≡ 2 ^ 128 - 1 }
 {
     let length = number(length_high, length_low);
-    if length > MAX_LENGTH {
+    if length > ADDRESS_SPACE {
         return halves(u128::MAX);
     }
     halves(cc_bounds::round_length(length))
@@ -44,7 +42,7 @@ pub extern "C" fn cheri_cap_alignment_mask(length_high: u64, length_low: u64) ->
     ensures too_long { 2 ^ 64 < number_of length_high length_low → result ≡ 0 }
 {
     let length = number(length_high, length_low);
-    if length > MAX_LENGTH {
+    if length > ADDRESS_SPACE {
         return 0;
     }
     cc_bounds::alignment_mask(length)

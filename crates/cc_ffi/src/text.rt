@@ -1,9 +1,7 @@
 //! Words as text.
 ghost use Rattle.std.specs.Prelude.{◌≡◌, ◌<◌, ◌↔◌, Some, length, slice_get, take, IsTrue};
-ghost use Rattle.std.specs.List.{AllPass};
 ghost use Rattle.std.specs.Str.Parse.{digits_value};
-ghost use Rattle.hex.specs.Hex.{is_hex_digit};
-ghost use Rattle.cc_word.specs.WordText.{digits_of};
+ghost use Rattle.cc_word.specs.WordText.{IsWordText, digits_of};
 ghost use Rattle.cc_cap.specs.LineText.{IsLine};
 ghost use Rattle.cc_ffi.specs.Numbers.{number_of};
 
@@ -14,7 +12,7 @@ use cc_cap::WordLine;
 /// The word that 32 hexadecimal digits of either case spell. Any other text spells none.
 #[unsafe(no_mangle)]
 pub extern "C" fn cheri_cap_read_word(text: &[u8]) -> ReadWord
-    ensures found { IsTrue result.found ↔ ((length text.now ≡ 32) × AllPass is_hex_digit text.now) }
+    ensures found { IsTrue result.found ↔ IsWordText text.now }
     ensures value { IsTrue result.found → number_of result.high result.low ≡ digits_value 16 text.now }
     ensures none { (¬ IsTrue result.found) → number_of result.high result.low ≡ 0 }
 {

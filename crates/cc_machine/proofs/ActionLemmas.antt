@@ -1,6 +1,7 @@
 -- The planner's calls, as a machine makes them, are the machine's steps.
 use Rattle.std.proofs.Common.{ℕ, ◌≡◌, ◌⊎◌, ◌+◌, ◌<◌, ◌∙◌, List, [], ◌∷◌, ◌++◌, Option, Some, None, IsSome, IsNone, IfSome, Result, Ok, Err, MatchResult, length, map, sum_by, refl, sym, ap, subst, inl, inr, arith}
 use Rattle.std.proofs.lemmas.List.{length_push}
+use Rattle.cc_word.specs.Refusal.{RefusedUnless}
 use Rattle.cc_word.specs.declared.refusal.Refusal.{Refusal}
 use Rattle.cc_word.specs.declared.refusal.Refusal.TheVariants.{NoRoom, Sealed, PoolAlreadySet}
 use Rattle.cc_bounds.specs.declared.span.Span.{Span}
@@ -13,12 +14,12 @@ use Rattle.cc_plan.specs.declared.object.PlannedObject.{PlannedObject}
 use Rattle.cc_plan.specs.declared.align.Align.{Align}
 use Rattle.cc_plan.specs.Align.{padded_size_for, unit_of}
 use Rattle.cc_plan.specs.Placement.{IsPlacement, HasNoPlace}
-use Rattle.cc_plan.specs.Plan.{Plan, GivesPool, Allocates as PlanAllocates, RefusedUnless as PlanRefusedUnless, MakesObject as PlanMakes, HasNoRoom as PlanHasNoRoom, held_spans as planned_spans, held_bytes_of as planned_bytes, capability_over, span_at}
+use Rattle.cc_plan.specs.Plan.{Plan, GivesPool, PlanAllocates, RefusesCall, PlanMakesObject, PlanHasNoRoom, held_spans as planned_spans, held_bytes_of as planned_bytes, capability_over, span_at}
 use Rattle.cc_machine.specs.declared.reply.Reply.{Reply}
 use Rattle.cc_machine.specs.declared.reply.Reply.TheVariants.{PoolSet, Allocated, Refused}
 use Rattle.cc_machine.specs.State.{State, SlotState, tagged_slot, IsSlot}
 use Rattle.cc_machine.specs.Objects.{held_spans, held_bytes_of, with_object}
-use Rattle.cc_machine.specs.Step.{usable_slot, Refuses, RefusedUnless, SetsPool, Allocates}
+use Rattle.cc_machine.specs.Step.{usable_slot, Refuses, SetsPool, Allocates}
 use Rattle.cc_machine.specs.Run.{IsReached}
 use Rattle.cc_machine.specs.Owners.{TellsOwners}
 use Rattle.cc_machine.specs.Machine.{objects_in, pool_capability, planned_object, plan_of}
@@ -41,26 +42,26 @@ state_with limit slots pool plan own = record {
 }
 
 -- a call of the planner that answers has passed its first check
-plan-passes : {A condition rest : Type 0} {refusal : Refusal} {old new : Plan} {answer : A} → PlanRefusedUnless condition refusal old (Ok answer) new rest
+plan-passes : {A condition rest : Type 0} {refusal : Refusal} {old new : Plan} {answer : A} → RefusedUnless condition (RefusesCall refusal old (Ok answer) new) rest
     → condition × rest
 plan-passes (inl holds) = holds
 plan-passes (inr fails) = let e = fails.1 in cc
 
 -- a refused pool leaves the plan
 pub give-refused : (old new : Plan) (pool : Capability) (align : Align) (refusal : Refusal) → GivesPool old pool align (Err refusal) new → new ≡ old
-give-refused old new pool align refusal (inr sealed) = sealed.2
-give-refused old new pool align refusal (inl (_, inr given)) = given.2
+give-refused old new pool align refusal (inr sealed) = sealed.1.1
+give-refused old new pool align refusal (inl (_, inr given)) = given.1.1
 give-refused old new pool align refusal (inl (_, inl (_, (answer, _)))) = let e = answer in cc
 
 -- a refused object leaves the plan
 pub alloc-refused : (old new : Plan) (size : ℕ) (refusal : Refusal) → PlanAllocates old size (Err refusal) new → new ≡ old
-alloc-refused old new size refusal (inr none) = none.2
-alloc-refused old new size refusal (inl (_, inr nothing)) = nothing.2
-alloc-refused old new size refusal (inl (_, inl (_, inr full))) = full.2
+alloc-refused old new size refusal (inr none) = none.1.1
+alloc-refused old new size refusal (inl (_, inr nothing)) = nothing.1.1
+alloc-refused old new size refusal (inl (_, inl (_, inr full))) = full.1.1
 alloc-refused old new size refusal (inl (some, inl (_, inl (_, decided)))) = by_pool old.pool some decided
   where
     by_pool : (pool : Option Capability) → IsSome pool
-        → IfSome pool (λ cap. PlanMakes old cap size (Err refusal) new ⊎ PlanHasNoRoom old cap size (Err refusal) new) → new ≡ old
+        → IfSome pool (λ cap. PlanMakesObject old cap size (Err refusal) new ⊎ PlanHasNoRoom old cap size (Err refusal) new) → new ≡ old
     by_pool None some decided = let e = some in cc
     by_pool (Some above) some (inl made) = let e = made.answer in cc
     by_pool (Some above) some (inr none) = none.stays
@@ -69,8 +70,8 @@ alloc-refused old new size refusal (inl (some, inl (_, inl (_, decided)))) = by_
 abbrev SetsPoolFrom : Result SlotState Refusal → State → ℕ → Align → Reply → State → Type 0
 SetsPoolFrom found old number align reply new =
     MatchResult found (λ slot.
-    RefusedUnless (IsUnsealed slot.capability) Sealed old reply new (
-    RefusedUnless (IsNone old.pool) PoolAlreadySet old reply new (
+    RefusedUnless (IsUnsealed slot.capability) (Refuses Sealed old reply new) (
+    RefusedUnless (IsNone old.pool) (Refuses PoolAlreadySet old reply new) (
     (reply ≡ PoolSet number slot.capability.span align) × (new ≡ record old { pool = Some number; align = align }))))
     (λ refusal. Refuses refusal old reply new)
 
@@ -156,7 +157,7 @@ module _ (limit : ℕ) (slots : List SlotState) (pool : Option ℕ) (plan : Plan
     room = omega (arith, objects.fewer, count-of, limit-of, left)
 
     alloc-makes : (made : ObjectId × Capability) (new_plan : Plan) (word held : ℕ) (span : Span) (new_slots : List SlotState) (new_own : List ℕ)
-        → PlanMakes plan slot.capability size (Ok made) new_plan → IsWordOf made.1 word → span ≡ made.1.span → held ≡ planned_bytes new_plan.objects
+        → PlanMakesObject plan slot.capability size (Ok made) new_plan → IsWordOf made.1 word → span ≡ made.1.span → held ≡ planned_bytes new_plan.objects
         → new_slots ≡ slots ++ tagged_slot made.1 (Some number) ∷ [] → new_own ≡ own ++ length slots ∷ []
         → AllocatesTo size (Allocated made.0.0 (length slots) word span held) new_slots new_plan new_own
     alloc-makes made new_plan word held span new_slots new_own m is_word is_span is_held slots_are own_is =
@@ -221,14 +222,14 @@ module _ (limit : ℕ) (slots : List SlotState) (pool : Option ℕ) (plan : Plan
 
     -- what the planner decides of its pool
     decides : (answer : Result (ObjectId × Capability) Refusal) (new_plan : Plan) → PlanAllocates plan size answer new_plan
-        → PlanMakes plan slot.capability size answer new_plan ⊎ PlanHasNoRoom plan slot.capability size answer new_plan
+        → PlanMakesObject plan slot.capability size answer new_plan ⊎ PlanHasNoRoom plan slot.capability size answer new_plan
     decides answer new_plan (inr none) =
         let e = pool-of number slot is_pool at in
         absurd (none.0 (subst (λ (p : Option Capability). IsSome p) (sym e) refl))
     decides answer new_plan (inl (_, inr nothing)) = absurd (nothing.0 some)
     decides answer new_plan (inl (_, inl (_, inr full))) = absurd (full.0 room)
     decides answer new_plan (inl (_, inl (_, inl (_, decided)))) =
-        subst (λ (p : Option Capability). IfSome p (λ cap. PlanMakes plan cap size answer new_plan ⊎ PlanHasNoRoom plan cap size answer new_plan))
+        subst (λ (p : Option Capability). IfSome p (λ cap. PlanMakesObject plan cap size answer new_plan ⊎ PlanHasNoRoom plan cap size answer new_plan))
         (pool-of number slot is_pool at) decided
 
     -- the object that the planner made

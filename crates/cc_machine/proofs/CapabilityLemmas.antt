@@ -1,5 +1,6 @@
 -- Every slot of a state that a run leads to holds a capability that can exist.
 use Rattle.std.proofs.Common.{ℕ, zero, suc, ◌≡◌, List, [], ◌∷◌, Some, None, IsNone, Result, Ok, Err, MatchResult, refl, sym, ap, subst, inl, inr}
+use Rattle.cc_word.specs.Refusal.{RefusedUnless}
 use Rattle.cc_word.specs.declared.refusal.Refusal.{Refusal}
 use Rattle.cc_cap.specs.Capability.{Capability, IsCapability, IsUnsealed, root_capability}
 use Rattle.cc_cap.proofs.BoundsLemmas.{root-IsCapability}
@@ -11,7 +12,7 @@ use Rattle.cc_machine.specs.declared.op.Op.TheVariants.{Seal, Unseal, Rebuild, R
 use Rattle.cc_machine.specs.declared.reply.Reply.{Reply}
 use Rattle.cc_machine.specs.State.{State, SlotState, tagged_slot, initial_state, with_slot}
 use Rattle.cc_machine.specs.Objects.{with_object}
-use Rattle.cc_machine.specs.Step.{Adds, Allocates, Frees, Refuses, RefusedUnless, usable_slot, Step}
+use Rattle.cc_machine.specs.Step.{Adds, Allocates, Frees, Refuses, usable_slot, Step}
 use Rattle.cc_machine.specs.declared.reply.Reply.TheVariants.{PoolSet}
 use Rattle.cc_word.specs.declared.refusal.Refusal.TheVariants.{Sealed, PoolAlreadySet}
 use Rattle.cc_machine.specs.Run.{Run, IsReached}
@@ -77,8 +78,8 @@ HoldsCapabilities-free old new number reply holds (inr refused) = HoldsCapabilit
 -- after giving the pool
 HoldsCapabilities-pool : (old new : State) (number : ℕ) (align : Align) (found : Result SlotState Refusal) (reply : Reply) → HoldsCapabilities old
     → MatchResult found (λ slot.
-    RefusedUnless (IsUnsealed slot.capability) Sealed old reply new (
-    RefusedUnless (IsNone old.pool) PoolAlreadySet old reply new (
+    RefusedUnless (IsUnsealed slot.capability) (Refuses Sealed old reply new) (
+    RefusedUnless (IsNone old.pool) (Refuses PoolAlreadySet old reply new) (
     (reply ≡ PoolSet number slot.capability.span align) × (new ≡ record old { pool = Some number; align = align }))))
     (λ refusal. Refuses refusal old reply new)
     → HoldsCapabilities new

@@ -10,7 +10,7 @@ use Rattle.cc_bounds.specs.declared.span.Span.{Span}
 use Rattle.cc_bounds.specs.Span.{length_of}
 use Rattle.cc_plan.specs.declared.object.ObjectState.TheVariants.{Live, Freed}
 use Rattle.cc_plan.specs.declared.object.PlannedObject.{PlannedObject}
-use Rattle.cc_plan.specs.Plan.{Plan, Frees as PlanFrees, held_bytes_of as planned_bytes, IsLive, object_numbered}
+use Rattle.cc_plan.specs.Plan.{Plan, PlanFrees, held_bytes_of as planned_bytes, IsLive, object_numbered}
 use Rattle.cc_machine.specs.declared.object.Object.{Object}
 use Rattle.cc_machine.specs.declared.reply.Reply.TheVariants.{Freed as ToldFreed}
 use Rattle.cc_machine.specs.State.{State, SlotState}
@@ -99,8 +99,8 @@ pub record IsRefusedFree (plan : Plan) (number : ℕ) (refusal : Refusal) (new_p
 pub free-refused : (plan : Plan) (number : ℕ) (refusal : Refusal) (new_plan : Plan) → PlanFrees plan number (Err refusal) new_plan
     → IsRefusedFree plan number refusal new_plan
 free-refused plan number refusal new_plan (inr none) =
-    let answer = none.1 in
-    record { is_refusal = cc; not_live = none.0; stays = none.2 }
+    let answer = none.1.0 in
+    record { is_refusal = cc; not_live = none.0; stays = none.1.1 }
 free-refused plan number refusal new_plan (inl (_, (answer, _))) = let e = answer in cc
 
 -- an object that is live in the state is live in the planner

@@ -3,6 +3,7 @@ use Rattle.std.specs.List.{AllByRecursion}
 use Rattle.std.specs.Int.{div_ceil}
 use Rattle.std.proofs.Common.{ℕ, slice_set, ◌≡◌, ◌⊎◌, ◌+◌, ◌-◌, ◌*◌, ◌^◌, ◌<◌, ◌∙◌, List, [], ◌∷◌, Option, Some, None, IsSome, IsNone, Result, Ok, Err, MatchResult, length, map, refl, sym, ap, subst, inl, inr, arith}
 use Rattle.std.proofs.Math.Decide.{ℕ_discrete, dec_lt}
+use Rattle.cc_word.specs.Refusal.{RefusedUnless}
 use Rattle.cc_word.specs.declared.refusal.Refusal.{Refusal}
 use Rattle.cc_word.specs.declared.refusal.Refusal.TheVariants.{Sealed, PoolAlreadySet, NoRoom, NoObject, Full}
 use Rattle.cc_bounds.specs.declared.span.Span.{Span}
@@ -28,7 +29,7 @@ use Rattle.cc_machine.specs.declared.reply.Reply.{Reply}
 use Rattle.cc_machine.specs.declared.reply.Reply.TheVariants.{Made, Shown, Rounded, PoolSet, Allocated, Refused, Freed as ToldFreed, Swept as ToldSwept}
 use Rattle.cc_machine.specs.State.{State, SlotState, IsSlot, with_slot}
 use Rattle.cc_machine.specs.Objects.{object_at, BelongsToSome, IsLiveObject, IsPool, held_spans, held_bytes_of, freed_count, swept, with_object}
-use Rattle.cc_machine.specs.Step.{usable_slot, OnSlot, Refuses, Adds, Derives, ShowsSlot, Shows, RoundsLength, RefusedUnless, SetsPool, PlacesObject, Allocates, Frees, RevokesIf, Sweeps, Step}
+use Rattle.cc_machine.specs.Step.{usable_slot, OnSlot, Refuses, Adds, Derives, ShowsSlot, Shows, RoundsLength, SetsPool, PlacesObject, Allocates, Frees, RevokesIf, Sweeps, Step}
 use Rattle.cc_machine.specs.Run.{Run, IsReached, IsInAddressSpace}
 use Rattle.cc_machine.specs.Laws.{HoldsCapabilities}
 use Rattle.cc_machine.proofs.StepLemmas.{usable-is}
@@ -50,7 +51,7 @@ refuses old refusal = record { reply = Refused refusal; new = old; leads = (refl
 -- an operation of which the first condition is decided
 unless : (old : State) (condition : Type 0) (refusal : Refusal) (Rest : Reply → State → Type 0) → Dec condition
     → (condition → HasOutcome Rest)
-    → HasOutcome (λ reply new. RefusedUnless condition refusal old reply new (Rest reply new))
+    → HasOutcome (λ reply new. RefusedUnless condition (Refuses refusal old reply new) (Rest reply new))
 unless old condition refusal Rest (yes holds) rest =
     let next = rest holds in record { reply = next.reply; new = next.new; leads = inl (holds, next.leads) }
 unless old condition refusal Rest (no not) rest =
@@ -138,8 +139,8 @@ sets_pool : (old : State) (number : ℕ) (align : Align) → HasOutcome (SetsPoo
 sets_pool old number align = by_found (usable_slot old.slots number)
   where
     by_found : (found : Result SlotState Refusal) → HasOutcome (λ reply new. MatchResult found (λ slot.
-        RefusedUnless (IsUnsealed slot.capability) Sealed old reply new (
-        RefusedUnless (IsNone old.pool) PoolAlreadySet old reply new (
+        RefusedUnless (IsUnsealed slot.capability) (Refuses Sealed old reply new) (
+        RefusedUnless (IsNone old.pool) (Refuses PoolAlreadySet old reply new) (
         (reply ≡ PoolSet number slot.capability.span align) × (new ≡ record old { pool = Some number; align = align }))))
         (λ refusal. Refuses refusal old reply new))
     by_found (Err refusal) = refuses old refusal

@@ -12,7 +12,7 @@ use Rattle.cc_plan.specs.declared.align.Align.{Align}
 use Rattle.cc_plan.specs.declared.object.ObjectState.{ObjectState}
 use Rattle.cc_plan.specs.declared.object.ObjectState.TheVariants.{Live, Freed, Swept}
 use Rattle.cc_plan.specs.declared.object.PlannedObject.{PlannedObject}
-use Rattle.cc_plan.specs.Plan.{Plan, Sweeps, freed_count, is_freed, is_held, swept}
+use Rattle.cc_plan.specs.Plan.{Plan, PlanSweeps, freed_count, is_freed, is_held, swept}
 use Rattle.cc_plan.specs.PlannerState.{IsFreedAt, ListsFreed, SweepsOne}
 use Rattle.cc_plan.proofs.HeldSpanLemmas.{made, as_swept, as_freed}
 
@@ -246,7 +246,7 @@ none_swept (object ∷ objects) none =
 
 -- the last was swept
 pub sweeping_ends : (old now : Plan) (done : ℕ) → IsSweeping old now done → done ≡ freed_count old.objects
-    → Sweeps old done now
+    → PlanSweeps old done now
 sweeping_ends old now done so_far all =
     let none : freed_count now.objects ≡ 0 = omega (arith, so_far.counted, all) in
     let objects_are : now.objects ≡ map swept old.objects = sym (none_swept now.objects none) ∙ so_far.same in (

@@ -1,5 +1,5 @@
 -- A run of a script: the opening was answered, and what follows read.
-use Rattle.std.proofs.Common.{◌≡◌, ℕ, ◌+◌, List, [], ◌∷◌, ◌++◌, length, take, refl, sym, ◌∙◌, ap, subst, append_assoc, append-nil, ◌==◌, Bool, ◌||◌, not, Option, Some, None, IfSome, Result, map, Ok, Err, inl, inr, ◌⊎◌}
+use Rattle.std.proofs.Common.{◌≡◌, ℕ, List, [], ◌∷◌, ◌++◌, length, take, refl, sym, ◌∙◌, ap, subst, append_assoc, append-nil, ◌==◌, Bool, ◌||◌, not, Option, Some, None, IfSome, Result, map, Ok, Err, inl, inr, ◌⊎◌}
 use Rattle.std.proofs.lemmas.List.Folds.{list_any-append}
 use Rattle.std.proofs.Math.Dec.{eqb-suc-zero}
 use Rattle.std.specs.Io.KnownBytes.{Appends, Consumes, IsAtEnd}

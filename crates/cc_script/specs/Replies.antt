@@ -1,9 +1,9 @@
 -- The texts of replies, without their line feed.
 use Rattle.std.specs.Prelude.{ℕ, Bool, true, false, List, [], ◌++◌, codes, decimal, Option, Some, None}
-use Rattle.std.specs.Fmt.{digits}
 use Rattle.cc_word.specs.Refusal.{code_of, name_of}
 use Rattle.cc_word.specs.Word.{bit_of}
 use Rattle.cc_word.specs.WordText.{digits_of}
+pub use Rattle.cc_word.specs.WordText.{hexadecimal}
 use Rattle.cc_word.specs.declared.refusal.Refusal.{Refusal}
 use Rattle.cc_bounds.specs.declared.span.Span.{Span}
 use Rattle.cc_cap.specs.Permissions.{bits_of}
@@ -11,10 +11,6 @@ use Rattle.cc_plan.specs.declared.align.Align.{Align}
 use Rattle.cc_plan.specs.declared.align.Align.TheVariants.{One, Sixteen}
 use Rattle.cc_machine.specs.declared.reply.Reply.{Reply}
 use Rattle.cc_machine.specs.declared.reply.Reply.TheVariants.{Made, Shown, Rounded, PoolSet, Allocated, Freed, Swept, Refused}
-
--- `0x` and the digits of a number to base 16, in lower case and without leading zeros
-abbrev pub hexadecimal : ℕ → List ℕ
-hexadecimal number = codes "0x" ++ digits 16 false number
 
 -- base and top
 abbrev pub bounds_text : Span → List ℕ

@@ -1,5 +1,5 @@
--- The table of refusals: the code and the name of each.
-use Rattle.std.specs.Prelude.{ℕ, List, codes}
+-- The table of refusals: the code and the name of each; and what a check is.
+use Rattle.std.specs.Prelude.{ℕ, ◌⊎◌, List, codes}
 use Rattle.cc_word.specs.declared.refusal.Refusal.{Refusal}
 use Rattle.cc_word.specs.declared.refusal.Refusal.TheVariants.{Syntax, Unfinished, TooLong, OutOfRange, NoSlot, Revoked, Sealed, Unsealed, OutOfBounds, Inexact, Unrepresentable, MissingPermission, ReservedType, TypeMismatch, NotCanonical, ExceedsAuthority, NoPool, PoolAlreadySet, ZeroSize, NoRoom, NoObject, Full}
 
@@ -52,3 +52,8 @@ name_of ZeroSize = codes "zero"
 name_of NoRoom = codes "noroom"
 name_of NoObject = codes "object"
 name_of Full = codes "full"
+
+-- A check: the condition holds and the rest decides, or it fails, and what was asked for is refused. `refused` says
+-- with which refusal, and what stays.
+abbrev pub RefusedUnless : (condition refused rest : Type 0) → Type 0
+RefusedUnless condition refused rest = (condition × rest) ⊎ ((¬ condition) × refused)

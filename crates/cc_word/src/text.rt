@@ -4,7 +4,7 @@ ghost use Rattle.std.specs.Char.{digit_value};
 ghost use Rattle.std.specs.List.{AllPass};
 ghost use Rattle.std.specs.Str.Parse.{digits_value};
 ghost use Rattle.hex.specs.Hex.{is_hex_digit, encode_with, lower_digits};
-ghost use Rattle.cc_word.specs.WordText.{digits_of};
+ghost use Rattle.cc_word.specs.WordText.{IsWordText, digits_of};
 
 /// What stands in the table for a byte that is no digit: more than eight digits spell.
 const NONE: u64 = 1 << 32;
@@ -111,7 +111,7 @@ fn bytes_of_word(word: u128) -> [u8; 16]
 /// The word that 32 hexadecimal digits of either case spell, and `None` for any other text: fewer or
 /// more digits, a prefix, a space, a byte that is no digit.
 pub fn read_word(text: &[u8]) -> Option<u128>
-    ensures found { IsSome result ↔ ((length text.now ≡ 32) × AllPass is_hex_digit text.now) }
+    ensures found { IsSome result ↔ IsWordText text.now }
     ensures value { IfSome result (λ word. word ≡ digits_value 16 text.now) }
 {
     if text.len() != 32 {

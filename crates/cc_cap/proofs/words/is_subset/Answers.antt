@@ -1,5 +1,4 @@
 use Rattle.std.proofs.Common.{sym, subst}
-use Rattle.cc_word.specs.declared.fields.Fields.{Fields}
 use Rattle.cc_cap.specs.WordRules.{IsSubset}
 use Rattle.cc_cap.proofs.WordRuleLemmas.{IsSubset-capabilities}
 use Rattle.cc_cap.proofs.words.is_subset.Goals as goal

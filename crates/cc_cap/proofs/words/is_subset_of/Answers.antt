@@ -1,4 +1,3 @@
-use Rattle.std.proofs.Common.{◌≡◌}
 use Rattle.cc_cap.proofs.WordRuleLemmas.{IsSubset-spans}
 use Rattle.cc_cap.proofs.words.is_subset_of.Goals as goal
 

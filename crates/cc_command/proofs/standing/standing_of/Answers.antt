@@ -23,16 +23,16 @@ returns-then-bounds-from c =
     let below : c.args.bounds.now.top < c.args.bounds.now.base = search rules in
     (fails c.is_canonical.result c.is_canonical.ensures c.if-is_canonical.false, (reserved, is_type, below))
 
-pub returns-then-bounds : goal.returns-then-bounds
-returns-then-bounds c =
+pub returns-then-bounds-gt-ADDRESS_SPACE : goal.returns-then-bounds-gt-ADDRESS_SPACE
+returns-then-bounds-gt-ADDRESS_SPACE c =
     let reserved : c.args.fields.now.reserved ≡ 0 = search rules in
     let is_type : IsObjType c.args.fields.now.otype = c.is_type.ensures.0 c.if-not-is_type.false in
     let in_order : c.args.bounds.now.base ≤ c.args.bounds.now.top = search rules in
     let past : 2 ^ 64 < c.args.bounds.now.top = search rules in
     (fails c.is_canonical.result c.is_canonical.ensures c.if-is_canonical.false, (reserved, is_type, in_order, past))
 
-pub returns-else-bounds : goal.returns-else-bounds
-returns-else-bounds c =
+pub returns-else-bounds-gt-ADDRESS_SPACE : goal.returns-else-bounds-gt-ADDRESS_SPACE
+returns-else-bounds-gt-ADDRESS_SPACE c =
     let fields = c.args.fields.now in
     let bounds = c.args.bounds.now in
     let reserved : fields.reserved ≡ 0 = search rules in

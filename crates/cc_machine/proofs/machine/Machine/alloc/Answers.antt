@@ -5,7 +5,7 @@ use Rattle.cc_cap.specs.Capability.{Capability}
 use Rattle.cc_plan.specs.declared.object.ObjectId.{ObjectId}
 use Rattle.cc_plan.specs.declared.object.ObjectState.{ObjectState}
 use Rattle.cc_plan.specs.declared.object.PlannedObject.{PlannedObject}
-use Rattle.cc_plan.specs.Plan.{Plan, Allocates as PlanAllocates, is_held}
+use Rattle.cc_plan.specs.Plan.{Plan, PlanAllocates, is_held}
 use Rattle.cc_machine.specs.declared.op.Op.TheVariants.{Alloc}
 use Rattle.cc_machine.specs.declared.slot.Slot.{Slot}
 use Rattle.cc_machine.specs.declared.reply.Reply.{Reply}

@@ -4,7 +4,7 @@ use Rattle.std.proofs.lemmas.Option.{slice_get_within}
 use Rattle.cc_word.specs.declared.refusal.Refusal.{Refusal}
 use Rattle.cc_plan.specs.declared.object.ObjectState.TheVariants.{Freed}
 use Rattle.cc_plan.specs.declared.object.PlannedObject.{PlannedObject}
-use Rattle.cc_plan.specs.Plan.{Plan, Frees as PlanFrees}
+use Rattle.cc_plan.specs.Plan.{Plan, PlanFrees}
 use Rattle.cc_machine.specs.declared.op.Op.TheVariants.{Free}
 use Rattle.cc_machine.specs.declared.slot.Slot.{Slot}
 use Rattle.cc_machine.specs.declared.reply.Reply.{Reply}

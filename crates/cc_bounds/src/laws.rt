@@ -1,12 +1,22 @@
-//! What holds of every request and of every sound span.
-ghost use Rattle.std.specs.Prelude.{ℕ, Bool, ◌≡◌, ◌+◌, ◌%◌, ◌/◌, ◌^◌, ◌≤◌, ◌↔◌};
+//! What holds of every word, of every request and of every sound span. Each function's contract is a law, and its
+//! body is empty.
+ghost use Rattle.std.specs.Prelude.{ℕ, Bool, ◌≡◌, ◌+◌, ◌%◌, ◌/◌, ◌^◌, ◌<◌, ◌≤◌, ◌↔◌};
 ghost use Rattle.cc_word.specs.declared.fields.Fields.{Fields as FieldsSpec};
 ghost use Rattle.cc_bounds.specs.declared.span.Span.{Span as SpanSpec};
 ghost use Rattle.cc_bounds.specs.Span.{IsSpan, span_from, from_zero};
 ghost use Rattle.cc_bounds.specs.Granule.{IsGranule, IsExponent, IsGranted, IsSound, granule_of, exponent_of, granted_span, padded_size};
 ghost use Rattle.cc_bounds.specs.Encoding.{HasBoundsFields, StoresSpan, ie_of, t_of, b_of};
-ghost use Rattle.cc_bounds.specs.Decoding.{DecodesTo, EveryBitCounts};
+ghost use Rattle.cc_bounds.specs.Decoding.{IsTopMantissa, IsWindow, IsPlaced, IsTopBeside, DecodesTo, EveryBitCounts, ExactlyOne};
 ghost use Rattle.cc_bounds.specs.Tightest.{IsDecoded};
+
+/// Each relation by which decoding is defined has exactly one number, and so every word one span.
+pub fn every_word_decodes_once()
+    ensures top_mantissa { (fields : FieldsSpec) → ExactlyOne (IsTopMantissa fields) }
+    ensures window { (fields : FieldsSpec) → ExactlyOne (IsWindow fields) }
+    ensures place { (fields : FieldsSpec) (mantissa : ℕ) → mantissa < 2 ^ 14 → ExactlyOne (IsPlaced fields mantissa) }
+    ensures top { (exponent base place : ℕ) → base < 2 ^ 64 → ExactlyOne (IsTopBeside exponent base place) }
+    ensures span { (fields : FieldsSpec) → ExactlyOne (DecodesTo fields) }
+{}
 
 /// Every request has exactly one granule, one exponent and one granted span, and every span has one set of
 /// bounds fields. The computing forms are these.

@@ -1,6 +1,6 @@
 use Rattle.cc_bounds.proofs.ComputingLemmas.{padded-sound}
 use Rattle.cc_bounds.proofs.LawLemmas.{padded_law}
-use Rattle.cc_bounds.proofs.encoding_laws.padded_spans_are_sound.Goals as goal
+use Rattle.cc_bounds.proofs.laws.padded_spans_are_sound.Goals as goal
 
 pub returns-clause-sound : goal.returns-clause-sound
 returns-clause-sound c = padded-sound

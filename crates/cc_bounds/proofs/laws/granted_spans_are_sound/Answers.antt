@@ -1,6 +1,6 @@
 use Rattle.cc_bounds.proofs.SoundLemmas.{granted-sound}
 use Rattle.cc_bounds.proofs.LawLemmas.{same_exponent}
-use Rattle.cc_bounds.proofs.encoding_laws.granted_spans_are_sound.Goals as goal
+use Rattle.cc_bounds.proofs.laws.granted_spans_are_sound.Goals as goal
 
 pub returns-clause-is_span : goal.returns-clause-is_span
 returns-clause-is_span c request granted span h = (granted-sound request granted span h).is_span

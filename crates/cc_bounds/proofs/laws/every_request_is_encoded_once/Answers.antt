@@ -1,5 +1,5 @@
 use Rattle.cc_bounds.proofs.LawLemmas.{granule_law, exponent_law, granted_law, fields_law}
-use Rattle.cc_bounds.proofs.encoding_laws.every_request_is_encoded_once.Goals as goal
+use Rattle.cc_bounds.proofs.laws.every_request_is_encoded_once.Goals as goal
 
 pub returns-clause-granule : goal.returns-clause-granule
 returns-clause-granule c = granule_law

@@ -1,5 +1,5 @@
 use Rattle.cc_bounds.proofs.ExactlyOneLemmas.{one-top_mantissa, one-window, one-place, one-top, one-span}
-use Rattle.cc_bounds.proofs.decoding_laws.every_word_decodes_once.Goals as goal
+use Rattle.cc_bounds.proofs.laws.every_word_decodes_once.Goals as goal
 
 pub returns : goal.returns
 returns c = record {
