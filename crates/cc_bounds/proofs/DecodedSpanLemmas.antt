@@ -31,7 +31,7 @@ length-fits exponent length fits small =
 
 -- ---- without IE
 
--- without IE a word's span is shorter than 4096 bytes
+-- without IE a word's span is shorter than 4,096 bytes
 pub word_short : (fields : Fields) (span : Span) → DecodesTo fields span → fields.ie ≡ false → span.top < span.base + 4096
 word_short fields span decoded is_ie =
     let place = standing fields span decoded in
@@ -78,7 +78,7 @@ pub record IsInGranules (exponent : ℕ) (span : Span) : Type 0 where
   pub top_is : span.top ≡ last * 2 ^ (exponent + 3)
   pub few : exponent < 51 → last ≤ first + 1023
 
--- with IE a word's base and top are whole granules, at most 1023 of them apart below exponent 51
+-- with IE a word's base and top are whole granules, at most 1,023 of them apart below exponent 51
 pub word_long : (fields : Fields) (span : Span) → DecodesTo fields span → fields.ie ≡ true → IsInGranules (stored_exponent fields) span
 word_long fields span decoded is_ie =
     let exponent : ℕ = stored_exponent fields in

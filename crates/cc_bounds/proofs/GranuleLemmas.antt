@@ -132,7 +132,7 @@ least-fits request e fits h = h.least 52 (few_at_52 request fits)
 double : (e : ℕ) → 2 ^ (suc e + 3) ≡ 2 * 2 ^ (e + 3)
 double e = let s : suc e + 3 ≡ suc (e + 3) = omega arith in let p = pow-suc 2 (e + 3) in rw s (omega (arith, p))
 
--- the least exponent of a request of 4096 bytes or more leaves at least 512 granules
+-- the least exponent of a request of 4,096 bytes or more leaves at least 512 granules
 pub least-many : (request : Span) (e : ℕ) → 4096 ≤ length_of request → IsLeastExponent request e
     → 512 ≤ granule_count request (2 ^ (e + 3))
 least-many request zero long h =

@@ -18,7 +18,7 @@ use Rattle.cc_bounds.proofs.ComputingLemmas.{bounds_fields-is, bounds_fields-are
 use Rattle.cc_bounds.proofs.EncodingLemmas.{IsLongSpan, sound-long, granule-units, sound-fit}
 use Rattle.cc_bounds.proofs.RoundTripLemmas.{IsSpanOf, IsRaised, raise_of, decodes_back}
 
--- what the fields of a span of 4096 bytes or more decode with
+-- what the fields of a span of 4,096 bytes or more decode with
 pub record LongStores (span : Span) (fields : Fields) (first last : ℕ) : Type 0 where
   pub is_ie : fields.ie ≡ true
   pub digits : exponent_digits fields ≡ exponent_of span

@@ -32,7 +32,7 @@ coarse-exponent request granule h =
     let split : k ≡ k - 3 + 3 = omega arith in
     record { exponent = k - 3; is = h.power.1 ∙ ap (λ (n : ℕ). 2 ^ n) split }
 
--- ---- what a request of 4096 bytes or more is granted
+-- ---- what a request of 4,096 bytes or more is granted
 
 -- the granted span is that from one granule to another, of the exponent of the request
 pub record IsLongGranted (request granted : Span) : Type 0 where

@@ -119,7 +119,7 @@ module _ (fields : Fields) (span : Span) (decoded : DecodesTo fields span) (is_s
   in_units : IsInUnits fields span mantissa units
   in_units = elim (cases_lt (stored_exponent fields) 51) [ inl small ↦ small-units small | inr large ↦ large-units large ]
 
--- ---- the fields of a span of 4096 bytes or more
+-- ---- the fields of a span of 4,096 bytes or more
 
 -- the exponent of the span is the word's own
 own_least : (fields : Fields) (span : Span) (first many : ℕ) (e : ℕ) → span.base ≤ span.top → 512 ≤ many → many ≤ 1023

@@ -68,7 +68,7 @@ within_granules n m e k base top first last le from to first_is last_is =
     let l = ap (λ (x : ℕ). x * g) last_is in
     (omega (arith, down', n_units, f), omega (arith, up', m_units, l))
 
--- a request of 4096 bytes or more against a word with IE
+-- a request of 4,096 bytes or more against a word with IE
 long_within : (request granted span : Span) (k : ℕ) → IsSpan request → IsLongGranted request granted → k ≤ 52 → IsInGranules k span
     → IsWithin request span → IsWithin granted span
 long_within request granted span k is_span h k_fits word covers =

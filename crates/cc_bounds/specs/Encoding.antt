@@ -11,7 +11,7 @@ pub record Encoding : Type 0 where
   pub granted : Span
   pub exact : Bool
 
--- The bounds fields of a sound span of this exponent. The exponent is internal from 4096 bytes up. T and B are
+-- The bounds fields of a sound span of this exponent. The exponent is internal from 4,096 bytes up. T and B are
 -- the top and the base in units of 2 ^ exponent, as far as their fields reach; their low three bits, which
 -- are then zero, hold the exponent's digits to base 8. Where it is not internal the exponent is 0, and T
 -- and B are the low bits of the ends.

@@ -14,14 +14,14 @@ pub record IsCoarseEnough (request : Span) (granule : ℕ) : Type 0 where
   pub from_eight : 8 ≤ granule
   pub few : granule_count request granule ≤ 1023
 
--- The granule of a request is the unit in which its bounds are stored: one byte below 4096 bytes, and
+-- The granule of a request is the unit in which its bounds are stored: one byte below 4,096 bytes, and
 -- else the least that is coarse enough.
 pub record IsGranule (request : Span) (granule : ℕ) : Type 0 where
   pub small : length_of request < 4096 → granule ≡ 1
   pub large : 4096 ≤ length_of request → IsCoarseEnough request granule
   pub least : (other : ℕ) → 4096 ≤ length_of request → IsCoarseEnough request other → granule ≤ other
 
--- the exponent of a request: 0 below 4096 bytes, and else the one that makes its granule 2 ^ (exponent + 3)
+-- the exponent of a request: 0 below 4,096 bytes, and else the one that makes its granule 2 ^ (exponent + 3)
 pub record IsExponent (request : Span) (exponent : ℕ) : Type 0 where
   pub small : length_of request < 4096 → exponent ≡ 0
   pub large : 4096 ≤ length_of request → IsGranule request (2 ^ (exponent + 3))
@@ -51,7 +51,7 @@ IsExact request = IsGranted request request
 -- each is the one number, or the one span, that its definition above is met by.
 
 -- the first exponent, of `tries` and one more from this one on, whose granule the request touches at most
--- 1023 times, or the last of them
+-- 1,023 times, or the last of them
 unfoldable pub first_exponent : (tries exponent : ℕ) → Span → ℕ
 first_exponent zero exponent request = exponent
 first_exponent (suc tries) exponent request =

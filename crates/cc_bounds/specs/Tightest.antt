@@ -18,7 +18,7 @@ DecodesBack span =
 abbrev pub IsDecoded : Span → Type 0
 IsDecoded span = (fields : Fields) × DecodesTo fields span
 
--- The granted span covers the request. It is the request below 4096 bytes; else it exceeds it by less than
+-- The granted span covers the request. It is the request below 4,096 bytes; else it exceeds it by less than
 -- a granule at each end, and 511 granules are shorter than the request.
 pub record IsTight (request granted : Span) : Type 0 where
   pub granule : ℕ

@@ -87,7 +87,7 @@ impl Set {
     }
 
     /// The internal exponent IE: whether the exponent is stored in the low bits of the T and B fields. It
-    /// is, for spans of 4096 bytes and more.
+    /// is, for spans of 4,096 bytes and more.
     pub fn ie(&self) -> bool
         ensures internal { IsTrue result ↔ (4096 ≤ length_of self.now.granted) }
         ensures computed { result ≡ ie_of self.now.granted }
@@ -218,7 +218,7 @@ fn encode(request: &Span) -> Set
 
 /// The encoding of the least bounds that cover a request.
 ///
-/// The request is `[base, base + len)`; the caller has `base + len <= 2^64`. Below 4096 bytes it is
+/// The request is `[base, base + len)`; the caller has `base + len <= 2^64`. Below 4,096 bytes it is
 /// granted as it is. Else its ends are rounded outwards to the granule, and the granted bounds lie within
 /// those of every word whose bounds cover the request. The standard: UCAM-CL-TR-987, `CSetBounds`;
 /// Woodruff et al. 2019.

@@ -36,8 +36,8 @@ fn granules_touched(request: &Span, power: u32) -> u64
     (last_byte >> power) + 1 - (request.base >> power)
 }
 
-/// The power of two of the granules of which a length of 4096 bytes or more has at least 512, and less
-/// than 1024: 3, and one more for each bit of the length from bit 13 up.
+/// The power of two of the granules of which a length of 4,096 bytes or more has at least 512, and less
+/// than 1,024: 3, and one more for each bit of the length from bit 13 up.
 #[tactic(auto, using(crate::proofs::GranuleLemmas::leading_power))]
 fn power_of_length(len: u128) -> u32
     requires coarse { 4096 ≤ len }
@@ -50,7 +50,7 @@ fn power_of_length(len: u128) -> u32
     67 - ((len >> 13) as u64).leading_zeros()
 }
 
-/// The granule of a request as a power of two: 0 below 4096 bytes, else from 3 to 55.
+/// The granule of a request as a power of two: 0 below 4,096 bytes, else from 3 to 55.
 ///
 /// It is the power of the length, or one more where the ends, rounded to that, are more granules apart
 /// than ten bits count.
@@ -97,7 +97,7 @@ pub(crate) fn rounded(request: &Span, power: u32) -> Span
     }
 }
 
-/// The granule of a length as a power of two: 0 below 4096 bytes, else from 3 to 55.
+/// The granule of a length as a power of two: 0 below 4,096 bytes, else from 3 to 55.
 #[tactic(auto, using(crate::proofs::ComputingLemmas::granule_power_of))]
 fn length_power(len: u128) -> u32
     requires { len ≤ 2 ^ 64 }
@@ -109,7 +109,7 @@ fn length_power(len: u128) -> u32
 }
 
 /// The granule of a length, in bytes: the unit in which the bounds of that many bytes from address 0 up
-/// are stored. It is 1 below 4096 bytes, else a power of two from 8 to 2^55.
+/// are stored. It is 1 below 4,096 bytes, else a power of two from 8 to 2^55.
 ///
 /// The caller has `len <= 2^64`. The standard: UCAM-CL-TR-987, `CRRL` and `CRAM`; Woodruff et al. 2019.
 pub fn granule(len: u128) -> u64

@@ -1,4 +1,4 @@
-//! Answers, and how they are written.
+//! The whole answer of a command, written at once, and the answer that is a refusal.
 ghost use Rattle.std.specs.Prelude.{◌≡◌, ◌↔◌, [], false, true, IfOk, IsErr, OnOk, OnErr};
 ghost use Rattle.std.specs.Io.KnownBytes.{Appends};
 ghost use Rattle.cc_script.specs.Devices.{TakesBeginning};

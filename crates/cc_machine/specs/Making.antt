@@ -3,17 +3,14 @@ use Rattle.std.specs.Prelude.{ℕ, ◌≡◌, List, Result}
 use Rattle.cc_word.specs.declared.refusal.Refusal.{Refusal}
 use Rattle.cc_cap.specs.Permissions.{bits_of}
 use Rattle.cc_cap.specs.Capability.{Capability}
-use Rattle.cc_cap.specs.Derivation.{SetsAddress, Increments, SetsBounds, SetsExactBounds, MasksPermissions}
-use Rattle.cc_cap.specs.Derivation.{SetsFlag, Seals, Unseals, Rebuilds}
+use Rattle.cc_cap.specs.Derivation.{SetsAddress, Increments, SetsBounds, SetsExactBounds, MasksPermissions, SetsFlag, Seals, Unseals, Rebuilds}
 use Rattle.cc_machine.specs.declared.op.Op.{Op}
-use Rattle.cc_machine.specs.declared.op.Op.TheVariants.{Show, Bounds, Exact, Addr, Inc, Perms, Flag}
-use Rattle.cc_machine.specs.declared.op.Op.TheVariants.{Seal, Unseal, Rebuild, Round, Pool, Alloc, Free, Sweep}
+use Rattle.cc_machine.specs.declared.op.Op.TheVariants.{Bounds, Exact, Addr, Inc, Perms, Flag, Seal, Unseal, Rebuild}
 use Rattle.cc_machine.specs.State.{SlotState}
 use Rattle.cc_machine.specs.Step.{OnSlot}
 
 -- what an operation that derives makes of the slots, and the parent of what it makes
 abbrev pub Makes : List SlotState → Op → ℕ → Result Capability Refusal → Type 0
-Makes slots (Show number) parent result = ⊥
 Makes slots (Bounds number size) parent result = (parent ≡ number) × OnSlot slots number result (λ cap. SetsBounds cap size result)
 Makes slots (Exact number size) parent result = (parent ≡ number) × OnSlot slots number result (λ cap. SetsExactBounds cap size result)
 Makes slots (Addr number address) parent result = (parent ≡ number) × OnSlot slots number result (λ cap. SetsAddress cap address result)
@@ -23,11 +20,7 @@ Makes slots (Flag number flag) parent result = (parent ≡ number) × OnSlot slo
 Makes slots (Seal number authority) parent result = (parent ≡ number) × OnSlot slots number result (λ cap. OnSlot slots authority result (λ by. Seals cap by result))
 Makes slots (Unseal number authority) parent result = (parent ≡ number) × OnSlot slots number result (λ cap. OnSlot slots authority result (λ by. Unseals cap by result))
 Makes slots (Rebuild authority word) parent result = (parent ≡ authority) × OnSlot slots authority result (λ by. Rebuilds by word result)
-Makes slots (Round size) parent result = ⊥
-Makes slots (Pool number align) parent result = ⊥
-Makes slots (Alloc size) parent result = ⊥
-Makes slots (Free number) parent result = ⊥
-Makes slots Sweep parent result = ⊥
+Makes slots op parent result = ⊥
 
 -- some operation makes this, below this parent
 pub record IsMade (slots : List SlotState) (parent : ℕ) (result : Result Capability Refusal) : Type 0 where

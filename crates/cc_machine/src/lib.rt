@@ -1,6 +1,7 @@
 //! Slots of capabilities, the operations on them, who was derived from whom, and the objects of a pool.
 #![tactic(auto)]
 
+mod derivations;
 mod laws;
 mod len;
 mod machine;
@@ -8,7 +9,6 @@ mod object;
 mod op;
 mod owners;
 mod reply;
-mod rules;
 mod slot;
 #[cfg(test)]
 mod tests;

@@ -1,13 +1,13 @@
-//! The machine.
+//! Slots, a planner of objects, and the operations on them.
+use crate::derivations::{
+    rebuilt, sealed, unsealed, with_address, with_bounds, with_exact_bounds, with_flag,
+    with_increment, with_perms,
+};
 use crate::len::Len;
 use crate::object::Object;
 use crate::op::Op;
 use crate::owners::{is_freed, is_swept};
 use crate::reply::Reply;
-use crate::rules::{
-    rebuilt, sealed, unsealed, with_address, with_bounds, with_exact_bounds, with_flag,
-    with_increment, with_perms,
-};
 use crate::slot::Slot;
 use cc_cap::Cap;
 use cc_plan::{Align, BlockPlacer, ObjectId, Planner};

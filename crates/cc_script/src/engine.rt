@@ -11,7 +11,7 @@ ghost use Rattle.cc_script.specs.Engine.{AnswersLine, CutsLine, AnswersOpening, 
 
 use crate::devices::{Failed, Sink, Source};
 use crate::line::Line;
-use crate::lines::{LineStart, split_at_line_feed};
+use crate::line_start::{LineStart, split_at_line_feed};
 use crate::parsing::parse_line;
 use crate::printing::{push_refusal, push_reply, refusal_line};
 use crate::summary::{ScriptFault, Summary};

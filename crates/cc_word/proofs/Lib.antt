@@ -3,3 +3,4 @@ pub mod UnpackLemmas
 pub mod TextLemmas
 pub mod ReadingLemmas
 pub mod WritingLemmas
+pub mod DigitLemmas

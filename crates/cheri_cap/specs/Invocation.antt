@@ -121,7 +121,7 @@ pub record IsProgram (app : App) : Type 0 where
 abbrev pub decimal_value : Text → ℕ
 decimal_value text = digits_value 10 (without_leading_plus text)
 
--- the limit is the number that the value of `--slots` says, or 4096 where it is not given, and a
+-- the limit is the number that the value of `--slots` says, or 4,096 where it is not given, and a
 -- machine can have it
 pub record IsLimit (given : Option Text) (limit : ℕ) : Type 0 where
   pub value : limit ≡ option_map_or decimal_value given 4096

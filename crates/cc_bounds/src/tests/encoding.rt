@@ -92,7 +92,7 @@ fn check_sets(rt: &impl Abort, rows: &[SetRow]) {
     }
 }
 
-/// Requests below 4096 bytes, which are granted as they are.
+/// Requests below 4,096 bytes, which are granted as they are.
 const SMALL: [SetRow; 5] = [
     (
         (0x1000, 0),
@@ -121,7 +121,7 @@ fn small_requests(rt: HostRuntime) {
     check_sets(&rt, &SMALL);
 }
 
-/// Requests from 4096 bytes up, and those on both sides of the growth at the 1,023rd granule.
+/// Requests from 4,096 bytes up, and those on both sides of the growth at the 1,023rd granule.
 const ROUNDED: [SetRow; 10] = [
     ((0, 0x1000), (0, true, 0x000, 0x0000), (0, 0x1000), true),
     ((1, 0x1000), (0, true, 0x008, 0x0000), (0, 0x1008), false),

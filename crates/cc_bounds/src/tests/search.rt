@@ -19,7 +19,7 @@ fn granules_touched(request: &Span, power: u32) -> u128
 }
 
 /// The granule of a request as a power of two: the first of 8, 16, 32 and so on of which the request
-/// touches at most 1023.
+/// touches at most 1,023.
 fn granule_power(request: &Span) -> u32
     ensures fits { result ≤ MAX_POWER }
 {
@@ -48,7 +48,7 @@ fn searched(request: Span) -> ((u8, bool, u16, u16), Span, bool) {
     (fields, granted, granted == request)
 }
 
-/// Compares both at each length from 4000 to 8300.
+/// Compares both at each length from 4,000 to 8,300.
 fn check_lengths(rt: &impl Abort, base: u64)
     requires { base < 64 }
 {

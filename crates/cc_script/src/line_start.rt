@@ -1,4 +1,4 @@
-//! The line that is coming in.
+//! A line that comes in: its first bytes, and where it ends.
 ghost use Rattle.std.specs.Prelude.{◌≡◌, ℕ, ◌<◌, ◌≤◌, ◌↔◌, List, [], ◌∷◌, ◌++◌, length, take, IfSome, IfNone, IsTrue};
 ghost use Rattle.cc_script.specs.Lines.{IsLine};
 
@@ -58,7 +58,7 @@ impl LineStart {
         self.len = 0;
     }
 
-    /// The bytes.
+    /// The bytes that came so far.
     pub fn as_slice(&self) -> &[u8]
         ensures { result.now ≡ self.now }
     {
