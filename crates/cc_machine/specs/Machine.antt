@@ -1,5 +1,6 @@
 -- What is true of the fields of every machine. No public clause cites this.
-use Rattle.std.specs.Prelude.{ℕ, ◌≡◌, ◌≤◌, List, [], ◌∷◌, Option, length, map, vec_len, vec_capacity, option_and_then, option_map, slice_get}
+use Rattle.std.specs.Prelude.{ℕ, ◌≡◌, ◌≤◌, List, [], ◌∷◌, Option, length, map, vec_len, vec_capacity}
+use Rattle.std.specs.Prelude.{option_and_then, option_map, slice_get}
 use Rattle.cc_cap.specs.Capability.{Capability}
 use Rattle.cc_plan.specs.declared.object.PlannedObject.{PlannedObject}
 use Rattle.cc_plan.specs.Plan.{Plan}

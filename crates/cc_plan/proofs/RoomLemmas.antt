@@ -8,7 +8,7 @@ use Rattle.std.proofs.lemmas.Bool.{cases_lt}
 use Rattle.std.proofs.lemmas.Nat.{pow_pos}
 use Rattle.std.proofs.lemmas.Nat.Gcd.{dvd_of_mod-eq-zero, dvd_trans, mod-eq-zero_of_dvd}
 use Rattle.cc_bounds.proofs.GranuleLemmas.{div_ceil-lt, le-div_ceil, leading_power}
-use Rattle.cc_plan.specs.Gap.{IsNeeded, room_of, unit_of}
+use Rattle.cc_plan.specs.Gap.{IsNeeded, room_of, gap_unit}
 use Rattle.cc_plan.proofs.PlacementLemmas.{least_multiple, multiple-div_ceil}
 
 -- ---- Units.
@@ -20,14 +20,14 @@ pub record IsUnit (size unit : ℕ) : Type 0 where
   pub least : 512 * unit ≤ size
   pub below : size < 1024 * unit
 
-pub unit_short : (size : ℕ) → size < 4096 → unit_of size ≡ 8
-unfolding unit_of count_leading_zeros
+pub unit_short : (size : ℕ) → size < 4096 → gap_unit size ≡ 8
+unfolding gap_unit count_leading_zeros
 unit_short size short =
     let none : size / 8192 ≡ 0 = omega arith in
     ap (λ (n : ℕ). 2 ^ (67 - count_leading_zeros 64 n)) none
 
-pub unit_long : (size : ℕ) → 4096 ≤ size → size ≤ 2 ^ 64 → IsUnit size (unit_of size)
-unfolding unit_of
+pub unit_long : (size : ℕ) → 4096 ≤ size → size ≤ 2 ^ 64 → IsUnit size (gap_unit size)
+unfolding gap_unit
 unit_long size long fits =
     let power = leading_power size long fits in
     let eight = pow_mono power.from_three in
@@ -39,7 +39,7 @@ unit_long size long fits =
       below = power.below;
     }
 
-pub unit_some : (size : ℕ) → size ≤ 2 ^ 64 → 8 ≤ unit_of size
+pub unit_some : (size : ℕ) → size ≤ 2 ^ 64 → 8 ≤ gap_unit size
 unit_some size fits = elim (cases_lt size 4096) [
   | inl short ↦ omega (arith, unit_short size short)
   | inr long ↦ (unit_long size long fits).some
@@ -56,15 +56,15 @@ unit_shift size fits = elim (cases_lt size 4096) [
 ]
 
 pub unit_shifted : (size : ℕ) → size < 2 ^ 64
-    → 1 * 2 ^ (67 - count_leading_zeros 64 (size / 8192)) % 2 ^ 64 ≡ unit_of size
-unfolding unit_of
+    → 1 * 2 ^ (67 - count_leading_zeros 64 (size / 8192)) % 2 ^ 64 ≡ gap_unit size
+unfolding gap_unit
 unit_shifted size fits =
     let below = pow_mono (unit_shift size fits) in
     let twice = pow-suc 2 (67 - count_leading_zeros 64 (size / 8192)) in
     let some = pow_pos (67 - count_leading_zeros 64 (size / 8192)) in
     omega (arith, below, twice, some)
 
-pub unit_few : (size : ℕ) → size < 2 ^ 64 → 512 * unit_of size < 2 ^ 64
+pub unit_few : (size : ℕ) → size < 2 ^ 64 → 512 * gap_unit size < 2 ^ 64
 unit_few size fits = elim (cases_lt size 4096) [
   | inl short ↦ omega (arith, unit_short size short)
   | inr long ↦ omega (arith, (unit_long size long (omega arith)).least)
@@ -77,8 +77,8 @@ at_most one other size least below = elim (cases_lt other one) [
 ]
 
 -- a length and a longer one have one unit if the shorter has 512 of the longer one's
-pub unit_same : (size length : ℕ) → 4096 ≤ size → size ≤ length → length ≤ 2 ^ 64 → 512 * unit_of length ≤ size
-    → unit_of length ≡ unit_of size
+pub unit_same : (size length : ℕ) → 4096 ≤ size → size ≤ length → length ≤ 2 ^ 64 → 512 * gap_unit length ≤ size
+    → gap_unit length ≡ gap_unit size
 unit_same size length long less fits many =
     let one = unit_long size long (omega arith) in
     let other = unit_long length (omega arith) fits in
@@ -101,29 +101,29 @@ first_multiple unit from start some from_start aligned =
     (div_ceil-lt from unit some)
 
 -- where less than 512 units are asked for, or one at a multiple of the unit
-pub room_fine : (from to start size : ℕ) → from ≤ start → start + size ≤ to → size < 512 * unit_of (to - from)
+pub room_fine : (from to start size : ℕ) → from ≤ start → start + size ≤ to → size < 512 * gap_unit (to - from)
     → size ≤ room_of from to
 unfolding room_of
 room_fine from to start size from_start ends few = omega (arith, from_start, ends, few)
 
 pub room_coarse : (from to start size : ℕ) → to ≤ 2 ^ 64 → from ≤ start → start + size ≤ to
-    → start % unit_of (to - from) ≡ 0 → size ≤ room_of from to
+    → start % gap_unit (to - from) ≡ 0 → size ≤ room_of from to
 unfolding room_of
 room_coarse from to start size fits from_start ends aligned =
     let some = unit_some (to - from) (omega arith) in
-    let first = first_multiple (unit_of (to - from)) from start (omega (arith, some)) from_start aligned in
+    let first = first_multiple (gap_unit (to - from)) from start (omega (arith, some)) from_start aligned in
     omega (arith, first, ends)
 
 pub room_near : (from to start size : ℕ) → to ≤ 2 ^ 64 → from ≤ start → start + size ≤ to
-    → size - (unit_of (to - from) - 1) ≤ room_of from to
+    → size - (gap_unit (to - from) - 1) ≤ room_of from to
 unfolding room_of
 room_near from to start size fits from_start ends =
     let some = unit_some (to - from) (omega arith) in
-    let near = div_ceil-lt from (unit_of (to - from)) (omega (arith, some)) in
+    let near = div_ceil-lt from (gap_unit (to - from)) (omega (arith, some)) in
     omega (arith, near, some, from_start, ends)
 
 -- the room from how far the first multiple of the unit is
-pub room_is : (from to unit padding : ℕ) → unit ≡ unit_of (to - from) → 0 < unit → (from + padding) % unit ≡ 0
+pub room_is : (from to unit padding : ℕ) → unit ≡ gap_unit (to - from) → 0 < unit → (from + padding) % unit ≡ 0
     → padding < unit → max (min (to - from) (512 * unit - 1)) (to - from - padding) ≡ room_of from to
 unfolding room_of
 room_is from to unit padding is some multiple near =
@@ -142,19 +142,19 @@ pub needed_short : (size align : ℕ) → size < 4096 → IsNeeded size align si
 needed_short size align short from to start fits from_start ends aligned =
     room_fine from to start size from_start ends (omega (arith, short, unit_some (to - from) (omega (arith, fits))))
 
-pub needed_multiple : (size align : ℕ) → 4096 ≤ size → align % unit_of size ≡ 0 → IsNeeded size align size
+pub needed_multiple : (size align : ℕ) → 4096 ≤ size → align % gap_unit size ≡ 0 → IsNeeded size align size
 needed_multiple size align long multiple from to start fits from_start ends aligned =
-    elim (cases_lt size (512 * unit_of (to - from))) [
+    elim (cases_lt size (512 * gap_unit (to - from))) [
       | inl few ↦ room_fine from to start size from_start ends few
       | inr many ↦
           let same = unit_same size (to - from) long (omega (arith, from_start, ends)) (omega (arith, fits)) many in
           room_coarse from to start size (omega (arith, fits)) from_start ends
-          (rw same (multiple_of_unit start align (unit_of size) aligned multiple))
+          (rw same (multiple_of_unit start align (gap_unit size) aligned multiple))
     ]
 
-pub needed_any : (size align : ℕ) → 4096 ≤ size → IsNeeded size align (size - (unit_of size - 1))
+pub needed_any : (size align : ℕ) → 4096 ≤ size → IsNeeded size align (size - (gap_unit size - 1))
 needed_any size align long from to start fits from_start ends aligned =
-    elim (cases_lt size (512 * unit_of (to - from))) [
+    elim (cases_lt size (512 * gap_unit (to - from))) [
       | inl few ↦ omega (arith, room_fine from to start size from_start ends few)
       | inr many ↦
           let same = unit_same size (to - from) long (omega (arith, from_start, ends)) (omega (arith, fits)) many in
@@ -169,7 +169,7 @@ pub room_at_most : (from to : ℕ) → from ≤ to → to ≤ 2 ^ 64 → room_of
 unfolding room_of
 room_at_most from to in_order fits =
     let some = unit_some (to - from) (omega arith) in
-    let covers = le-div_ceil from (unit_of (to - from)) (omega (arith, some)) in
+    let covers = le-div_ceil from (gap_unit (to - from)) (omega (arith, some)) in
     omega (arith, covers)
 
 -- nor has one more room than a gap around it
@@ -179,13 +179,13 @@ unfolding room_of
 room_within from to lower higher low in_order high fits =
     let some = unit_some (higher - lower) (omega arith) in
     let at_most = room_at_most from to in_order (omega arith) in
-    elim (cases_lt (to - from) (512 * unit_of (higher - lower))) [
+    elim (cases_lt (to - from) (512 * gap_unit (higher - lower))) [
       | inl few ↦ omega (arith, at_most, few)
       | inr many ↦
           let same = unit_same (to - from) (higher - lower) (omega (arith, some, many)) (omega arith) (omega arith) many in
-          let first = first_multiple (unit_of (higher - lower)) lower
-          (div_ceil from (unit_of (higher - lower)) * unit_of (higher - lower)) (omega (arith, some))
-          (omega (arith, le-div_ceil from (unit_of (higher - lower)) (omega (arith, some))))
-          (mul-mod_left (div_ceil from (unit_of (higher - lower))) (unit_of (higher - lower))) in
+          let first = first_multiple (gap_unit (higher - lower)) lower
+          (div_ceil from (gap_unit (higher - lower)) * gap_unit (higher - lower)) (omega (arith, some))
+          (omega (arith, le-div_ceil from (gap_unit (higher - lower)) (omega (arith, some))))
+          (mul-mod_left (div_ceil from (gap_unit (higher - lower))) (gap_unit (higher - lower))) in
           rw (← same) (omega (arith, first))
     ]

@@ -7,8 +7,8 @@ use Rattle.std.specs.Int.Count.{count_leading_zeros}
 
 -- the unit of a length: 8 below 4,096 bytes, and else the power of two of which it has at least 512, and less
 -- than 1,024
-unfoldable pub unit_of : ℕ → ℕ
-unit_of size = 2 ^ (67 - count_leading_zeros 64 (size / 8192))
+unfoldable pub gap_unit : ℕ → ℕ
+gap_unit size = 2 ^ (67 - count_leading_zeros 64 (size / 8192))
 
 -- the room of a gap whose length has this unit: the bytes from the first multiple of the unit on, or, if that is
 -- more, all of its bytes as far as they are fewer than 512 units
@@ -17,7 +17,7 @@ room_at unit from to = max (min (to - from) (512 * unit - 1)) (to - div_ceil fro
 
 -- the room of a gap
 unfoldable pub room_of : (from to : ℕ) → ℕ
-room_of from to = room_at (unit_of (to - from)) from to
+room_of from to = room_at (gap_unit (to - from)) from to
 
 -- a gap has at least this much room if it has so many bytes at a multiple of the alignment
 abbrev pub IsNeeded : (size align needed : ℕ) → Type 0

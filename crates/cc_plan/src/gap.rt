@@ -1,6 +1,6 @@
 //! What gaps have room for.
 ghost use Rattle.std.specs.Prelude.{◌≡◌, ◌*◌, ◌^◌, ◌<◌, ◌≤◌};
-ghost use Rattle.cc_plan.specs.Gap.{IsNeeded, room_of, unit_of};
+ghost use Rattle.cc_plan.specs.Gap.{IsNeeded, room_of, gap_unit};
 
 use crate::rounding::{padding, remainder};
 
@@ -14,7 +14,7 @@ const LEAST_UNITS: u64 = 512;
 /// less than 1,024.
 #[inline(always)]
 fn unit(len: u64) -> u64
-    ensures value { result ≡ unit_of len }
+    ensures value { result ≡ gap_unit len }
     ensures some { 8 ≤ result }
     ensures few { 512 * result < 2 ^ 64 }
 {

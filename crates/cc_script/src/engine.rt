@@ -1,6 +1,7 @@
 //! Runs a script.
 ghost use Rattle.std.specs.Prelude.{◌≡◌, ℕ, true, false, List, [], ◌∷◌, ◌++◌, map, take, length, not, ◌==◌, ◌↔◌, Ok, Err, IfSome, IfOk, OnOk, OnErr, IsErr};
 ghost use Rattle.std.specs.Io.KnownBytes.{Appends};
+ghost use Rattle.cc_machine.specs.Run.{IsReached};
 ghost use Rattle.cc_script.specs.Lines.{IsLine};
 ghost use Rattle.cc_script.specs.Commands.{operation_of};
 ghost use Rattle.cc_script.specs.Replies.{refusal_text, reply_text, is_error};
@@ -63,11 +64,17 @@ pub fn run_script_after<R: Source, W: Sink>(
         result
         (stand machine.new (R.to_come source.new) (R.has_failed source.new) (W.taken_bytes sink.new) (W.waiting_bytes sink.new) (W.has_failed sink.new)) }
 {
-    // A machine tells that a run leads to its state: this one tells it of the state before and of that after.
-    let _ = machine.slots();
+    tell_reached(machine);
     let result = run_pieces(opening, machine, source, sink);
-    let _ = machine.slots();
+    tell_reached(machine);
     result
+}
+
+/// Tells what is true of every machine: its state is one that a run leads to.
+fn tell_reached(machine: &Machine)
+    ensures { IsReached machine.now }
+{
+    let _ = machine.slots();
 }
 
 /// Runs the script, piece by piece.

@@ -10,5 +10,5 @@ returns g c =
       write = runs.write;
       passed = runs.passed;
       passed_before_read = runs.passed_before_read;
-      laws = laws_kept _ _ c.slots.ensures.reached c.slots-2.ensures.reached;
+      laws = laws_kept _ _ c.tell_reached.ensures c.tell_reached-2.ensures;
     }
