@@ -1,5 +1,6 @@
 //! Worked answers of `explain`.
 use crate::explaining::explain_word;
+use crate::explaining_bounds::explain_length;
 use cc_script::{SliceSink, Summary};
 use std::process::Abort;
 
@@ -139,5 +140,38 @@ fn assert_reason(rt: &impl Abort, text: &str, reason: &str) {
 fn words_of_no_capability_are_told_why(rt: HostRuntime) {
     for (text, reason) in FAULTY {
         assert_reason(&rt, text, reason);
+    }
+}
+
+/// The worked length of docs/FORMAT.md: 16 bytes are its granule, and 17 are granted beside it.
+const REQUEST: &str = "\
+request   0x1fff bytes, from 0x10068 to 0x12067
+granule   0x10 bytes: the request touches 513 of them, and at most 1023 can be counted
+half      0x8 bytes: the request touches 1024 of them, and that is too many
+granted   0x2010 bytes, from 0x10060 to 0x12070
+lost      0x8 bytes before the request, and 0x9 behind it
+exact     0x2000 bytes, at a base that is a multiple of 0x10
+word      ffff0000000f80350000000000010068
+";
+
+const REQUESTS: [(&str, &str, &str, bool); 3] = [
+    ("0x10068", "8191", REQUEST, false),
+    ("q", "0x10000000000000001", "error 1 syntax\n", true),
+    ("1", "0x10000000000000000", "error 9 bounds\n", true),
+];
+
+#[test]
+fn lengths_are_explained(rt: HostRuntime) {
+    for (base, length, explanation, any_error) in REQUESTS {
+        let mut room = [0; 1024];
+        let mut sink = SliceSink::new(&mut room, 100, None);
+        let outcome = explain_length(base, length, &mut sink);
+        let taken = sink.taken();
+        assert_eq!(rt; outcome, Ok(Summary { any_error }), "{base} {length}");
+        assert_eq!(rt;
+            room.get(..taken),
+            Some(explanation.as_bytes()),
+            "{base} {length}"
+        );
     }
 }
