@@ -160,18 +160,29 @@ const REQUESTS: [(&str, &str, &str, bool); 3] = [
     ("1", "0x10000000000000000", "error 9 bounds\n", true),
 ];
 
+/// Explains a length into ample room, and compares what was written and how it ended.
+fn assert_length_explained(
+    rt: &impl Abort,
+    base: &str,
+    length: &str,
+    answer: &str,
+    any_error: bool,
+) {
+    let mut room = [0; 1024];
+    let mut sink = SliceSink::new(&mut room, 100, None);
+    let outcome = explain_length(base, length, &mut sink);
+    let taken = sink.taken();
+    assert_eq!(rt; outcome, Ok(Summary { any_error }), "{base} {length}");
+    assert_eq!(rt;
+        room.get(..taken),
+        Some(answer.as_bytes()),
+        "{base} {length}"
+    );
+}
+
 #[test]
 fn lengths_are_explained(rt: HostRuntime) {
-    for (base, length, explanation, any_error) in REQUESTS {
-        let mut room = [0; 1024];
-        let mut sink = SliceSink::new(&mut room, 100, None);
-        let outcome = explain_length(base, length, &mut sink);
-        let taken = sink.taken();
-        assert_eq!(rt; outcome, Ok(Summary { any_error }), "{base} {length}");
-        assert_eq!(rt;
-            room.get(..taken),
-            Some(explanation.as_bytes()),
-            "{base} {length}"
-        );
+    for (base, length, answer, any_error) in REQUESTS {
+        assert_length_explained(&rt, base, length, answer, any_error);
     }
 }
