@@ -12,11 +12,12 @@ _cheri_cap() {
     plan) options+=' --slots --align' ;;
     decode) options+=' --format' ;;
     show) options+=' --line' ;;
-    round | explain) ;;
+    explain) options+=' --length --base' ;;
+    round) ;;
     *) return ;;
   esac
   case $before in
-    --slots) ;;
+    --slots | --length | --base) ;;
     --format) mapfile -t COMPREPLY < <(compgen -W 'columns text' -- "$word") ;;
     --align) mapfile -t COMPREPLY < <(compgen -W '1 16' -- "$word") ;;
     *)

@@ -1,3 +1,4 @@
 mod PermissionLemmas
 mod StepLemmas
 mod StandingLemmas
+mod RequestLemmas

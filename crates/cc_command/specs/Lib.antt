@@ -10,3 +10,4 @@ pub mod Numbered
 pub mod Explanation
 pub mod Rounding
 pub mod Planning
+pub mod Request

@@ -24,7 +24,7 @@ pub(crate) fn push_fields(text: &mut Text, word: u128, fields: &Fields)
 }
 
 /// Appends the line of a word.
-fn push_word(text: &mut Text, word: u128)
+pub(crate) fn push_word(text: &mut Text, word: u128)
     requires room { length text.old + 43 ≤ ROOM }
     ensures value { text.new ≡ text.old ++ word_text word }
     ensures fits { length text.new ≤ length text.old + 43 }

@@ -1,15 +1,19 @@
-//! What the commands write to a sink: the listing of a word, its line, a length rounded, the replies to a script after a pool.
+//! What the commands write to a sink: the listing of a word, its line, how it is decoded, a length rounded, what a
+//! request for bounds is granted, the replies to a script after a pool.
 //! No command line and no device is here; the program has those.
 #![tactic(auto)]
 
 mod answers;
+mod explained_request;
 mod explained_steps;
 mod explaining;
+mod explaining_bounds;
 mod listing;
 mod numbered;
 mod permissions;
 mod picture;
 mod planning;
+mod request;
 mod rounding;
 mod standing;
 mod steps;
@@ -18,6 +22,7 @@ mod word_line;
 
 pub use answers::write_refusal;
 pub use explaining::explain_word;
+pub use explaining_bounds::explain_length;
 pub use listing::show_word;
 pub use planning::{PoolTexts, plan_numbers, plan_script};
 pub use rounding::show_round;

@@ -33,7 +33,7 @@ use Rattle.cc_script.specs.Commands.{align_in}
 use Rattle.cc_decode.specs.declared.format.Format.{Format}
 use Rattle.cc_decode.specs.declared.format.Format.TheVariants.{Columns}
 use Rattle.cc_decode.specs.declared.format.Format.TheVariants as format
-use Rattle.cheri_cap.specs.Invocation.{HasAlign, HasFormat, HasItsTexts, HasLimit, HasLine, HasText, IsAlign, IsFormat, IsGiven, IsLimit, IsLimitText, IsWhole, align_option, decimal_value, format_in, format_names, format_option, line_option, program, slots_option}
+use Rattle.cheri_cap.specs.Invocation.{HasAlign, HasFormat, HasItsTexts, HasLimit, HasLine, HasText, IsAlign, IsFormat, IsGiven, IsLimit, IsLimitText, IsWhole, align_option, choice_fault_in, choice_fault_of, decimal_value, format_in, format_names, format_option, line_option, program, slots_option}
 use Rattle.cheri_cap.proofs.GivenLemmas.{GiveValues, GivesValue, IsTaken, flag_gives, level-given, level_parts, no_default-given, required_given, set_gives, taken}
 
 -- ---- numbers
@@ -256,15 +256,15 @@ decode_whole rows format = record {
   explain = λ same. absurd (other (codes "decode") (codes "explain") refl same);
 }
 
-explain_whole : (rows : List Row) → HasText (codes "word") rows → IsWhole (codes "explain") rows
-explain_whole rows text = record {
+explain_whole : (rows : List Row) → choice_fault_of rows ≡ None → IsWhole (codes "explain") rows
+explain_whole rows choice = record {
   known = refl;
   show = λ same. absurd (other (codes "explain") (codes "show") refl same);
   round = λ same. absurd (other (codes "explain") (codes "round") refl same);
   run = λ same. absurd (other (codes "explain") (codes "run") refl same);
   plan = λ same. absurd (other (codes "explain") (codes "plan") refl same);
   decode = λ same. absurd (other (codes "explain") (codes "decode") refl same);
-  explain = λ _. text;
+  explain = λ _. choice;
 }
 
 -- ---- the commands, as building leaves them
@@ -299,7 +299,10 @@ module _ (aligns : Bor (List (Bor Text))) (are : texts aligns.now ≡ codes "1" 
   round_gives = (set_gives round.rules _ refl refl refl refl, (help_gives round.rules, tt))
 
   explain_gives : GiveValues explain.rules explain.rules
-  explain_gives = (set_gives explain.rules _ refl refl refl refl, (help_gives explain.rules, tt))
+  explain_gives = (
+    set_gives explain.rules _ refl refl refl refl,
+    (set_gives explain.rules _ refl refl refl refl, (set_gives explain.rules _ refl refl refl refl, (help_gives explain.rules, tt))),
+  )
 
   run_gives : GiveValues run.rules run.rules
   run_gives = (set_gives run.rules _ refl refl refl refl, (set_gives run.rules _ refl refl refl refl, (help_gives run.rules, tt)))
@@ -324,23 +327,24 @@ module _ (aligns : Bor (List (Bor Text))) (are : texts aligns.now ≡ codes "1" 
 
   -- a command whose words have no fault has what it wants
   abbrev Serves : Shape → Type 0
-  Serves s = (words : List Text) → level_fault s [] nothing_held words false [] ≡ [] → HasItsTexts (Some (rows_at s words))
+  Serves s = (words : List Text) → level_fault s [] nothing_held words false [] ≡ [] → choice_fault_in (Some (rows_at s words)) ≡ None
+      → HasItsTexts (Some (rows_at s words))
 
   show_serves : Serves show
-  show_serves words e =
+  show_serves words e choice =
       let rows = rows_after show.rules [] words in
       let line = has_line rows (taken show.rules (codes "line") (filled line_option) rows (level-given show [] words false [] show_gives e) refl) in
       (codes "show", rows, refl, show_whole rows ((required_given show words show_gives e).1.0 refl) line)
 
   round_serves : Serves round
-  round_serves words e =
+  round_serves words e choice =
       let rows = rows_after round.rules [] words in
       (codes "round", rows, refl, round_whole rows ((required_given round words round_gives e).0 refl))
 
   explain_serves : Serves explain
-  explain_serves words e =
+  explain_serves words e choice =
       let rows = rows_after explain.rules [] words in
-      (codes "explain", rows, refl, explain_whole rows ((required_given explain words explain_gives e).0 refl))
+      (codes "explain", rows, refl, explain_whole rows choice)
 
   -- the value of `--slots`
   limit_served : (s : Shape) (words : List Text) → GiveValues s.rules s.rules → arg_by_id s.rules (codes "slots") ≡ Some (filled slots_option)
@@ -350,12 +354,12 @@ module _ (aligns : Bor (List (Bor Text))) (are : texts aligns.now ≡ codes "1" 
       has_limit rows (taken s.rules (codes "slots") (filled slots_option) rows (level-given s [] words false [] gives e) own)
 
   run_serves : Serves run
-  run_serves words e =
+  run_serves words e choice =
       let rows = rows_after run.rules [] words in
       (codes "run", rows, refl, run_whole rows (limit_served run words run_gives refl e))
 
   plan_serves : Serves plan
-  plan_serves words e =
+  plan_serves words e choice =
       let rows = rows_after plan.rules [] words in
       let wanted = required_given plan words plan_gives e in
       let limit = limit_served plan words plan_gives refl e in
@@ -363,7 +367,7 @@ module _ (aligns : Bor (List (Bor Text))) (are : texts aligns.now ≡ codes "1" 
       (codes "plan", rows, refl, plan_whole rows (wanted.1.1.0 refl) (wanted.1.1.1.0 refl) limit align)
 
   decode_serves : Serves decode
-  decode_serves words e =
+  decode_serves words e choice =
       let rows = rows_after decode.rules [] words in
       let format = has_format formats are_formats rows (taken decode.rules (codes "format") (filled (format_option formats)) rows (level-given decode [] words false [] decode_gives e) refl) in
       (codes "decode", rows, refl, decode_whole rows format)
@@ -390,32 +394,37 @@ module _ (aligns : Bor (List (Bor Text))) (are : texts aligns.now ≡ codes "1" 
   by_name : (is_named : Shape → Bool) (commands : List Shape) (words : List Text) (rows : List Row) → AllServe commands
       → option_map_or (λ s. level_fault s [] nothing_held words false []) (find is_named commands) [] ≡ []
       → check_fault (built (program aligns formats)).top rows (is_some (option_map (λ s. rows_at s words) (find is_named commands))) ≡ []
+      → choice_fault_in (option_map (λ s. rows_at s words) (find is_named commands)) ≡ None
       → HasItsTexts (option_map (λ s. rows_at s words) (find is_named commands))
-  by_name is_named [] words rows all below e = absurd (wanted rows e)
-  by_name is_named (s ∷ rest) words rows all below e = go (is_named s) below e (by_name is_named rest words rows all.1)
+  by_name is_named [] words rows all below e choice = absurd (wanted rows e)
+  by_name is_named (s ∷ rest) words rows all below e choice = go (is_named s) below e choice (by_name is_named rest words rows all.1)
     where
       go : (b : Bool) → option_map_or (λ s. level_fault s [] nothing_held words false []) (if b then Some s else find is_named rest) [] ≡ []
           → check_fault (built (program aligns formats)).top rows (is_some (option_map (λ s. rows_at s words) (if b then Some s else find is_named rest))) ≡ []
+          → choice_fault_in (option_map (λ s. rows_at s words) (if b then Some s else find is_named rest)) ≡ None
           → (option_map_or (λ s. level_fault s [] nothing_held words false []) (find is_named rest) [] ≡ []
           → check_fault (built (program aligns formats)).top rows (is_some (option_map (λ s. rows_at s words) (find is_named rest))) ≡ []
+          → choice_fault_in (option_map (λ s. rows_at s words) (find is_named rest)) ≡ None
           → HasItsTexts (option_map (λ s. rows_at s words) (find is_named rest)))
           → HasItsTexts (option_map (λ s. rows_at s words) (if b then Some s else find is_named rest))
-      go true below e later = all.0 words below
-      go false below e later = later below e
+      go true below e choice later = all.0 words below choice
+      go false below e choice later = later below e choice
 
   by_stop : (stop : Option (Text × List Text)) (rows : List Row) → entered_fault (built (program aligns formats)) stop ≡ []
-      → check_fault (built (program aligns formats)).top rows (is_some (entered (built (program aligns formats)) stop)) ≡ [] → HasItsTexts (entered (built (program aligns formats)) stop)
-  by_stop None rows below e = absurd (wanted rows e)
-  by_stop (Some p) rows below e = by_name (λ s. answers_to p.0 (label_of s)) (built (program aligns formats)).subs p.1 rows all_serve below e
+      → check_fault (built (program aligns formats)).top rows (is_some (entered (built (program aligns formats)) stop)) ≡ []
+      → choice_fault_in (entered (built (program aligns formats)) stop) ≡ None → HasItsTexts (entered (built (program aligns formats)) stop)
+  by_stop None rows below e choice = absurd (wanted rows e)
+  by_stop (Some p) rows below e choice = by_name (λ s. answers_to p.0 (label_of s)) (built (program aligns formats)).subs p.1 rows all_serve below e choice
 
-  -- words without a fault name a command and give it its texts
-  pub found : (words : List Text) → fault_of (program aligns formats) words ≡ [] → HasItsTexts (subcommand_of (program aligns formats) words)
-  found words e =
+  -- words without a fault name a command and give it its texts, where they are a choice
+  pub found : (words : List Text) → fault_of (program aligns formats) words ≡ [] → choice_fault_in (subcommand_of (program aligns formats) words) ≡ None
+      → HasItsTexts (subcommand_of (program aligns formats) words)
+  found words e choice =
       let app = built (program aligns formats) in
       let rest = argument_words (program aligns formats) words in
       let end = walk app.top.rules (names_of app) nothing_held rest in
       let parts = level_parts app.top (names_of app) rest (is_some (entered app end.stopped)) (entered_fault app end.stopped) e in
-      by_stop end.stopped (rows_after app.top.rules (names_of app) rest) parts.1 parts.3
+      by_stop end.stopped (rows_after app.top.rules (names_of app) rest) parts.1 parts.3 choice
 
 -- ---- what was found
 

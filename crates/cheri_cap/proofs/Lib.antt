@@ -1,3 +1,4 @@
 mod GivenLemmas
 mod InvocationLemmas
 mod OutcomeLemmas
+mod ChoiceLemmas

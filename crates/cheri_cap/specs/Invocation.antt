@@ -1,12 +1,15 @@
 -- What a command line asks for.
-use Rattle.std.specs.Prelude.{◌≡◌, ◌≤◌, ◌⊎◌, ◌↔◌, ℕ, Bool, IsTrue, true, pos, List, [], ◌∷◌, Option, Some, None, IfSome, IsSome, Ok, IsOk, codes, option_map, if◌then◌else◌}
+use Rattle.std.specs.Prelude.{◌≡◌, ◌≤◌, ◌⊎◌, ◌↔◌, ◌&&◌, ◌||◌, ℕ, Bool, IsTrue, true, not, pos, List, [], ◌∷◌, Option, Some, None, IfSome, IsSome, is_some, Ok, IsOk, codes, option_map, unwrap_or, if◌then◌else◌}
 use Rattle.std.specs.Borrow.{Bor}
 use Rattle.std.specs.List.{list_any}
 use Rattle.std.specs.Option.{option_map_or}
 use Rattle.std.specs.Str.{bytes_eq}
 use Rattle.std.specs.Str.Parse.{IsNumeral, digits_value, without_leading_plus}
 use Rattle.clap.specs.Walk.{texts}
-use Rattle.clap.specs.Words.{App, Row, Rule, Text, first_of, new_app, new_rule, one_of, with_rule, with_subcommand}
+use Rattle.clap.specs.Kinds.{or_else}
+use Rattle.clap.specs.Words.{App, Kinds, Row, Rule, Text, fault_of, first_of, new_app, new_rule, one_of, subcommand_of, takes, with_rule, with_subcommand}
+use Rattle.clap.specs.declared.error.kind.ErrorKind.{ErrorKind}
+use Rattle.clap.specs.declared.error.kind.ErrorKind.TheVariants.{ArgumentConflict, MissingRequiredArgument}
 use Rattle.clap.specs.declared.builder.action.ArgAction.TheVariants.{Set, SetTrue}
 use Rattle.clap.specs.declared.builder.value_parser.ValueParser.TheVariants.{Names, Signed}
 use Rattle.cc_plan.specs.declared.align.Align.{Align}
@@ -16,7 +19,7 @@ use Rattle.cc_decode.specs.declared.format.Format.{Format}
 use Rattle.cc_decode.specs.declared.format.Format.TheVariants.{Columns}
 use Rattle.cc_decode.specs.declared.format.Format.TheVariants as format
 use Rattle.cheri_cap.specs.declared.invocation.Invocation.{Invocation}
-use Rattle.cheri_cap.specs.declared.invocation.Invocation.TheVariants.{Decode, Explain, Plan, Round, Run, Show}
+use Rattle.cheri_cap.specs.declared.invocation.Invocation.TheVariants.{Decode, Explain, ExplainLength, Plan, Round, Run, Show}
 
 -- ---- the program as clap reads it
 
@@ -49,6 +52,10 @@ format_option formats = record (optional_argument (codes "format")) {
   parser = Some (Names formats);
 }
 
+-- an option of this name, which has one value
+abbrev pub valued_option : Text → Rule
+valued_option name = record (optional_argument name) { long = Some name }
+
 -- the option `--line`, which has no value
 abbrev pub line_option : Rule
 line_option = record (new_rule (codes "line")) { long = Some (codes "line"); action = Some SetTrue }
@@ -57,9 +64,11 @@ line_option = record (new_rule (codes "line")) { long = Some (codes "line"); act
 abbrev pub show_command : App
 show_command = with_rule (with_rule (new_app (codes "show")) line_option) (wanted_argument (codes "word"))
 
--- the command `explain WORD`
+-- the command `explain [--length N] [--base B] [WORD]`
 abbrev pub explain_command : App
-explain_command = with_rule (new_app (codes "explain")) (wanted_argument (codes "word"))
+explain_command =
+    let options = with_rule (with_rule (new_app (codes "explain")) (valued_option (codes "length"))) (valued_option (codes "base")) in
+    with_rule options (optional_argument (codes "word"))
 
 -- the command `round N`
 abbrev pub round_command : App
@@ -150,6 +159,7 @@ IsGiven value given = IsTrue given ↔ (value ≡ Some (codes "true"))
 abbrev pub command_of : Invocation → Text
 command_of (Show word as_line) = codes "show"
 command_of (Explain word) = codes "explain"
+command_of (ExplainLength base size) = codes "explain"
 command_of (Round size) = codes "round"
 command_of (Run limit file) = codes "run"
 command_of (Plan limit pool align file) = codes "plan"
@@ -158,7 +168,11 @@ command_of (Decode format file) = codes "decode"
 -- each text of the command is the value of its name, and none where the name has no value
 abbrev pub HasValues : List Row → Invocation → Type 0
 HasValues rows (Show word as_line) = (first_of (codes "word") rows ≡ Some word.now) × IsGiven (first_of (codes "line") rows) as_line
-HasValues rows (Explain word) = first_of (codes "word") rows ≡ Some word.now
+HasValues rows (Explain word) =
+    (first_of (codes "word") rows ≡ Some word.now) × (first_of (codes "length") rows ≡ None) × (first_of (codes "base") rows ≡ None)
+HasValues rows (ExplainLength base size) =
+    (first_of (codes "word") rows ≡ None) × (first_of (codes "length") rows ≡ Some size.now)
+    × (base.now ≡ unwrap_or (first_of (codes "base") rows) (codes "0"))
 HasValues rows (Round size) = first_of (codes "length") rows ≡ Some size.now
 HasValues rows (Run limit file) =
     IsLimit (first_of (codes "slots") rows) limit × (first_of (codes "file") rows ≡ option_map (λ text. text.now) file)
@@ -172,6 +186,38 @@ HasValues rows (Decode format file) =
 -- the command is the subcommand that clap found, and each text is the value that it gives to its name
 abbrev pub IsInvocation : Option (Text × List Row) → Invocation → Type 0
 IsInvocation found invocation = (rows : List Row) × (found ≡ Some (command_of invocation, rows)) × HasValues rows invocation
+
+-- ---- the choice that `explain` wants, of which clap knows nothing
+
+-- Why the values that are given are no choice: WORD excludes `--length` and `--base`, and one of WORD and `--length` is
+-- wanted.
+abbrev pub choice_fault : (has_word has_length has_base : Bool) → Option ErrorKind
+choice_fault has_word has_length has_base =
+    if has_word then (if has_length || has_base then Some ArgumentConflict else None)
+    else if has_length then None else Some MissingRequiredArgument
+
+-- the same of the values of `explain`
+abbrev pub choice_fault_of : List Row → Option ErrorKind
+choice_fault_of rows =
+    choice_fault (is_some (first_of (codes "word") rows)) (is_some (first_of (codes "length") rows)) (is_some (first_of (codes "base") rows))
+
+-- the same of what clap found, which is no choice only for `explain`
+abbrev pub choice_fault_in : Option (Text × List Row) → Option ErrorKind
+choice_fault_in None = None
+choice_fault_in (Some found) = if bytes_eq found.0 (codes "explain") then choice_fault_of found.1 else None
+
+-- the words are taken: by clap, and for the choice
+abbrev pub is_taken : App → List Text → Bool
+is_taken app words = takes app words && not (is_some (choice_fault_in (subcommand_of app words)))
+
+-- the kind of a fault, if there is one
+abbrev pub kinds_in : Option ErrorKind → Kinds
+kinds_in None = []
+kinds_in (Some kind) = kind ∷ []
+
+-- the kinds of error that the words may give: those of clap, and where it has none, that of the choice
+abbrev pub faults_of : App → List Text → Kinds
+faults_of app words = or_else (fault_of app words) (kinds_in (choice_fault_in (subcommand_of app words)))
 
 -- ---- what only private contracts cite
 
@@ -211,7 +257,7 @@ pub record IsWhole (name : Text) (rows : List Row) : Type 0 where
   pub run : name ≡ codes "run" → HasLimit rows
   pub plan : name ≡ codes "plan" → HasText (codes "base") rows × HasText (codes "length") rows × HasLimit rows × HasAlign rows
   pub decode : name ≡ codes "decode" → HasFormat rows
-  pub explain : name ≡ codes "explain" → HasText (codes "word") rows
+  pub explain : name ≡ codes "explain" → choice_fault_of rows ≡ None
 
 -- a command was found that has what it wants
 abbrev pub HasItsTexts : Option (Text × List Row) → Type 0

@@ -1,9 +1,9 @@
 //! The command line.
-ghost use Rattle.std.specs.Prelude.{◌≡◌, ◌∷◌, [], IfErr, IfOk, IsSome, Some, codes, false, true};
+ghost use Rattle.std.specs.Prelude.{◌≡◌, ◌∷◌, [], IfErr, IfOk, IsSome, None, Some, codes, false, is_some, true, unwrap_or};
 ghost use Rattle.clap.specs.Walk.{texts};
-ghost use Rattle.clap.specs.Words.{App, FailsBy, app_of, fault_of, first_of, first_value, found_of, kind_of, new_app, rows_of, rule_of, subcommand_of, subcommand_rows_of, takes};
+ghost use Rattle.clap.specs.Words.{App, FailsBy, app_of, first_of, first_value, found_of, kind_of, new_app, rows_of, rule_of, subcommand_of, subcommand_rows_of};
 ghost use Rattle.clap.specs.declared.builder.command.Command.TheViews.{out-Command};
-ghost use Rattle.cheri_cap.specs.Invocation.{HasAlign, HasFormat, HasItsTexts, HasLimit, HasLine, IsAlign, IsFormat, IsGiven, IsInvocation, IsLimit, IsProgram, align_option, bare_program, decode_command, explain_command, format_names, format_option, line_option, optional_argument, plan_command, plan_options, program, round_command, run_command, show_command, slots_option, wanted_argument};
+ghost use Rattle.cheri_cap.specs.Invocation.{HasAlign, HasFormat, HasItsTexts, HasLimit, HasLine, IsAlign, IsFormat, IsGiven, IsInvocation, IsLimit, HasValues, IsProgram, align_option, bare_program, choice_fault_in, choice_fault_of, command_of, decode_command, explain_command, faults_of, format_names, format_option, is_taken, kinds_in, line_option, optional_argument, plan_command, plan_options, program, round_command, run_command, show_command, slots_option, valued_option, wanted_argument};
 
 use cc_command::PoolTexts;
 use cc_decode::Format;
@@ -27,6 +27,13 @@ pub enum Invocation<'a> {
     Explain {
         /// The text that stands for the word, which may be none.
         word: &'a str,
+    },
+    /// `explain --length N [--base B]`: what setting bounds grants.
+    ExplainLength {
+        /// The text that stands for the first address of the bounds, which may be none: `0` where it is not given.
+        base: &'a str,
+        /// The text that stands for their length, which may be none.
+        length: &'a str,
     },
     /// `round N`: the length that bounds of `N` bytes take, and its alignment.
     Round {
@@ -98,17 +105,41 @@ Example:
   0x1000 [rwxRW,0x1000-0x1200]";
 
 const EXPLAIN_ABOUT: &str =
-    "Explains how a capability word is decoded, step by step, with a picture";
+    "Explains how a capability word is decoded, step by step, or what bounds of a length are granted";
+
+const EXPLAIN_USAGE: &str = "\
+cheri-cap explain <WORD>
+       cheri-cap explain --length <N> [--base <B>]";
+
+const EXPLAIN_CHOICE: &str = "either WORD is wanted, or `--length N` and with it `--base B` or not";
+
+const REQUEST_LENGTH_HELP: &str = "\
+Explain bounds of N bytes, at most 2^64: decimal digits, or 0x and hexadecimal digits of either case";
+
+const REQUEST_BASE_HELP: &str = "The first address of the N bytes, written as N is [default: 0]";
 
 const EXPLAIN_AFTER_HELP: &str = "\
-The answer has the word's fields, its exponent, granule and mantissas, its window, in which its
+Of a WORD the answer has its fields, its exponent, granule and mantissas, its window, in which its
 address may move while its bounds stay as they are, its base and its top, whether it is canonical,
 and if not why. Under them stands a picture of the window in 64 cells, eight to each of its eight
 sections: `#` marks the cells that hold bytes of the bounds, B, T and A that of the base, of the top
 and of the address. For a text that is no word the answer is `error 1 syntax`, with exit status 1.
 
+Of N bytes from B on it has the granule in which their bounds are stored, and why half of it is not
+enough, the bounds that are granted, the bytes beside the N that they take in, the length and the
+alignment of the base that lose none, and the word of the root capability with these bounds. It is
+`error 1 syntax` where N or B is no number, `error 4 range` where one is too large, and `error 9
+bounds` where the bytes end past 2^64, with exit status 1.
+
 Example:
-  cheri-cap explain ffff0000048190040000000000001000";
+  cheri-cap explain --length 8191 --base 0x10068
+  request   0x1fff bytes, from 0x10068 to 0x12067
+  granule   0x10 bytes: the request touches 513 of them, and at most 1023 can be counted
+  half      0x8 bytes: the request touches 1024 of them, and that is too many
+  granted   0x2010 bytes, from 0x10060 to 0x12070
+  lost      0x8 bytes before the request, and 0x9 behind it
+  exact     0x2000 bytes, at a base that is a multiple of 0x10
+  word      ffff0000000f80350000000000010068";
 
 const ROUND_ABOUT: &str =
     "Shows how many bytes an allocation of N bytes has to set aside, and how to align it";
@@ -145,7 +176,8 @@ a capability puts it into the next slot:
   sweep                        gives freed bytes back, and revokes what came from the freed objects
   show S, round N              shows a slot, or what a length is rounded to
 A line that is no command, or that is refused, is answered by `error`, a code and a name, and the
-next line is run.
+next line is run. Slots and objects are numbered once and for all, in the order in which they are
+made, and a refused command, as an `alloc`, takes no number: take the numbers from the replies.
 
 The exit status is 0, or 1 where a reply is an error, 2 for a command line that is not understood,
 and 3 where the program ran out of memory, FILE cannot be opened, or its input or output failed.
@@ -167,7 +199,8 @@ const PLAN_AFTER_HELP: &str = "\
 The machine is opened by `addr 0 BASE`, `exact 1 LENGTH` and `pool 2` (or `pool 2 16`), whose three
 replies stand first. They are errors where no capability has exactly these bounds, and the machine
 then has no pool; `cheri-cap round LENGTH` tells which length and alignment are exact. The script is
-then run as `cheri-cap run` does.
+then run as `cheri-cap run` does. Slots and objects are numbered once and for all, in the order in
+which they are made, and a refused `alloc` takes no number: take the numbers from the replies.
 
 For a BASE or LENGTH that is no number the answer is `error 1 syntax`, and for one that is too
 large it is `error 4 range`, both with exit status 1, and no script is run.
@@ -221,12 +254,12 @@ pub fn read_words<'a>(alloc: Global, words: &'a [&'a str]) -> Result<Invocation<
     ensures read { IfOk result (λ invocation.
         (app : App) × IsProgram app × IsInvocation (subcommand_of app (texts words.now)) invocation) }
     ensures refused { IfErr result (λ error.
-        (app : App) × IsProgram app × (takes app (texts words.now) ≡ true → kind_of error ≡ ErrorKind.OutOfMemory)) }
-    ensures kinds { (app : App) × IsProgram app × FailsBy (fault_of app (texts words.now)) result }
+        (app : App) × IsProgram app × (is_taken app (texts words.now) ≡ true → kind_of error ≡ ErrorKind.OutOfMemory)) }
+    ensures kinds { (app : App) × IsProgram app × FailsBy (faults_of app (texts words.now)) result }
 {
     let mut command = program(alloc, aligns(), formats())?;
     match command.try_get_matches_from_mut(words) {
-        Ok(matches) => Ok(invocation_of(&matches)),
+        Ok(matches) => chosen(alloc, &matches),
         Err(error) => Err(error),
     }
 }
@@ -273,13 +306,16 @@ fn show_command<'a>(alloc: Global) -> Result<Command<'a>, AllocError>
         .arg(word)
 }
 
-/// `explain WORD`.
+/// `explain [--length N] [--base B] [WORD]`.
 fn explain_command<'a>(alloc: Global) -> Result<Command<'a>, AllocError>
     ensures shape { IfOk result (λ command. app_of command ≡ explain_command) }
     ensures local { IfOk result (λ command. (out-Command command).has_globals ≡ false) }
 {
-    let word = wanted_argument(alloc, "word", "WORD", WORD_HELP);
-    bare_command(alloc, "explain", EXPLAIN_ABOUT, EXPLAIN_AFTER_HELP).arg(word)
+    bare_command(alloc, "explain", EXPLAIN_ABOUT, EXPLAIN_AFTER_HELP)
+        .override_usage(EXPLAIN_USAGE)
+        .arg(valued_option(alloc, "length", "N", REQUEST_LENGTH_HELP))?
+        .arg(valued_option(alloc, "base", "B", REQUEST_BASE_HELP))?
+        .arg(optional_argument(alloc, "word", "WORD", WORD_HELP))
 }
 
 /// `round N`.
@@ -392,6 +428,14 @@ fn optional_argument<'a>(
         .action(ArgAction::Set)
 }
 
+/// An option that may be left out, and has one value.
+fn valued_option<'a>(alloc: Global, name: &'a str, placeholder: &'a str, help: &'a str) -> Arg<'a>
+    ensures rule { rule_of result ≡ valued_option name.now }
+    ensures local { result.global ≡ false }
+{
+    optional_argument(alloc, name, placeholder, help).long(name)
+}
+
 /// The option `--line`.
 fn line_option<'a>(alloc: Global) -> Arg<'a>
     ensures rule { rule_of result ≡ line_option }
@@ -433,6 +477,51 @@ fn format_option<'a>(alloc: Global, formats: &'a [&'a str]) -> Arg<'a>
         .value_parser(ValueParser::Names(formats))
 }
 
+/// What the command that clap found asks for, or that its values are no choice that it has.
+fn chosen<'a>(alloc: Global, matches: &ArgMatches<'a>) -> Result<Invocation<'a>, Error>
+    requires { choice_fault_in (subcommand_rows_of matches.now) ≡ None → HasItsTexts (subcommand_rows_of matches.now) }
+    ensures read { IfOk result (IsInvocation (subcommand_rows_of matches.now)) }
+    ensures kinds { FailsBy (kinds_in (choice_fault_in (subcommand_rows_of matches.now))) result }
+{
+    match choice_fault(matches) {
+        None => Ok(invocation_of(matches)),
+        Some(kind) => Err(choice_error(alloc, kind)?),
+    }
+}
+
+/// Why the values of `explain` are no choice that it has, if that was found.
+fn choice_fault(matches: &ArgMatches<'_>) -> Option<ErrorKind>
+    ensures { result ≡ choice_fault_in (subcommand_rows_of matches.now) }
+{
+    let explain = matches.subcommand_matches("explain")?;
+    let has_length = has_value(explain, "length");
+    if has_value(explain, "word") {
+        if has_length || has_value(explain, "base") {
+            Some(ErrorKind::ArgumentConflict)
+        } else {
+            None
+        }
+    } else if has_length {
+        None
+    } else {
+        Some(ErrorKind::MissingRequiredArgument)
+    }
+}
+
+/// The error that says what `explain` has to choose from.
+fn choice_error(alloc: Global, kind: ErrorKind) -> Result<Error, AllocError>
+    ensures { IfOk result (λ error. kind_of error ≡ kind) }
+{
+    explain_command(alloc)?.error(kind, EXPLAIN_CHOICE)
+}
+
+/// Whether an argument has a value.
+fn has_value(matches: &ArgMatches<'_>, name: &str) -> bool
+    ensures { result ≡ is_some (first_of name.now (rows_of (found_of matches.now))) }
+{
+    matches.get_str(name).is_some()
+}
+
 /// What the command that clap found asks for.
 fn invocation_of<'a>(matches: &ArgMatches<'a>) -> Invocation<'a>
     requires { HasItsTexts (subcommand_rows_of matches.now) }
@@ -463,11 +552,31 @@ fn invocation_of<'a>(matches: &ArgMatches<'a>) -> Invocation<'a>
             format: format_of(decode),
             file: decode.get_str("file"),
         },
-        Some(("explain", explain)) => Invocation::Explain {
-            word: wanted_text(explain, "word"),
-        },
+        Some(("explain", explain)) => explanation_of(explain),
         _ => unreachable!(),
     }
+}
+
+/// What `explain` asks for.
+fn explanation_of<'a>(matches: &ArgMatches<'a>) -> Invocation<'a>
+    requires { choice_fault_of (rows_of (found_of matches.now)) ≡ None }
+    ensures command { command_of result ≡ codes "explain" }
+    ensures values { HasValues (rows_of (found_of matches.now)) result }
+{
+    match matches.get_str("word") {
+        Some(word) => Invocation::Explain { word },
+        None => Invocation::ExplainLength {
+            base: base_of(matches),
+            length: wanted_text(matches, "length"),
+        },
+    }
+}
+
+/// The value of `--base`, or `0`.
+fn base_of<'a>(matches: &ArgMatches<'a>) -> &'a str
+    ensures { result.now ≡ unwrap_or (first_of (codes "base") (rows_of (found_of matches.now))) (codes "0") }
+{
+    matches.get_str("base").unwrap_or("0")
 }
 
 /// The value of a wanted argument.

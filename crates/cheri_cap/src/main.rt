@@ -4,16 +4,16 @@
 
 ghost use Rattle.std.specs.Prelude.{◌≡◌, false, List, Option};
 ghost use Rattle.clap.specs.Walk.{texts};
-ghost use Rattle.clap.specs.Words.{App, Row, Text, fault_of, kind_of, takes};
+ghost use Rattle.clap.specs.Words.{App, Row, Text, kind_of};
 ghost use Rattle.cheri_cap.specs.declared.outcome.Ending.TheVariants as ending;
-ghost use Rattle.cheri_cap.specs.Invocation.{IsInvocation, IsProgram};
+ghost use Rattle.cheri_cap.specs.Invocation.{IsInvocation, IsProgram, faults_of, is_taken};
 ghost use Rattle.cheri_cap.specs.Outcome.{EndsBy, EndsOn, status_of};
 
 mod invocation;
 mod outcome;
 mod running;
 
-use cc_command::{explain_word, show_line, show_round, show_word};
+use cc_command::{explain_length, explain_word, show_line, show_round, show_word};
 use cc_script::{FromWriter, Summary};
 use clap::Error;
 use clap::error::ErrorKind;
@@ -63,8 +63,8 @@ fn run_arguments<R: AllocGlobal + Files + Input + Print + Eprint>(
 
 /// Does what the words ask for.
 fn run_words<R: AllocGlobal + Files + Input + Print + Eprint>(rt: &R, words: &[&str]) -> Ending
-    ensures refused { result ≡ ending.Refused → (app : App) × IsProgram app × (takes app (texts words.now) ≡ false) }
-    ensures ends { (app : App) × IsProgram app × EndsOn (fault_of app (texts words.now)) result }
+    ensures refused { result ≡ ending.Refused → (app : App) × IsProgram app × (is_taken app (texts words.now) ≡ false) }
+    ensures ends { (app : App) × IsProgram app × EndsOn (faults_of app (texts words.now)) result }
 {
     match read_words(rt.alloc(), words) {
         Ok(invocation) => ending_of(answer(rt, invocation)),
@@ -108,6 +108,9 @@ fn answer<R: AllocGlobal + Files + Input + Print>(
             as_line: true,
         } => Ok(show_line(word.as_bytes(), &mut output)?),
         Invocation::Explain { word } => Ok(explain_word(word.as_bytes(), &mut output)?),
+        Invocation::ExplainLength { base, length } => {
+            Ok(explain_length(base, length, &mut output)?)
+        }
         Invocation::Round { length } => Ok(show_round(length.as_bytes(), &mut output)?),
         Invocation::Run { limit, file } => running::run(rt, limit, file),
         Invocation::Plan {

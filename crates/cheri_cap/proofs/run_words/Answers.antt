@@ -2,9 +2,10 @@ use Rattle.std.proofs.Common.{inl, subst, sym}
 use Rattle.std.specs.Prelude.{◌≢◌}
 use Rattle.std.proofs.lemmas.Bool.{false_from_ne_true}
 use Rattle.clap.specs.Walk.{texts}
-use Rattle.clap.specs.Words.{fault_of, kind_of, takes}
+use Rattle.clap.specs.Words.{kind_of}
 use Rattle.cheri_cap.specs.declared.outcome.Ending.{Ending}
 use Rattle.cheri_cap.specs.declared.outcome.Ending.TheVariants.{Refused}
+use Rattle.cheri_cap.specs.Invocation.{faults_of, is_taken}
 use Rattle.cheri_cap.proofs.OutcomeLemmas.{answer_not_refused, ends_by_error, refused_not_for_memory}
 use Rattle.cheri_cap.proofs.run_words.Goals as goal
 
@@ -21,11 +22,11 @@ returns-in-Err-clause-refused g c = λ is_refused.
     let told = c.in-Err.ensures.refused in (
       told.0,
       told.1,
-      false_from_ne_true (takes told.0 (texts c.args.words.now)) (λ taken.
+      false_from_ne_true (is_taken told.0 (texts c.args.words.now)) (λ taken.
           refused_not_for_memory (kind_of c.in-Err.error) c.tell.result c.tell.ensures is_refused (told.2 taken)),
     )
 
 pub returns-in-Err-clause-ends : goal.returns-in-Err-clause-ends
 returns-in-Err-clause-ends g c =
     let told = c.in-Err.ensures.kinds in
-    (told.0, told.1, ends_by_error (fault_of told.0 (texts c.args.words.now)) c.in-Err.error c.tell.result told.2 c.tell.ensures)
+    (told.0, told.1, ends_by_error (faults_of told.0 (texts c.args.words.now)) c.in-Err.error c.tell.result told.2 c.tell.ensures)

@@ -56,6 +56,25 @@ fn explain_is_taken(rt: HostRuntime) -> Result<(), Fail> {
     Ok(())
 }
 
+/// A line, and BASE and LENGTH of what it asks.
+const LENGTHS: [(&str, &str, &str); 4] = [
+    ("explain --length 12", "0", "12"),
+    ("explain --base=5 --length 12", "5", "12"),
+    ("explain --length=q --base ", "", "q"),
+    ("explain --length 0 --base 0x10", "0x10", "0"),
+];
+
+#[test]
+fn explain_of_a_length_is_taken(rt: HostRuntime) -> Result<(), Fail> {
+    for (line, base, length) in LENGTHS {
+        let words = words_of(rt.alloc(), line)?;
+        let taken = read_words(rt.alloc(), words.as_slice())?;
+        let explained = Invocation::ExplainLength { base, length };
+        assert_eq!(rt; taken, explained, "{line}");
+    }
+    Ok(())
+}
+
 const ROUNDED: [(&str, &str); 6] = [
     ("round 0x10", "0x10"),
     ("round ", ""),
@@ -235,7 +254,7 @@ fn refusal(alloc: Global, words: &[&str]) -> Option<(ErrorKind, bool)> {
 }
 
 #[rattlefmt::skip]
-const REFUSED: [(&str, ErrorKind); 30] = [
+const REFUSED: [(&str, ErrorKind); 35] = [
     ("show", ErrorKind::MissingRequiredArgument),
     ("show 1 2", ErrorKind::UnknownArgument),
     ("show -5", ErrorKind::UnknownArgument),
@@ -244,6 +263,11 @@ const REFUSED: [(&str, ErrorKind); 30] = [
     ("show --line", ErrorKind::MissingRequiredArgument),
     ("show --line=1 1", ErrorKind::TooManyValues),
     ("show --line --line 1", ErrorKind::ArgumentConflict),
+    ("explain", ErrorKind::MissingRequiredArgument),
+    ("explain --base 5", ErrorKind::MissingRequiredArgument),
+    ("explain 1 --length 5", ErrorKind::ArgumentConflict),
+    ("explain 1 --base 5", ErrorKind::ArgumentConflict),
+    ("explain --length 1 --length 1", ErrorKind::ArgumentConflict),
     ("round", ErrorKind::MissingRequiredArgument),
     ("round 1 2", ErrorKind::UnknownArgument),
     ("round -5", ErrorKind::UnknownArgument),

@@ -1,5 +1,5 @@
 //! Worked answers of `explain`.
-use cc_command::explain_word;
+use cc_command::{explain_length, explain_word};
 use cc_script::{SliceSink, Summary};
 use std::process::Abort;
 
@@ -139,5 +139,49 @@ fn assert_reason(rt: &impl Abort, text: &str, reason: &str) {
 fn words_of_no_capability_are_told_why(rt: HostRuntime) {
     for (text, reason) in FAULTY {
         assert_reason(&rt, text, reason);
+    }
+}
+
+/// The worked length of docs/FORMAT.md: 16 bytes are its granule, and 17 are granted beside it.
+const REQUEST: &str = "\
+request   0x1fff bytes, from 0x10068 to 0x12067
+granule   0x10 bytes: the request touches 513 of them, and at most 1023 can be counted
+half      0x8 bytes: the request touches 1024 of them, and that is too many
+granted   0x2010 bytes, from 0x10060 to 0x12070
+lost      0x8 bytes before the request, and 0x9 behind it
+exact     0x2000 bytes, at a base that is a multiple of 0x10
+word      ffff0000000f80350000000000010068
+";
+
+const REQUESTS: [(&str, &str, &str, bool); 3] = [
+    ("0x10068", "8191", REQUEST, false),
+    ("q", "0x10000000000000001", "error 1 syntax\n", true),
+    ("1", "0x10000000000000000", "error 9 bounds\n", true),
+];
+
+/// Explains a length into ample room, and compares what was written and how it ended.
+fn assert_length_explained(
+    rt: &impl Abort,
+    base: &str,
+    length: &str,
+    answer: &str,
+    any_error: bool,
+) {
+    let mut room = [0; 1024];
+    let mut sink = SliceSink::new(&mut room, 100, None);
+    let outcome = explain_length(base, length, &mut sink);
+    let taken = sink.taken();
+    assert_eq!(rt; outcome, Ok(Summary { any_error }), "{base} {length}");
+    assert_eq!(rt;
+        room.get(..taken),
+        Some(answer.as_bytes()),
+        "{base} {length}"
+    );
+}
+
+#[test]
+fn lengths_are_explained(rt: HostRuntime) {
+    for (base, length, answer, any_error) in REQUESTS {
+        assert_length_explained(&rt, base, length, answer, any_error);
     }
 }

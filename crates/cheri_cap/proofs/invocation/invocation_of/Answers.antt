@@ -1,5 +1,5 @@
 use Rattle.std.proofs.Common.{◌∙◌, ap, codes, refl, sym, Some}
-use Rattle.clap.specs.Words.{found_of, rows_of}
+use Rattle.clap.specs.Words.{Text, found_of, rows_of}
 use Rattle.clap.proofs.WalkLemmas.{first_value-rows}
 use Rattle.cheri_cap.proofs.InvocationLemmas.{command_is, has_text, whole}
 use Rattle.cheri_cap.proofs.invocation.invocation_of.Goals as goal
@@ -118,18 +118,16 @@ returns-in-Some-decode-default c =
       (c.format_of.ensures, sym (first_value-rows f (codes "file")) ∙ sym c.get_str-in-Some-decode-default.ensures),
     )
 
-pub wanted_text-requires-in-Some-explain-default : goal.wanted_text-requires-in-Some-explain-default
-wanted_text-requires-in-Some-explain-default c =
+pub explanation_of-requires : goal.explanation_of-requires
+explanation_of-requires c =
     let here = c.in-Some-explain-default in
-    let f = found_of here.explain.now in
-    let is = command_is c.args.matches.now (codes "explain") (rows_of f) (sym (ap Some here.is-explain) ∙ here.ensures.name) here.ensures.rows in
-    has_text f (codes "word") ((whole _ (codes "explain") (rows_of f) is c.requires).explain refl)
+    let rows = rows_of (found_of here.explain.now) in
+    let is = command_is c.args.matches.now (codes "explain") rows (sym (ap Some here.is-explain) ∙ here.ensures.name) here.ensures.rows in
+    (whole _ (codes "explain") rows is c.requires).explain refl
 
 pub returns-in-Some-explain-default : goal.returns-in-Some-explain-default
 returns-in-Some-explain-default c =
     let here = c.in-Some-explain-default in
-    let f = found_of here.explain.now in (
-      rows_of f,
-      command_is c.args.matches.now (codes "explain") (rows_of f) (sym (ap Some here.is-explain) ∙ here.ensures.name) here.ensures.rows,
-      sym (first_value-rows f (codes "word")) ∙ c.wanted_text-in-Some-explain-default.ensures,
-    )
+    let rows = rows_of (found_of here.explain.now) in
+    let is = command_is c.args.matches.now (codes "explain") rows (sym (ap Some here.is-explain) ∙ here.ensures.name) here.ensures.rows in
+    (rows, is ∙ ap (λ (name : Text). Some (name, rows)) (sym c.explanation_of.ensures.command), c.explanation_of.ensures.values)

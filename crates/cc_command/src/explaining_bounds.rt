@@ -1,0 +1,53 @@
+//! The explanation of a length: what setting bounds of it grants, and why.
+ghost use Rattle.std.specs.Prelude.{◌≡◌, ◌↔◌, [], false, true, IfOk, IsErr, IsTrue, OnErr};
+ghost use Rattle.cc_command.specs.Answer.{WritesAnswer};
+ghost use Rattle.cc_command.specs.Request.{IsLengthExplanation, request_in};
+
+use crate::answers::{push_refusal, write_answer};
+use crate::explained_request::push_grant;
+use crate::request::{grant_of, read_request};
+use crate::text::Text;
+use cc_script::{ScriptFault, Sink, Summary};
+
+/// Writes what setting bounds grants to a request for the bytes whose first address and length two texts spell: the
+/// granule and why half of it is not enough, the bounds, the bytes beside the request, which length has exact bounds
+/// and at which bases, and the word of the root capability with these bounds. Flushes the sink once after the last
+/// line.
+///
+/// Where a text spells no number the answer is the line `error 1 syntax`, else where the base is above 2^64 - 1 or
+/// the length above 2^64 `error 4 range`, and else where the request ends past 2^64 `error 9 bounds`. No line has more
+/// than 100 bytes. Where the sink fails, a beginning of the text was written.
+pub fn explain_length<W: Sink>(
+    base: &str,
+    length: &str,
+    sink: &mut W,
+) -> Result<Summary, ScriptFault>
+    requires { W.has_failed sink.old ≡ false }
+    ensures shown { WritesAnswer (IsLengthExplanation base.now length.now) (W.taken_bytes sink.old) (W.taken_bytes sink.new) result }
+    ensures any_error { IfOk result (λ summary. IsTrue summary.any_error ↔ IsErr (request_in base.now length.now)) }
+    ensures fails { IsErr result ↔ (W.has_failed sink.new ≡ true) }
+    ensures write { OnErr result (result ≡ Err ScriptFault.Write) }
+{
+    let mut answer = Text::new();
+    let summary = push_request(&mut answer, base, length);
+    write_answer(&answer, sink)?;
+    Ok(summary)
+}
+
+/// Appends the explanation of the request that two texts spell, or why they spell none.
+fn push_request(answer: &mut Text, base: &str, length: &str) -> Summary
+    requires { answer.old ≡ [] }
+    ensures explanation { IsLengthExplanation base.now length.now answer.new }
+    ensures any_error { IsTrue result.any_error ↔ IsErr (request_in base.now length.now) }
+{
+    match read_request(base, length) {
+        Ok(request) => {
+            push_grant(answer, &request, &grant_of(&request));
+            Summary { any_error: false }
+        }
+        Err(refusal) => {
+            push_refusal(answer, refusal);
+            Summary { any_error: true }
+        }
+    }
+}
