@@ -10,7 +10,7 @@ _cheri_cap() {
   case $command in
     run) options+=' --slots' ;;
     plan) options+=' --slots --align' ;;
-    decode) options+=' --format' ;;
+    decode) options+=' --format --bytes' ;;
     show) options+=' --line' ;;
     round | explain) ;;
     *) return ;;
@@ -18,6 +18,7 @@ _cheri_cap() {
   case $before in
     --slots) ;;
     --format) mapfile -t COMPREPLY < <(compgen -W 'columns text' -- "$word") ;;
+    --bytes) mapfile -t COMPREPLY < <(compgen -W 'little big' -- "$word") ;;
     --align) mapfile -t COMPREPLY < <(compgen -W '1 16' -- "$word") ;;
     *)
       if [[ $word == -* ]]; then

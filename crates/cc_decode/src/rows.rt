@@ -10,8 +10,17 @@ use cc_cap::{WordLine, is_canonical};
 use cc_script::Line;
 use cc_word::{Fields, unpack};
 
+/// The answer to a word.
+pub(crate) fn row_of(format: Format, word: u128) -> Line
+    ensures { IsWordRow format word result }
+{
+    let mut line = Line::new();
+    push_row(&mut line, format, word);
+    line
+}
+
 /// Makes an empty line the answer to a word.
-pub(crate) fn push_row(line: &mut Line, format: Format, word: u128)
+fn push_row(line: &mut Line, format: Format, word: u128)
     requires { line.old ≡ [] }
     ensures { IsWordRow format word line.new }
 {

@@ -1,14 +1,18 @@
-use Rattle.std.proofs.Common.{rules, ◌≡◌, ℕ, List, [], take, subst}
+use Rattle.std.proofs.Common.{rules, ◌≡◌, ℕ, List, [], sym, take, subst}
 use Rattle.std.specs.Io.KnownBytes.{Consumes, Appends}
 use Rattle.cc_script.specs.Devices.{TakesBeginning}
 use Rattle.cc_script.specs.Output.{rest_text}
 use Rattle.cc_script.proofs.DeviceLemmas.{keeps_consumes}
+use Rattle.cc_decode.specs.Engine.{IsBegun}
+use Rattle.cc_decode.proofs.EntryLemmas.{begun_none}
 use Rattle.cc_decode.proofs.EngineLemmas.{reads_begins, reads_more, fails_reading, stops_reading, ends, stops_ending}
 use Rattle.cc_decode.proofs.engine.decode_pieces.Goals as goal
 
 pub pieces-init : goal.pieces-init
 pieces-init g c = record {
   reads = reads_begins _ _ _ [] _ c.new-start.ensures;
+  begun = subst (IsBegun c.args.options.input) (sym c.new-start.ensures) (begun_none c.args.options.input);
+  none_waits = c.new-batch.ensures;
   gives = search rules;
   takes = search rules;
   passed = λ none. none;
@@ -23,9 +27,11 @@ pieces-preserved g c =
     let r = c.pieces.invariant.reads in
     record {
       reads = reads_more _ _ _ _ _ _ _ _ _ _ _ _ _ r c.in-Ok.ensures.gives.0 (c.in-Ok-take_piece.ensures.ok _ r.answers.start_is);
+      begun = c.in-Ok-take_piece.ensures.begun;
+      none_waits = c.in-Ok-take_piece.ensures.empty;
       gives = search rules;
       takes = search rules;
-      passed = λ none. c.in-Ok-take_piece.ensures.passed (c.pieces.invariant.passed none);
+      passed = λ none. c.in-Ok-take_piece.ensures.passed;
     }
 
 pub returns-in-Err-take_piece-clause-lists : goal.returns-in-Err-take_piece-clause-lists
