@@ -17,7 +17,7 @@ _cheri_cap() {
   esac
   case $before in
     --slots) ;;
-    --format) mapfile -t COMPREPLY < <(compgen -W 'columns text' -- "$word") ;;
+    --format) mapfile -t COMPREPLY < <(compgen -W 'columns text csv' -- "$word") ;;
     --bytes) mapfile -t COMPREPLY < <(compgen -W 'little big' -- "$word") ;;
     --align) mapfile -t COMPREPLY < <(compgen -W '1 16' -- "$word") ;;
     *)

@@ -15,8 +15,9 @@ use Rattle.cc_script.proofs.DeviceLemmas.{appends_none, appends_twice, consumes_
 use Rattle.cc_script.proofs.LineLemmas.{start_longer}
 use Rattle.cc_decode.specs.Input.{entries_from, left_from, entries_of, left_of}
 use Rattle.cc_decode.specs.Output.{Answer, AreAnswers, answers_text}
+use Rattle.cc_decode.specs.Row.{header_text}
 use Rattle.cc_decode.specs.Correct.{WritesListing, StopsInAnswers, StopsAfterAnswers, Lists, ListsWhole}
-use Rattle.cc_decode.specs.Engine.{Answers, AnswersEntry, AnswersFirst, EndsEntry, EndsNone, PassesSome, Reads}
+use Rattle.cc_decode.specs.Engine.{Answers, AnswersEntry, AnswersFirst, EndsEntry, EndsNone, PassesSome, Reads, StopsInPiece}
 use Rattle.cc_decode.specs.declared.options.Options.{Options}
 use Rattle.cc_decode.proofs.AnswerLemmas.{answers_behind, answers_text-append}
 use Rattle.cc_decode.proofs.EntryLemmas.{entries_further, left_further, no_entry, all_left}
@@ -43,7 +44,7 @@ begins_whole t u xs p = record {
 
 -- the sink failed in an answer behind others
 stops_behind : (options : Options) (t u v : Option (List ℕ)) (xs ys : List (List ℕ)) (rs : List Answer)
-    → AreAnswers options xs rs → Appends t u (answers_text rs) → StopsInAnswers options ys u v → StopsInAnswers options (xs ++ ys) t v
+    → AreAnswers options xs rs → Appends t u (answers_text rs) → StopsInPiece options ys u v → StopsInPiece options (xs ++ ys) t v
 stops_behind options t u v xs ys rs are written q = record {
   earlier = xs ++ q.earlier;
   later = q.later;
@@ -65,6 +66,18 @@ stops_before options t u xs ys q = record {
   written = q.written;
 }
 
+-- and after the header
+stops_opened : (options : Options) (t u v : Option (List ℕ)) (xs : List (List ℕ)) → Appends t u (header_text options.format)
+    → StopsInPiece options xs u v → StopsInAnswers options xs t v
+stops_opened options t u v xs header q = record {
+  earlier = q.earlier;
+  later = q.later;
+  entries_are = q.entries_are;
+  answers = q.answers;
+  are_answers = q.are_answers;
+  written = begins_behind t u v (header_text options.format) (answers_text q.answers) header q.written;
+}
+
 or_false : (b : Bool) → b ≡ (b || false)
 or_false true = refl
 or_false false = refl
@@ -84,10 +97,10 @@ answers_further options t u v begun xs ys start end e f p q = record {
 }
 
 stops_further : (options : Options) (t u v : Option (List ℕ)) (begun xs ys start : List ℕ) (e : Bool)
-    → Answers options begun xs start t u e → StopsInAnswers options (entries_from options.input (left_from options.input begun xs) ys) u v
-    → StopsInAnswers options (entries_from options.input begun (xs ++ ys)) t v
+    → Answers options begun xs start t u e → StopsInPiece options (entries_from options.input (left_from options.input begun xs) ys) u v
+    → StopsInPiece options (entries_from options.input begun (xs ++ ys)) t v
 stops_further options t u v begun xs ys start e p q =
-    subst (λ (l : List (List ℕ)). StopsInAnswers options l t v) (sym (entries_further options.input begun xs ys))
+    subst (λ (l : List (List ℕ)). StopsInPiece options l t v) (sym (entries_further options.input begun xs ys))
     (stops_behind options t u v (entries_from options.input begun xs) (entries_from options.input (left_from options.input begun xs) ys) p.answers p.are_answers p.written q)
 
 -- where the sink failed in a text, it failed in every longer one
@@ -184,7 +197,7 @@ first_ends options t u v begun piece rest start end waiting e p none end_is w = 
 -- the sink failed as what waits was written
 pub first_stops : (options : Options) (t u v : Option (List ℕ)) (begun piece rest start waiting : List ℕ) (e : Bool)
     → AnswersFirst options begun piece rest start t u waiting e → TakesBeginning u v waiting
-    → StopsInAnswers options (entries_from options.input begun piece) t v
+    → StopsInPiece options (entries_from options.input begun piece) t v
 first_stops options t u v begun piece rest start waiting e p q =
     record {
       earlier = p.entries;
@@ -197,26 +210,47 @@ first_stops options t u v begun piece rest start waiting e p q =
 
 -- ---- the reads
 
-pub reads_begins : (options : Options) (c t : Option (List ℕ)) (begun start : List ℕ) → start ≡ take 129 begun → Reads options begun c c start t t false
-reads_begins options c t begun start is = record {
+-- the header was written
+pub reads_begins : (options : Options) (c t u : Option (List ℕ)) (start : List ℕ) → start ≡ [] → Appends t u (header_text options.format)
+    → Reads options c c start t u false
+reads_begins options c t u start is header = record {
   text = [];
   given = consumes_none c;
+  opened = u;
+  header = header;
   answers = record {
     answers = [];
-    are_answers = rw (no_entry options.input begun) tt;
-    written = appends_none t;
+    are_answers = rw (no_entry options.input []) tt;
+    written = appends_none u;
     error_is = refl;
-    start_is = rw (all_left options.input begun) is;
+    start_is = rw (all_left options.input []) is;
   };
 }
 
-pub reads_more : (options : Options) (c l j t u v : Option (List ℕ)) (begun start end piece : List ℕ) (e f : Bool)
-    → (r : Reads options begun c l start t u e) → Consumes l j piece
-    → Answers options (left_from options.input begun r.text) piece end u v f → Reads options begun c j end t v (e || f)
-reads_more options c l j t u v begun start end piece e f r given p = record {
+-- or the sink failed in it
+pub stops_header : (options : Options) (c t u : Option (List ℕ)) → TakesBeginning t u (header_text options.format) → Lists options c c t u (Err Write)
+stops_header options c t u q = record {
+  text = [];
+  given = consumes_none c;
+  lists = inl (record {
+    earlier = [];
+    later = [];
+    entries_are = no_entry options.input [];
+    answers = [];
+    are_answers = tt;
+    written = subst (λ (l : List ℕ). TakesBeginning t u l) (sym (append-nil (header_text options.format))) q;
+  });
+}
+
+pub reads_more : (options : Options) (c l j t u v : Option (List ℕ)) (start end piece : List ℕ) (e f : Bool)
+    → (r : Reads options c l start t u e) → Consumes l j piece
+    → Answers options (left_of options.input r.text) piece end u v f → Reads options c j end t v (e || f)
+reads_more options c l j t u v start end piece e f r given p = record {
   text = r.text ++ piece;
   given = consumes_twice c l j r.text piece r.given given;
-  answers = answers_further options t u v begun r.text piece start end e f r.answers p;
+  opened = r.opened;
+  header = r.header;
+  answers = answers_further options r.opened u v [] r.text piece start end e f r.answers p;
 }
 
 -- the text that was read, after a call that gave nothing
@@ -225,21 +259,26 @@ still c l j text p q = subst (λ (x : List ℕ). Consumes c j x) (append-nil tex
 
 -- the source failed
 pub fails_reading : (options : Options) (c l j t u : Option (List ℕ)) (start : List ℕ) (e : Bool)
-    → Reads options [] c l start t u e → Consumes l j [] → Lists options c j t u (Err Read)
+    → Reads options c l start t u e → Consumes l j [] → Lists options c j t u (Err Read)
 fails_reading options c l j t u start e r nothing = record {
   text = r.text;
   given = still c l j r.text r.given nothing;
-  lists = record { answers = r.answers.answers; are_answers = r.answers.are_answers; written = r.answers.written };
+  lists = record {
+    answers = r.answers.answers;
+    are_answers = r.answers.are_answers;
+    written = appends_twice t r.opened u (header_text options.format) (answers_text r.answers.answers) r.header r.answers.written;
+  };
 }
 
 -- the sink failed in a piece
 pub stops_reading : (options : Options) (c l j t u v : Option (List ℕ)) (start piece : List ℕ) (e : Bool)
-    → (r : Reads options [] c l start t u e) → Consumes l j piece
-    → StopsInAnswers options (entries_from options.input (left_from options.input [] r.text) piece) u v → Lists options c j t v (Err Write)
+    → (r : Reads options c l start t u e) → Consumes l j piece
+    → StopsInPiece options (entries_from options.input (left_of options.input r.text) piece) u v → Lists options c j t v (Err Write)
 stops_reading options c l j t u v start piece e r given s = record {
   text = r.text ++ piece;
   given = consumes_twice c l j r.text piece r.given given;
-  lists = inl (stops_further options t u v [] r.text piece start e r.answers s);
+  lists = inl (stops_opened options t r.opened v (entries_of options.input (r.text ++ piece)) r.header
+      (stops_further options r.opened u v [] r.text piece start e r.answers s));
 }
 
 -- the beginning of the rest tells what the rest gets
@@ -253,7 +292,7 @@ empty_start (byte ∷ rest) = eqb-suc-zero (length (take 128 rest)) ∙ sym (eqb
 
 -- the source is at its end, and the output was ended
 pub ends : (options : Options) (c l j t u v : Option (List ℕ)) (start : List ℕ) (e f : Bool)
-    → (r : Reads options [] c l start t u e) → Consumes l j [] → IsAtEnd j
+    → (r : Reads options c l start t u e) → Consumes l j [] → IsAtEnd j
     → Appends u v (rest_text start) → f ≡ not (length start == 0)
     → Lists options c j t v (Ok (record { any_error = e || f }))
 ends options c l j t u v start e f r nothing at_end s f_is =
@@ -266,8 +305,10 @@ ends options c l j t u v start e f r nothing at_end s f_is =
         record {
           answers = r.answers.answers;
           are_answers = r.answers.are_answers;
-          written = appends_twice t u v (answers_text r.answers.answers) (rest_text rest) r.answers.written
-              (subst (λ (x : List ℕ). Appends u v x) (ap rest_text r.answers.start_is ∙ rest_start rest) s);
+          written = subst (λ (l : List ℕ). Appends t v l) (sym (append_assoc (header_text options.format) (answers_text r.answers.answers) (rest_text rest)))
+              (appends_twice t r.opened v (header_text options.format) (answers_text r.answers.answers ++ rest_text rest) r.header
+              (appends_twice r.opened u v (answers_text r.answers.answers) (rest_text rest) r.answers.written
+              (subst (λ (x : List ℕ). Appends u v x) (ap rest_text r.answers.start_is ∙ rest_start rest) s)));
           error_is = rw (← r.answers.error_is, f_is, r.answers.start_is, empty_start rest) refl;
         },
       );
@@ -275,7 +316,7 @@ ends options c l j t u v start e f r nothing at_end s f_is =
 
 -- the source is at its end, and the sink failed in ending the output
 pub stops_ending : (options : Options) (c l j t u v : Option (List ℕ)) (start : List ℕ) (e : Bool)
-    → (r : Reads options [] c l start t u e) → Consumes l j [] → IsAtEnd j
+    → (r : Reads options c l start t u e) → Consumes l j [] → IsAtEnd j
     → TakesBeginning u v (rest_text start) → Lists options c j t v (Err Write)
 stops_ending options c l j t u v start e r nothing at_end s =
     let rest : List ℕ = left_of options.input r.text in
@@ -288,8 +329,10 @@ stops_ending options c l j t u v start e r nothing at_end s =
         record {
           answers = r.answers.answers;
           are_answers = r.answers.are_answers;
-          written = begins_behind t u v (answers_text r.answers.answers) (rest_text rest) r.answers.written
-              (subst (λ (x : List ℕ). TakesBeginning u v x) same s);
+          written = subst (λ (l : List ℕ). TakesBeginning t v l) (sym (append_assoc (header_text options.format) (answers_text r.answers.answers) (rest_text rest)))
+              (begins_behind t r.opened v (header_text options.format) (answers_text r.answers.answers ++ rest_text rest) r.header
+              (begins_behind r.opened u v (answers_text r.answers.answers) (rest_text rest) r.answers.written
+              (subst (λ (x : List ℕ). TakesBeginning u v x) same s)));
         },
       );
     }

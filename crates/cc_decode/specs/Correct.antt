@@ -9,35 +9,37 @@ use Rattle.cc_script.specs.declared.summary.ScriptFault.TheVariants.{Read, Write
 use Rattle.cc_script.specs.declared.summary.Summary.{Summary}
 use Rattle.cc_decode.specs.Input.{entries_of, left_of}
 use Rattle.cc_decode.specs.Output.{Answer, AreAnswers, answers_text}
+use Rattle.cc_decode.specs.Row.{header_text}
 use Rattle.cc_decode.specs.declared.options.Options.{Options}
 
--- The sink took the whole listing of the text: the answer to each entry, and the last to an unfinished rest.
+-- The sink took the whole listing of the text: the header of the format, the answer to each entry, and the last to an
+-- unfinished rest.
 pub record WritesListing (options : Options) (text : List ℕ) (taken taken_now : Option (List ℕ)) (any_error : Bool) : Type 0 where
   pub answers : List Answer
   pub are_answers : AreAnswers options (entries_of options.input text) answers
-  pub written : Appends taken taken_now (answers_text answers ++ rest_text (left_of options.input text))
+  pub written : Appends taken taken_now (header_text options.format ++ answers_text answers ++ rest_text (left_of options.input text))
   pub error_is : any_error ≡ (list_any (λ answer. answer.is_error) answers || not (length (left_of options.input text) == 0))
 
--- the sink took the answers to the entries of the text, and nothing for the rest
+-- the sink took the header and the answers to the entries of the text, and nothing for the rest
 pub record WritesAnswers (options : Options) (text : List ℕ) (taken taken_now : Option (List ℕ)) : Type 0 where
   pub answers : List Answer
   pub are_answers : AreAnswers options (entries_of options.input text) answers
-  pub written : Appends taken taken_now (answers_text answers)
+  pub written : Appends taken taken_now (header_text options.format ++ answers_text answers)
 
--- The sink failed when it had taken a beginning of the answers to the first of these entries.
+-- The sink failed when it had taken a beginning of the header and of the answers to the first of these entries.
 pub record StopsInAnswers (options : Options) (entries : List (List ℕ)) (taken taken_now : Option (List ℕ)) : Type 0 where
   pub earlier : List (List ℕ)
   pub later : List (List ℕ)
   pub entries_are : entries ≡ earlier ++ later
   pub answers : List Answer
   pub are_answers : AreAnswers options earlier answers
-  pub written : TakesBeginning taken taken_now (answers_text answers)
+  pub written : TakesBeginning taken taken_now (header_text options.format ++ answers_text answers)
 
 -- the sink failed after the answers to all entries, in the answer to the rest, or in the flush
 pub record StopsAfterAnswers (options : Options) (text : List ℕ) (taken taken_now : Option (List ℕ)) : Type 0 where
   pub answers : List Answer
   pub are_answers : AreAnswers options (entries_of options.input text) answers
-  pub written : TakesBeginning taken taken_now (answers_text answers ++ rest_text (left_of options.input text))
+  pub written : TakesBeginning taken taken_now (header_text options.format ++ answers_text answers ++ rest_text (left_of options.input text))
 
 -- what is left of a text that the source gave, by what is answered: all of it, or what came before the failure
 -- of a device

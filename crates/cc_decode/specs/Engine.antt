@@ -2,9 +2,12 @@
 use Rattle.std.specs.Prelude.{◌≡◌, ◌<◌, ℕ, Bool, ⊤, List, [], ◌∷◌, ◌++◌, length, take, Option}
 use Rattle.std.specs.Io.KnownBytes.{Appends, Consumes}
 use Rattle.std.specs.List.{list_any}
+use Rattle.cc_script.specs.Devices.{TakesBeginning}
 use Rattle.cc_script.specs.Output.{with_line_feed}
 use Rattle.cc_decode.specs.Input.{entries_from, left_from}
+use Rattle.cc_decode.specs.Row.{IsWordRow, header_text}
 use Rattle.cc_decode.specs.Output.{Answer, IsAnswer, AreAnswers, answers_text}
+use Rattle.cc_decode.specs.declared.format.Format.{Format}
 use Rattle.cc_decode.specs.declared.input.InputForm.{InputForm}
 use Rattle.cc_decode.specs.declared.input.InputForm.TheVariants.{Lines, Bytes}
 use Rattle.cc_decode.specs.declared.options.Options.{Options}
@@ -23,6 +26,12 @@ pub record EndsEntry (input : InputForm) (begun text end after : List ℕ) : Typ
 pub record EndsNone (input : InputForm) (begun text : List ℕ) : Type 0 where
   pub entries : entries_from input begun text ≡ []
   pub left : left_from input begun text ≡ begun ++ text
+
+-- the answer to a word was put behind the text
+pub record AppendsRow (format : Format) (word : ℕ) (old new : List ℕ) : Type 0 where
+  pub row : List ℕ
+  pub is_row : IsWordRow format word row
+  pub written : new ≡ old ++ row
 
 -- an answer to the entry was put behind the text
 pub record AnswersEntry (options : Options) (entry old new : List ℕ) (error : Bool) : Type 0 where
@@ -61,8 +70,19 @@ pub record AnswersFirst (options : Options) (begun piece rest start : List ℕ) 
   pub waits : answers_text answers ≡ passed ++ waiting
   pub error_is : any_error ≡ list_any (λ answer. answer.is_error) answers
 
--- what was done between two reads, where the entry that came before had begun with `begun`
-pub record Reads (options : Options) (begun : List ℕ) (to_come left : Option (List ℕ)) (start : List ℕ) (taken taken_now : Option (List ℕ)) (any_error : Bool) : Type 0 where
+-- the sink failed when it had taken a beginning of the answers to the first of these entries, which are in a piece
+pub record StopsInPiece (options : Options) (entries : List (List ℕ)) (taken taken_now : Option (List ℕ)) : Type 0 where
+  pub earlier : List (List ℕ)
+  pub later : List (List ℕ)
+  pub entries_are : entries ≡ earlier ++ later
+  pub answers : List Answer
+  pub are_answers : AreAnswers options earlier answers
+  pub written : TakesBeginning taken taken_now (answers_text answers)
+
+-- what was done up to a read: the header, and then the answers to a text
+pub record Reads (options : Options) (to_come left : Option (List ℕ)) (start : List ℕ) (taken taken_now : Option (List ℕ)) (any_error : Bool) : Type 0 where
   pub text : List ℕ
   pub given : Consumes to_come left text
-  pub answers : Answers options begun text start taken taken_now any_error
+  pub opened : Option (List ℕ)
+  pub header : Appends taken opened (header_text options.format)
+  pub answers : Answers options [] text start opened taken_now any_error

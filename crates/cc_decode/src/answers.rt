@@ -8,7 +8,7 @@ ghost use Rattle.cc_decode.specs.Engine.{AnswersEntry};
 use crate::batch::Batch;
 use crate::entries::read_entry;
 use crate::options::Options;
-use crate::rows::row_of;
+use crate::rows::push_row;
 use cc_script::{Failed, LineStart, Sink, refusal_line};
 use cc_word::Refusal;
 
@@ -41,13 +41,13 @@ fn push_answer(options: Options, batch: &mut Batch, entry: &[u8]) -> bool
 {
     match read_entry(options.input, entry) {
         Some(word) => {
-            batch.push(row_of(options.format, word).bytes());
-            batch.push(b"\n");
+            push_row(batch, options.format, word);
+            batch.push_byte(b'\n');
             false
         }
         None => {
             batch.push(refusal_line(Refusal::Syntax).bytes());
-            batch.push(b"\n");
+            batch.push_byte(b'\n');
             true
         }
     }

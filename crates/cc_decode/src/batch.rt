@@ -1,10 +1,11 @@
-//! Answers that wait to be written.
-ghost use Rattle.std.specs.Prelude.{◌≡◌, ◌+◌, ◌≤◌, ◌++◌, ◌↔◌, [], length, false, true, IsTrue, IsErr, OnErr, OnOk};
-ghost use Rattle.std.specs.Io.KnownBytes.{Appends};
-ghost use Rattle.cc_script.specs.Devices.{TakesBeginning};
-ghost use Rattle.cc_decode.specs.Engine.{PassesSome};
+//! Answers that wait to be written, in fixed room.
+ghost use Rattle.std.specs.Prelude.{◌≡◌, ◌+◌, ◌-◌, ◌≤◌, ◌<◌, ◌++◌, ◌∷◌, ◌↔◌, [], decimal, false, length, take, IsTrue};
+ghost use Rattle.std.specs.Fmt.{digits};
+ghost use Rattle.cc_word.specs.WordText.{digits_of};
+ghost use Rattle.cc_script.specs.Replies.{hexadecimal};
+ghost use Rattle.cc_script.proofs.DigitLemmas.{HasDigits};
 
-use cc_script::{Failed, Sink, write_all};
+use cc_word::{write_half, write_word};
 use std::marker::Model;
 
 /// The most bytes that wait.
@@ -74,54 +75,94 @@ impl Batch {
     }
 }
 
-/// Makes room for another answer: where there is none, writes what waits.
-pub(crate) fn make_room<W: Sink>(batch: &mut Batch, sink: &mut W) -> Result<(), Failed>
-    requires { W.has_failed sink.old ≡ false }
-    ensures ok { OnOk result (PassesSome (W.taken_bytes sink.old) (W.taken_bytes sink.new) batch.old batch.new) }
-    ensures room { OnOk result (length batch.new + 512 ≤ 32768) }
-    ensures err { OnErr result (TakesBeginning (W.taken_bytes sink.old) (W.taken_bytes sink.new) batch.old) }
-    ensures fails { IsErr result ↔ (W.has_failed sink.new ≡ true) }
-{
-    if batch.has_room() {
-        return Ok(());
+impl Batch {
+    /// Appends a byte.
+    #[inline(always)]
+    pub(crate) fn push_byte(&mut self, byte: u8)
+        requires { length self.old + 1 ≤ 32768 }
+        ensures value { self.new ≡ self.old ++ byte ∷ [] }
+        ensures fits { length self.new ≡ length self.old + 1 }
+    {
+        self.push(&[byte]);
     }
-    write_batch(batch, sink)
-}
 
-/// Writes what waits.
-#[cold]
-#[inline(never)]
-fn write_batch<W: Sink>(batch: &mut Batch, sink: &mut W) -> Result<(), Failed>
-    requires { W.has_failed sink.old ≡ false }
-    ensures ok { OnOk result (Appends (W.taken_bytes sink.old) (W.taken_bytes sink.new) batch.old) }
-    ensures empty { OnOk result (batch.new ≡ []) }
-    ensures err { OnErr result (TakesBeginning (W.taken_bytes sink.old) (W.taken_bytes sink.new) batch.old) }
-    ensures fails { IsErr result ↔ (W.has_failed sink.new ≡ true) }
-{
-    match write_all(sink, batch.bytes()) {
-        Ok(()) => {
-            batch.clear();
-            Ok(())
+    /// Appends the 32 hexadecimal digits of a word.
+    #[inline(always)]
+    pub(crate) fn push_word(&mut self, word: u128)
+        requires { length self.old + 32 ≤ 32768 }
+        ensures value { self.new ≡ self.old ++ digits_of 32 word }
+        ensures fits { length self.new ≡ length self.old + 32 }
+    {
+        self.push(&write_word(word));
+    }
+
+    /// Appends the last hexadecimal digits of a number, at most 16.
+    #[inline(always)]
+    pub(crate) fn push_digits(&mut self, number: u64, count: usize)
+        requires digits { count ≤ 16 }
+        requires room { length self.old + count ≤ 32768 }
+        ensures value { self.new ≡ self.old ++ digits_of count number }
+        ensures fits { length self.new ≡ length self.old + count }
+    {
+        self.push(&write_half(number)[16 - count..]);
+    }
+
+    /// Appends a number below 100 in decimal digits.
+    #[inline(always)]
+    #[tactic(auto, using(cc_script::proofs::DecimalLemmas::one_digit, cc_script::proofs::DecimalLemmas::two_digits))]
+    pub(crate) fn push_decimal(&mut self, number: u8)
+        requires small { number < 100 }
+        requires room { length self.old + 2 ≤ 32768 }
+        ensures value { self.new ≡ self.old ++ decimal number }
+        ensures fits { length self.new ≤ length self.old + 2 }
+    {
+        let ones = b'0' + number % 10;
+        if number < 10 {
+            return self.push(&[ones]);
         }
-        Err(Failed) => Err(Failed),
+        self.push(&[b'0' + number / 10 % 10, ones]);
+    }
+
+    /// Appends `0x` and a number's hexadecimal digits without leading zeros.
+    #[inline(always)]
+    pub(crate) fn push_hexadecimal(&mut self, number: u128)
+        requires { length self.old + 34 ≤ 32768 }
+        ensures value { self.new ≡ self.old ++ hexadecimal number }
+        ensures fits { length self.new ≤ length self.old + 34 }
+    {
+        self.push(b"0x");
+        if number < 1 << 64 {
+            self.push_significant(number as u64);
+        } else {
+            self.push_significant((number >> 64) as u64);
+            self.push(&write_half((number % (1 << 64)) as u64));
+        }
+    }
+
+    /// Appends a number's hexadecimal digits without leading zeros.
+    #[inline(always)]
+    fn push_significant(&mut self, number: u64)
+        requires { length self.old + 16 ≤ 32768 }
+        ensures value { self.new ≡ self.old ++ digits 16 false number }
+        ensures fits { length self.new ≤ length self.old + 16 }
+    {
+        let count = digit_count(number);
+        self.push(&write_half(number << (64 - 4 * count)));
+        self.drop_last(16 - count);
+    }
+
+    /// Forgets the last bytes.
+    fn drop_last(&mut self, count: usize)
+        requires { count ≤ length self.old }
+        ensures { self.new ≡ take (length self.old - count) self.old }
+    {
+        self.len -= count;
     }
 }
 
-/// Writes what waits, and tells the sink that more will be read, so that nothing waits there either.
-pub(crate) fn pass_on<W: Sink>(batch: &mut Batch, sink: &mut W) -> Result<(), Failed>
-    requires { W.has_failed sink.old ≡ false }
-    ensures ok { OnOk result (Appends (W.taken_bytes sink.old) (W.taken_bytes sink.new) batch.old) }
-    ensures empty { OnOk result (batch.new ≡ []) }
-    ensures passed { OnOk result (W.waiting_bytes sink.new ≡ []) }
-    ensures err { OnErr result (TakesBeginning (W.taken_bytes sink.old) (W.taken_bytes sink.new) batch.old) }
-    ensures fails { IsErr result ↔ (W.has_failed sink.new ≡ true) }
+/// How many hexadecimal digits a number has, without leading zeros.
+fn digit_count(number: u64) -> usize
+    ensures { HasDigits result number }
 {
-    match write_batch(batch, sink) {
-        Ok(()) => {}
-        Err(Failed) => return Err(Failed),
-    }
-    match sink.before_read() {
-        Ok(()) => Ok(()),
-        Err(Failed) => Err(Failed),
-    }
+    ((67 - number.leading_zeros()) / 4).max(1) as usize
 }

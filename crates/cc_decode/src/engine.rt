@@ -1,16 +1,19 @@
 //! Decodes the words that a source gives.
-ghost use Rattle.std.specs.Prelude.{◌≡◌, ℕ, true, false, List, [], take, length, not, ◌==◌, ◌↔◌, Err, IfSome, IfOk, OnOk, OnErr, IsErr};
+ghost use Rattle.std.specs.Prelude.{◌≡◌, ◌≤◌, ℕ, true, false, List, [], take, length, not, ◌==◌, ◌↔◌, Err, IfSome, IfOk, OnOk, OnErr, IsErr};
 ghost use Rattle.std.specs.Io.KnownBytes.{Appends};
 ghost use Rattle.cc_script.specs.Devices.{TakesBeginning};
 ghost use Rattle.cc_script.specs.Output.{rest_text};
-ghost use Rattle.cc_decode.specs.Correct.{Lists, ListsWhole, StopsInAnswers};
-ghost use Rattle.cc_decode.specs.Engine.{Answers, IsBegun};
+ghost use Rattle.cc_decode.specs.Correct.{Lists, ListsWhole};
+ghost use Rattle.cc_decode.specs.Engine.{Answers, IsBegun, StopsInPiece};
 ghost use Rattle.cc_decode.specs.Input.{entries_from};
+ghost use Rattle.cc_decode.specs.Row.{header_text};
 
 use crate::answers::{answer_entry, refuse_rest};
-use crate::batch::{Batch, make_room, pass_on};
+use crate::batch::Batch;
 use crate::entries::split_entry;
+use crate::format::Format;
 use crate::options::Options;
+use crate::writing::{make_room, pass_on};
 use cc_script::{Failed, LineStart, ScriptFault, Sink, Source, Summary};
 
 /// The most bytes that are read at once.
@@ -18,7 +21,7 @@ const PIECE: usize = 32768;
 
 /// Writes the answer to each entry of the text that the source gives, which is a line, or sixteen bytes: to a word
 /// what the format says of it, and to a line that is not 32 hexadecimal digits `error 1 syntax`; and to what follows
-/// the last entry, if it is not empty, `error 2 unfinished`. What was answered is written before the source is read
+/// the last entry, if it is not empty, `error 2 unfinished`; before them the header of the format. What was answered is written before the source is read
 /// again, in large pieces, and the sink is told, and passes on what waits in it.
 ///
 /// The caller has that neither device has failed before. The sink is flushed once, at the end. `Read` is answered
@@ -60,6 +63,10 @@ fn decode_pieces<R: Source, W: Sink>(
     let mut start = LineStart::new();
     let mut batch = Batch::new();
     let mut piece = [0u8; PIECE];
+    match open_listing(options.format, &mut batch, sink) {
+        Ok(()) => {}
+        Err(Failed) => return Err(ScriptFault::Write),
+    }
     let mut any_error = false;
     'pieces: loop {
         let count = match source.read(&mut piece) {
@@ -82,6 +89,31 @@ fn decode_pieces<R: Source, W: Sink>(
     }
 }
 
+/// Writes what stands before the answers, and the sink passes it on.
+fn open_listing<W: Sink>(format: Format, batch: &mut Batch, sink: &mut W) -> Result<(), Failed>
+    requires sink { W.has_failed sink.old ≡ false }
+    requires batch { batch.old ≡ [] }
+    ensures ok { OnOk result (Appends (W.taken_bytes sink.old) (W.taken_bytes sink.new) (header_text format)) }
+    ensures empty { OnOk result (batch.new ≡ []) }
+    ensures passed { OnOk result (W.waiting_bytes sink.new ≡ []) }
+    ensures err { OnErr result (TakesBeginning (W.taken_bytes sink.old) (W.taken_bytes sink.new) (header_text format)) }
+    ensures fails { IsErr result ↔ (W.has_failed sink.new ≡ true) }
+{
+    batch.push(header(format));
+    pass_on(batch, sink)
+}
+
+/// What stands before the answers.
+fn header(format: Format) -> &'static [u8]
+    ensures value { result.now ≡ header_text format }
+    ensures fits { length result.now ≤ 100 }
+{
+    match format {
+        Format::Columns | Format::Text => b"",
+        Format::Csv => b"word,base,top,perms,flag,type,exponent,canonical,address,names\n",
+    }
+}
+
 /// Answers the entries that end in a piece of the text, and keeps the beginning of the next. The answers are
 /// written, and the sink passes on what waits in it. Tells whether an answer was an error.
 fn take_piece<W: Sink>(
@@ -97,7 +129,7 @@ fn take_piece<W: Sink>(
     ensures ok { (begun : List ℕ) → start.old ≡ take 129 begun → IfOk result (λ error.
         Answers options begun piece.now start.new (W.taken_bytes sink.old) (W.taken_bytes sink.new) error) }
     ensures err { (begun : List ℕ) → start.old ≡ take 129 begun → OnErr result (
-        StopsInAnswers options (entries_from options.input begun piece.now) (W.taken_bytes sink.old) (W.taken_bytes sink.new)) }
+        StopsInPiece options (entries_from options.input begun piece.now) (W.taken_bytes sink.old) (W.taken_bytes sink.new)) }
     ensures begun { OnOk result (IsBegun options.input start.new) }
     ensures empty { OnOk result (batch.new ≡ []) }
     ensures passed { OnOk result (W.waiting_bytes sink.new ≡ []) }

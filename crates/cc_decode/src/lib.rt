@@ -12,6 +12,7 @@ mod options;
 mod rows;
 #[cfg(test)]
 mod tests;
+mod writing;
 
 pub use engine::decode_words;
 pub use format::Format;

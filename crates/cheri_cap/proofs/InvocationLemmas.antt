@@ -132,13 +132,14 @@ align_one (Some text) read other =
 
 -- what has a name is a format
 format_read : (text : Text) → list_any (λ name. bytes_eq name text) format_names ≡ true → IsSome (format_in text)
-format_read text among = go (bytes_eq (codes "columns") text) (bytes_eq (codes "text") text) refl refl among
+format_read text among = go (bytes_eq (codes "columns") text) (bytes_eq (codes "text") text) (bytes_eq (codes "csv") text) refl refl refl among
   where
-    go : (columns line : Bool) → bytes_eq (codes "columns") text ≡ columns → bytes_eq (codes "text") text ≡ line
-        → (columns || (line || false)) ≡ true → IsSome (format_in text)
-    go true line is other e = subst (λ (t : Text). IsSome (format_in t)) ((bytes_eq-Decides (codes "columns") text).0 is) refl
-    go false true other is e = subst (λ (t : Text). IsSome (format_in t)) ((bytes_eq-Decides (codes "text") text).0 is) refl
-    go false false one two e = cc e
+    go : (columns line csv : Bool) → bytes_eq (codes "columns") text ≡ columns → bytes_eq (codes "text") text ≡ line → bytes_eq (codes "csv") text ≡ csv
+        → (columns || (line || (csv || false))) ≡ true → IsSome (format_in text)
+    go true line csv is one two e = subst (λ (t : Text). IsSome (format_in t)) ((bytes_eq-Decides (codes "columns") text).0 is) refl
+    go false true csv one is two e = subst (λ (t : Text). IsSome (format_in t)) ((bytes_eq-Decides (codes "text") text).0 is) refl
+    go false false true one two is e = subst (λ (t : Text). IsSome (format_in t)) ((bytes_eq-Decides (codes "csv") text).0 is) refl
+    go false false false one two three e = cc e
 
 has_format : (formats : Bor (List (Bor Text))) → texts formats.now ≡ format_names → (rows : List Row)
     → IsTaken (filled (format_option formats)) (first_of (codes "format") rows) (one_of (codes "format") rows) → HasFormat rows
@@ -150,19 +151,22 @@ has_format formats are rows taken = go (first_of (codes "format") rows) (one_of 
         let among = sym (among_texts formats.now text) ∙ is.1 in
         format_read text (subst (λ (names : List Text). list_any (λ name. bytes_eq name text) names ≡ true) are among)
 
--- what is read of a format that is not the line
-pub format_columns : (given : Option Text) → IfSome given (λ text. IsSome (format_in text)) → (given ≡ Some (codes "text") → ⊥) → IsFormat given Columns
-format_columns None read other = refl
-format_columns (Some text) read other =
-    go (bytes_eq text (codes "columns")) (bytes_eq text (codes "text")) (λ is. other (ap Some ((bytes_eq-Decides text (codes "text")).0 is))) read
+-- what is read of a format that is none of the others
+pub format_columns : (given : Option Text) → IfSome given (λ text. IsSome (format_in text)) → (given ≡ Some (codes "text") → ⊥) → (given ≡ Some (codes "csv") → ⊥)
+    → IsFormat given Columns
+format_columns None read not_line not_csv = refl
+format_columns (Some text) read not_line not_csv =
+    go (bytes_eq text (codes "columns")) (bytes_eq text (codes "text")) (bytes_eq text (codes "csv"))
+    (λ is. not_line (ap Some ((bytes_eq-Decides text (codes "text")).0 is))) (λ is. not_csv (ap Some ((bytes_eq-Decides text (codes "csv")).0 is))) read
   where
-    named : (columns line : Bool) → Option Format
-    named columns line = if columns then Some Columns else if line then Some format.Text else None
+    named : (columns line csv : Bool) → Option Format
+    named columns line csv = if columns then Some Columns else if line then Some format.Text else if csv then Some format.Csv else None
 
-    go : (columns line : Bool) → (line ≡ true → ⊥) → IsSome (named columns line) → named columns line ≡ Some Columns
-    go true line not_line read = refl
-    go false true not_line read = absurd (not_line refl)
-    go false false not_line read = cc read
+    go : (columns line csv : Bool) → (line ≡ true → ⊥) → (csv ≡ true → ⊥) → IsSome (named columns line csv) → named columns line csv ≡ Some Columns
+    go true line csv no_line no_csv read = refl
+    go false true csv no_line no_csv read = absurd (no_line refl)
+    go false false true no_line no_csv read = absurd (no_csv refl)
+    go false false false no_line no_csv read = cc read
 
 -- ---- orders of bytes
 

@@ -17,7 +17,7 @@ use Rattle.cc_decode.specs.declared.input.ByteOrder.TheVariants.{Little, Big}
 use Rattle.cc_decode.specs.declared.input.InputForm.{InputForm}
 use Rattle.cc_decode.specs.declared.input.InputForm.TheVariants.{Lines, Bytes}
 use Rattle.cc_decode.specs.declared.format.Format.{Format}
-use Rattle.cc_decode.specs.declared.format.Format.TheVariants.{Columns}
+use Rattle.cc_decode.specs.declared.format.Format.TheVariants.{Columns, Csv}
 use Rattle.cc_decode.specs.declared.format.Format.TheVariants as format
 use Rattle.cheri_cap.specs.declared.invocation.Invocation.{Invocation}
 use Rattle.cheri_cap.specs.declared.invocation.Invocation.TheVariants.{Decode, Explain, Plan, Round, Run, Show}
@@ -92,7 +92,7 @@ plan_command aligns =
 
 -- the names of the formats
 abbrev pub format_names : List Text
-format_names = codes "columns" ∷ codes "text" ∷ []
+format_names = codes "columns" ∷ codes "text" ∷ codes "csv" ∷ []
 
 -- the names of the orders of bytes
 abbrev pub order_names : List Text
@@ -153,7 +153,11 @@ IsAlign (Some text) align = align_in text ≡ Ok align
 
 -- the format that a text names
 abbrev pub format_in : Text → Option Format
-format_in text = if bytes_eq text (codes "columns") then Some Columns else if bytes_eq text (codes "text") then Some format.Text else None
+format_in text =
+    if bytes_eq text (codes "columns") then Some Columns
+    else if bytes_eq text (codes "text") then Some format.Text
+    else if bytes_eq text (codes "csv") then Some Csv
+    else None
 
 -- the format is the one that the value of `--format` names, or columns where it is not given
 abbrev pub IsFormat : (given : Option Text) → Format → Type 0

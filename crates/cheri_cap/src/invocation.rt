@@ -184,8 +184,8 @@ Example:
 const DECODE_ABOUT: &str = "Shows what each word of a text holds, one on each line";
 
 const FORMAT_HELP: &str = "\
-How the answer to a word is written: its values in columns, or the line that debuggers show
-[default: columns]";
+How the answer to a word is written: its values in columns or with commas, or the line that debuggers
+show [default: columns]";
 
 const BYTES_HELP: &str = "\
 Read raw words of 16 bytes, the lowest byte first or the highest [default: lines of digits]";
@@ -198,6 +198,7 @@ Each line is a word: 32 hexadecimal digits of either case, as a trace or a dump 
 The answers stand in the order of the words, one on each line:
   columns   WORD BASE TOP PERMS FLAG TYPE EXPONENT CANONICAL, as `cheri-cap show` spells them
   text      ADDRESS [LETTERS,BASE-TOP], and `(sealed)` or `(sentry)`
+  csv       a header, and then the values of the columns, ADDRESS and NAMES with commas between
 A line that is no word is answered by `error 1 syntax`, and a rest that is no whole line, or fewer
 than 16 bytes, by `error 2 unfinished`. Each word is answered for itself, so that parts of the input
 can be decoded apart.
@@ -210,6 +211,7 @@ Examples:
   ffff0000000f803d0000000000010070 0x10070 0x12070 ffff 0 3ffff 1 yes
   02001fffc48190040000000000001000 0x1000 0x1200 0200 0 00007 0 yes
 
+  cheri-cap decode --format csv words.txt >words.csv
   dd if=memory.dump bs=16 skip=64 count=1 | cheri-cap decode --bytes little --format text
   0x10070 [rwxRW,0x10070-0x12070]";
 
@@ -250,7 +252,7 @@ fn aligns<'a>() -> &'a [&'a str]
 fn formats<'a>() -> &'a [&'a str]
     ensures { texts result.now ≡ format_names }
 {
-    &["columns", "text"]
+    &["columns", "text", "csv"]
 }
 
 /// The values that `--bytes` takes.
@@ -549,6 +551,7 @@ fn format_of(matches: &ArgMatches<'_>) -> Format
 {
     match matches.get_str("format") {
         Some("text") => Format::Text,
+        Some("csv") => Format::Csv,
         _ => Format::Columns,
     }
 }

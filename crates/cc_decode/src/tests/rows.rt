@@ -36,6 +36,21 @@ error 1 syntax
 error 2 unfinished
 ";
 
+const VALUES: &str = "\
+word,base,top,perms,flag,type,exponent,canonical,address,names
+ffff0000000f803d0000000000010070,0x10070,0x12070,ffff,0,3ffff,1,yes,0x10070,\
+GLOBAL+EXECUTE+LOAD+STORE+LOAD_CAP+STORE_CAP+STORE_LOCAL_CAP+SEAL+CINVOKE+UNSEAL+SYSTEM_REGS+SET_CID+USER0+USER1+USER2+USER3
+02001fffc48190040000000000001000,0x1000,0x1200,0200,0,00007,0,yes,0x1000,UNSEAL
+error 1 syntax
+";
+
+/// Two words, and a line that is none.
+const FEW: &str = "\
+ffff0000000f803d0000000000010070
+02001fffc48190040000000000001000
+no word
+";
+
 /// Decodes the input in pieces of this size, and compares what was written and how it ended.
 fn assert_answers(
     rt: &impl Abort,
@@ -73,6 +88,11 @@ fn answers_in_each_format(rt: HostRuntime) {
             assert_answers(&rt, lines_in(format), TEXT.as_bytes(), answers, piece, true);
         }
     }
+}
+
+#[test]
+fn values_have_a_header_and_commas(rt: HostRuntime) {
+    assert_answers(&rt, lines_in(Format::Csv), FEW.as_bytes(), VALUES, 7, true);
 }
 
 #[test]

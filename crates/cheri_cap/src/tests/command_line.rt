@@ -106,7 +106,7 @@ const LITTLE: InputForm = InputForm::Bytes(ByteOrder::Little);
 const BIG: InputForm = InputForm::Bytes(ByteOrder::Big);
 
 #[rattlefmt::skip]
-const DECODE: [(&str, InputForm, Format, Option<&str>); 11] = [
+const DECODE: [(&str, InputForm, Format, Option<&str>); 12] = [
     ("decode", InputForm::Lines, Format::Columns, None),
     ("decode a", InputForm::Lines, Format::Columns, Some("a")),
     ("decode -", InputForm::Lines, Format::Columns, Some("-")),
@@ -114,6 +114,7 @@ const DECODE: [(&str, InputForm, Format, Option<&str>); 11] = [
     ("decode --format=text", InputForm::Lines, Format::Text, None),
     ("decode a --format text", InputForm::Lines, Format::Text, Some("a")),
     ("decode -- --format", InputForm::Lines, Format::Columns, Some("--format")),
+    ("decode --format csv", InputForm::Lines, Format::Csv, None),
     ("decode --bytes little", LITTLE, Format::Columns, None),
     ("decode --bytes=big a", BIG, Format::Columns, Some("a")),
     ("decode --bytes little --format text", LITTLE, Format::Text, None),
