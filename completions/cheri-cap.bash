@@ -10,7 +10,7 @@ _cheri_cap() {
   case $command in
     run) options+=' --slots' ;;
     plan) options+=' --slots --align' ;;
-    decode) options+=' --format' ;;
+    decode) options+=' --format --bytes' ;;
     show) options+=' --line' ;;
     explain) options+=' --length --base' ;;
     round) ;;
@@ -18,7 +18,8 @@ _cheri_cap() {
   esac
   case $before in
     --slots | --length | --base) ;;
-    --format) mapfile -t COMPREPLY < <(compgen -W 'columns text' -- "$word") ;;
+    --format) mapfile -t COMPREPLY < <(compgen -W 'columns text csv' -- "$word") ;;
+    --bytes) mapfile -t COMPREPLY < <(compgen -W 'little big' -- "$word") ;;
     --align) mapfile -t COMPREPLY < <(compgen -W '1 16' -- "$word") ;;
     *)
       if [[ $word == -* ]]; then

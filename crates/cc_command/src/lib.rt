@@ -24,6 +24,7 @@ pub use answers::write_refusal;
 pub use explaining::explain_word;
 pub use explaining_bounds::explain_length;
 pub use listing::show_word;
+pub use permissions::push_permissions;
 pub use planning::{PoolTexts, plan_numbers, plan_script};
 pub use rounding::show_round;
 pub use word_line::show_line;

@@ -10,7 +10,7 @@ use cc_script::Line;
 
 /// Appends the names of the permissions from bit 0 up, joined by `+`, or `-` for none.
 #[tactic(auto, unfolding(crate::specs::Permissions::permissions_text))]
-pub(crate) fn push_permissions(line: &mut Line, perms: Perms)
+pub fn push_permissions(line: &mut Line, perms: Perms)
     requires { length line.old + 125 ≤ 192 }
     ensures value { line.new ≡ line.old ++ permissions_text (bits_of perms) }
     ensures fits { length line.new ≤ length line.old + 125 }

@@ -1,2 +1,3 @@
+mod EntryLemmas
 mod AnswerLemmas
 mod EngineLemmas

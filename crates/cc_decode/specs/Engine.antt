@@ -1,44 +1,88 @@
 -- What the parts of decoding do. No public clause cites this file.
-use Rattle.std.specs.Prelude.{◌≡◌, ℕ, Bool, List, ◌++◌, take, Option}
+use Rattle.std.specs.Prelude.{◌≡◌, ◌<◌, ℕ, Bool, ⊤, List, [], ◌∷◌, ◌++◌, length, take, Option}
 use Rattle.std.specs.Io.KnownBytes.{Appends, Consumes}
 use Rattle.std.specs.List.{list_any}
 use Rattle.cc_script.specs.Devices.{TakesBeginning}
-use Rattle.cc_script.specs.Lines.{lines_from, rest_from}
 use Rattle.cc_script.specs.Output.{with_line_feed}
+use Rattle.cc_decode.specs.Input.{entries_from, left_from}
+use Rattle.cc_decode.specs.Row.{IsWordRow, header_text}
 use Rattle.cc_decode.specs.Output.{Answer, IsAnswer, AreAnswers, answers_text}
 use Rattle.cc_decode.specs.declared.format.Format.{Format}
+use Rattle.cc_decode.specs.declared.input.InputForm.{InputForm}
+use Rattle.cc_decode.specs.declared.input.InputForm.TheVariants.{Lines, Bytes}
+use Rattle.cc_decode.specs.declared.options.Options.{Options}
 
--- one line was answered
-pub record AnswersLine (format : Format) (line : List ℕ) (taken taken_now : Option (List ℕ)) (error : Bool) : Type 0 where
+-- an entry may have begun so: a block has fewer bytes than sixteen before its last
+abbrev pub IsBegun : InputForm → (begun : List ℕ) → Type 0
+IsBegun Lines begun = ⊤
+IsBegun (Bytes order) begun = length begun < 16
+
+-- an entry that has begun with `begun` ends with `end`, and `after` stands behind it
+pub record EndsEntry (input : InputForm) (begun text end after : List ℕ) : Type 0 where
+  pub entries : entries_from input begun text ≡ (begun ++ end) ∷ entries_from input [] after
+  pub left : left_from input begun text ≡ left_from input [] after
+
+-- no entry ends in the text
+pub record EndsNone (input : InputForm) (begun text : List ℕ) : Type 0 where
+  pub entries : entries_from input begun text ≡ []
+  pub left : left_from input begun text ≡ begun ++ text
+
+-- the answer to a word was put behind the text
+pub record AppendsRow (format : Format) (word : ℕ) (old new : List ℕ) : Type 0 where
+  pub row : List ℕ
+  pub is_row : IsWordRow format word row
+  pub written : new ≡ old ++ row
+
+-- an answer to the entry was put behind the text
+pub record AnswersEntry (options : Options) (entry old new : List ℕ) (error : Bool) : Type 0 where
   pub answer : Answer
-  pub is_answer : IsAnswer format line answer
-  pub written : Appends taken taken_now (with_line_feed answer.text)
+  pub is_answer : IsAnswer options entry answer
+  pub written : new ≡ old ++ with_line_feed answer.text
   pub error_is : error ≡ answer.is_error
 
--- a beginning of the answer to one line was written
-pub record CutsLine (format : Format) (line : List ℕ) (taken taken_now : Option (List ℕ)) : Type 0 where
-  pub answer : Answer
-  pub is_answer : IsAnswer format line answer
-  pub written : TakesBeginning taken taken_now (with_line_feed answer.text)
-
--- the lines that end in the text were answered, where the first of them had begun with `begun`; `start` is
+-- the entries that end in the text were answered, where the first of them had begun with `begun`; `start` is
 -- the beginning of what follows the last
-pub record Answers (format : Format) (begun text start : List ℕ) (taken taken_now : Option (List ℕ)) (any_error : Bool) : Type 0 where
+pub record Answers (options : Options) (begun text start : List ℕ) (taken taken_now : Option (List ℕ)) (any_error : Bool) : Type 0 where
   pub answers : List Answer
-  pub are_answers : AreAnswers format (lines_from begun text) answers
+  pub are_answers : AreAnswers options (entries_from options.input begun text) answers
   pub written : Appends taken taken_now (answers_text answers)
   pub error_is : any_error ≡ list_any (λ answer. answer.is_error) answers
-  pub start_is : start ≡ take 129 (rest_from begun text)
+  pub start_is : start ≡ take 129 (left_from options.input begun text)
 
--- the lines in a part of the piece were answered, where the part ends with a line feed or is empty, and of the
--- line before the piece there was `first`; `start` is there of the line after the part
-pub record AnswersPart (format : Format) (first piece rest start : List ℕ) (taken taken_now : Option (List ℕ)) (any_error : Bool) : Type 0 where
-  pub part : List ℕ
-  pub whole : piece ≡ part ++ rest
-  pub answers : (begun : List ℕ) → first ≡ take 129 begun → Answers format begun part start taken taken_now any_error
+-- the first bytes of what waited were written, and the others wait
+pub record PassesSome (taken taken_now : Option (List ℕ)) (waiting waiting_now : List ℕ) : Type 0 where
+  pub passed : List ℕ
+  pub written : Appends taken taken_now passed
+  pub waits : waiting ≡ passed ++ waiting_now
 
--- what was done between two reads, where the line that came before had begun with `begun`
-pub record Reads (format : Format) (begun : List ℕ) (to_come left : Option (List ℕ)) (start : List ℕ) (taken taken_now : Option (List ℕ)) (any_error : Bool) : Type 0 where
+-- The first entries of the piece were answered, and the rest is to come; the next entry has begun with
+-- `begun_now`. Of the answers the last bytes wait, and the sink took those before.
+pub record AnswersFirst (options : Options) (begun piece rest start : List ℕ) (taken taken_now : Option (List ℕ)) (waiting : List ℕ) (any_error : Bool) : Type 0 where
+  pub entries : List (List ℕ)
+  pub begun_now : List ℕ
+  pub entries_are : entries_from options.input begun piece ≡ entries ++ entries_from options.input begun_now rest
+  pub left_is : left_from options.input begun piece ≡ left_from options.input begun_now rest
+  pub start_is : start ≡ take 129 begun_now
+  pub answers : List Answer
+  pub are_answers : AreAnswers options entries answers
+  pub passed : List ℕ
+  pub written : Appends taken taken_now passed
+  pub waits : answers_text answers ≡ passed ++ waiting
+  pub error_is : any_error ≡ list_any (λ answer. answer.is_error) answers
+
+-- the sink failed when it had taken a beginning of the answers to the first of these entries, which are in a piece
+pub record StopsInPiece (options : Options) (entries : List (List ℕ)) (taken taken_now : Option (List ℕ)) : Type 0 where
+  pub earlier : List (List ℕ)
+  pub later : List (List ℕ)
+  pub entries_are : entries ≡ earlier ++ later
+  pub answers : List Answer
+  pub are_answers : AreAnswers options earlier answers
+  pub written : TakesBeginning taken taken_now (answers_text answers)
+
+-- what was done up to a read: the header, and then the answers to a text
+pub record Reads (options : Options) (to_come left : Option (List ℕ)) (start : List ℕ) (taken taken_now : Option (List ℕ)) (any_error : Bool) : Type 0 where
   pub text : List ℕ
   pub given : Consumes to_come left text
-  pub answers : Answers format begun text start taken taken_now any_error
+  pub opened : Option (List ℕ)
+  pub header : Appends taken opened (header_text options.format)
+  pub answers : Answers options [] text start opened taken_now any_error

@@ -1,4 +1,5 @@
 -- In reading order.
+pub mod Input
 pub mod Row
 pub mod Output
 pub mod Correct

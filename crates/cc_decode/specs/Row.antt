@@ -1,5 +1,5 @@
 -- The answer to one word, on one line.
-use Rattle.std.specs.Prelude.{◌≡◌, ℕ, List, ◌++◌, codes, decimal, Bool, true, IsTrue, ◌↔◌, if◌then◌else◌}
+use Rattle.std.specs.Prelude.{◌≡◌, ℕ, List, [], ◌++◌, codes, decimal, Bool, true, IsTrue, ◌↔◌, if◌then◌else◌}
 use Rattle.cc_word.specs.Word.{word_of, bit_of}
 use Rattle.cc_word.specs.WordText.{digits_of}
 use Rattle.cc_word.specs.declared.fields.Fields.{Fields}
@@ -7,28 +7,32 @@ use Rattle.cc_bounds.specs.declared.span.Span.{Span}
 use Rattle.cc_bounds.specs.Decoding.{stored_exponent, DecodesTo}
 use Rattle.cc_cap.specs.Canonical.{IsCanonical}
 use Rattle.cc_cap.specs.LineText.{IsLine}
-use Rattle.cc_script.specs.Replies.{bounds_text}
+use Rattle.cc_script.specs.Output.{with_line_feed}
+use Rattle.cc_script.specs.Replies.{hexadecimal}
+use Rattle.cc_command.specs.Permissions.{permissions_text}
 use Rattle.cc_decode.specs.declared.format.Format.{Format}
-use Rattle.cc_decode.specs.declared.format.Format.TheVariants.{Columns, Text}
+use Rattle.cc_decode.specs.declared.format.Format.TheVariants.{Columns, Csv, Text}
 
--- permissions, flag and type, with a space before each
-abbrev pub rights_text : Fields → List ℕ
-rights_text fields =
-    codes " " ++ digits_of 4 fields.perms ++ codes " " ++ decimal (bit_of fields.flag) ++ codes " " ++ digits_of 5 fields.otype
+-- word, base, top, permissions, flag, type, exponent, and whether the word is canonical, with the separator between
+abbrev pub values_text : (separator : List ℕ) (word : ℕ) (fields : Fields) (bounds : Span) (canonical : Bool) → List ℕ
+values_text separator word fields bounds canonical =
+    digits_of 32 word ++ separator ++ hexadecimal bounds.base ++ separator ++ hexadecimal bounds.top
+    ++ separator ++ digits_of 4 fields.perms ++ separator ++ decimal (bit_of fields.flag) ++ separator ++ digits_of 5 fields.otype
+    ++ separator ++ decimal (stored_exponent fields) ++ separator ++ (if canonical then codes "yes" else codes "no")
 
--- the exponent, and whether the word is canonical, with a space before each
-abbrev pub encoding_text : (exponent : ℕ) (canonical : Bool) → List ℕ
-encoding_text exponent canonical = codes " " ++ decimal exponent ++ (if canonical then codes " yes" else codes " no")
-
--- word, base, top, permissions, flag, type, exponent, and whether the word is canonical, with one space between
+-- the values with one space between
 abbrev pub columns_text : (word : ℕ) (fields : Fields) (bounds : Span) (canonical : Bool) → List ℕ
-columns_text word fields bounds canonical =
-    digits_of 32 word ++ codes " " ++ bounds_text bounds ++ rights_text fields
-    ++ encoding_text (stored_exponent fields) canonical
+columns_text = values_text (codes " ")
 
--- The columns of a word: with the fields whose word it is, the span that they decode to, and whether it is the
--- word of a capability. There are no other such fields, and there is no other such span.
-pub record IsRow (word : ℕ) (row : List ℕ) : Type 0 where
+-- the values, the address and the names of the permissions, with commas between
+abbrev pub csv_text : (word : ℕ) (fields : Fields) (bounds : Span) (canonical : Bool) → List ℕ
+csv_text word fields bounds canonical =
+    values_text (codes ",") word fields bounds canonical
+    ++ codes "," ++ hexadecimal fields.address ++ codes "," ++ permissions_text fields.perms
+
+-- The text of a word that is made of the fields whose word it is, of the span that they decode to, and of whether it
+-- is the word of a capability. There are no other such fields, and there is no other such span.
+pub record IsRow (text_of : ℕ → Fields → Span → Bool → List ℕ) (word : ℕ) (row : List ℕ) : Type 0 where
   pub fields : Fields
   pub bounds : Span
   pub canonical : Bool
@@ -37,9 +41,16 @@ pub record IsRow (word : ℕ) (row : List ℕ) : Type 0 where
   pub decoded : DecodesTo fields bounds
   pub only_bounds : (other : Span) → DecodesTo fields other → other ≡ bounds
   pub is_canonical : IsTrue canonical ↔ IsCanonical word
-  pub text : row ≡ columns_text word fields bounds canonical
+  pub text : row ≡ text_of word fields bounds canonical
 
--- the answer to a word: its columns, or the line that a tagged word has
+-- the answer to a word: its columns, the line that a tagged word has, or its comma-separated values
 abbrev pub IsWordRow : Format → (word : ℕ) (row : List ℕ) → Type 0
-IsWordRow Columns word row = IsRow word row
+IsWordRow Columns word row = IsRow columns_text word row
 IsWordRow Text word row = IsLine word true row
+IsWordRow Csv word row = IsRow csv_text word row
+
+-- what stands before the answers: of comma-separated values the names of the columns
+abbrev pub header_text : Format → List ℕ
+header_text Columns = []
+header_text Text = []
+header_text Csv = with_line_feed (codes "word,base,top,perms,flag,type,exponent,canonical,address,names")

@@ -1,48 +1,53 @@
-//! The answers to lines, and how they are written.
-ghost use Rattle.std.specs.Prelude.{◌≡◌, ◌↔◌, ◌==◌, [], false, true, not, length, IfOk, IsErr, OnErr, OnOk};
+//! The answers to entries, and how they are written.
+ghost use Rattle.std.specs.Prelude.{◌≡◌, ◌≤◌, ◌+◌, ◌↔◌, ◌==◌, ◌++◌, ℕ, List, [], false, true, not, length, take, IfOk, IsErr, OnErr, OnOk};
 ghost use Rattle.std.specs.Io.KnownBytes.{Appends};
 ghost use Rattle.cc_script.specs.Devices.{TakesBeginning};
 ghost use Rattle.cc_script.specs.Output.{rest_text};
-ghost use Rattle.cc_decode.specs.Output.{IsAnswer};
-ghost use Rattle.cc_decode.specs.Engine.{AnswersLine, CutsLine};
+ghost use Rattle.cc_decode.specs.Engine.{AnswersEntry};
 
-use crate::format::Format;
+use crate::batch::Batch;
+use crate::entries::read_entry;
+use crate::options::Options;
 use crate::rows::push_row;
-use cc_script::{Failed, Line, Sink, refusal_line};
-use cc_word::{Refusal, read_word};
+use cc_script::{Failed, LineStart, Sink, refusal_line};
+use cc_word::Refusal;
 
-/// Writes the answer to a line. Tells whether it is an error.
-pub(crate) fn answer_line<W: Sink>(
-    format: Format,
-    text: &mut Line,
-    line: &[u8],
-    sink: &mut W,
-) -> Result<bool, Failed>
-    requires { W.has_failed sink.old ≡ false }
-    ensures ok { IfOk result (λ error. AnswersLine format line.now (W.taken_bytes sink.old) (W.taken_bytes sink.new) error) }
-    ensures err { OnErr result (CutsLine format line.now (W.taken_bytes sink.old) (W.taken_bytes sink.new)) }
-    ensures fails { IsErr result ↔ (W.has_failed sink.new ≡ true) }
+/// Appends the answer to the entry that ends with these bytes. Tells whether it is an error.
+pub(crate) fn answer_entry(
+    options: Options,
+    start: &mut LineStart,
+    batch: &mut Batch,
+    end: &[u8],
+) -> bool
+    requires { length batch.old + 512 ≤ 32768 }
+    ensures answers { (begun : List ℕ) → start.old ≡ take 129 begun
+        → AnswersEntry options (begun ++ end.now) batch.old batch.new result }
+    ensures next { start.new ≡ [] }
 {
-    text.clear();
-    let is_error = push_answer(format, text, line);
-    match text.write(sink) {
-        Ok(()) => Ok(is_error),
-        Err(Failed) => Err(Failed),
+    if start.is_empty() {
+        // the entry stands whole in the piece
+        return push_answer(options, batch, end);
     }
+    start.extend(end);
+    let is_error = push_answer(options, batch, start.as_slice());
+    start.clear();
+    is_error
 }
 
-/// Makes an empty text the answer to a line. Tells whether it is an error.
-fn push_answer(format: Format, text: &mut Line, line: &[u8]) -> bool
-    requires { text.old ≡ [] }
-    ensures { IsAnswer format line.now (record { text = text.new; is_error = result }) }
+/// Appends the answer to an entry. Tells whether it is an error.
+fn push_answer(options: Options, batch: &mut Batch, entry: &[u8]) -> bool
+    requires { length batch.old + 512 ≤ 32768 }
+    ensures { AnswersEntry options entry.now batch.old batch.new result }
 {
-    match read_word(line) {
+    match read_entry(options.input, entry) {
         Some(word) => {
-            push_row(text, format, word);
+            push_row(batch, options.format, word);
+            batch.push_byte(b'\n');
             false
         }
         None => {
-            text.push(refusal_line(Refusal::Syntax).bytes());
+            batch.push(refusal_line(Refusal::Syntax).bytes());
+            batch.push_byte(b'\n');
             true
         }
     }

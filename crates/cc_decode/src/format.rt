@@ -7,4 +7,6 @@ pub enum Format {
     Columns,
     /// The line of a tagged word, as debuggers show it: `0x10070 [rwxRW,0x10070-0x12070]`.
     Text,
+    /// A header, and then the values of the columns, the address and the names of the permissions, with commas between.
+    Csv,
 }

@@ -1,80 +1,156 @@
 //! The answer to one word, on one line.
-ghost use Rattle.std.specs.Prelude.{◌≡◌, ◌≤◌, ◌+◌, ◌++◌, [], codes, length};
+ghost use Rattle.std.specs.Prelude.{◌≡◌, ◌≤◌, ◌<◌, ◌+◌, ◌^◌, ◌∷◌, ◌++◌, [], codes, decimal, length, if◌then◌else◌};
+ghost use Rattle.cc_word.specs.Word.{bit_of};
 ghost use Rattle.cc_word.specs.WordText.{digits_of};
-ghost use Rattle.cc_script.specs.Replies.{bounds_text};
-ghost use Rattle.cc_decode.specs.Row.{IsRow, IsWordRow, columns_text, encoding_text, rights_text};
+ghost use Rattle.cc_cap.specs.LineText.{line_of};
+ghost use Rattle.cc_cap.specs.Permissions.{bits_of};
+ghost use Rattle.cc_script.specs.Replies.{hexadecimal};
+ghost use Rattle.cc_command.specs.Permissions.{permissions_text};
+ghost use Rattle.cc_decode.specs.Engine.{AppendsRow};
+ghost use Rattle.cc_decode.specs.Row.{columns_text, csv_text, values_text};
 
+use crate::batch::Batch;
 use crate::format::Format;
+use bitflags::Flags;
 use cc_bounds::{Span, decode, exponent};
-use cc_cap::{WordLine, is_canonical};
+use cc_cap::{Perms, WordLine, is_canonical};
+use cc_command::push_permissions;
 use cc_script::Line;
 use cc_word::{Fields, unpack};
 
-/// Makes an empty line the answer to a word.
-pub(crate) fn push_row(line: &mut Line, format: Format, word: u128)
-    requires { line.old ≡ [] }
-    ensures { IsWordRow format word line.new }
+/// Appends the answer to a word.
+pub(crate) fn push_row(batch: &mut Batch, format: Format, word: u128)
+    requires { length batch.old + 500 ≤ 32768 }
+    ensures row { AppendsRow format word batch.old batch.new }
+    ensures fits { length batch.new ≤ length batch.old + 500 }
 {
     match format {
-        Format::Columns => push_columns(line, word),
-        Format::Text => line.push(WordLine::of_word(word, true).bytes()),
+        Format::Columns => push_columns(batch, word),
+        Format::Text => push_line(batch, word),
+        Format::Csv => push_csv(batch, word),
     }
 }
 
-/// Makes an empty line the columns of a word.
-fn push_columns(line: &mut Line, word: u128)
-    requires { line.old ≡ [] }
-    ensures { IsRow word line.new }
+/// Appends the columns of a word.
+fn push_columns(batch: &mut Batch, word: u128)
+    requires { length batch.old + 500 ≤ 32768 }
+    ensures row { AppendsRow Format.Columns word batch.old batch.new }
+    ensures fits { length batch.new ≤ length batch.old + 500 }
 {
     let fields = unpack(word);
     let bounds = decode(&fields);
     let canonical = is_canonical(word);
-    push_values(line, word, &fields, &bounds, canonical);
+    push_values(batch, b' ', word, &fields, &bounds, canonical);
 }
 
-/// Makes an empty line the columns of a word with these fields and bounds.
-fn push_values(line: &mut Line, word: u128, fields: &Fields, bounds: &Span, canonical: bool)
-    requires { line.old ≡ [] }
-    ensures { line.new ≡ columns_text word fields.now bounds.now canonical }
+/// Appends the line that a tagged word has.
+fn push_line(batch: &mut Batch, word: u128)
+    requires { length batch.old + 500 ≤ 32768 }
+    ensures row { AppendsRow Format.Text word batch.old batch.new }
+    ensures fits { length batch.new ≤ length batch.old + 500 }
 {
-    push_bounds(line, word, bounds);
-    push_rights(line, fields);
-    push_encoding(line, exponent(fields), canonical);
+    batch.push(WordLine::of_word(word, true).bytes());
 }
 
-/// Makes an empty line a word and its bounds.
-fn push_bounds(line: &mut Line, word: u128, bounds: &Span)
-    requires { line.old ≡ [] }
-    ensures value { line.new ≡ digits_of 32 word ++ codes " " ++ bounds_text bounds.now }
-    ensures fits { length line.new ≤ 102 }
+/// Appends the comma-separated values of a word.
+fn push_csv(batch: &mut Batch, word: u128)
+    requires { length batch.old + 500 ≤ 32768 }
+    ensures row { AppendsRow Format.Csv word batch.old batch.new }
+    ensures fits { length batch.new ≤ length batch.old + 500 }
 {
-    line.push_word(word);
-    line.push(b" ");
-    line.push_hexadecimal(u128::from(bounds.base));
-    line.push(b" ");
-    line.push_hexadecimal(bounds.top);
+    let fields = unpack(word);
+    let bounds = decode(&fields);
+    let canonical = is_canonical(word);
+    push_csv_values(batch, word, &fields, &bounds, canonical);
+}
+
+/// Appends the comma-separated values of a word with these fields and bounds.
+fn push_csv_values(batch: &mut Batch, word: u128, fields: &Fields, bounds: &Span, canonical: bool)
+    requires { length batch.old + 500 ≤ 32768 }
+    ensures value { batch.new ≡ batch.old ++ csv_text word fields.now bounds.now canonical }
+    ensures fits { length batch.new ≤ length batch.old + 500 }
+{
+    push_values(batch, b',', word, fields, bounds, canonical);
+    push_address_and_names(batch, fields);
+}
+
+/// Appends the address and the names of the permissions, with a comma before each.
+fn push_address_and_names(batch: &mut Batch, fields: &Fields)
+    requires { length batch.old + 200 ≤ 32768 }
+    ensures value { batch.new ≡ batch.old ++ codes "," ++ hexadecimal fields.now.address ++ codes "," ++ permissions_text fields.now.perms }
+    ensures fits { length batch.new ≤ length batch.old + 200 }
+{
+    batch.push_byte(b',');
+    batch.push_hexadecimal(u128::from(fields.address));
+    batch.push_byte(b',');
+    push_names(batch, fields.perms);
+}
+
+/// Appends the names of permissions.
+fn push_names(batch: &mut Batch, perms: u16)
+    requires { length batch.old + 125 ≤ 32768 }
+    ensures value { batch.new ≡ batch.old ++ permissions_text perms }
+    ensures fits { length batch.new ≤ length batch.old + 125 }
+{
+    let mut names = Line::new();
+    push_permissions(&mut names, Perms::from_bits_retain(perms));
+    batch.push(names.bytes());
+}
+
+/// Appends the values of a word with these fields and bounds, and a separator between each two.
+fn push_values(
+    batch: &mut Batch,
+    separator: u8,
+    word: u128,
+    fields: &Fields,
+    bounds: &Span,
+    canonical: bool,
+)
+    requires { length batch.old + 300 ≤ 32768 }
+    ensures value { batch.new ≡ batch.old ++ values_text (separator ∷ []) word fields.now bounds.now canonical }
+    ensures fits { length batch.new ≤ length batch.old + 150 }
+{
+    push_bounds(batch, separator, word, bounds);
+    push_rights(batch, separator, fields);
+    push_encoding(batch, separator, exponent(fields), canonical);
+}
+
+/// Appends a word and its bounds.
+fn push_bounds(batch: &mut Batch, separator: u8, word: u128, bounds: &Span)
+    requires { length batch.old + 102 ≤ 32768 }
+    ensures value { batch.new ≡ batch.old ++ digits_of 32 word ++ (separator ∷ []) ++ hexadecimal bounds.now.base ++ (separator ∷ []) ++ hexadecimal bounds.now.top }
+    ensures fits { length batch.new ≤ length batch.old + 102 }
+{
+    batch.push_word(word);
+    batch.push_byte(separator);
+    batch.push_hexadecimal(u128::from(bounds.base));
+    batch.push_byte(separator);
+    batch.push_hexadecimal(bounds.top);
 }
 
 /// Appends permissions, flag and type.
-fn push_rights(line: &mut Line, fields: &Fields)
-    requires { length line.old + 22 ≤ 192 }
-    ensures value { line.new ≡ line.old ++ rights_text fields.now }
-    ensures fits { length line.new ≤ length line.old + 22 }
+fn push_rights(batch: &mut Batch, separator: u8, fields: &Fields)
+    requires { length batch.old + 14 ≤ 32768 }
+    ensures value { batch.new ≡ batch.old ++ (separator ∷ []) ++ digits_of 4 fields.now.perms ++ (separator ∷ []) ++ decimal (bit_of fields.now.flag) ++ (separator ∷ []) ++ digits_of 5 fields.now.otype }
+    ensures fits { length batch.new ≤ length batch.old + 14 }
 {
-    line.push(b" ");
-    line.push_four_digits(fields.perms);
-    line.push(b" ");
-    line.push_index(u32::from(fields.flag));
-    line.push(b" ");
-    line.push_five_digits(fields.otype);
+    batch.push_byte(separator);
+    batch.push_digits(u64::from(fields.perms), 4);
+    batch.push_byte(separator);
+    batch.push_decimal(u8::from(fields.flag));
+    batch.push_byte(separator);
+    batch.push_digits(u64::from(fields.otype), 5);
 }
 
 /// Appends the exponent, and whether the word is canonical.
-fn push_encoding(line: &mut Line, exponent: u8, canonical: bool)
-    requires { length line.old + 15 ≤ 192 }
-    ensures { line.new ≡ line.old ++ encoding_text exponent canonical }
+fn push_encoding(batch: &mut Batch, separator: u8, exponent: u8, canonical: bool)
+    requires small { exponent < 100 }
+    requires room { length batch.old + 7 ≤ 32768 }
+    ensures value { batch.new ≡ batch.old ++ (separator ∷ []) ++ decimal exponent ++ (separator ∷ []) ++ (if canonical then codes "yes" else codes "no") }
+    ensures fits { length batch.new ≤ length batch.old + 7 }
 {
-    line.push(b" ");
-    line.push_index(u32::from(exponent));
-    line.push(if canonical { b" yes" } else { b" no" });
+    batch.push_byte(separator);
+    batch.push_decimal(exponent);
+    batch.push_byte(separator);
+    batch.push(if canonical { b"yes" } else { b"no" });
 }

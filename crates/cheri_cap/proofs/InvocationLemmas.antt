@@ -30,10 +30,13 @@ use Rattle.cc_word.specs.declared.refusal.Refusal.TheVariants.{Syntax}
 use Rattle.cc_plan.specs.declared.align.Align.{Align}
 use Rattle.cc_plan.specs.declared.align.Align.TheVariants.{One, Sixteen}
 use Rattle.cc_script.specs.Commands.{align_in}
+use Rattle.cc_decode.specs.declared.input.ByteOrder.{ByteOrder}
+use Rattle.cc_decode.specs.declared.input.ByteOrder.TheVariants.{Little, Big}
+use Rattle.cc_decode.specs.declared.input.InputForm.TheVariants.{Bytes}
 use Rattle.cc_decode.specs.declared.format.Format.{Format}
 use Rattle.cc_decode.specs.declared.format.Format.TheVariants.{Columns}
 use Rattle.cc_decode.specs.declared.format.Format.TheVariants as format
-use Rattle.cheri_cap.specs.Invocation.{HasAlign, HasFormat, HasItsTexts, HasLimit, HasLine, HasText, IsAlign, IsFormat, IsGiven, IsLimit, IsLimitText, IsWhole, align_option, choice_fault_in, choice_fault_of, decimal_value, format_in, format_names, format_option, line_option, program, slots_option}
+use Rattle.cheri_cap.specs.Invocation.{HasAlign, HasFormat, HasItsTexts, HasLimit, HasLine, HasText, IsAlign, IsFormat, IsGiven, IsLimit, IsLimitText, IsWhole, align_option, choice_fault_in, choice_fault_of, decimal_value, format_in, format_names, format_option, line_option, program, slots_option, HasOrder, IsInput, bytes_option, order_in, order_names}
 use Rattle.cheri_cap.proofs.GivenLemmas.{GiveValues, GivesValue, IsTaken, flag_gives, level-given, level_parts, no_default-given, required_given, set_gives, taken}
 
 -- ---- numbers
@@ -129,13 +132,14 @@ align_one (Some text) read other =
 
 -- what has a name is a format
 format_read : (text : Text) → list_any (λ name. bytes_eq name text) format_names ≡ true → IsSome (format_in text)
-format_read text among = go (bytes_eq (codes "columns") text) (bytes_eq (codes "text") text) refl refl among
+format_read text among = go (bytes_eq (codes "columns") text) (bytes_eq (codes "text") text) (bytes_eq (codes "csv") text) refl refl refl among
   where
-    go : (columns line : Bool) → bytes_eq (codes "columns") text ≡ columns → bytes_eq (codes "text") text ≡ line
-        → (columns || (line || false)) ≡ true → IsSome (format_in text)
-    go true line is other e = subst (λ (t : Text). IsSome (format_in t)) ((bytes_eq-Decides (codes "columns") text).0 is) refl
-    go false true other is e = subst (λ (t : Text). IsSome (format_in t)) ((bytes_eq-Decides (codes "text") text).0 is) refl
-    go false false one two e = cc e
+    go : (columns line csv : Bool) → bytes_eq (codes "columns") text ≡ columns → bytes_eq (codes "text") text ≡ line → bytes_eq (codes "csv") text ≡ csv
+        → (columns || (line || (csv || false))) ≡ true → IsSome (format_in text)
+    go true line csv is one two e = subst (λ (t : Text). IsSome (format_in t)) ((bytes_eq-Decides (codes "columns") text).0 is) refl
+    go false true csv one is two e = subst (λ (t : Text). IsSome (format_in t)) ((bytes_eq-Decides (codes "text") text).0 is) refl
+    go false false true one two is e = subst (λ (t : Text). IsSome (format_in t)) ((bytes_eq-Decides (codes "csv") text).0 is) refl
+    go false false false one two three e = cc e
 
 has_format : (formats : Bor (List (Bor Text))) → texts formats.now ≡ format_names → (rows : List Row)
     → IsTaken (filled (format_option formats)) (first_of (codes "format") rows) (one_of (codes "format") rows) → HasFormat rows
@@ -147,19 +151,57 @@ has_format formats are rows taken = go (first_of (codes "format") rows) (one_of 
         let among = sym (among_texts formats.now text) ∙ is.1 in
         format_read text (subst (λ (names : List Text). list_any (λ name. bytes_eq name text) names ≡ true) are among)
 
--- what is read of a format that is not the line
-pub format_columns : (given : Option Text) → IfSome given (λ text. IsSome (format_in text)) → (given ≡ Some (codes "text") → ⊥) → IsFormat given Columns
-format_columns None read other = refl
-format_columns (Some text) read other =
-    go (bytes_eq text (codes "columns")) (bytes_eq text (codes "text")) (λ is. other (ap Some ((bytes_eq-Decides text (codes "text")).0 is))) read
+-- what is read of a format that is none of the others
+pub format_columns : (given : Option Text) → IfSome given (λ text. IsSome (format_in text)) → (given ≡ Some (codes "text") → ⊥) → (given ≡ Some (codes "csv") → ⊥)
+    → IsFormat given Columns
+format_columns None read not_line not_csv = refl
+format_columns (Some text) read not_line not_csv =
+    go (bytes_eq text (codes "columns")) (bytes_eq text (codes "text")) (bytes_eq text (codes "csv"))
+    (λ is. not_line (ap Some ((bytes_eq-Decides text (codes "text")).0 is))) (λ is. not_csv (ap Some ((bytes_eq-Decides text (codes "csv")).0 is))) read
   where
-    named : (columns line : Bool) → Option Format
-    named columns line = if columns then Some Columns else if line then Some format.Text else None
+    named : (columns line csv : Bool) → Option Format
+    named columns line csv = if columns then Some Columns else if line then Some format.Text else if csv then Some format.Csv else None
 
-    go : (columns line : Bool) → (line ≡ true → ⊥) → IsSome (named columns line) → named columns line ≡ Some Columns
-    go true line not_line read = refl
-    go false true not_line read = absurd (not_line refl)
-    go false false not_line read = cc read
+    go : (columns line csv : Bool) → (line ≡ true → ⊥) → (csv ≡ true → ⊥) → IsSome (named columns line csv) → named columns line csv ≡ Some Columns
+    go true line csv no_line no_csv read = refl
+    go false true csv no_line no_csv read = absurd (no_line refl)
+    go false false true no_line no_csv read = absurd (no_csv refl)
+    go false false false no_line no_csv read = cc read
+
+-- ---- orders of bytes
+
+-- what has a name is an order
+order_read : (text : Text) → list_any (λ name. bytes_eq name text) order_names ≡ true → IsSome (order_in text)
+order_read text among = go (bytes_eq (codes "little") text) (bytes_eq (codes "big") text) refl refl among
+  where
+    go : (little big : Bool) → bytes_eq (codes "little") text ≡ little → bytes_eq (codes "big") text ≡ big
+        → (little || (big || false)) ≡ true → IsSome (order_in text)
+    go true big is other e = subst (λ (t : Text). IsSome (order_in t)) ((bytes_eq-Decides (codes "little") text).0 is) refl
+    go false true other is e = subst (λ (t : Text). IsSome (order_in t)) ((bytes_eq-Decides (codes "big") text).0 is) refl
+    go false false one two e = cc e
+
+has_order : (orders : Bor (List (Bor Text))) → texts orders.now ≡ order_names → (rows : List Row)
+    → IsTaken (filled (bytes_option orders)) (first_of (codes "bytes") rows) (one_of (codes "bytes") rows) → HasOrder rows
+has_order orders are rows taken = go (first_of (codes "bytes") rows) (one_of (codes "bytes") rows) taken
+  where
+    go : (given read : Option Text) → IsTaken (filled (bytes_option orders)) given read → IfSome given (λ text. IsSome (order_in text))
+    go None read is = tt
+    go (Some text) read is =
+        let among = sym (among_texts orders.now text) ∙ is.1 in
+        order_read text (subst (λ (names : List Text). list_any (λ name. bytes_eq name text) names ≡ true) are among)
+
+-- what is read of an order that is not big
+pub order_little : (text : Text) → IsSome (order_in text) → (text ≡ codes "big" → ⊥) → IsInput (Some text) (Bytes Little)
+order_little text read other =
+    go (bytes_eq text (codes "little")) (bytes_eq text (codes "big")) (λ is. other ((bytes_eq-Decides text (codes "big")).0 is)) read
+  where
+    named : (little big : Bool) → Option ByteOrder
+    named little big = if little then Some Little else if big then Some Big else None
+
+    go : (little big : Bool) → (big ≡ true → ⊥) → IsSome (named little big) → option_map Bytes (named little big) ≡ Some (Bytes Little)
+    go true big not_big read = refl
+    go false true not_big read = absurd (not_big refl)
+    go false false not_big read = cc read
 
 -- ---- names
 
@@ -245,14 +287,14 @@ plan_whole rows base size limit align = record {
   explain = λ same. absurd (other (codes "plan") (codes "explain") refl same);
 }
 
-decode_whole : (rows : List Row) → HasFormat rows → IsWhole (codes "decode") rows
-decode_whole rows format = record {
+decode_whole : (rows : List Row) → HasFormat rows → HasOrder rows → IsWhole (codes "decode") rows
+decode_whole rows format order = record {
   known = refl;
   show = λ same. absurd (other (codes "decode") (codes "show") refl same);
   round = λ same. absurd (other (codes "decode") (codes "round") refl same);
   run = λ same. absurd (other (codes "decode") (codes "run") refl same);
   plan = λ same. absurd (other (codes "decode") (codes "plan") refl same);
-  decode = λ _. format;
+  decode = λ _. (format, order);
   explain = λ same. absurd (other (codes "decode") (codes "explain") refl same);
 }
 
@@ -269,24 +311,25 @@ explain_whole rows choice = record {
 
 -- ---- the commands, as building leaves them
 
-module _ (aligns : Bor (List (Bor Text))) (are : texts aligns.now ≡ codes "1" ∷ codes "16" ∷ []) (formats : Bor (List (Bor Text))) (are_formats : texts formats.now ≡ format_names) where
+module _ (aligns : Bor (List (Bor Text))) (are : texts aligns.now ≡ codes "1" ∷ codes "16" ∷ []) (formats : Bor (List (Bor Text))) (are_formats : texts formats.now ≡ format_names)
+    (orders : Bor (List (Bor Text))) (are_orders : texts orders.now ≡ order_names) where
   abbrev show : Shape
-  show = get_or (built (program aligns formats)).subs 0 help_shape
+  show = get_or (built (program aligns formats orders)).subs 0 help_shape
 
   abbrev round : Shape
-  round = get_or (built (program aligns formats)).subs 1 help_shape
+  round = get_or (built (program aligns formats orders)).subs 1 help_shape
 
   abbrev run : Shape
-  run = get_or (built (program aligns formats)).subs 2 help_shape
+  run = get_or (built (program aligns formats orders)).subs 2 help_shape
 
   abbrev plan : Shape
-  plan = get_or (built (program aligns formats)).subs 3 help_shape
+  plan = get_or (built (program aligns formats orders)).subs 3 help_shape
 
   abbrev decode : Shape
-  decode = get_or (built (program aligns formats)).subs 4 help_shape
+  decode = get_or (built (program aligns formats orders)).subs 4 help_shape
 
   abbrev explain : Shape
-  explain = get_or (built (program aligns formats)).subs 5 help_shape
+  explain = get_or (built (program aligns formats orders)).subs 5 help_shape
 
   -- a call for help is a fault, and no row's
   help_gives : (c : List Rule) → GivesValue c (filled help_rule)
@@ -323,7 +366,10 @@ module _ (aligns : Bor (List (Bor Text))) (are : texts aligns.now ≡ codes "1" 
   )
 
   decode_gives : GiveValues decode.rules decode.rules
-  decode_gives = (set_gives decode.rules _ refl refl refl refl, (set_gives decode.rules _ refl refl refl refl, (help_gives decode.rules, tt)))
+  decode_gives = (
+    set_gives decode.rules _ refl refl refl refl,
+    (set_gives decode.rules _ refl refl refl refl, (set_gives decode.rules _ refl refl refl refl, (help_gives decode.rules, tt))),
+  )
 
   -- a command whose words have no fault has what it wants
   abbrev Serves : Shape → Type 0
@@ -370,13 +416,14 @@ module _ (aligns : Bor (List (Bor Text))) (are : texts aligns.now ≡ codes "1" 
   decode_serves words e choice =
       let rows = rows_after decode.rules [] words in
       let format = has_format formats are_formats rows (taken decode.rules (codes "format") (filled (format_option formats)) rows (level-given decode [] words false [] decode_gives e) refl) in
-      (codes "decode", rows, refl, decode_whole rows format)
+      let order = has_order orders are_orders rows (taken decode.rules (codes "bytes") (filled (bytes_option orders)) rows (level-given decode [] words false [] decode_gives e) refl) in
+      (codes "decode", rows, refl, decode_whole rows format order)
 
   abbrev AllServe : List Shape → Type 0
   AllServe [] = ⊤
   AllServe (s ∷ rest) = Serves s × AllServe rest
 
-  all_serve : AllServe (built (program aligns formats)).subs
+  all_serve : AllServe (built (program aligns formats orders)).subs
   all_serve = (show_serves, (round_serves, (run_serves, (plan_serves, (decode_serves, (explain_serves, tt))))))
 
   -- ---- the program
@@ -386,42 +433,42 @@ module _ (aligns : Bor (List (Bor Text))) (are : texts aligns.now ≡ codes "1" 
   wanted_by false b e = cc e
 
   -- a command is wanted
-  wanted : (rows : List Row) → check_fault (built (program aligns formats)).top rows false ≡ [] → ⊥
+  wanted : (rows : List Row) → check_fault (built (program aligns formats orders)).top rows false ≡ [] → ⊥
   wanted rows e =
       wanted_by (not (list_any (λ (r : Row). explicit_source r.source) rows))
-      (list_any (λ (a : Rule). a.required && not (is_given a.id rows)) (built (program aligns formats)).top.rules) e
+      (list_any (λ (a : Rule). a.required && not (is_given a.id rows)) (built (program aligns formats orders)).top.rules) e
 
   by_name : (is_named : Shape → Bool) (commands : List Shape) (words : List Text) (rows : List Row) → AllServe commands
       → option_map_or (λ s. level_fault s [] nothing_held words false []) (find is_named commands) [] ≡ []
-      → check_fault (built (program aligns formats)).top rows (is_some (option_map (λ s. rows_at s words) (find is_named commands))) ≡ []
+      → check_fault (built (program aligns formats orders)).top rows (is_some (option_map (λ s. rows_at s words) (find is_named commands))) ≡ []
       → choice_fault_in (option_map (λ s. rows_at s words) (find is_named commands)) ≡ None
       → HasItsTexts (option_map (λ s. rows_at s words) (find is_named commands))
   by_name is_named [] words rows all below e choice = absurd (wanted rows e)
   by_name is_named (s ∷ rest) words rows all below e choice = go (is_named s) below e choice (by_name is_named rest words rows all.1)
     where
       go : (b : Bool) → option_map_or (λ s. level_fault s [] nothing_held words false []) (if b then Some s else find is_named rest) [] ≡ []
-          → check_fault (built (program aligns formats)).top rows (is_some (option_map (λ s. rows_at s words) (if b then Some s else find is_named rest))) ≡ []
+          → check_fault (built (program aligns formats orders)).top rows (is_some (option_map (λ s. rows_at s words) (if b then Some s else find is_named rest))) ≡ []
           → choice_fault_in (option_map (λ s. rows_at s words) (if b then Some s else find is_named rest)) ≡ None
           → (option_map_or (λ s. level_fault s [] nothing_held words false []) (find is_named rest) [] ≡ []
-          → check_fault (built (program aligns formats)).top rows (is_some (option_map (λ s. rows_at s words) (find is_named rest))) ≡ []
+          → check_fault (built (program aligns formats orders)).top rows (is_some (option_map (λ s. rows_at s words) (find is_named rest))) ≡ []
           → choice_fault_in (option_map (λ s. rows_at s words) (find is_named rest)) ≡ None
           → HasItsTexts (option_map (λ s. rows_at s words) (find is_named rest)))
           → HasItsTexts (option_map (λ s. rows_at s words) (if b then Some s else find is_named rest))
       go true below e choice later = all.0 words below choice
       go false below e choice later = later below e choice
 
-  by_stop : (stop : Option (Text × List Text)) (rows : List Row) → entered_fault (built (program aligns formats)) stop ≡ []
-      → check_fault (built (program aligns formats)).top rows (is_some (entered (built (program aligns formats)) stop)) ≡ []
-      → choice_fault_in (entered (built (program aligns formats)) stop) ≡ None → HasItsTexts (entered (built (program aligns formats)) stop)
+  by_stop : (stop : Option (Text × List Text)) (rows : List Row) → entered_fault (built (program aligns formats orders)) stop ≡ []
+      → check_fault (built (program aligns formats orders)).top rows (is_some (entered (built (program aligns formats orders)) stop)) ≡ []
+      → choice_fault_in (entered (built (program aligns formats orders)) stop) ≡ None → HasItsTexts (entered (built (program aligns formats orders)) stop)
   by_stop None rows below e choice = absurd (wanted rows e)
-  by_stop (Some p) rows below e choice = by_name (λ s. answers_to p.0 (label_of s)) (built (program aligns formats)).subs p.1 rows all_serve below e choice
+  by_stop (Some p) rows below e choice = by_name (λ s. answers_to p.0 (label_of s)) (built (program aligns formats orders)).subs p.1 rows all_serve below e choice
 
   -- words without a fault name a command and give it its texts, where they are a choice
-  pub found : (words : List Text) → fault_of (program aligns formats) words ≡ [] → choice_fault_in (subcommand_of (program aligns formats) words) ≡ None
-      → HasItsTexts (subcommand_of (program aligns formats) words)
+  pub found : (words : List Text) → fault_of (program aligns formats orders) words ≡ [] → choice_fault_in (subcommand_of (program aligns formats orders) words) ≡ None
+      → HasItsTexts (subcommand_of (program aligns formats orders) words)
   found words e choice =
-      let app = built (program aligns formats) in
-      let rest = argument_words (program aligns formats) words in
+      let app = built (program aligns formats orders) in
+      let rest = argument_words (program aligns formats orders) words in
       let end = walk app.top.rules (names_of app) nothing_held rest in
       let parts = level_parts app.top (names_of app) rest (is_some (entered app end.stopped)) (entered_fault app end.stopped) e in
       by_stop end.stopped (rows_after app.top.rules (names_of app) rest) parts.1 parts.3 choice

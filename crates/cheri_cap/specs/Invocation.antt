@@ -15,8 +15,12 @@ use Rattle.clap.specs.declared.builder.value_parser.ValueParser.TheVariants.{Nam
 use Rattle.cc_plan.specs.declared.align.Align.{Align}
 use Rattle.cc_plan.specs.declared.align.Align.TheVariants.{One}
 use Rattle.cc_script.specs.Commands.{align_in}
+use Rattle.cc_decode.specs.declared.input.ByteOrder.{ByteOrder}
+use Rattle.cc_decode.specs.declared.input.ByteOrder.TheVariants.{Little, Big}
+use Rattle.cc_decode.specs.declared.input.InputForm.{InputForm}
+use Rattle.cc_decode.specs.declared.input.InputForm.TheVariants.{Lines, Bytes}
 use Rattle.cc_decode.specs.declared.format.Format.{Format}
-use Rattle.cc_decode.specs.declared.format.Format.TheVariants.{Columns}
+use Rattle.cc_decode.specs.declared.format.Format.TheVariants.{Columns, Csv}
 use Rattle.cc_decode.specs.declared.format.Format.TheVariants as format
 use Rattle.cheri_cap.specs.declared.invocation.Invocation.{Invocation}
 use Rattle.cheri_cap.specs.declared.invocation.Invocation.TheVariants.{Decode, Explain, ExplainLength, Plan, Round, Run, Show}
@@ -56,6 +60,13 @@ format_option formats = record (optional_argument (codes "format")) {
 abbrev pub valued_option : Text → Rule
 valued_option name = record (optional_argument name) { long = Some name }
 
+-- the option `--bytes ORDER`, whose value is one of these texts
+abbrev pub bytes_option : Bor (List (Bor Text)) → Rule
+bytes_option orders = record (optional_argument (codes "bytes")) {
+  long = Some (codes "bytes");
+  parser = Some (Names orders);
+}
+
 -- the option `--line`, which has no value
 abbrev pub line_option : Rule
 line_option = record (new_rule (codes "line")) { long = Some (codes "line"); action = Some SetTrue }
@@ -90,12 +101,17 @@ plan_command aligns =
 
 -- the names of the formats
 abbrev pub format_names : List Text
-format_names = codes "columns" ∷ codes "text" ∷ []
+format_names = codes "columns" ∷ codes "text" ∷ codes "csv" ∷ []
 
--- the command `decode [--format FORMAT] [FILE]`
-abbrev pub decode_command : Bor (List (Bor Text)) → App
-decode_command formats =
-    with_rule (with_rule (new_app (codes "decode")) (format_option formats)) (optional_argument (codes "file"))
+-- the names of the orders of bytes
+abbrev pub order_names : List Text
+order_names = codes "little" ∷ codes "big" ∷ []
+
+-- the command `decode [--format FORMAT] [--bytes ORDER] [FILE]`
+abbrev pub decode_command : (formats orders : Bor (List (Bor Text))) → App
+decode_command formats orders =
+    let options = with_rule (with_rule (new_app (codes "decode")) (format_option formats)) (bytes_option orders) in
+    with_rule options (optional_argument (codes "file"))
 
 -- a program that wants one of its commands and has a version, before its commands are added
 abbrev pub bare_program : App
@@ -108,21 +124,23 @@ bare_program = let bare = new_app (codes "cheri-cap") in record bare {
   };
 }
 
--- the program as clap reads it, where `--align` and `--format` take these texts
-abbrev pub program : (aligns formats : Bor (List (Bor Text))) → App
-program aligns formats =
+-- the program as clap reads it, where `--align`, `--format` and `--bytes` take these texts
+abbrev pub program : (aligns formats orders : Bor (List (Bor Text))) → App
+program aligns formats orders =
     let words = with_subcommand (with_subcommand bare_program show_command.top) round_command.top in
     let scripts = with_subcommand (with_subcommand words run_command.top) (plan_command aligns).top in
-    with_subcommand (with_subcommand scripts (decode_command formats).top) explain_command.top
+    with_subcommand (with_subcommand scripts (decode_command formats orders).top) explain_command.top
 
--- the program as clap reads it, where `--align` takes 1 and 16, and `--format` the names of the formats, wherever
--- in memory these texts stand
+-- the program as clap reads it, where `--align` takes 1 and 16, `--format` the names of the formats, and `--bytes`
+-- those of the orders, wherever in memory these texts stand
 pub record IsProgram (app : App) : Type 0 where
   pub aligns : Bor (List (Bor Text))
   pub are : texts aligns.now ≡ codes "1" ∷ codes "16" ∷ []
   pub formats : Bor (List (Bor Text))
   pub are_formats : texts formats.now ≡ format_names
-  pub is : app ≡ program aligns formats
+  pub orders : Bor (List (Bor Text))
+  pub are_orders : texts orders.now ≡ order_names
+  pub is : app ≡ program aligns formats orders
 
 -- ---- what clap found, and what it asks for
 
@@ -144,12 +162,25 @@ IsAlign (Some text) align = align_in text ≡ Ok align
 
 -- the format that a text names
 abbrev pub format_in : Text → Option Format
-format_in text = if bytes_eq text (codes "columns") then Some Columns else if bytes_eq text (codes "text") then Some format.Text else None
+format_in text =
+    if bytes_eq text (codes "columns") then Some Columns
+    else if bytes_eq text (codes "text") then Some format.Text
+    else if bytes_eq text (codes "csv") then Some Csv
+    else None
 
 -- the format is the one that the value of `--format` names, or columns where it is not given
 abbrev pub IsFormat : (given : Option Text) → Format → Type 0
 IsFormat None format = format ≡ Columns
 IsFormat (Some text) format = format_in text ≡ Some format
+
+-- the order of bytes that a text names
+abbrev pub order_in : Text → Option ByteOrder
+order_in text = if bytes_eq text (codes "little") then Some Little else if bytes_eq text (codes "big") then Some Big else None
+
+-- the input is lines where `--bytes` is not given, and else bytes in the order that its value names
+abbrev pub IsInput : (given : Option Text) → InputForm → Type 0
+IsInput None input = input ≡ Lines
+IsInput (Some text) input = option_map Bytes (order_in text) ≡ Some input
 
 -- whether the option was given: clap has the value `true` for one that was
 abbrev pub IsGiven : (value : Option Text) → Bool → Type 0
@@ -163,7 +194,7 @@ command_of (ExplainLength base size) = codes "explain"
 command_of (Round size) = codes "round"
 command_of (Run limit file) = codes "run"
 command_of (Plan limit pool align file) = codes "plan"
-command_of (Decode format file) = codes "decode"
+command_of (Decode options file) = codes "decode"
 
 -- each text of the command is the value of its name, and none where the name has no value
 abbrev pub HasValues : List Row → Invocation → Type 0
@@ -180,8 +211,9 @@ HasValues rows (Plan limit pool align file) =
     IsLimit (first_of (codes "slots") rows) limit × IsAlign (first_of (codes "align") rows) align
     × (first_of (codes "base") rows ≡ Some pool.base.now) × (first_of (codes "length") rows ≡ Some pool.length.now)
     × (first_of (codes "file") rows ≡ option_map (λ text. text.now) file)
-HasValues rows (Decode format file) =
-    IsFormat (first_of (codes "format") rows) format × (first_of (codes "file") rows ≡ option_map (λ text. text.now) file)
+HasValues rows (Decode options file) =
+    IsFormat (first_of (codes "format") rows) options.format × IsInput (first_of (codes "bytes") rows) options.input
+    × (first_of (codes "file") rows ≡ option_map (λ text. text.now) file)
 
 -- the command is the subcommand that clap found, and each text is the value that it gives to its name
 abbrev pub IsInvocation : Option (Text × List Row) → Invocation → Type 0
@@ -249,6 +281,10 @@ HasAlign rows = IfSome (first_of (codes "align") rows) (λ text. IsOk (align_in 
 abbrev pub HasFormat : List Row → Type 0
 HasFormat rows = IfSome (first_of (codes "format") rows) (λ text. IsSome (format_in text))
 
+-- the value of `--bytes`, where it has one, names an order
+abbrev pub HasOrder : List Row → Type 0
+HasOrder rows = IfSome (first_of (codes "bytes") rows) (λ text. IsSome (order_in text))
+
 -- the command of this name is one of the program's, and has what it wants
 pub record IsWhole (name : Text) (rows : List Row) : Type 0 where
   pub known : list_any (λ command. bytes_eq command name) (codes "show" ∷ codes "round" ∷ codes "run" ∷ codes "plan" ∷ codes "decode" ∷ codes "explain" ∷ []) ≡ true
@@ -256,7 +292,7 @@ pub record IsWhole (name : Text) (rows : List Row) : Type 0 where
   pub round : name ≡ codes "round" → HasText (codes "length") rows
   pub run : name ≡ codes "run" → HasLimit rows
   pub plan : name ≡ codes "plan" → HasText (codes "base") rows × HasText (codes "length") rows × HasLimit rows × HasAlign rows
-  pub decode : name ≡ codes "decode" → HasFormat rows
+  pub decode : name ≡ codes "decode" → HasFormat rows × HasOrder rows
   pub explain : name ≡ codes "explain" → choice_fault_of rows ≡ None
 
 -- a command was found that has what it wants

@@ -3,10 +3,10 @@ ghost use Rattle.std.specs.Prelude.{◌≡◌, ◌∷◌, [], IfErr, IfOk, IsSom
 ghost use Rattle.clap.specs.Walk.{texts};
 ghost use Rattle.clap.specs.Words.{App, FailsBy, app_of, first_of, first_value, found_of, kind_of, new_app, rows_of, rule_of, subcommand_of, subcommand_rows_of};
 ghost use Rattle.clap.specs.declared.builder.command.Command.TheViews.{out-Command};
-ghost use Rattle.cheri_cap.specs.Invocation.{HasAlign, HasFormat, HasItsTexts, HasLimit, HasLine, IsAlign, IsFormat, IsGiven, IsInvocation, IsLimit, HasValues, IsProgram, align_option, bare_program, choice_fault_in, choice_fault_of, command_of, decode_command, explain_command, faults_of, format_names, format_option, is_taken, kinds_in, line_option, optional_argument, plan_command, plan_options, program, round_command, run_command, show_command, slots_option, valued_option, wanted_argument};
+ghost use Rattle.cheri_cap.specs.Invocation.{HasAlign, HasFormat, HasItsTexts, HasLimit, HasLine, IsAlign, IsFormat, IsGiven, IsInvocation, IsLimit, HasValues, IsProgram, align_option, bare_program, choice_fault_in, choice_fault_of, command_of, decode_command, explain_command, faults_of, format_names, format_option, is_taken, kinds_in, line_option, optional_argument, plan_command, plan_options, program, round_command, run_command, show_command, slots_option, valued_option, wanted_argument, HasOrder, IsInput, bytes_option, order_names};
 
 use cc_command::PoolTexts;
-use cc_decode::Format;
+use cc_decode::{ByteOrder, Format, InputForm, Options};
 use cc_machine::Align;
 use clap::builder::ValueParser;
 use clap::error::ErrorKind;
@@ -58,10 +58,10 @@ pub enum Invocation<'a> {
         /// The script's file. Standard input where there is none, or where it is `-`.
         file: Option<&'a str>,
     },
-    /// `decode [--format FORMAT] [FILE]`: what each word of a text holds.
+    /// `decode [--format FORMAT] [--bytes ORDER] [FILE]`: what each word of a text, or of raw bytes, holds.
     Decode {
-        /// How the answers are written.
-        format: Format,
+        /// How the input holds words, and how the answers are written.
+        options: Options,
         /// The text's file. Standard input where there is none, or where it is `-`.
         file: Option<&'a str>,
     },
@@ -217,26 +217,36 @@ Example:
 const DECODE_ABOUT: &str = "Shows what each word of a text holds, one on each line";
 
 const FORMAT_HELP: &str = "\
-How the answer to a word is written: its values in columns, or the line that debuggers show
-[default: columns]";
+How the answer to a word is written: its values in columns or with commas, or the line that debuggers
+show [default: columns]";
+
+const BYTES_HELP: &str = "\
+Read raw words of 16 bytes, the lowest byte first or the highest [default: lines of digits]";
 
 const WORDS_FILE_HELP: &str = "The words' file; standard input where it is `-` or left out";
 
 const DECODE_AFTER_HELP: &str = "\
-Each line is a word: 32 hexadecimal digits of either case, as a trace or a dump has them. The
-answers stand in the order of the lines, one on each line:
+Each line is a word: 32 hexadecimal digits of either case, as a trace or a dump has them. With
+--bytes each 16 bytes are a word, as memory holds them: `little` for the order of RISC-V and Morello.
+The answers stand in the order of the words, one on each line:
   columns   WORD BASE TOP PERMS FLAG TYPE EXPONENT CANONICAL, as `cheri-cap show` spells them
   text      ADDRESS [LETTERS,BASE-TOP], and `(sealed)` or `(sentry)`
-A line that is no word is answered by `error 1 syntax`, and a rest without a line feed by
-`error 2 unfinished`. Each line is answered for itself, so that parts of a text can be decoded apart.
+  csv       a header, and then the values of the columns, ADDRESS and NAMES with commas between
+A line that is no word is answered by `error 1 syntax`, and a rest that is no whole line, or fewer
+than 16 bytes, by `error 2 unfinished`. Each word is answered for itself, so that parts of the input
+can be decoded apart.
 
 The exit status is 0, or 1 where an answer is an error, 2 for a command line that is not understood,
 and 3 where FILE cannot be opened, or the input or output failed.
 
-Example:
+Examples:
   printf 'ffff0000000f803d0000000000010070\\n02001fffc48190040000000000001000\\n' | cheri-cap decode
   ffff0000000f803d0000000000010070 0x10070 0x12070 ffff 0 3ffff 1 yes
-  02001fffc48190040000000000001000 0x1000 0x1200 0200 0 00007 0 yes";
+  02001fffc48190040000000000001000 0x1000 0x1200 0200 0 00007 0 yes
+
+  cheri-cap decode --format csv words.txt >words.csv
+  dd if=memory.dump bs=16 skip=64 count=1 | cheri-cap decode --bytes little --format text
+  0x10070 [rwxRW,0x10070-0x12070]";
 
 const SLOTS_HELP: &str = "\
 How many slots the machine can have, and how many objects, from 1 to 65536 [default: 4096]";
@@ -257,7 +267,7 @@ pub fn read_words<'a>(alloc: Global, words: &'a [&'a str]) -> Result<Invocation<
         (app : App) × IsProgram app × (is_taken app (texts words.now) ≡ true → kind_of error ≡ ErrorKind.OutOfMemory)) }
     ensures kinds { (app : App) × IsProgram app × FailsBy (faults_of app (texts words.now)) result }
 {
-    let mut command = program(alloc, aligns(), formats())?;
+    let mut command = program(alloc, aligns(), formats(), orders())?;
     match command.try_get_matches_from_mut(words) {
         Ok(matches) => chosen(alloc, &matches),
         Err(error) => Err(error),
@@ -275,7 +285,14 @@ fn aligns<'a>() -> &'a [&'a str]
 fn formats<'a>() -> &'a [&'a str]
     ensures { texts result.now ≡ format_names }
 {
-    &["columns", "text"]
+    &["columns", "text", "csv"]
+}
+
+/// The values that `--bytes` takes.
+fn orders<'a>() -> &'a [&'a str]
+    ensures { texts result.now ≡ order_names }
+{
+    &["little", "big"]
 }
 
 /// The program as clap reads it.
@@ -283,15 +300,16 @@ fn program<'a>(
     alloc: Global,
     aligns: &'a [&'a str],
     formats: &'a [&'a str],
+    orders: &'a [&'a str],
 ) -> Result<Command<'a>, AllocError>
-    ensures { IfOk result (λ command. app_of command ≡ program aligns.entry formats.entry) }
+    ensures { IfOk result (λ command. app_of command ≡ program aligns.entry formats.entry orders.entry) }
 {
     bare_program(alloc)?
         .subcommand(show_command(alloc)?)?
         .subcommand(round_command(alloc)?)?
         .subcommand(run_command(alloc)?)?
         .subcommand(plan_command(alloc, aligns)?)?
-        .subcommand(decode_command(alloc, formats)?)?
+        .subcommand(decode_command(alloc, formats, orders)?)?
         .subcommand(explain_command(alloc)?)
 }
 
@@ -362,14 +380,19 @@ fn plan_options<'a>(alloc: Global, aligns: &'a [&'a str]) -> Result<Command<'a>,
         .arg(align_option(alloc, aligns))
 }
 
-/// `decode [--format FORMAT] [FILE]`.
-fn decode_command<'a>(alloc: Global, formats: &'a [&'a str]) -> Result<Command<'a>, AllocError>
-    ensures shape { IfOk result (λ command. app_of command ≡ decode_command formats.entry) }
+/// `decode [--format FORMAT] [--bytes ORDER] [FILE]`.
+fn decode_command<'a>(
+    alloc: Global,
+    formats: &'a [&'a str],
+    orders: &'a [&'a str],
+) -> Result<Command<'a>, AllocError>
+    ensures shape { IfOk result (λ command. app_of command ≡ decode_command formats.entry orders.entry) }
     ensures local { IfOk result (λ command. (out-Command command).has_globals ≡ false) }
 {
     let file = optional_argument(alloc, "file", "FILE", WORDS_FILE_HELP);
     bare_command(alloc, "decode", DECODE_ABOUT, DECODE_AFTER_HELP)
         .arg(format_option(alloc, formats))?
+        .arg(bytes_option(alloc, orders))?
         .arg(file)
 }
 
@@ -477,6 +500,15 @@ fn format_option<'a>(alloc: Global, formats: &'a [&'a str]) -> Arg<'a>
         .value_parser(ValueParser::Names(formats))
 }
 
+/// The option `--bytes ORDER`, whose value is one of these texts.
+fn bytes_option<'a>(alloc: Global, orders: &'a [&'a str]) -> Arg<'a>
+    ensures rule { rule_of result ≡ bytes_option orders.entry }
+    ensures local { result.global ≡ false }
+{
+    optional_argument(alloc, "bytes", "ORDER", BYTES_HELP)
+        .long("bytes")
+        .value_parser(ValueParser::Names(orders))
+
 /// What the command that clap found asks for, or that its values are no choice that it has.
 fn chosen<'a>(alloc: Global, matches: &ArgMatches<'a>) -> Result<Invocation<'a>, Error>
     requires { choice_fault_in (subcommand_rows_of matches.now) ≡ None → HasItsTexts (subcommand_rows_of matches.now) }
@@ -549,7 +581,10 @@ fn invocation_of<'a>(matches: &ArgMatches<'a>) -> Invocation<'a>
             file: plan.get_str("file"),
         },
         Some(("decode", decode)) => Invocation::Decode {
-            format: format_of(decode),
+            options: Options {
+                input: input_of(decode),
+                format: format_of(decode),
+            },
             file: decode.get_str("file"),
         },
         Some(("explain", explain)) => explanation_of(explain),
@@ -624,6 +659,19 @@ fn format_of(matches: &ArgMatches<'_>) -> Format
 {
     match matches.get_str("format") {
         Some("text") => Format::Text,
+        Some("csv") => Format::Csv,
         _ => Format::Columns,
+    }
+}
+
+/// Bytes in the order that the value of `--bytes` names, or lines.
+fn input_of(matches: &ArgMatches<'_>) -> InputForm
+    requires { HasOrder (rows_of (found_of matches.now)) }
+    ensures { IsInput (first_of (codes "bytes") (rows_of (found_of matches.now))) result }
+{
+    match matches.get_str("bytes") {
+        None => InputForm::Lines,
+        Some("big") => InputForm::Bytes(ByteOrder::Big),
+        Some(_) => InputForm::Bytes(ByteOrder::Little),
     }
 }

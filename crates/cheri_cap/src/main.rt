@@ -119,7 +119,7 @@ fn answer<R: AllocGlobal + Files + Input + Print>(
             align,
             file,
         } => running::plan(rt, limit, pool, align, file),
-        Invocation::Decode { format, file } => running::decode(rt, format, file),
+        Invocation::Decode { options, file } => running::decode(rt, options, file),
     }
 }
 

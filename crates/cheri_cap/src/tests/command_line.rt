@@ -2,7 +2,7 @@
 //! space between each two.
 use crate::invocation::{Invocation, read_words};
 use cc_command::PoolTexts;
-use cc_decode::Format;
+use cc_decode::{ByteOrder, Format, InputForm, Options};
 use cc_machine::Align;
 use clap::error::ErrorKind;
 use std::alloc::{AllocError, Global};
@@ -120,22 +120,33 @@ fn run_is_taken(rt: HostRuntime) -> Result<(), Fail> {
     Ok(())
 }
 
-const DECODE: [(&str, Format, Option<&str>); 7] = [
-    ("decode", Format::Columns, None),
-    ("decode a", Format::Columns, Some("a")),
-    ("decode -", Format::Columns, Some("-")),
-    ("decode --format columns", Format::Columns, None),
-    ("decode --format=text", Format::Text, None),
-    ("decode a --format text", Format::Text, Some("a")),
-    ("decode -- --format", Format::Columns, Some("--format")),
+const LITTLE: InputForm = InputForm::Bytes(ByteOrder::Little);
+
+const BIG: InputForm = InputForm::Bytes(ByteOrder::Big);
+
+#[rattlefmt::skip]
+const DECODE: [(&str, InputForm, Format, Option<&str>); 12] = [
+    ("decode", InputForm::Lines, Format::Columns, None),
+    ("decode a", InputForm::Lines, Format::Columns, Some("a")),
+    ("decode -", InputForm::Lines, Format::Columns, Some("-")),
+    ("decode --format columns", InputForm::Lines, Format::Columns, None),
+    ("decode --format=text", InputForm::Lines, Format::Text, None),
+    ("decode a --format text", InputForm::Lines, Format::Text, Some("a")),
+    ("decode -- --format", InputForm::Lines, Format::Columns, Some("--format")),
+    ("decode --format csv", InputForm::Lines, Format::Csv, None),
+    ("decode --bytes little", LITTLE, Format::Columns, None),
+    ("decode --bytes=big a", BIG, Format::Columns, Some("a")),
+    ("decode --bytes little --format text", LITTLE, Format::Text, None),
+    ("decode -- --bytes", InputForm::Lines, Format::Columns, Some("--bytes")),
 ];
 
 #[test]
 fn decode_is_taken(rt: HostRuntime) -> Result<(), Fail> {
-    for (line, format, file) in DECODE {
+    for (line, input, format, file) in DECODE {
         let words = words_of(rt.alloc(), line)?;
         let taken = read_words(rt.alloc(), words.as_slice())?;
-        assert_eq!(rt; taken, Invocation::Decode { format, file }, "{line}");
+        let options = Options { input, format };
+        assert_eq!(rt; taken, Invocation::Decode { options, file }, "{line}");
     }
     Ok(())
 }

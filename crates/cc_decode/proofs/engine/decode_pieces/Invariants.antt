@@ -1,14 +1,16 @@
 use Rattle.std.proofs.Common.{◌≡◌, false, []}
-use Rattle.cc_decode.specs.Engine.{Reads}
+use Rattle.cc_decode.specs.Engine.{IsBegun, Reads}
 use Rattle.cc_decode.proofs.engine.decode_pieces.Given as goal
 
 abbrev pub invariant-pieces : goal.invariant-pieces
 invariant-pieces g l = record {
-  reads : Reads l.format [] (g.R.Source.to_come l.initial.source) (g.R.Source.to_come l.source) l.start
-      (g.W.Sink.taken_bytes l.initial.sink) (g.W.Sink.taken_bytes l.sink) l.any_error;
+  reads : Reads l.options (g.R.Source.to_come l.initial.source) (g.R.Source.to_come l.source) l.start
+      (g.W.Sink.taken_bytes l.fn.sink) (g.W.Sink.taken_bytes l.sink) l.any_error;
+  begun : IsBegun l.options.input l.start;
+  none_waits : l.batch ≡ [];
   gives : g.R.Source.has_failed l.source ≡ false;
   takes : g.W.Sink.has_failed l.sink ≡ false;
-  passed : g.W.Sink.waiting_bytes l.initial.sink ≡ [] → g.W.Sink.waiting_bytes l.sink ≡ [];
+  passed : g.W.Sink.waiting_bytes l.sink ≡ [];
 }
 
 abbrev pub decreases-pieces : goal.decreases-pieces

@@ -1,31 +1,39 @@
-use Rattle.std.proofs.Common.{rules}
-use Rattle.cc_script.specs.Lines.{IsLine}
-use Rattle.cc_decode.proofs.EngineLemmas.{part_more, part_stops, part_ends, answers_kept, answers_stop}
+use Rattle.std.proofs.Common.{rules, ℕ, List, ◌++◌, ◌∙◌, subst}
+use Rattle.cc_decode.specs.Engine.{IsBegun}
+use Rattle.cc_decode.proofs.EngineLemmas.{first_begins, first_passes, first_more, first_ends, first_stops}
+use Rattle.cc_decode.proofs.EntryLemmas.{begun_none, begun_cut}
 use Rattle.cc_decode.proofs.engine.take_piece.Goals as goal
 
-pub lines-preserved : goal.lines-preserved
-lines-preserved g c = record {
-  answers = part_more _ _ _ _ _ _ _ _ _ _ _ _ _ c.lines.invariant.answers c.in-Some.ensures.whole c.in-Ok.ensures.ok;
-  works = search rules;
-  quiet = λ none. cc none;
+pub entries-init : goal.entries-init
+entries-init g c = record {
+  answers = λ begun is. rw c.requires.batch (first_begins _ _ begun _ _ is);
+  begun = c.requires.start;
+  works = c.requires.sink;
 }
 
 pub returns-in-Err-clause-err : goal.returns-in-Err-clause-err
-returns-in-Err-clause-err g c begun is =
-    part_stops _ _ _ _ _ _ _ _ _ _ begun _ c.lines.invariant.answers c.in-Some.ensures.whole is c.in-Err.ensures.err
+returns-in-Err-clause-err g c begun is = first_stops _ _ _ _ begun _ _ _ _ _ (c.entries.invariant.answers begun is) c.in-Err.ensures.err
 
-pub returns-else-has_answered-clause-ok : goal.returns-else-has_answered-clause-ok
-returns-else-has_answered-clause-ok g c begun is =
-    let line : IsLine c.lines.rest.now = search rules in
-    part_ends _ _ _ _ _ _ _ _ begun _ c.lines.invariant.answers line c.extend.ensures is
+pub entries-preserved : goal.entries-preserved
+entries-preserved g c = record {
+  answers = λ begun is.
+      let p = first_passes _ _ _ _ begun _ _ _ _ _ _ (c.entries.invariant.answers begun is) c.in-Ok.ensures.ok in
+      let ends = c.in-Some.ensures.ends p.begun_now (c.as_slice.ensures ∙ p.start_is) in
+      let answered = c.answer_entry-any_error.ensures.answers p.begun_now p.start_is in
+      rw c.answer_entry-any_error.ensures.next (first_more _ _ _ begun _ _ _ _ _ _ _ _ _ p ends answered);
+  begun = rw c.answer_entry-any_error.ensures.next (begun_none c.args.options.input);
+  works = search rules;
+}
 
-pub returns-in-Ok-before_read-clause-ok : goal.returns-in-Ok-before_read-clause-ok
-returns-in-Ok-before_read-clause-ok g c begun is =
-    let line : IsLine c.lines.rest.now = search rules in
-    answers_kept _ _ _ _ begun _ _ _ (part_ends _ _ _ _ _ _ _ _ begun _ c.lines.invariant.answers line c.extend.ensures is) c.in-Ok-before_read.ensures.keeps
+pub returns-in-Ok-pass_on-clause-ok : goal.returns-in-Ok-pass_on-clause-ok
+returns-in-Ok-pass_on-clause-ok g c begun is =
+    let p = c.entries.invariant.answers begun is in
+    first_ends _ _ _ _ begun _ _ _ _ _ _ p (c.in_default.ensures.none p.begun_now (c.as_slice.ensures ∙ p.start_is)) c.extend.ensures c.in-Ok-pass_on.ensures.ok
 
-pub returns-in-Err-before_read-clause-err : goal.returns-in-Err-before_read-clause-err
-returns-in-Err-before_read-clause-err g c begun is =
-    let line : IsLine c.lines.rest.now = search rules in
-    let all = part_ends _ _ _ _ _ _ _ _ begun _ c.lines.invariant.answers line c.extend.ensures is in
-    answers_stop _ _ _ begun _ _ _ (answers_kept _ _ _ _ begun _ _ _ all c.in-Err-before_read.ensures.keeps)
+pub returns-in-Ok-pass_on-clause-begun : goal.returns-in-Ok-pass_on-clause-begun
+returns-in-Ok-pass_on-clause-begun g c =
+    rw c.extend.ensures (begun_cut c.args.options.input _ (subst (λ (l : List ℕ). IsBegun c.args.options.input (l ++ c.entries.rest.now)) c.as_slice.ensures c.in_default.ensures.begun))
+
+pub returns-in-Err-pass_on-clause-err : goal.returns-in-Err-pass_on-clause-err
+returns-in-Err-pass_on-clause-err g c begun is =
+    first_stops _ _ _ _ begun _ _ _ _ _ (c.entries.invariant.answers begun is) c.in-Err-pass_on.ensures.err

@@ -1,14 +1,14 @@
-use Rattle.std.proofs.Common.{◌≡◌, false, length}
-use Rattle.cc_decode.specs.Engine.{AnswersPart}
+use Rattle.std.proofs.Common.{◌≡◌, ℕ, List, false, length, take}
+use Rattle.cc_decode.specs.Engine.{AnswersFirst, IsBegun}
 use Rattle.cc_decode.proofs.engine.take_piece.Given as goal
 
-abbrev pub invariant-lines : goal.invariant-lines
-invariant-lines g l = record {
-  answers : AnswersPart l.format l.initial.start l.piece l.rest l.start (g.W.Sink.taken_bytes l.initial.sink)
-      (g.W.Sink.taken_bytes l.sink) l.any_error;
+abbrev pub invariant-entries : goal.invariant-entries
+invariant-entries g l = record {
+  answers : (begun : List ℕ) → l.initial.start ≡ take 129 begun → AnswersFirst l.options begun l.piece l.rest l.start
+      (g.W.Sink.taken_bytes l.initial.sink) (g.W.Sink.taken_bytes l.sink) l.batch l.any_error;
+  begun : IsBegun l.options.input l.start;
   works : g.W.Sink.has_failed l.sink ≡ false;
-  quiet : l.has_answered ≡ false → g.W.Sink.waiting_bytes l.sink ≡ g.W.Sink.waiting_bytes l.initial.sink;
 }
 
-abbrev pub decreases-lines : goal.decreases-lines
-decreases-lines g l = length l.rest
+abbrev pub decreases-entries : goal.decreases-entries
+decreases-entries g l = length l.rest

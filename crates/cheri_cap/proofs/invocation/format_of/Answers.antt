@@ -15,15 +15,23 @@ returns-in-Some-text c =
     sym (first_value-rows f (codes "format")) ∙ sym c.get_str.ensures ∙ ap (option_map (λ s. s.now)) here.is ∙ ap Some here.is-text in
     subst (λ (o : Option Text). IsFormat o format.Text) (sym given) refl
 
+pub returns-in-Some-csv : goal.returns-in-Some-csv
+returns-in-Some-csv c =
+    let f = found_of c.args.matches.now in
+    let here = c.in-Some-csv in
+    let given : first_of (codes "format") (rows_of f) ≡ Some (codes "csv") =
+    sym (first_value-rows f (codes "format")) ∙ sym c.get_str.ensures ∙ ap (option_map (λ s. s.now)) here.is ∙ ap Some here.is-csv in
+    subst (λ (o : Option Text). IsFormat o format.Csv) (sym given) refl
+
 pub returns-in_default : goal.returns-in_default
 returns-in_default c =
     let f = found_of c.args.matches.now in
     let here = c.in_default in
     let given = sym (first_value-rows f (codes "format")) ∙ sym c.get_str.ensures ∙ ap (option_map (λ s. s.now)) here.is in
-    format_columns (first_of (codes "format") (rows_of f)) c.requires (λ is. here.not-text (cc (sym given ∙ is)))
+    format_columns (first_of (codes "format") (rows_of f)) c.requires (λ is. here.not-text (cc (sym given ∙ is))) (λ is. here.not-csv (cc (sym given ∙ is)))
 
 pub returns-in_default-2 : goal.returns-in_default-2
 returns-in_default-2 c =
     let f = found_of c.args.matches.now in
     let given = sym (first_value-rows f (codes "format")) ∙ sym c.get_str.ensures ∙ ap (option_map (λ s. s.now)) c.in_default.is in
-    format_columns (first_of (codes "format") (rows_of f)) c.requires (λ is. cc (sym given ∙ is))
+    format_columns (first_of (codes "format") (rows_of f)) c.requires (λ is. cc (sym given ∙ is)) (λ is. cc (sym given ∙ is))

@@ -107,7 +107,14 @@ format_of-requires c =
     let here = c.in-Some-decode-default in
     let rows = rows_of (found_of here.decode.now) in
     let is = command_is c.args.matches.now (codes "decode") rows (sym (ap Some here.is-decode) ∙ here.ensures.name) here.ensures.rows in
-    (whole _ (codes "decode") rows is c.requires).decode refl
+    ((whole _ (codes "decode") rows is c.requires).decode refl).0
+
+pub input_of-requires : goal.input_of-requires
+input_of-requires c =
+    let here = c.in-Some-decode-default in
+    let rows = rows_of (found_of here.decode.now) in
+    let is = command_is c.args.matches.now (codes "decode") rows (sym (ap Some here.is-decode) ∙ here.ensures.name) here.ensures.rows in
+    ((whole _ (codes "decode") rows is c.requires).decode refl).1
 
 pub returns-in-Some-decode-default : goal.returns-in-Some-decode-default
 returns-in-Some-decode-default c =
@@ -115,7 +122,7 @@ returns-in-Some-decode-default c =
     let f = found_of here.decode.now in (
       rows_of f,
       command_is c.args.matches.now (codes "decode") (rows_of f) (sym (ap Some here.is-decode) ∙ here.ensures.name) here.ensures.rows,
-      (c.format_of.ensures, sym (first_value-rows f (codes "file")) ∙ sym c.get_str-in-Some-decode-default.ensures),
+      (c.format_of.ensures, c.input_of.ensures, sym (first_value-rows f (codes "file")) ∙ sym c.get_str-in-Some-decode-default.ensures),
     )
 
 pub explanation_of-requires : goal.explanation_of-requires

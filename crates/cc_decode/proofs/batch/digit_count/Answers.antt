@@ -1,0 +1,5 @@
+use Rattle.cc_script.proofs.DigitLemmas.{counted}
+use Rattle.cc_decode.proofs.batch.digit_count.Goals as goal
+
+pub returns : goal.returns
+returns c = counted c.args.number c.max.result c.ranges.number.fits c.max.ensures
