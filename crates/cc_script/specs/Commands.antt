@@ -38,6 +38,12 @@ pub record OneJoin (line : List ℕ) : Type 0 where
   pub joined : IsJoined line (words_of line)
   pub only : (words : List (List ℕ)) → IsJoined line words → words ≡ words_of line
 
+-- The text begins with a word that spells the number, and the rest stands after its space. No public clause cites it.
+pub record BeginsWithNumber (text : List ℕ) (number : ℕ) (rest : List ℕ) : Type 0 where
+  pub word : List ℕ
+  pub whole : words_of text ≡ word ∷ words_of rest
+  pub spelled : number_of word ≡ Some number
+
 -- the number of a slot or of an object that a text spells
 abbrev pub index_in : (text : List ℕ) → Result ℕ Refusal
 index_in text = within_limit (2 ^ 32 - 1) (number_of text)
