@@ -20,8 +20,8 @@ use Rattle.cc_machine.specs.declared.op.Op.TheVariants as op
 use Rattle.cc_script.specs.declared.keyword.Keyword.{Keyword}
 use Rattle.cc_script.specs.declared.keyword.Keyword.TheVariants as keyword
 use Rattle.cc_script.specs.Numbers.{numeral_of, number_of, within_limit}
-use Rattle.cc_script.specs.Commands.{words_of, permissions_in, with_names, align_in, flag_in, word_in, two, one_value, two_values, command_of, BeginsWithNumber}
-use Rattle.cc_script.proofs.CommandLemmas.{three_values}
+use Rattle.cc_script.specs.Commands.{words_of, permissions_in, with_names, align_in, flag_in, word_in, index_in, length_in, one, two, one_value, two_values, second_value, command_of, BeginsWithIndex, BeginsWithNumber}
+use Rattle.cc_script.proofs.CommandLemmas.{three_values, values_at, index_fits}
 
 -- no byte of the text is a space
 abbrev is_word : List ℕ → Bool
@@ -210,17 +210,26 @@ one_or_more k value spaced two_none = by (is_word value) refl where
   by true is = rw (alone value is) refl
   by false is = spaced is ∙ fewer (words_of value) (many value is)
 
-pub shown : (value : List ℕ) → one_value keyword.Show value ≡ command_of keyword.Show (words_of value)
-shown value = one_or_more keyword.Show value (λ e. rw (limited (2 ^ 32 - 1) value e) refl) (λ first second. refl)
+-- the four of them, where the value is a number within its limit
+pub shown : (k : Keyword) (value : List ℕ) (number : ℕ) → k ≡ keyword.Show → index_in value ≡ Ok number → Ok (op.Show number) ≡ command_of k (words_of value)
+shown k value number is e =
+    rw is
+    (ap (one op.Show) (sym e) ∙ one_or_more keyword.Show value (λ spaced. rw (limited (2 ^ 32 - 1) value spaced) refl) (λ first second. refl))
 
-pub rounded : (value : List ℕ) → one_value keyword.Round value ≡ command_of keyword.Round (words_of value)
-rounded value = one_or_more keyword.Round value (λ e. rw (limited (2 ^ 64) value e) refl) (λ first second. refl)
+pub rounded : (k : Keyword) (value : List ℕ) (number : ℕ) → k ≡ keyword.Round → length_in value ≡ Ok number → Ok (op.Round number) ≡ command_of k (words_of value)
+rounded k value number is e =
+    rw is
+    (ap (one op.Round) (sym e) ∙ one_or_more keyword.Round value (λ spaced. rw (limited (2 ^ 64) value spaced) refl) (λ first second. refl))
 
-pub allocated : (value : List ℕ) → one_value keyword.Alloc value ≡ command_of keyword.Alloc (words_of value)
-allocated value = one_or_more keyword.Alloc value (λ e. rw (limited (2 ^ 64) value e) refl) (λ first second. refl)
+pub allocated : (k : Keyword) (value : List ℕ) (number : ℕ) → k ≡ keyword.Alloc → length_in value ≡ Ok number → Ok (op.Alloc number) ≡ command_of k (words_of value)
+allocated k value number is e =
+    rw is
+    (ap (one op.Alloc) (sym e) ∙ one_or_more keyword.Alloc value (λ spaced. rw (limited (2 ^ 64) value spaced) refl) (λ first second. refl))
 
-pub freed : (value : List ℕ) → one_value keyword.Free value ≡ command_of keyword.Free (words_of value)
-freed value = one_or_more keyword.Free value (λ e. rw (limited (2 ^ 32 - 1) value e) refl) (λ first second. refl)
+pub freed : (k : Keyword) (value : List ℕ) (number : ℕ) → k ≡ keyword.Free → index_in value ≡ Ok number → Ok (op.Free number) ≡ command_of k (words_of value)
+freed k value number is e =
+    rw is
+    (ap (one op.Free) (sym e) ∙ one_or_more keyword.Free value (λ spaced. rw (limited (2 ^ 32 - 1) value spaced) refl) (λ first second. refl))
 
 -- ---- a number that stands first
 
@@ -269,8 +278,10 @@ number_begins text at number within some space digits is =
       spelled = spelled (take at text) (omega (arith, sized)) digits ∙ ap Some (sym is);
     }
 
--- what a keyword and a number that stands first come to
-pub numbered : (k : Keyword) (text second : List ℕ) (number : ℕ) (result : Result Op Refusal) → BeginsWithNumber text number second
-    → ((first : List ℕ) → number_of first ≡ Some number → result ≡ two_values k first second) → result ≡ command_of k (words_of text)
-numbered k text second number result begins is =
-    is begins.word begins.spelled ∙ two_or_more k begins.word second ∙ ap (command_of k) (sym begins.whole)
+-- what a keyword and a slot that stands first come to
+pub indexed : (k : Keyword) (text second : List ℕ) (slot : ℕ) → BeginsWithIndex text slot second → second_value k slot second ≡ command_of k (words_of text)
+indexed k text second slot is =
+    let begins = is.begins in
+    values_at k begins.word second slot (index_fits begins.word slot begins.spelled is.fits)
+    ∙ two_or_more k begins.word second
+    ∙ ap (command_of k) (sym begins.whole)
