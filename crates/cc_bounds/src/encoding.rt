@@ -20,11 +20,13 @@ use std::marker::Model;
 /// capability encoding; Woodruff et al. 2019.
 #[derive(Clone, Copy, PartialEq, Eq, Debug)]
 pub struct Set {
-    exponent: u8,
-    ie: bool,
+    // the granted span, and the rest in one word: no byte of a set stands between its fields
+    top: u128,
+    base: u64,
     t: u16,
     b: u16,
-    granted: Span,
+    exponent: u8,
+    ie: bool,
     exact: bool,
 }
 
@@ -35,25 +37,27 @@ impl Model for Set {
 
     ghost Value = { Encoding };
 
-    ghost view = { λ set. record { granted = set.granted; exact = set.exact } };
+    ghost view = { λ set. record { granted = record { base = set.base; top = set.top }; exact = set.exact } };
 
-    ghost invariant = { λ set. IsEncoding set.granted set.exponent set.ie set.t set.b };
+    ghost invariant = { λ set. IsEncoding (record { base = set.base; top = set.top }) set.exponent set.ie set.t set.b };
 
     ghost inverse = { λ encoding. record {
-      exponent = exponent_of encoding.granted;
-      ie = ie_of encoding.granted;
+      top = encoding.granted.top;
+      base = encoding.granted.base;
       t = t_of encoding.granted;
       b = b_of encoding.granted;
-      granted = encoding.granted;
+      exponent = exponent_of encoding.granted;
+      ie = ie_of encoding.granted;
       exact = encoding.exact;
     } };
 
     ghost inverse_ok = { λ set h i. record {
-      exponent = sym h.is_e i;
-      ie = sym h.is_ie i;
+      top = set.top;
+      base = set.base;
       t = sym h.is_t i;
       b = sym h.is_b i;
-      granted = set.granted;
+      exponent = sym h.is_e i;
+      ie = sym h.is_ie i;
       exact = set.exact;
     } };
 }
@@ -117,7 +121,10 @@ impl Set {
         ensures is_span { IsSpan self.now.granted }
         ensures sound { IsSound self.now.granted }
     {
-        self.granted
+        Span {
+            base: self.base,
+            top: self.top,
+        }
     }
 
     /// Whether the request was granted as it was, with neither end rounded.
@@ -167,11 +174,12 @@ fn stored_encoding(fields: &Fields, span: Span) -> Set
     ensures { result ≡ record { granted = span; exact = true } }
 {
     Set {
-        exponent: exponent(fields),
-        ie: fields.ie,
+        top: span.top,
+        base: span.base,
         t: fields.t,
         b: fields.b,
-        granted: span,
+        exponent: exponent(fields),
+        ie: fields.ie,
         exact: true,
     }
 }
@@ -207,11 +215,12 @@ fn encode(request: &Span) -> Set
     let exponent = power.saturating_sub(3);
     let granted = rounded(request, power);
     Set {
-        exponent: exponent as u8,
-        ie: power > 0,
+        top: granted.top,
+        base: granted.base,
         t: t_field(&granted, exponent),
         b: b_field(&granted, exponent),
-        granted,
+        exponent: exponent as u8,
+        ie: power > 0,
         exact: granted == *request,
     }
 }

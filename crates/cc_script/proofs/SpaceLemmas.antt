@@ -1,6 +1,7 @@
 -- A value with a space in it spells nothing.
-use Rattle.std.proofs.Common.{true≢false, ◌≡◌, ℕ, ◌+◌, ◌≤◌, Bool, true, false, ◌&&◌, ◌==◌, not, List, [], ◌∷◌, ◌^◌, ◌-◌, length, nat_lt, nat_le, Option, Some, None, Ok, Err, refl, sym, ◌∙◌, ap, arith, if◌then◌else◌, codes}
-use Rattle.std.proofs.lemmas.Bool.{eqb-true}
+use Rattle.std.proofs.Common.{true≢false, ◌<◌, ◌*◌, ◌++◌, take, drop, get_or, length-take, ◌≡◌, ℕ, ◌+◌, ◌≤◌, Bool, true, false, ◌&&◌, ◌==◌, not, List, [], ◌∷◌, ◌^◌, ◌-◌, length, nat_lt, nat_le, Option, Some, None, Result, Ok, Err, refl, sym, ◌∙◌, ap, arith, if◌then◌else◌, codes}
+use Rattle.std.proofs.lemmas.Bool.{eqb-true, lt-ltb}
+use Rattle.std.proofs.lemmas.List.{take-append-drop, drop_more, take_rest}
 use Rattle.std.proofs.lemmas.List.Splits.{length-slice_split}
 use Rattle.std.proofs.lemmas.Slice.Eq.{bytes_eq-Decides}
 use Rattle.std.specs.Char.{is_digit}
@@ -10,6 +11,7 @@ use Rattle.std.specs.Str.{bytes_eq}
 use Rattle.std.specs.Str.Parse.{digits_value}
 use Rattle.bitflags.specs.Sets.{Row, find_row, find_name}
 use Rattle.hex.specs.Hex.{is_hex_digit}
+use Rattle.cc_word.specs.declared.refusal.Refusal.{Refusal}
 use Rattle.cc_word.specs.declared.refusal.Refusal.TheVariants.{Syntax, OutOfRange}
 use Rattle.cc_cap.specs.Permissions.{permission_table}
 use Rattle.cc_plan.specs.declared.align.Align.TheVariants.{One, Sixteen}
@@ -18,8 +20,8 @@ use Rattle.cc_machine.specs.declared.op.Op.TheVariants as op
 use Rattle.cc_script.specs.declared.keyword.Keyword.{Keyword}
 use Rattle.cc_script.specs.declared.keyword.Keyword.TheVariants as keyword
 use Rattle.cc_script.specs.Numbers.{numeral_of, number_of, within_limit}
-use Rattle.cc_script.specs.Commands.{words_of, permissions_in, with_names, align_in, flag_in, word_in, two, two_values, command_of}
-use Rattle.cc_script.proofs.CommandLemmas.{three_values}
+use Rattle.cc_script.specs.Commands.{words_of, permissions_in, with_names, align_in, flag_in, word_in, index_in, length_in, one, two, one_value, two_values, second_value, command_of, BeginsWithIndex, BeginsWithNumber}
+use Rattle.cc_script.proofs.CommandLemmas.{three_values, values_at, index_fits}
 
 -- no byte of the text is a space
 abbrev is_word : List ℕ → Bool
@@ -193,3 +195,93 @@ two_or_more k first rest = by (is_word rest) refl where
   by : (word : Bool) → is_word rest ≡ word → two_values k first rest ≡ command_of k (first ∷ words_of rest)
   by true is = rw (alone rest is) refl
   by false is = spaced-second k first rest is ∙ sym (three_values k first (words_of rest) (many rest is))
+
+-- a keyword of one value, which is a number: what stands after the keyword is that, or has a space and is none
+pub one_or_more : (k : Keyword) (value : List ℕ) → (is_word value ≡ false → one_value k value ≡ Err Syntax)
+    → ((first second : List ℕ) → two_values k first second ≡ Err Syntax) → one_value k value ≡ command_of k (words_of value)
+one_or_more k value spaced two_none = by (is_word value) refl where
+  fewer : (words : List (List ℕ)) → 2 ≤ length words → Err Syntax ≡ command_of k words
+  fewer [] h = absurd (omega arith)
+  fewer (a ∷ []) h = absurd (omega arith)
+  fewer (a ∷ b ∷ []) h = sym (two_none a b)
+  fewer (a ∷ b ∷ c ∷ words) h = refl
+
+  by : (word : Bool) → is_word value ≡ word → one_value k value ≡ command_of k (words_of value)
+  by true is = rw (alone value is) refl
+  by false is = spaced is ∙ fewer (words_of value) (many value is)
+
+-- the four of them, where the value is a number within its limit
+pub shown : (k : Keyword) (value : List ℕ) (number : ℕ) → k ≡ keyword.Show → index_in value ≡ Ok number → Ok (op.Show number) ≡ command_of k (words_of value)
+shown k value number is e =
+    rw is
+    (ap (one op.Show) (sym e) ∙ one_or_more keyword.Show value (λ spaced. rw (limited (2 ^ 32 - 1) value spaced) refl) (λ first second. refl))
+
+pub rounded : (k : Keyword) (value : List ℕ) (number : ℕ) → k ≡ keyword.Round → length_in value ≡ Ok number → Ok (op.Round number) ≡ command_of k (words_of value)
+rounded k value number is e =
+    rw is
+    (ap (one op.Round) (sym e) ∙ one_or_more keyword.Round value (λ spaced. rw (limited (2 ^ 64) value spaced) refl) (λ first second. refl))
+
+pub allocated : (k : Keyword) (value : List ℕ) (number : ℕ) → k ≡ keyword.Alloc → length_in value ≡ Ok number → Ok (op.Alloc number) ≡ command_of k (words_of value)
+allocated k value number is e =
+    rw is
+    (ap (one op.Alloc) (sym e) ∙ one_or_more keyword.Alloc value (λ spaced. rw (limited (2 ^ 64) value spaced) refl) (λ first second. refl))
+
+pub freed : (k : Keyword) (value : List ℕ) (number : ℕ) → k ≡ keyword.Free → index_in value ≡ Ok number → Ok (op.Free number) ≡ command_of k (words_of value)
+freed k value number is e =
+    rw is
+    (ap (one op.Free) (sym e) ∙ one_or_more keyword.Free value (λ spaced. rw (limited (2 ^ 32 - 1) value spaced) refl) (λ first second. refl))
+
+-- ---- a number that stands first
+
+digits_then : (word rest : List ℕ) → list_all (λ digit. is_digit digit 10) word ≡ true → words_of (word ++ 32 ∷ rest) ≡ word ∷ words_of rest
+digits_then [] rest is = refl
+digits_then (x ∷ word) rest is = by (both_true (is_digit x 10) (list_all (λ digit. is_digit digit 10) word) is) (λ later. digits_then word rest later) (x == 32) refl where
+  by : (is_digit x 10 ≡ true) × (list_all (λ digit. is_digit digit 10) word ≡ true)
+      → (list_all (λ digit. is_digit digit 10) word ≡ true → words_of (word ++ 32 ∷ rest) ≡ word ∷ words_of rest)
+      → (space : Bool) → (x == 32) ≡ space
+      → (if space then [] ∷ words_of (word ++ 32 ∷ rest) else onto_first x (words_of (word ++ 32 ∷ rest))) ≡ (x ∷ word) ∷ words_of rest
+  by parts later true at = absurd (true≢false (sym parts.0 ∙ ap (λ (byte : ℕ). is_digit byte 10) (eqb-true x 32 at)))
+  by parts later false at = ap (onto_first x) (later parts.1)
+
+decimal_of : (word : List ℕ) → 0 < length word → list_all (λ digit. is_digit digit 10) word ≡ true → numeral_of 10 word ≡ Some (digits_value 10 word)
+decimal_of word some is = rw (lt-ltb 0 (length word) some, is) refl
+
+spelled : (word : List ℕ) → 0 < length word → list_all (λ digit. is_digit digit 10) word ≡ true → number_of word ≡ Some (digits_value 10 word)
+spelled [] some is = absurd (omega (arith, some))
+spelled (x ∷ []) some is = by (bytes_eq (x ∷ []) (48 ∷ 120 ∷ [])) refl where
+  by : (prefixed : Bool) → bytes_eq (x ∷ []) (48 ∷ 120 ∷ []) ≡ prefixed
+      → (if prefixed then numeral_of 16 [] else numeral_of 10 (x ∷ [])) ≡ Some (digits_value 10 (x ∷ []))
+  by true e = absurd (omega (arith, ap length ((bytes_eq-Decides (x ∷ []) (48 ∷ 120 ∷ [])).0 e)))
+  by false e = decimal_of (x ∷ []) some is
+spelled (x ∷ y ∷ word) some is = by (bytes_eq (x ∷ y ∷ []) (48 ∷ 120 ∷ [])) refl where
+  by : (prefixed : Bool) → bytes_eq (x ∷ y ∷ []) (48 ∷ 120 ∷ []) ≡ prefixed
+      → (if prefixed then numeral_of 16 word else numeral_of 10 (x ∷ y ∷ word)) ≡ Some (digits_value 10 (x ∷ y ∷ word))
+  by true e =
+      let same : x ∷ y ∷ [] ≡ 48 ∷ 120 ∷ [] = (bytes_eq-Decides (x ∷ y ∷ []) (48 ∷ 120 ∷ [])).0 e in
+      let second : y ≡ 120 = cc in
+      let rest = (both_true (is_digit x 10) (list_all (λ digit. is_digit digit 10) (y ∷ word)) is).1 in
+      let here = (both_true (is_digit y 10) (list_all (λ digit. is_digit digit 10) word) rest).0 in
+      absurd (true≢false (sym here ∙ ap (λ (byte : ℕ). is_digit byte 10) second))
+  by false e = decimal_of (x ∷ y ∷ word) some is
+
+-- decimal digits, and then a space
+pub number_begins : (text : List ℕ) (at number : ℕ) → at < length text → 0 < at → get_or text at 0 ≡ 32
+    → list_all (λ digit. is_digit digit 10) (take at text) ≡ true → number ≡ digits_value 10 (take at text)
+    → BeginsWithNumber text number (take (length text - (at + 1)) (drop (at + 1) text))
+number_begins text at number within some space digits is =
+    let sized : length (take at text) ≡ at = omega (arith, length-take at text) in
+    let parts : text ≡ take at text ++ 32 ∷ drop (at + 1) text =
+    sym (take-append-drop at text) ∙ ap (λ (l : List ℕ). take at text ++ l) (drop_more text at 0 within ∙ ap (λ (b : ℕ). b ∷ drop (at + 1) text) space) in
+    record {
+      word = take at text;
+      whole = rw (take_rest text (at + 1)) (ap words_of parts ∙ digits_then (take at text) (drop (at + 1) text) digits);
+      spelled = spelled (take at text) (omega (arith, sized)) digits ∙ ap Some (sym is);
+    }
+
+-- what a keyword and a slot that stands first come to
+pub indexed : (k : Keyword) (text second : List ℕ) (slot : ℕ) → BeginsWithIndex text slot second → second_value k slot second ≡ command_of k (words_of text)
+indexed k text second slot is =
+    let begins = is.begins in
+    values_at k begins.word second slot (index_fits begins.word slot begins.spelled is.fits)
+    ∙ two_or_more k begins.word second
+    ∙ ap (command_of k) (sym begins.whole)

@@ -247,8 +247,7 @@ fn answer_line<W: Sink>(
             };
         }
     };
-    let reply = machine.step(&op);
-    match write_reply(text, &reply, sink) {
+    match write_reply(text, &machine.step(&op), sink) {
         Ok(is_error) => Ok(is_error),
         Err(Failed) => Err(Failed),
     }

@@ -1,6 +1,6 @@
 //! The first words of commands.
-ghost use Rattle.std.specs.Prelude.{◌≡◌};
-ghost use Rattle.cc_script.specs.Commands.{keyword_of};
+ghost use Rattle.std.specs.Prelude.{◌≡◌, ◌++◌, IfSome};
+ghost use Rattle.cc_script.specs.Commands.{keyword_of, words_of, command_in, command_of};
 
 /// The first word of a command, which says what the words after it are.
 #[derive(Clone, Copy)]
@@ -62,4 +62,70 @@ impl Keyword {
         };
         Some(keyword)
     }
+
+    /// The keyword of a line, and what stands after its space. `None` tells nothing of the line.
+    #[inline(always)]
+    pub fn split(line: &[u8]) -> Option<(Keyword, &[u8])>
+        ensures { IfSome result (λ parts. command_in (words_of line.now) ≡ command_of parts.0 (words_of parts.1.now)) }
+    {
+        let keyword = Keyword::guess(line)?;
+        let values = keyword.after(line)?;
+        Some((keyword, values))
+    }
+
+    /// The one keyword that a line can begin with, going by its first two bytes.
+    #[inline(always)]
+    fn guess(line: &[u8]) -> Option<Keyword> {
+        let keyword = match line {
+            [b'a', b'd', ..] => Keyword::Addr,
+            [b'a', ..] => Keyword::Alloc,
+            [b'b', ..] => Keyword::Bounds,
+            [b'e', ..] => Keyword::Exact,
+            [b'f', b'l', ..] => Keyword::Flag,
+            [b'f', ..] => Keyword::Free,
+            [b'i', ..] => Keyword::Inc,
+            [b'p', b'e', ..] => Keyword::Perms,
+            [b'p', ..] => Keyword::Pool,
+            [b'r', b'e', ..] => Keyword::Rebuild,
+            [b'r', ..] => Keyword::Round,
+            [b's', b'h', ..] => Keyword::Show,
+            [b's', b'e', ..] => Keyword::Seal,
+            [b's', ..] => Keyword::Sweep,
+            [b'u', ..] => Keyword::Unseal,
+            _ => return None,
+        };
+        Some(keyword)
+    }
+
+    /// What stands after this keyword and a space, where a line begins with them.
+    #[inline(always)]
+    fn after(self, line: &[u8]) -> Option<&[u8]>
+        ensures { IfSome result (λ values. command_in (words_of line.now) ≡ command_of self (words_of values.now)) }
+    {
+        match self {
+            Keyword::Show => strip(line, b"show "),
+            Keyword::Bounds => strip(line, b"bounds "),
+            Keyword::Exact => strip(line, b"exact "),
+            Keyword::Addr => strip(line, b"addr "),
+            Keyword::Inc => strip(line, b"inc "),
+            Keyword::Perms => strip(line, b"perms "),
+            Keyword::Flag => strip(line, b"flag "),
+            Keyword::Seal => strip(line, b"seal "),
+            Keyword::Unseal => strip(line, b"unseal "),
+            Keyword::Rebuild => strip(line, b"rebuild "),
+            Keyword::Round => strip(line, b"round "),
+            Keyword::Pool => strip(line, b"pool "),
+            Keyword::Alloc => strip(line, b"alloc "),
+            Keyword::Free => strip(line, b"free "),
+            Keyword::Sweep => strip(line, b"sweep "),
+        }
+    }
+}
+
+/// What stands after these bytes, where a text begins with them.
+#[inline(always)]
+fn strip<'a>(text: &'a [u8], start: &[u8]) -> Option<&'a [u8]>
+    ensures { IfSome result (λ rest. text.now ≡ start.now ++ rest.now) }
+{
+    text.strip_prefix(start)
 }
