@@ -414,6 +414,15 @@ taken_left end blocks at d block span are within here last put =
           (get_or blocks at d).spans put);
     }
 
+-- and ends where it did
+pub taken_kept : (end : ℕ) (blocks : List BlockState) (at : ℕ) (d block : BlockState) → AreBlocks end blocks
+    → at < length blocks → IsBlock (blocks_end end (take at blocks)) block → block.last ≡ (get_or blocks at d).last
+    → AreBlocks end (set blocks at block)
+taken_kept end blocks at d block are within here last =
+    let is = block_at end blocks at d are within in
+    rw (set_in blocks at block within)
+    (blocks_append end (take at blocks) (block ∷ drop (suc at) blocks) is.low (here, rw last is.high))
+
 -- where it was the block's only one
 pub taken_gone : (end : ℕ) (blocks : List BlockState) (at : ℕ) (d block : BlockState) (span : Span) → AreBlocks end blocks
     → at < length blocks → length block.spans ≡ 0 → IsOneMore block.spans span (get_or blocks at d).spans

@@ -3,6 +3,7 @@ use Rattle.std.specs.Prelude.{ℕ, ◌≡◌, ◌+◌, ◌/◌, ◌≤◌, List,
 use Rattle.cc_bounds.specs.declared.span.Span.{Span}
 use Rattle.cc_plan.specs.BlockState.{BlockState}
 use Rattle.cc_plan.specs.Blocks.{AreBlocks, blocks_end, spans_in}
+use Rattle.cc_plan.specs.Groups.{AreCovered}
 use Rattle.cc_plan.specs.PlacerState.{IsPool}
 
 -- how many blocks are enough for so many spans
@@ -16,7 +17,7 @@ AreBlocksIn (Some pool) blocks = AreBlocks pool.base blocks × (blocks_end pool.
 
 -- what the placer keeps, with so many spare blocks, and room reserved for so many blocks in each of two rows
 pub record IsBlockPlacer (limit count : ℕ) (pool : Option Span) (blocks : List BlockState)
-    (spare capacity spare_capacity : ℕ) : Type 0 where
+    (groups : List ℕ) (spare capacity spare_capacity : ℕ) : Type 0 where
   pub counted : count ≡ length (spans_in blocks)
   pub at_most : count ≤ limit
   pub few : limit ≤ 65536
@@ -25,3 +26,4 @@ pub record IsBlockPlacer (limit count : ℕ) (pool : Option Span) (blocks : List
   pub spare_reserved : block_count limit ≤ spare_capacity
   pub is_pool : IfSome pool IsPool
   pub are_blocks : AreBlocksIn pool blocks
+  pub covered : AreCovered blocks groups

@@ -1,13 +1,13 @@
 //! A block of spans in the order of their addresses.
-ghost use Rattle.std.specs.Prelude.{◌≡◌, ◌↔◌, ◌+◌, ◌<◌, ◌≤◌, ◌^◌, ◌∷◌, ◌++◌, ℕ, [], length, max, take, vec_len, vec_capacity, Contains, IfOk, IsTrue};
+ghost use Rattle.std.specs.Prelude.{◌≡◌, ◌↔◌, ◌+◌, ◌<◌, ◌≤◌, ◌^◌, ◌∷◌, ◌++◌, ℕ, [], length, max, take, vec_len, vec_capacity, Contains, IfNone, IfOk, IsTrue};
 ghost use Rattle.cc_plan.specs.Placement.{IsApartFrom};
 ghost use Rattle.cc_plan.specs.PlacerState.{IsSomeBytes};
 ghost use Rattle.cc_plan.specs.Blocks.{AreBlocks, IsBlock, blocks_end, spans_in, with_upper};
 ghost use Rattle.cc_plan.specs.Chain.{IsChain, IsGapPlace, IsOneMore, end_of, most_room};
-ghost use Rattle.cc_plan.specs.Gap.{IsNeeded, room_of};
+ghost use Rattle.cc_plan.specs.Gap.{room_of};
 
 use crate::gap::room;
-use crate::rounding::fit;
+use crate::rounding::fit_below;
 use crate::sorted::position_for;
 use cc_bounds::Span;
 use std::alloc::{AllocError, Global};
@@ -99,6 +99,7 @@ impl Block {
         ensures spans { IsOneMore self.old.spans span self.new.spans }
         ensures block { IsBlock end self.new }
         ensures last { self.new.last ≡ self.old.last }
+        ensures bound { self.new.bound ≤ self.old.bound }
     {
         let at = position_for(&self.spans, span.base);
         let next = self.spans[at].base;
@@ -126,6 +127,7 @@ impl Block {
         ensures spans { IsOneMore self.old.spans span (spans_in (with_upper self.new result)) }
         ensures blocks { AreBlocks end (with_upper self.new result) }
         ensures end { blocks_end end (with_upper self.new result) ≡ self.old.last + 1 }
+        ensures bound { IfNone result (self.new.bound ≤ self.old.bound) }
         ensures spare { vec_len spare.new + length (with_upper self.new result) ≡ vec_len spare.old + 1 }
         ensures capacity { vec_capacity spare.new ≡ vec_capacity spare.old }
     {
@@ -234,19 +236,14 @@ impl Block {
         self.bound = wider(self.bound, end, self.spans[0].base);
     }
 
-    /// The least start of `len` bytes, at a multiple of `align`, in the gaps before its spans. No gap with less room
-    /// than `needed` has one.
+    /// The least start of `len` bytes, at a multiple of `align`, in the gaps before its spans.
     #[inline(always)]
-    pub(crate) fn place(&self, end: u64, len: u128, align: u64, needed: u128) -> Option<u64>
+    pub(crate) fn place(&self, end: u64, len: u128, align: u64) -> Option<u64>
         requires block { IsBlock end self.now }
         requires some { 0 < len }
         requires aligned { 0 < align }
-        requires needed { IsNeeded len align needed }
         ensures { IsGapPlace self.now.spans end len align result }
     {
-        if u128::from(self.bound) < needed {
-            return None;
-        }
         place_between(&self.spans, u128::from(end), len, align)
     }
 }
@@ -261,7 +258,7 @@ fn place_between(spans: &[Span], end: u128, len: u128, align: u64) -> Option<u64
 {
     let mut from = end;
     for span in spans {
-        if let Some(start) = fit(from, u128::from(span.base), len, align) {
+        if let Some(start) = fit_below(from as u64, span.base, len, align) {
             return Some(start);
         }
         from = span.top;

@@ -7,8 +7,10 @@ ghost use Rattle.cc_plan.specs.BlockState.{BlockState};
 ghost use Rattle.cc_plan.specs.Blocks.{AreBlocks, AreLooseAt, IsBlock, blocks_end, spans_in};
 ghost use Rattle.cc_plan.specs.Chain.{IsGapPlace, IsOneMore};
 ghost use Rattle.cc_plan.specs.Gap.{IsNeeded};
+ghost use Rattle.cc_plan.specs.Groups.{AreCovered, AreCoveredBut, group_of};
 
 use crate::block::Block;
+use crate::groups::{GROUP, GroupBounds};
 use cc_bounds::Span;
 
 /// Up to how many spans the last block has before another one is begun behind it.
@@ -21,8 +23,16 @@ const JOINED_SPANS: usize = 48;
 ///
 /// Where there is no spare block, two neighbours are joined first. The caller has so many blocks then that two of
 /// them have few spans together.
-pub(crate) fn put(blocks: &mut Vec<Block>, spare: &mut Vec<Block>, end: u64, span: Span)
+pub(crate) fn put(
+    blocks: &mut Vec<Block>,
+    groups: &mut GroupBounds,
+    spare: &mut Vec<Block>,
+    end: u64,
+    span: Span,
+)
     requires blocks { AreBlocks end blocks.old.items }
+    requires covered { AreCovered blocks.old.items groups.old }
+    requires few { vec_len blocks.old + vec_len spare.old ≤ 2752 }
     requires many { vec_len spare.old ≡ 0 → length (spans_in blocks.old.items) < 49 * (length blocks.old.items / 2) }
     requires reserved { vec_len blocks.old + vec_len spare.old ≤ vec_capacity blocks.old }
     requires spare_reserved { vec_len blocks.old + vec_len spare.old ≤ vec_capacity spare.old }
@@ -31,22 +41,32 @@ pub(crate) fn put(blocks: &mut Vec<Block>, spare: &mut Vec<Block>, end: u64, spa
     requires above { end ≤ span.base }
     ensures spans { IsOneMore (spans_in blocks.old.items) span (spans_in blocks.new.items) }
     ensures blocks { AreBlocks end blocks.new.items }
+    ensures covered { AreCovered blocks.new.items groups.new }
     ensures end { blocks_end end blocks.new.items ≤ max (blocks_end end blocks.old.items) span.top }
     ensures count { vec_len blocks.new + vec_len spare.new ≡ vec_len blocks.old + vec_len spare.old }
     ensures capacity { vec_capacity blocks.new ≡ vec_capacity blocks.old }
     ensures spare_capacity { vec_capacity spare.new ≡ vec_capacity spare.old }
 {
     if !spare.is_empty() {
-        put_with_spare(blocks, spare, end, span);
+        put_with_spare(blocks, groups, spare, end, span);
         return;
     }
     join_two(blocks, spare);
-    put_with_spare(blocks, spare, end, span);
+    groups.renew_from(blocks, 0);
+    put_with_spare(blocks, groups, spare, end, span);
 }
 
 /// As `put`, where there is a spare block.
-fn put_with_spare(blocks: &mut Vec<Block>, spare: &mut Vec<Block>, end: u64, span: Span)
+fn put_with_spare(
+    blocks: &mut Vec<Block>,
+    groups: &mut GroupBounds,
+    spare: &mut Vec<Block>,
+    end: u64,
+    span: Span,
+)
     requires blocks { AreBlocks end blocks.old.items }
+    requires covered { AreCovered blocks.old.items groups.old }
+    requires few { vec_len blocks.old + vec_len spare.old ≤ 2752 }
     requires spare { 0 < vec_len spare.old }
     requires reserved { vec_len blocks.old < vec_capacity blocks.old }
     requires some { IsSomeBytes span }
@@ -54,6 +74,7 @@ fn put_with_spare(blocks: &mut Vec<Block>, spare: &mut Vec<Block>, end: u64, spa
     requires above { end ≤ span.base }
     ensures spans { IsOneMore (spans_in blocks.old.items) span (spans_in blocks.new.items) }
     ensures blocks { AreBlocks end blocks.new.items }
+    ensures covered { AreCovered blocks.new.items groups.new }
     ensures end { blocks_end end blocks.new.items ≤ max (blocks_end end blocks.old.items) span.top }
     ensures count { vec_len blocks.new + vec_len spare.new ≡ vec_len blocks.old + vec_len spare.old }
     ensures capacity { vec_capacity blocks.new ≡ vec_capacity blocks.old }
@@ -61,15 +82,24 @@ fn put_with_spare(blocks: &mut Vec<Block>, spare: &mut Vec<Block>, end: u64, spa
 {
     let at = position_for(blocks, span.base);
     if at < blocks.len() {
-        put_inside(blocks, spare, end, at, span);
+        put_inside(blocks, groups, spare, end, at, span);
     } else {
-        put_behind(blocks, spare, end, span);
+        put_behind(blocks, groups, spare, end, span);
     }
 }
 
 /// As `put`, below the last byte of the block at a position, and above those before it.
-fn put_inside(blocks: &mut Vec<Block>, spare: &mut Vec<Block>, end: u64, at: usize, span: Span)
+fn put_inside(
+    blocks: &mut Vec<Block>,
+    groups: &mut GroupBounds,
+    spare: &mut Vec<Block>,
+    end: u64,
+    at: usize,
+    span: Span,
+)
     requires blocks { AreBlocks end blocks.old.items }
+    requires covered { AreCovered blocks.old.items groups.old }
+    requires few { vec_len blocks.old + vec_len spare.old ≤ 2752 }
     requires spare { 0 < vec_len spare.old }
     requires reserved { vec_len blocks.old < vec_capacity blocks.old }
     requires some { IsSomeBytes span }
@@ -79,6 +109,7 @@ fn put_inside(blocks: &mut Vec<Block>, spare: &mut Vec<Block>, end: u64, at: usi
     requires below { (d : BlockState) → span.base ≤ (slice_index_or blocks.old.items at d).last }
     ensures spans { IsOneMore (spans_in blocks.old.items) span (spans_in blocks.new.items) }
     ensures blocks { AreBlocks end blocks.new.items }
+    ensures covered { AreCovered blocks.new.items groups.new }
     ensures end { blocks_end end blocks.new.items ≡ blocks_end end blocks.old.items }
     ensures count { vec_len blocks.new + vec_len spare.new ≡ vec_len blocks.old + vec_len spare.old }
     ensures capacity { vec_capacity blocks.new ≡ vec_capacity blocks.old }
@@ -86,20 +117,33 @@ fn put_inside(blocks: &mut Vec<Block>, spare: &mut Vec<Block>, end: u64, at: usi
 {
     let before = end_before(blocks, at, end);
     let block = &mut blocks[at];
+    let bound = block.bound();
     if let Some(upper) = block.insert_or_split(before, span, spare) {
         blocks.insert(at + 1, upper).unwrap();
+        groups.renew_from(blocks, at);
+    } else {
+        groups.lower(blocks, at, bound);
     }
 }
 
 /// As `put`, behind all blocks.
-fn put_behind(blocks: &mut Vec<Block>, spare: &mut Vec<Block>, end: u64, span: Span)
+fn put_behind(
+    blocks: &mut Vec<Block>,
+    groups: &mut GroupBounds,
+    spare: &mut Vec<Block>,
+    end: u64,
+    span: Span,
+)
     requires blocks { AreBlocks end blocks.old.items }
+    requires covered { AreCovered blocks.old.items groups.old }
+    requires few { vec_len blocks.old + vec_len spare.old ≤ 2752 }
     requires spare { 0 < vec_len spare.old }
     requires reserved { vec_len blocks.old < vec_capacity blocks.old }
     requires some { IsSomeBytes span }
     requires above { blocks_end end blocks.old.items ≤ span.base }
     ensures spans { spans_in blocks.new.items ≡ spans_in blocks.old.items ++ span ∷ [] }
     ensures blocks { AreBlocks end blocks.new.items }
+    ensures covered { AreCovered blocks.new.items groups.new }
     ensures end { blocks_end end blocks.new.items ≡ span.top }
     ensures count { vec_len blocks.new + vec_len spare.new ≡ vec_len blocks.old + vec_len spare.old }
     ensures capacity { vec_capacity blocks.new ≡ vec_capacity blocks.old }
@@ -109,21 +153,32 @@ fn put_behind(blocks: &mut Vec<Block>, spare: &mut Vec<Block>, end: u64, span: S
     if count > 0 && blocks[count - 1].len() < LAST_SPANS {
         let block = &mut blocks[count - 1];
         block.push(span);
+        groups.raise(blocks, count - 1);
         return;
     }
     let before = row_end(blocks, end) as u64;
     let mut block = spare.pop().unwrap();
     block.start(before, span);
     blocks.push_reserved(block);
+    groups.renew_from(blocks, count);
 }
 
 /// Takes a span away that is there.
-pub(crate) fn take_out(blocks: &mut Vec<Block>, spare: &mut Vec<Block>, end: u64, span: Span)
+pub(crate) fn take_out(
+    blocks: &mut Vec<Block>,
+    groups: &mut GroupBounds,
+    spare: &mut Vec<Block>,
+    end: u64,
+    span: Span,
+)
     requires blocks { AreBlocks end blocks.old.items }
+    requires covered { AreCovered blocks.old.items groups.old }
+    requires few { vec_len blocks.old + vec_len spare.old ≤ 2752 }
     requires held { Contains (spans_in blocks.old.items) span }
     requires reserved { vec_len spare.old < vec_capacity spare.old }
     ensures spans { IsOneMore (spans_in blocks.new.items) span (spans_in blocks.old.items) }
     ensures blocks { AreBlocks end blocks.new.items }
+    ensures covered { AreCovered blocks.new.items groups.new }
     ensures end { blocks_end end blocks.new.items ≤ blocks_end end blocks.old.items }
     ensures count { vec_len blocks.new + vec_len spare.new ≡ vec_len blocks.old + vec_len spare.old }
     ensures capacity { vec_capacity blocks.new ≡ vec_capacity blocks.old }
@@ -132,12 +187,18 @@ pub(crate) fn take_out(blocks: &mut Vec<Block>, spare: &mut Vec<Block>, end: u64
     let at = position_for(blocks, span.base);
     let before = end_before(blocks, at, end);
     let block = &mut blocks[at];
+    let last = block.last();
     block.remove(before, span);
     if block.len() == 0 {
         spare.push_reserved(blocks.remove(at));
         widen_at(blocks, at, end);
-    } else {
+        groups.renew_from(blocks, at);
+    } else if block.last() < last {
         widen_at(blocks, at + 1, end);
+        groups.raise(blocks, at);
+        groups.raise(blocks, at + 1);
+    } else {
+        groups.raise(blocks, at);
     }
 }
 
@@ -148,6 +209,8 @@ fn widen_at(blocks: &mut Vec<Block>, at: usize, end: u64)
     ensures blocks { AreBlocks end blocks.new.items }
     ensures spans { spans_in blocks.new.items ≡ spans_in blocks.old.items }
     ensures end { blocks_end end blocks.new.items ≡ blocks_end end blocks.old.items }
+    ensures others { (k : ℕ) (d : BlockState) → ¬ (k ≡ at)
+        → slice_index_or blocks.new.items k d ≡ slice_index_or blocks.old.items k d }
     ensures len { vec_len blocks.new ≡ vec_len blocks.old }
     ensures capacity { vec_capacity blocks.new ≡ vec_capacity blocks.old }
 {
@@ -200,20 +263,75 @@ fn small_pair(blocks: &[Block]) -> Option<usize>
 /// of which follows an end. No gap with less room than `needed` has one.
 pub(crate) fn place_among(
     blocks: &[Block],
+    groups: &GroupBounds,
     end: u64,
     len: u128,
     align: u64,
     needed: u128,
 ) -> Option<u64>
     requires blocks { AreBlocks end blocks.now }
+    requires covered { AreCovered blocks.now groups.now }
+    requires few { length blocks.now ≤ 2752 }
     requires some { 0 < len }
     requires aligned { 0 < align }
     requires needed { IsNeeded len align needed }
     ensures { IsGapPlace (spans_in blocks.now) end len align result }
 {
     let least = u64::try_from(needed).unwrap_or(u64::MAX);
+    for group in 0..blocks.len().div_ceil(GROUP) {
+        if let Some(start) = place_in_group(blocks, groups, group, end, len, align, least) {
+            return Some(start);
+        }
+    }
+    None
+}
+
+/// The least start of `len` bytes, at a multiple of `align`, in the gaps before the spans of a group of the blocks.
+/// A group whose bound is below `least` is not looked at any further: no gap with less room has a place.
+fn place_in_group(
+    blocks: &[Block],
+    groups: &GroupBounds,
+    group: usize,
+    end: u64,
+    len: u128,
+    align: u64,
+    least: u64,
+) -> Option<u64>
+    requires blocks { AreBlocks end blocks.now }
+    requires covered { AreCovered blocks.now groups.now }
+    requires few { length blocks.now ≤ 2752 }
+    requires within { 32 * group < length blocks.now }
+    requires some { 0 < len }
+    requires aligned { 0 < align }
+    requires needed { IsNeeded len align least }
+    ensures { IsGapPlace (spans_in (group_of blocks.now group)) (blocks_end end (take (32 * group) blocks.now)) len align
+        result }
+{
+    if groups.of(group) < least {
+        return None;
+    }
+    let from = GROUP * group;
+    let to = blocks.len().min(from + GROUP);
+    place_in_row(
+        &blocks[from..to],
+        end_before(blocks, from, end),
+        len,
+        align,
+        least,
+    )
+}
+
+/// The least start of `len` bytes, at a multiple of `align`, in the gaps before the spans of the blocks, the first
+/// of which follows an end. No gap with less room than `least` has one.
+fn place_in_row(blocks: &[Block], end: u64, len: u128, align: u64, least: u64) -> Option<u64>
+    requires blocks { AreBlocks end blocks.now }
+    requires some { 0 < len }
+    requires aligned { 0 < align }
+    requires needed { IsNeeded len align least }
+    ensures { IsGapPlace (spans_in blocks.now) end len align result }
+{
     for at in 0..blocks.len() {
-        if let Some(start) = place_at(blocks, at, end, len, align, needed, least) {
+        if let Some(start) = place_at(blocks, at, end, len, align, least) {
             return Some(start);
         }
     }
@@ -221,23 +339,14 @@ pub(crate) fn place_among(
 }
 
 /// The least start of `len` bytes, at a multiple of `align`, in the gaps before the spans of the block at a position.
-/// A block whose bound is below `least` is not looked at any further: `needed` is at least that.
+/// A block whose bound is below `least` is not looked at any further: no gap with less room has a place.
 #[inline(always)]
-fn place_at(
-    blocks: &[Block],
-    at: usize,
-    end: u64,
-    len: u128,
-    align: u64,
-    needed: u128,
-    least: u64,
-) -> Option<u64>
+fn place_at(blocks: &[Block], at: usize, end: u64, len: u128, align: u64, least: u64) -> Option<u64>
     requires blocks { AreBlocks end blocks.now }
     requires within { at < length blocks.now }
     requires some { 0 < len }
     requires aligned { 0 < align }
-    requires needed { IsNeeded len align needed }
-    requires least { least ≤ needed }
+    requires needed { IsNeeded len align least }
     ensures { (d : BlockState)
         → IsGapPlace (slice_index_or blocks.now at d).spans (blocks_end end (take at blocks.now)) len align result }
 {
@@ -245,7 +354,7 @@ fn place_at(
     if block.bound() < least {
         return None;
     }
-    block.place(end_before(blocks, at, end), len, align, needed)
+    block.place(end_before(blocks, at, end), len, align)
 }
 
 /// Where a span with this base belongs: before are the blocks that end below it.

@@ -1,11 +1,13 @@
 //! A placer that keeps its spans in blocks.
-ghost use Rattle.std.specs.Prelude.{◌<◌, ◌≤◌, ◌^◌};
+ghost use Rattle.std.specs.Prelude.{◌<◌, ◌≤◌, ◌^◌, length};
 ghost use Rattle.cc_plan.specs.Blocks.{AreBlocks, blocks_end, spans_in};
+ghost use Rattle.cc_plan.specs.Groups.{AreCovered};
 ghost use Rattle.cc_plan.specs.Placement.{IsRoom};
 
 use crate::block::Block;
 use crate::block_row::{place_among, put, row_end, take_out};
 use crate::gap::needed;
+use crate::groups::GroupBounds;
 use crate::placer::Placer;
 use crate::rounding::fit;
 use cc_bounds::Span;
@@ -27,6 +29,7 @@ pub struct BlockPlacer {
     count: u32,
     pool: Option<Span>,
     blocks: Vec<Block>,
+    groups: GroupBounds,
     /// The blocks that have no spans.
     spare: Vec<Block>,
 }
@@ -42,7 +45,7 @@ impl Model for BlockPlacer {
     ghost view = { λ p. record { limit = p.limit; pool = p.pool; held = spans_in p.blocks.items } };
 
     ghost invariant = { λ p.
-        IsBlockPlacer p.limit p.count p.pool p.blocks.items (vec_len p.spare) (vec_capacity p.blocks)
+        IsBlockPlacer p.limit p.count p.pool p.blocks.items p.groups (vec_len p.spare) (vec_capacity p.blocks)
         (vec_capacity p.spare) };
 }
 
@@ -65,6 +68,7 @@ impl Placer for BlockPlacer {
             count: 0,
             pool: None,
             blocks,
+            groups: GroupBounds::new(),
             spare,
         })
     }
@@ -74,14 +78,20 @@ impl Placer for BlockPlacer {
     }
 
     fn room(&self, len: u128, align: u64) -> Option<u64> {
-        room_in(&self.blocks, self.pool?, len, align)
+        room_in(&self.blocks, &self.groups, self.pool?, len, align)
     }
 
     fn hold(&mut self, span: Span) {
         let Some(pool) = self.pool else {
             unreachable!()
         };
-        put(&mut self.blocks, &mut self.spare, pool.base, span);
+        put(
+            &mut self.blocks,
+            &mut self.groups,
+            &mut self.spare,
+            pool.base,
+            span,
+        );
         self.count += 1;
     }
 
@@ -89,7 +99,13 @@ impl Placer for BlockPlacer {
         let Some(pool) = self.pool else {
             unreachable!()
         };
-        take_out(&mut self.blocks, &mut self.spare, pool.base, span);
+        take_out(
+            &mut self.blocks,
+            &mut self.groups,
+            &mut self.spare,
+            pool.base,
+            span,
+        );
         self.count -= 1;
     }
 
@@ -99,15 +115,17 @@ impl Placer for BlockPlacer {
 }
 
 /// The least start of `len` bytes of the pool, at a multiple of `align`, between the spans of the blocks.
-fn room_in(blocks: &[Block], pool: Span, len: u128, align: u64) -> Option<u64>
+fn room_in(blocks: &[Block], groups: &GroupBounds, pool: Span, len: u128, align: u64) -> Option<u64>
     requires blocks { AreBlocks pool.base blocks.now }
+    requires covered { AreCovered blocks.now groups.now }
+    requires few { length blocks.now ≤ 2752 }
     requires within { blocks_end pool.base blocks.now ≤ pool.top }
     requires fits { pool.top ≤ 2 ^ 64 }
     requires some { 0 < len }
     requires aligned { 0 < align }
     ensures { IsRoom pool (spans_in blocks.now) len align result }
 {
-    if let Some(start) = place_among(blocks, pool.base, len, align, needed(len, align)) {
+    if let Some(start) = place_among(blocks, groups, pool.base, len, align, needed(len, align)) {
         return Some(start);
     }
     fit(row_end(blocks, pool.base), pool.top, len, align)

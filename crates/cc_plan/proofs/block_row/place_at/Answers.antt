@@ -11,7 +11,7 @@ pub returns-then-bound-least : goal.returns-then-bound-least
 returns-then-bound-least c d other start =
     let row = row_at c.args.end c.args.blocks.now c.args.at d c.requires.blocks c.requires.within in
     narrow (blocks_end c.args.end (take c.args.at c.args.blocks.now)) (2 ^ 64) (get_or c.args.blocks.now c.args.at d).spans
-    c.args.len c.args.align c.args.needed
+    c.args.len c.args.align c.args.least
     (block_chain (blocks_end c.args.end (take c.args.at c.args.blocks.now)) (get_or c.args.blocks.now c.args.at d) row.here)
     (omega arith) c.requires.some c.requires.needed
     (omega (
@@ -19,7 +19,6 @@ returns-then-bound-least c d other start =
       row.here.bound,
       c.if-bound-least.true,
       c.bound.ensures,
-      c.requires.least,
       ap (λ (b : BlockState). b.bound) c.index-blocks-at.is,
       ap (λ (b : BlockState). b.bound) (get_or_default c.args.blocks.now c.args.at c.index-blocks-at.result d c.requires.within),
     ))

@@ -1,7 +1,9 @@
-use Rattle.std.proofs.Common.{rules, arith, ap, ◌≡◌, ◌-◌, suc, length, take}
+use Rattle.std.proofs.Common.{rules, arith, ap, ◌≡◌, ◌+◌, ◌-◌, ◌≤◌, [], ◌∷◌, ◌++◌, suc, length, take}
+use Rattle.std.proofs.lemmas.List.{get_or_append_left}
 use Rattle.cc_plan.specs.BlockState.{BlockState}
 use Rattle.cc_plan.specs.Blocks.{blocks_end}
 use Rattle.cc_plan.proofs.BlockRowLemmas.{block_at, end_last, push_last, push_new}
+use Rattle.cc_plan.proofs.GroupLemmas.{covered_below, covered_set}
 use Rattle.cc_plan.proofs.block_row.put_behind.Goals as goal
 
 pub push-requires-clause-above : goal.push-requires-clause-above
@@ -24,7 +26,7 @@ returns-then-len-lt-LAST_SPANS-clause-spans c =
 pub returns-clause-spans : goal.returns-clause-spans
 returns-clause-spans c =
     let row = push_new c.args.end c.args.blocks.now.items c.start.new.self c.args.span c.requires.blocks
-    (rw (c.row_end-before.ensures, c.deref.ensures.value) at c.start.ensures.block) c.start.ensures.spans c.start.ensures.last in
+    (rw (c.row_end-before.ensures, c.deref-2.ensures.value) at c.start.ensures.block) c.start.ensures.spans c.start.ensures.last in
     rw c.push_reserved.ensures.items row.spans
 
 pub returns-then-len-lt-LAST_SPANS-clause-blocks : goal.returns-then-len-lt-LAST_SPANS-clause-blocks
@@ -41,7 +43,7 @@ returns-then-len-lt-LAST_SPANS-clause-blocks c =
 pub returns-clause-blocks : goal.returns-clause-blocks
 returns-clause-blocks c =
     let row = push_new c.args.end c.args.blocks.now.items c.start.new.self c.args.span c.requires.blocks
-    (rw (c.row_end-before.ensures, c.deref.ensures.value) at c.start.ensures.block) c.start.ensures.spans c.start.ensures.last in
+    (rw (c.row_end-before.ensures, c.deref-2.ensures.value) at c.start.ensures.block) c.start.ensures.spans c.start.ensures.last in
     rw c.push_reserved.ensures.items row.are
 
 pub returns-then-len-lt-LAST_SPANS-clause-end : goal.returns-then-len-lt-LAST_SPANS-clause-end
@@ -58,5 +60,18 @@ returns-then-len-lt-LAST_SPANS-clause-end c =
 pub returns-clause-end : goal.returns-clause-end
 returns-clause-end c =
     let row = push_new c.args.end c.args.blocks.now.items c.start.new.self c.args.span c.requires.blocks
-    (rw (c.row_end-before.ensures, c.deref.ensures.value) at c.start.ensures.block) c.start.ensures.spans c.start.ensures.last in
+    (rw (c.row_end-before.ensures, c.deref-2.ensures.value) at c.start.ensures.block) c.start.ensures.spans c.start.ensures.last in
     rw c.push_reserved.ensures.items row.ends
+
+pub returns-then-len-lt-LAST_SPANS-clause-covered : goal.returns-then-len-lt-LAST_SPANS-clause-covered
+returns-then-len-lt-LAST_SPANS-clause-covered c k d e inside =
+    (rw c.deref.ensures.value at c.raise.ensures) (c.len-count.result - 1 + 1)
+    (covered_set c.args.blocks.now.items (c.len-count.result - 1) c.push.new.self c.args.groups.now c.requires.covered) k d e inside
+    (λ low. low)
+
+pub renew_from-requires-clause-covered : goal.renew_from-requires-clause-covered
+renew_from-requires-clause-covered c =
+    let within : c.len-count.result ≤ length c.args.blocks.now.items = search rules in
+    rw (c.deref-3.ensures.value, c.push_reserved.ensures.items)
+    (covered_below c.args.blocks.now.items (c.args.blocks.now.items ++ c.start.new.self ∷ []) c.len-count.result c.args.groups.now
+    c.requires.covered within (λ k d low. get_or_append_left c.args.blocks.now.items (c.start.new.self ∷ []) d k (omega (arith, low, within))))

@@ -1,6 +1,7 @@
-use Rattle.std.proofs.Common.{rules, arith, ap, ◌≡◌, ◌<◌, ◌≤◌, [], length}
+use Rattle.std.proofs.Common.{rules, arith, ap, ◌≡◌, ◌+◌, ◌<◌, ◌≤◌, [], length}
 use Rattle.cc_plan.specs.BlockState.{BlockState}
-use Rattle.cc_plan.proofs.BlockRowLemmas.{block_at, find_held, taken_gone, taken_left}
+use Rattle.cc_plan.proofs.BlockRowLemmas.{block_at, find_held, taken_gone, taken_kept, taken_left}
+use Rattle.cc_plan.proofs.GroupLemmas.{covered_but_two, covered_set}
 use Rattle.cc_plan.proofs.block_row.take_out.Goals as goal
 
 pub end_before-before-requires-clause-fits : goal.end_before-before-requires-clause-fits
@@ -51,8 +52,8 @@ widen_at-requires-clause-loose c =
     c.requires.blocks held.within none (rw c.index_mut-block.ensures.value at c.remove.ensures.spans) in
     rw c.remove-then-len-eq0.ensures.items taken.loose
 
-pub widen_at-requires-else-len-eq0-clause-loose : goal.widen_at-requires-else-len-eq0-clause-loose
-widen_at-requires-else-len-eq0-clause-loose c =
+pub widen_at-requires-then-last-clause-loose : goal.widen_at-requires-then-last-clause-loose
+widen_at-requires-then-last-clause-loose c =
     let held = find_held c.args.end c.args.blocks.now.items c.deref.result.now c.position_for-at.result c.index_mut-block.result.now c.args.span
     c.requires.blocks c.requires.held c.deref.ensures.value c.position_for-at.ensures.within c.position_for-at.ensures.below
     c.position_for-at.ensures.above in
@@ -66,8 +67,8 @@ widen_at-requires-else-len-eq0-clause-loose c =
     (rw c.index_mut-block.ensures.value at c.remove.ensures.spans) in
     taken.loose
 
-pub widen_at-requires-else-len-eq0-clause-within : goal.widen_at-requires-else-len-eq0-clause-within
-widen_at-requires-else-len-eq0-clause-within c =
+pub widen_at-requires-then-last-clause-within : goal.widen_at-requires-then-last-clause-within
+widen_at-requires-then-last-clause-within c =
     let held = find_held c.args.end c.args.blocks.now.items c.deref.result.now c.position_for-at.result c.index_mut-block.result.now c.args.span
     c.requires.blocks c.requires.held c.deref.ensures.value c.position_for-at.ensures.within c.position_for-at.ensures.below
     c.position_for-at.ensures.above in
@@ -101,8 +102,8 @@ returns-then-len-eq0-clause-end c =
     c.requires.blocks held.within none (rw c.index_mut-block.ensures.value at c.remove.ensures.spans) in
     rw (c.widen_at.ensures.end, c.remove-then-len-eq0.ensures.items) taken.ends
 
-pub returns-else-len-eq0-clause-spans : goal.returns-else-len-eq0-clause-spans
-returns-else-len-eq0-clause-spans c =
+pub returns-then-last-clause-spans : goal.returns-then-last-clause-spans
+returns-then-last-clause-spans c =
     let held = find_held c.args.end c.args.blocks.now.items c.deref.result.now c.position_for-at.result c.index_mut-block.result.now c.args.span
     c.requires.blocks c.requires.held c.deref.ensures.value c.position_for-at.ensures.within c.position_for-at.ensures.below
     c.position_for-at.ensures.above in
@@ -114,10 +115,10 @@ returns-else-len-eq0-clause-spans c =
     (let last : c.remove.new.self.last ≤ c.index_mut-block.result.now.last = c.remove.ensures.last some in
     omega (arith, last, ap (λ (b : BlockState). b.last) c.index_mut-block.ensures.value))
     (rw c.index_mut-block.ensures.value at c.remove.ensures.spans) in
-    rw c.widen_at-else-len-eq0.ensures.spans taken.spans
+    rw c.widen_at-then-last.ensures.spans taken.spans
 
-pub returns-else-len-eq0-clause-end : goal.returns-else-len-eq0-clause-end
-returns-else-len-eq0-clause-end c =
+pub returns-then-last-clause-end : goal.returns-then-last-clause-end
+returns-then-last-clause-end c =
     let held = find_held c.args.end c.args.blocks.now.items c.deref.result.now c.position_for-at.result c.index_mut-block.result.now c.args.span
     c.requires.blocks c.requires.held c.deref.ensures.value c.position_for-at.ensures.within c.position_for-at.ensures.below
     c.position_for-at.ensures.above in
@@ -129,4 +130,59 @@ returns-else-len-eq0-clause-end c =
     (let last : c.remove.new.self.last ≤ c.index_mut-block.result.now.last = c.remove.ensures.last some in
     omega (arith, last, ap (λ (b : BlockState). b.last) c.index_mut-block.ensures.value))
     (rw c.index_mut-block.ensures.value at c.remove.ensures.spans) in
-    rw c.widen_at-else-len-eq0.ensures.end taken.ends
+    rw c.widen_at-then-last.ensures.end taken.ends
+
+pub returns-then-last-clause-covered : goal.returns-then-last-clause-covered
+returns-then-last-clause-covered c k d e inside =
+    let but = covered_but_two c.args.blocks.now.items c.widen_at-then-last.new.blocks.items c.position_for-at.result c.remove.new.self
+    c.args.groups.now c.requires.covered c.widen_at-then-last.ensures.others (search rules) in
+    (rw c.deref-then-last-2.ensures.value at c.raise-then-last.ensures) (c.position_for-at.result + 1 + 1)
+    ((rw c.deref-then-last.ensures.value at c.raise.ensures) (c.position_for-at.result + 1 + 1) but) k d e inside
+    (λ low. low)
+
+pub returns-else-last-clause-spans : goal.returns-else-last-clause-spans
+returns-else-last-clause-spans c =
+    let held = find_held c.args.end c.args.blocks.now.items c.deref.result.now c.position_for-at.result c.index_mut-block.result.now c.args.span
+    c.requires.blocks c.requires.held c.deref.ensures.value c.position_for-at.ensures.within c.position_for-at.ensures.below
+    c.position_for-at.ensures.above in
+    let before = rw c.deref-2.ensures.value at c.end_before-before.ensures in
+    let some : 0 < length c.remove.new.self.spans = search rules in
+    let low : c.remove.new.self.last ≤ c.index_mut-block.result.now.last = c.remove.ensures.last some in
+    let old = ap (λ (b : BlockState). b.last) c.index_mut-block.ensures.value in
+    let taken = taken_left c.args.end c.args.blocks.now.items c.position_for-at.result c.index_mut-block.result.now c.remove.new.self c.args.span
+    c.requires.blocks held.within (rw before at c.remove.ensures.block some) (omega (arith, low, old))
+    (rw c.index_mut-block.ensures.value at c.remove.ensures.spans) in
+    taken.spans
+
+pub returns-else-last-clause-end : goal.returns-else-last-clause-end
+returns-else-last-clause-end c =
+    let held = find_held c.args.end c.args.blocks.now.items c.deref.result.now c.position_for-at.result c.index_mut-block.result.now c.args.span
+    c.requires.blocks c.requires.held c.deref.ensures.value c.position_for-at.ensures.within c.position_for-at.ensures.below
+    c.position_for-at.ensures.above in
+    let before = rw c.deref-2.ensures.value at c.end_before-before.ensures in
+    let some : 0 < length c.remove.new.self.spans = search rules in
+    let low : c.remove.new.self.last ≤ c.index_mut-block.result.now.last = c.remove.ensures.last some in
+    let old = ap (λ (b : BlockState). b.last) c.index_mut-block.ensures.value in
+    let taken = taken_left c.args.end c.args.blocks.now.items c.position_for-at.result c.index_mut-block.result.now c.remove.new.self c.args.span
+    c.requires.blocks held.within (rw before at c.remove.ensures.block some) (omega (arith, low, old))
+    (rw c.index_mut-block.ensures.value at c.remove.ensures.spans) in
+    taken.ends
+
+pub returns-else-last-clause-blocks : goal.returns-else-last-clause-blocks
+returns-else-last-clause-blocks c =
+    let held = find_held c.args.end c.args.blocks.now.items c.deref.result.now c.position_for-at.result c.index_mut-block.result.now c.args.span
+    c.requires.blocks c.requires.held c.deref.ensures.value c.position_for-at.ensures.within c.position_for-at.ensures.below
+    c.position_for-at.ensures.above in
+    let before = rw c.deref-2.ensures.value at c.end_before-before.ensures in
+    let some : 0 < length c.remove.new.self.spans = search rules in
+    let low : c.remove.new.self.last ≤ c.index_mut-block.result.now.last = c.remove.ensures.last some in
+    let old = ap (λ (b : BlockState). b.last) c.index_mut-block.ensures.value in
+    taken_kept c.args.end c.args.blocks.now.items c.position_for-at.result c.index_mut-block.result.now c.remove.new.self c.requires.blocks
+    held.within (rw before at c.remove.ensures.block some)
+    (omega (arith, low, old, c.if-last.false, c.last.ensures, c.last-last.ensures))
+
+pub returns-else-last-clause-covered : goal.returns-else-last-clause-covered
+returns-else-last-clause-covered c k d e inside =
+    (rw c.deref-else-last.ensures.value at c.raise-else-last.ensures) (c.position_for-at.result + 1)
+    (covered_set c.args.blocks.now.items c.position_for-at.result c.remove.new.self c.args.groups.now c.requires.covered) k d e inside
+    (λ low. low)

@@ -85,3 +85,15 @@ returns-else-gap-self-clause-block c =
     rw (items, ap (λ (b : BlockState). b.spans) c.self.view_is)
     (block_put_in c.args.end c.self.inside.last c.self.inside.bound c.args.self.now c.position_for-at.result c.args.span
     c.requires.block put (ap (λ (b : BlockState). b.last) c.self.view_is) (omega (arith, put.bound, c.requires.block.bound, bound)))
+
+pub returns-then-gap-self-clause-bound : goal.returns-then-gap-self-clause-bound
+returns-then-gap-self-clause-bound c =
+    let seen = c.deref.ensures.value ∙ ap (λ (b : BlockState). b.spans) c.self.view_is in
+    let put = put_in_block c.args.end c.args.self.now c.deref.result.now c.position_for-at.result c.args.span c.requires.block
+    seen c.requires.some c.requires.apart c.requires.above c.requires.below c.position_for-at.ensures.below
+    c.position_for-at.ensures.above in
+    let items : c.insert.new.self.items ≡ insert c.self.inside.spans.items c.position_for-at.result c.args.span
+    = search rules in
+    let wide = rw (c.deref-then-gap-self.ensures.value, items, ap (λ (b : BlockState). b.spans) c.self.view_is)
+    at c.widest-self-inside.ensures in
+    omega (arith, wide, put.bound, c.requires.block.bound)

@@ -1,0 +1,77 @@
+//! A placer without a planner: blocks of one span use up the spare ones, so that two are joined.
+ghost use Rattle.std.specs.Prelude.{◌≡◌, ◌<◌, IsSome};
+ghost use Rattle.cc_plan.specs.Placement.{AddsSpan};
+
+use cc_plan::{BlockPlacer, Placer};
+use cc_bounds::Span;
+use std::process::Abort;
+use std::test::Fail;
+
+// Holds so many bytes at the least start that they have.
+fn hold_least(rt: &impl Abort, placer: &mut BlockPlacer, len: u64) -> Span
+    requires some { 0 < len }
+    requires pool { IsSome placer.old.pool }
+    requires limit { placer.old.limit ≡ 100 }
+    ensures pool { placer.new.pool ≡ placer.old.pool }
+    ensures limit { placer.new.limit ≡ placer.old.limit }
+    ensures held { AddsSpan placer.old.held result placer.new.held }
+{
+    assert!(rt; placer.count() < 100);
+    let start = placer.room(u128::from(len), 1).expect(rt, "there is room");
+    let span = Span {
+        base: start,
+        top: u128::from(start) + u128::from(len),
+    };
+    placer.hold(span);
+    span
+}
+
+// Holds a span, some more of as many bytes above it and one above these, and gives all back but the last.
+fn keep_last(rt: &impl Abort, placer: &mut BlockPlacer, len: u64, more: u32) -> Span
+    requires some { 0 < len }
+    requires pool { IsSome placer.old.pool }
+    requires limit { placer.old.limit ≡ 100 }
+    ensures pool { placer.new.pool ≡ placer.old.pool }
+    ensures limit { placer.new.limit ≡ placer.old.limit }
+    ensures held { AddsSpan placer.old.held result placer.new.held }
+{
+    let span = hold_least(rt, placer, len);
+    if more == 0 {
+        return span;
+    }
+    let kept = keep_last(rt, placer, len, more - 1);
+    placer.give_back(span);
+    kept
+}
+
+// No span of one of these lengths has a place in the 56 of the one before.
+const LENGTHS: [u64; 8] = [
+    1,
+    1 << 6,
+    1 << 12,
+    1 << 18,
+    1 << 24,
+    1 << 30,
+    1 << 36,
+    1 << 42,
+];
+
+// Six blocks are enough for 100 spans, and each length leaves one of one span, so the sixth needs two of them joined.
+#[test]
+fn blocks_of_one_span_are_joined(rt: HostRuntime) -> Result<(), Fail> {
+    let mut placer = BlockPlacer::with_limit(rt.alloc(), 100)?;
+    placer.set_pool(Span {
+        base: 0,
+        top: 1 << 64,
+    });
+    let mut end = 0u64;
+    for len in &LENGTHS {
+        assert!(rt; *len > 0);
+        let kept = keep_last(&rt, &mut placer, *len, 56);
+        assert_eq!(rt; kept.base, end.wrapping_add(len.wrapping_mul(56)));
+        assert_eq!(rt; placer.room(u128::from(*len), 1), Some(end));
+        end = kept.base.wrapping_add(*len);
+    }
+    assert_eq!(rt; placer.count(), 8);
+    Ok(())
+}
