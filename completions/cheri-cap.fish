@@ -11,6 +11,7 @@ complete -c cheri-cap -n __fish_use_subcommand -a decode -d 'Show what each word
 complete -c cheri-cap -n __fish_use_subcommand -a explain -d 'Explain how a capability word is decoded'
 complete -c cheri-cap -n '__fish_seen_subcommand_from show' -l line -d 'Show the word on one line'
 complete -c cheri-cap -n '__fish_seen_subcommand_from run plan' -l slots -x -d 'How many slots and objects, 1 to 65536'
+complete -c cheri-cap -n '__fish_seen_subcommand_from run plan' -l stats -d 'Sum up the run on standard error'
 complete -c cheri-cap -n '__fish_seen_subcommand_from plan' -l align -x -a '1 16' -d 'How objects are aligned at least'
 complete -c cheri-cap -n '__fish_seen_subcommand_from decode' -l format -x -a 'columns text' -d 'How the answers are written'
 complete -c cheri-cap -n '__fish_seen_subcommand_from run plan decode' -F

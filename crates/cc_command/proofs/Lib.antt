@@ -1,3 +1,5 @@
 mod PermissionLemmas
 mod StepLemmas
 mod StandingLemmas
+mod TallyLemmas
+mod UsageLemmas

@@ -10,3 +10,6 @@ pub mod Numbered
 pub mod Explanation
 pub mod Rounding
 pub mod Planning
+pub mod Tally
+pub mod Usage
+pub mod Statistics

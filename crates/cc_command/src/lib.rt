@@ -3,6 +3,7 @@
 #![tactic(auto)]
 
 mod answers;
+mod counted;
 mod explained_steps;
 mod explaining;
 mod listing;
@@ -12,15 +13,22 @@ mod picture;
 mod planning;
 mod rounding;
 mod standing;
+mod statistics;
 mod steps;
+mod tally;
 #[cfg(test)]
 mod tests;
 mod text;
+mod usage;
 mod word_line;
 
 pub use answers::write_refusal;
+pub use counted::Counted;
 pub use explaining::explain_word;
 pub use listing::show_word;
 pub use planning::{PoolTexts, plan_numbers, plan_script};
 pub use rounding::show_round;
+pub use statistics::show_statistics;
+pub use tally::{Count, Tally};
+pub use usage::{Usage, usage_of};
 pub use word_line::show_line;
