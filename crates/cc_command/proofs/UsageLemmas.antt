@@ -1,12 +1,11 @@
 -- The bytes of a plan's objects fit into numbers of 128 bits.
-use Rattle.std.proofs.Common.{◌≡◌, ◌≤◌, ◌<◌, ◌*◌, ◌^◌, ℕ, List, All, arith, length, map}
+use Rattle.std.proofs.Common.{◌≤◌, ◌^◌, arith, length}
 use Rattle.std.specs.Prelude.{filter}
 use Rattle.std.proofs.lemmas.List.{length-map}
 use Rattle.std.proofs.lemmas.List.Elements.{All-filter, All-map, All-weaker}
 use Rattle.std.proofs.lemmas.List.Sums.{count_by-le-length, length-filter, sum_by-le}
 use Rattle.cc_bounds.specs.declared.span.Span.{Span}
 use Rattle.cc_bounds.specs.Span.{length_of}
-use Rattle.cc_plan.specs.declared.align.Align.{Align}
 use Rattle.cc_plan.specs.declared.object.PlannedObject.{PlannedObject}
 use Rattle.cc_plan.specs.Plan.{HasExactBounds, HaveExactBounds, Plan, held_bytes_of, held_spans, is_held}
 use Rattle.cc_command.specs.Usage.{asked_bytes_of}

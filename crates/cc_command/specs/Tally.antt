@@ -1,5 +1,5 @@
 -- What is counted of the replies to a script: how many there are, and of each refusal how many, and where first.
-use Rattle.std.specs.Prelude.{ℕ, suc, Bool, ◌≡◌, ◌+◌, ◌-◌, ◌^◌, ◌<◌, List, [], ◌∷◌, count_by, get_or, if◌then◌else◌, length, min, take}
+use Rattle.std.specs.Prelude.{ℕ, suc, Bool, ◌≡◌, ◌-◌, ◌^◌, ◌<◌, List, [], ◌∷◌, count_by, get_or, if◌then◌else◌, length, min, take}
 use Rattle.std.specs.Str.{bytes_eq}
 use Rattle.cc_word.specs.declared.refusal.Refusal.{Refusal}
 use Rattle.cc_script.specs.Lines.{lines_of, rest_of}

@@ -1,7 +1,7 @@
-use Rattle.std.proofs.Common.{◌≡◌, ◌≤◌, List, ap, arith, length, subst, sym}
+use Rattle.std.proofs.Common.{◌≡◌, ◌≤◌, List, ap, arith, length, subst}
 use Rattle.std.proofs.lemmas.List.Sorted.{length_permutation}
 use Rattle.cc_plan.specs.declared.object.PlannedObject.{PlannedObject}
-use Rattle.cc_plan.specs.Plan.{held_bytes_of, held_spans}
+use Rattle.cc_plan.specs.Plan.{held_spans}
 use Rattle.cc_bounds.specs.declared.span.Span.{Span}
 use Rattle.cc_command.specs.Usage.{asked_bytes_of}
 use Rattle.cc_command.proofs.UsageLemmas.{asked_fit, few_spans, held_fit}

@@ -1,4 +1,4 @@
-use Rattle.std.proofs.Common.{rules, ◌≡◌, ◌∙◌, true, false, arith}
+use Rattle.std.proofs.Common.{rules, ◌≡◌, ◌∙◌, true, false}
 use Rattle.cc_command.specs.Tally.{is_refusal}
 use Rattle.cc_command.proofs.TallyLemmas.{count_in-later, count_in-new, count_in-other}
 use Rattle.cc_command.proofs.tally.Count.with_line.Goals as goal
