@@ -8,8 +8,8 @@ _cheri_cap() {
     return
   fi
   case $command in
-    run) options+=' --slots' ;;
-    plan) options+=' --slots --align' ;;
+    run) options+=' --slots --stats' ;;
+    plan) options+=' --slots --align --stats' ;;
     decode) options+=' --format --bytes' ;;
     show) options+=' --line' ;;
     explain) options+=' --length --base' ;;

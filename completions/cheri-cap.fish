@@ -13,6 +13,7 @@ complete -c cheri-cap -n '__fish_seen_subcommand_from show' -l line -d 'Show the
 complete -c cheri-cap -n '__fish_seen_subcommand_from explain' -l length -x -d 'Explain bounds of so many bytes'
 complete -c cheri-cap -n '__fish_seen_subcommand_from explain' -l base -x -d 'Their first address'
 complete -c cheri-cap -n '__fish_seen_subcommand_from run plan' -l slots -x -d 'How many slots and objects, 1 to 65536'
+complete -c cheri-cap -n '__fish_seen_subcommand_from run plan' -l stats -d 'Sum up the run on standard error'
 complete -c cheri-cap -n '__fish_seen_subcommand_from plan' -l align -x -a '1 16' -d 'How objects are aligned at least'
 complete -c cheri-cap -n '__fish_seen_subcommand_from decode' -l format -x -a 'columns text csv' -d 'How the answers are written'
 complete -c cheri-cap -n '__fish_seen_subcommand_from decode' -l bytes -x -a 'little big' -d 'Read raw words of 16 bytes'

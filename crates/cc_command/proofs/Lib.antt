@@ -2,3 +2,5 @@ mod PermissionLemmas
 mod StepLemmas
 mod StandingLemmas
 mod RequestLemmas
+mod TallyLemmas
+mod UsageLemmas

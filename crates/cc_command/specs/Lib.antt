@@ -11,3 +11,6 @@ pub mod Explanation
 pub mod Rounding
 pub mod Planning
 pub mod Request
+pub mod Tally
+pub mod Usage
+pub mod Statistics

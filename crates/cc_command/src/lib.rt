@@ -4,6 +4,7 @@
 #![tactic(auto)]
 
 mod answers;
+mod counted;
 mod explained_request;
 mod explained_steps;
 mod explaining;
@@ -16,15 +17,22 @@ mod planning;
 mod request;
 mod rounding;
 mod standing;
+mod statistics;
 mod steps;
+mod tally;
 mod text;
+mod usage;
 mod word_line;
 
 pub use answers::write_refusal;
+pub use counted::Counted;
 pub use explaining::explain_word;
 pub use explaining_bounds::explain_length;
 pub use listing::show_word;
 pub use permissions::push_permissions;
 pub use planning::{PoolTexts, plan_numbers, plan_script};
 pub use rounding::show_round;
+pub use statistics::show_statistics;
+pub use tally::{Count, Tally};
+pub use usage::{Usage, usage_of};
 pub use word_line::show_line;

@@ -22,7 +22,8 @@ use Rattle.cc_machine.specs.Objects.{held_spans, held_bytes_of, with_object}
 use Rattle.cc_machine.specs.Step.{usable_slot, Refuses, SetsPool, Allocates}
 use Rattle.cc_machine.specs.Run.{IsReached}
 use Rattle.cc_machine.specs.Owners.{TellsOwners}
-use Rattle.cc_machine.specs.Machine.{objects_in, pool_capability, planned_object, plan_of}
+use Rattle.cc_machine.specs.Machine.{objects_in}
+use Rattle.cc_machine.specs.Planned.{pool_capability, planned_object, plan_of}
 use Rattle.cc_machine.proofs.SlotLemmas.{IsSlot-within}
 use Rattle.cc_machine.proofs.StepLemmas.{usable-is}
 use Rattle.cc_machine.proofs.OwnerLemmas.{TellsOwners-first}

@@ -15,7 +15,7 @@ use Rattle.cc_machine.specs.Step.{Adds, Step}
 use Rattle.cc_machine.specs.Run.{IsReached}
 use Rattle.cc_machine.specs.Making.{Makes}
 use Rattle.cc_machine.specs.Owners.{is_swept_at, slot_state, TellsOwners}
-use Rattle.cc_machine.specs.Machine.{plan_of, planned_object}
+use Rattle.cc_machine.specs.Planned.{plan_of, planned_object}
 use Rattle.cc_machine.proofs.SlotLemmas.{IsSlot-within}
 use Rattle.cc_machine.proofs.StepLemmas.{Makes-Step, Makes-tagged}
 use Rattle.cc_machine.proofs.RunLemmas.{IsReached-step}

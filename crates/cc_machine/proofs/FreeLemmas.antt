@@ -16,7 +16,8 @@ use Rattle.cc_machine.specs.declared.reply.Reply.TheVariants.{Freed as ToldFreed
 use Rattle.cc_machine.specs.State.{State, SlotState}
 use Rattle.cc_machine.specs.Objects.{object_at, IsObject, held_bytes_of}
 use Rattle.cc_machine.specs.Step.{FreesObject}
-use Rattle.cc_machine.specs.Machine.{objects_in, planned_object, plan_of}
+use Rattle.cc_machine.specs.Machine.{objects_in}
+use Rattle.cc_machine.specs.Planned.{planned_object, plan_of}
 use Rattle.cc_machine.specs.Owners.{TellsOwners}
 use Rattle.cc_machine.proofs.SameSlotsLemmas.{HaveSameSlots-list}
 use Rattle.cc_machine.proofs.ObjectLemmas.{ok-some}

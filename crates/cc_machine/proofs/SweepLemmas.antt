@@ -15,7 +15,7 @@ use Rattle.cc_machine.specs.Objects.{IsObject, BelongsToSome, held_bytes_of}
 use Rattle.cc_machine.specs.Step.{RevokesIf, RevokesFreed, Sweeps}
 use Rattle.cc_machine.specs.Objects.{freed_count, swept}
 use Rattle.cc_machine.specs.Run.{IsReached}
-use Rattle.cc_machine.specs.Machine.{planned_object, plan_of}
+use Rattle.cc_machine.specs.Planned.{planned_object, plan_of}
 use Rattle.cc_machine.specs.Owners.{is_swept_at, is_freed_at, slot_state, freed_slot_count, TellsOwners}
 use Rattle.cc_machine.proofs.SlotLemmas.{IsSlot-within}
 use Rattle.cc_machine.proofs.RevokingLemmas.{RevokesFreed-same}

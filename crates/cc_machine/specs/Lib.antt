@@ -1,6 +1,7 @@
 -- In reading order.
 pub mod State
 pub mod Objects
+pub mod Planned
 pub mod Step
 pub mod Run
 pub mod Laws

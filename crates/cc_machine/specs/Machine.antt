@@ -1,13 +1,10 @@
 -- What is true of the fields of every machine. No public clause cites this.
-use Rattle.std.specs.Prelude.{ℕ, ◌≡◌, ◌≤◌, List, [], ◌∷◌, Option, length, map, vec_len, vec_capacity}
-use Rattle.std.specs.Prelude.{option_and_then, option_map, slice_get}
-use Rattle.cc_cap.specs.Capability.{Capability}
+use Rattle.std.specs.Prelude.{ℕ, ◌≡◌, ◌≤◌, List, [], ◌∷◌, length, map, vec_len, vec_capacity}
 use Rattle.cc_plan.specs.declared.object.PlannedObject.{PlannedObject}
-use Rattle.cc_plan.specs.Plan.{Plan}
 use Rattle.cc_machine.specs.declared.machine.Machine.TheInside.{Inside}
 use Rattle.cc_machine.specs.declared.object.Object.{Object}
-use Rattle.cc_machine.specs.State.{State, SlotState}
-use Rattle.cc_machine.specs.Objects.{span_of_slot}
+use Rattle.cc_machine.specs.State.{State}
+use Rattle.cc_machine.specs.Planned.{plan_of}
 use Rattle.cc_machine.specs.Owners.{slot_state, CountsSlots, TellsOwners}
 use Rattle.cc_machine.specs.Run.{IsReached}
 
@@ -25,28 +22,6 @@ state_of machine = record {
   pool = machine.pool;
   align = machine.planner.align;
   objects = objects_in machine.planner.objects machine.object_slots.items;
-}
-
--- the capability of the pool's slot
-abbrev pub pool_capability : State → Option Capability
-pool_capability state =
-    option_and_then (λ number. option_map (λ slot. slot.capability) (slice_get state.slots number)) state.pool
-
--- what a planner knows of an object, of which the bounds are its slot's
-abbrev pub planned_object : List SlotState → Object → PlannedObject
-planned_object slots object = record {
-  size = object.size;
-  span = span_of_slot slots object.slot;
-  state = object.state;
-}
-
--- what a planner knows of a state
-abbrev pub plan_of : State → Plan
-plan_of state = record {
-  limit = state.limit;
-  pool = pool_capability state;
-  align = state.align;
-  objects = map (planned_object state.slots) state.objects;
 }
 
 -- There is room for as many slots, objects and counts as the limit, each planned object has a slot, the planner

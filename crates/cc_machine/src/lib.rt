@@ -12,7 +12,7 @@ mod owners;
 mod reply;
 mod slot;
 
-pub use cc_plan::{Align, ObjectState};
+pub use cc_plan::{Align, ObjectState, PlannedObject};
 pub use laws::{
     confinement, disjoint_objects, every_run_has_an_outcome, every_step_has_an_outcome,
     exact_objects, exact_revocation, monotonic_tree, objects_from_pool, one_outcome,

@@ -59,6 +59,7 @@ impl Machine {
     ghost use Rattle.cc_machine.specs.declared.op.Op.TheVariants.{Pool, Alloc, Free, Sweep};
     ghost use Rattle.cc_machine.specs.State.{initial_state, tagged_slot};
     ghost use Rattle.cc_machine.specs.Objects.{object_at, held_bytes_of, held_spans};
+    ghost use Rattle.cc_machine.specs.Planned.{plan_of};
     ghost use Rattle.cc_machine.specs.Step.{capability_at, parent_at, usable_slot, Shows, Step};
     ghost use Rattle.cc_machine.specs.Making.{IsMade, Makes};
     ghost use Rattle.cc_machine.specs.Run.{Run, IsReached};
@@ -167,9 +168,10 @@ impl Machine {
         self.planner.held_bytes()
     }
 
-    /// The planner, which holds the bounds of the held objects.
+    /// The planner, which has the pool, and all objects with their bounds, and holds the bounds of the held ones.
     pub fn planner(&self) -> &Planner<BlockPlacer>
-        ensures { HaveSameSpans (planned_spans result.now.objects) (held_spans self.now) }
+        ensures plan { result.now ≡ plan_of self.now }
+        ensures held { HaveSameSpans (planned_spans result.now.objects) (held_spans self.now) }
     {
         &self.planner
     }

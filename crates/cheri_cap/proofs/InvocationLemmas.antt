@@ -36,7 +36,7 @@ use Rattle.cc_decode.specs.declared.input.InputForm.TheVariants.{Bytes}
 use Rattle.cc_decode.specs.declared.format.Format.{Format}
 use Rattle.cc_decode.specs.declared.format.Format.TheVariants.{Columns}
 use Rattle.cc_decode.specs.declared.format.Format.TheVariants as format
-use Rattle.cheri_cap.specs.Invocation.{HasAlign, HasFormat, HasItsTexts, HasLimit, HasLine, HasText, IsAlign, IsFormat, IsGiven, IsLimit, IsLimitText, IsWhole, align_option, choice_fault_in, choice_fault_of, decimal_value, format_in, format_names, format_option, line_option, program, slots_option, HasOrder, IsInput, bytes_option, order_in, order_names}
+use Rattle.cheri_cap.specs.Invocation.{HasAlign, HasFormat, HasItsTexts, HasLimit, HasText, IsAlign, IsFormat, IsGiven, IsLimit, IsLimitText, IsWhole, align_option, choice_fault_in, choice_fault_of, decimal_value, format_in, format_names, format_option, program, slots_option, HasOrder, IsInput, bytes_option, order_in, order_names, HasFlag, flag_option}
 use Rattle.cheri_cap.proofs.GivenLemmas.{GiveValues, GivesValue, IsTaken, flag_gives, level-given, level_parts, no_default-given, required_given, set_gives, taken}
 
 -- ---- numbers
@@ -214,8 +214,8 @@ other a b differ same =
 
 -- ---- flags
 
-has_line : (rows : List Row) → IsTaken (filled line_option) (first_of (codes "line") rows) (one_of (codes "line") rows) → HasLine rows
-has_line rows taken = let line = go (first_of (codes "line") rows) (one_of (codes "line") rows) taken in record { read = line.0; value = line.1 }
+has_flag : (name : Text) (rows : List Row) → IsTaken (filled (flag_option name)) (first_of name rows) (one_of name rows) → HasFlag name rows
+has_flag name rows taken = let flag = go (first_of name rows) (one_of name rows) taken in record { read = flag.0; value = flag.1 }
   where
     either : (text : Text) (on off : Bool) → (on ≡ true → text ≡ codes "true") → (off ≡ true → text ≡ codes "false") → (on || off) ≡ true
         → (text ≡ codes "true") ⊎ (text ≡ codes "false")
@@ -223,7 +223,7 @@ has_line rows taken = let line = go (first_of (codes "line") rows) (one_of (code
     either text false true is_on is_off e = inr (is_off refl)
     either text false false is_on is_off e = cc e
 
-    go : (given read : Option Text) → IsTaken (filled line_option) given read → (read ≡ given) × IfSome given (λ text. (text ≡ codes "true") ⊎ (text ≡ codes "false"))
+    go : (given read : Option Text) → IsTaken (filled (flag_option name)) given read → (read ≡ given) × IfSome given (λ text. (text ≡ codes "true") ⊎ (text ≡ codes "false"))
     go None read is = (is, tt)
     go (Some text) read is = (
       is.0,
@@ -243,7 +243,7 @@ flag_read (Some text) flag either none on off = elim either [
   )
 ]
 
-show_whole : (rows : List Row) → HasText (codes "word") rows → HasLine rows → IsWhole (codes "show") rows
+show_whole : (rows : List Row) → HasText (codes "word") rows → HasFlag (codes "line") rows → IsWhole (codes "show") rows
 show_whole rows text line = record {
   known = refl;
   show = λ _. (text, line);
@@ -265,24 +265,24 @@ round_whole rows text = record {
   explain = λ same. absurd (other (codes "round") (codes "explain") refl same);
 }
 
-run_whole : (rows : List Row) → HasLimit rows → IsWhole (codes "run") rows
-run_whole rows limit = record {
+run_whole : (rows : List Row) → HasLimit rows → HasFlag (codes "stats") rows → IsWhole (codes "run") rows
+run_whole rows limit stats = record {
   known = refl;
   show = λ same. absurd (other (codes "run") (codes "show") refl same);
   round = λ same. absurd (other (codes "run") (codes "round") refl same);
-  run = λ _. limit;
+  run = λ _. (limit, stats);
   plan = λ same. absurd (other (codes "run") (codes "plan") refl same);
   decode = λ same. absurd (other (codes "run") (codes "decode") refl same);
   explain = λ same. absurd (other (codes "run") (codes "explain") refl same);
 }
 
-plan_whole : (rows : List Row) → HasText (codes "base") rows → HasText (codes "length") rows → HasLimit rows → HasAlign rows → IsWhole (codes "plan") rows
-plan_whole rows base size limit align = record {
+plan_whole : (rows : List Row) → HasText (codes "base") rows → HasText (codes "length") rows → HasLimit rows → HasAlign rows → HasFlag (codes "stats") rows → IsWhole (codes "plan") rows
+plan_whole rows base size limit align stats = record {
   known = refl;
   show = λ same. absurd (other (codes "plan") (codes "show") refl same);
   round = λ same. absurd (other (codes "plan") (codes "round") refl same);
   run = λ same. absurd (other (codes "plan") (codes "run") refl same);
-  plan = λ _. (base, size, limit, align);
+  plan = λ _. (base, size, limit, align, stats);
   decode = λ same. absurd (other (codes "plan") (codes "decode") refl same);
   explain = λ same. absurd (other (codes "plan") (codes "explain") refl same);
 }
@@ -348,7 +348,10 @@ module _ (aligns : Bor (List (Bor Text))) (are : texts aligns.now ≡ codes "1" 
   )
 
   run_gives : GiveValues run.rules run.rules
-  run_gives = (set_gives run.rules _ refl refl refl refl, (set_gives run.rules _ refl refl refl refl, (help_gives run.rules, tt)))
+  run_gives = (
+    set_gives run.rules _ refl refl refl refl,
+    (flag_gives run.rules _ refl refl refl refl refl, (set_gives run.rules _ refl refl refl refl, (help_gives run.rules, tt))),
+  )
 
   plan_gives : GiveValues plan.rules plan.rules
   plan_gives = (
@@ -356,10 +359,13 @@ module _ (aligns : Bor (List (Bor Text))) (are : texts aligns.now ≡ codes "1" 
     (
       set_gives plan.rules _ refl refl refl refl,
       (
-        set_gives plan.rules _ refl refl refl refl,
+        flag_gives plan.rules _ refl refl refl refl refl,
         (
           set_gives plan.rules _ refl refl refl refl,
-          (set_gives plan.rules _ refl refl refl refl, (help_gives plan.rules, tt)),
+          (
+            set_gives plan.rules _ refl refl refl refl,
+            (set_gives plan.rules _ refl refl refl refl, (help_gives plan.rules, tt)),
+          ),
         ),
       ),
     ),
@@ -376,10 +382,17 @@ module _ (aligns : Bor (List (Bor Text))) (are : texts aligns.now ≡ codes "1" 
   Serves s = (words : List Text) → level_fault s [] nothing_held words false [] ≡ [] → choice_fault_in (Some (rows_at s words)) ≡ None
       → HasItsTexts (Some (rows_at s words))
 
+  -- the value of an option that has none of its own
+  flag_served : (s : Shape) (words : List Text) (name : Text) → GiveValues s.rules s.rules → arg_by_id s.rules name ≡ Some (filled (flag_option name))
+      → level_fault s [] nothing_held words false [] ≡ [] → HasFlag name (rows_after s.rules [] words)
+  flag_served s words name gives own e =
+      let rows = rows_after s.rules [] words in
+      has_flag name rows (taken s.rules name (filled (flag_option name)) rows (level-given s [] words false [] gives e) own)
+
   show_serves : Serves show
   show_serves words e choice =
       let rows = rows_after show.rules [] words in
-      let line = has_line rows (taken show.rules (codes "line") (filled line_option) rows (level-given show [] words false [] show_gives e) refl) in
+      let line = flag_served show words (codes "line") show_gives refl e in
       (codes "show", rows, refl, show_whole rows ((required_given show words show_gives e).1.0 refl) line)
 
   round_serves : Serves round
@@ -402,7 +415,7 @@ module _ (aligns : Bor (List (Bor Text))) (are : texts aligns.now ≡ codes "1" 
   run_serves : Serves run
   run_serves words e choice =
       let rows = rows_after run.rules [] words in
-      (codes "run", rows, refl, run_whole rows (limit_served run words run_gives refl e))
+      (codes "run", rows, refl, run_whole rows (limit_served run words run_gives refl e) (flag_served run words (codes "stats") run_gives refl e))
 
   plan_serves : Serves plan
   plan_serves words e choice =
@@ -410,7 +423,8 @@ module _ (aligns : Bor (List (Bor Text))) (are : texts aligns.now ≡ codes "1" 
       let wanted = required_given plan words plan_gives e in
       let limit = limit_served plan words plan_gives refl e in
       let align = has_align aligns are rows (taken plan.rules (codes "align") (filled (align_option aligns)) rows (level-given plan [] words false [] plan_gives e) refl) in
-      (codes "plan", rows, refl, plan_whole rows (wanted.1.1.0 refl) (wanted.1.1.1.0 refl) limit align)
+      let stats = flag_served plan words (codes "stats") plan_gives refl e in
+      (codes "plan", rows, refl, plan_whole rows (wanted.1.1.1.0 refl) (wanted.1.1.1.1.0 refl) limit align stats)
 
   decode_serves : Serves decode
   decode_serves words e choice =

@@ -67,13 +67,13 @@ bytes_option orders = record (optional_argument (codes "bytes")) {
   parser = Some (Names orders);
 }
 
--- the option `--line`, which has no value
-abbrev pub line_option : Rule
-line_option = record (new_rule (codes "line")) { long = Some (codes "line"); action = Some SetTrue }
+-- an option of this name that has no value
+abbrev pub flag_option : Text → Rule
+flag_option name = record (new_rule name) { long = Some name; action = Some SetTrue }
 
 -- the command `show [--line] WORD`
 abbrev pub show_command : App
-show_command = with_rule (with_rule (new_app (codes "show")) line_option) (wanted_argument (codes "word"))
+show_command = with_rule (with_rule (new_app (codes "show")) (flag_option (codes "line"))) (wanted_argument (codes "word"))
 
 -- the command `explain [--length N] [--base B] [WORD]`
 abbrev pub explain_command : App
@@ -85,15 +85,18 @@ explain_command =
 abbrev pub round_command : App
 round_command = with_rule (new_app (codes "round")) (wanted_argument (codes "length"))
 
--- the command `run [--slots N] [FILE]`
+-- the command `run [--slots N] [--stats] [FILE]`
 abbrev pub run_command : App
-run_command = with_rule (with_rule (new_app (codes "run")) slots_option) (optional_argument (codes "file"))
+run_command =
+    let options = with_rule (with_rule (new_app (codes "run")) slots_option) (flag_option (codes "stats")) in
+    with_rule options (optional_argument (codes "file"))
 
--- the command `plan [--slots N] [--align ALIGN]`
+-- the command `plan [--slots N] [--align ALIGN] [--stats]`
 abbrev pub plan_options : Bor (List (Bor Text)) → App
-plan_options aligns = with_rule (with_rule (new_app (codes "plan")) slots_option) (align_option aligns)
+plan_options aligns =
+    with_rule (with_rule (with_rule (new_app (codes "plan")) slots_option) (align_option aligns)) (flag_option (codes "stats"))
 
--- the command `plan [--slots N] [--align ALIGN] BASE LENGTH [FILE]`
+-- the command `plan [--slots N] [--align ALIGN] [--stats] BASE LENGTH [FILE]`
 abbrev pub plan_command : Bor (List (Bor Text)) → App
 plan_command aligns =
     let pool = with_rule (with_rule (plan_options aligns) (wanted_argument (codes "base"))) (wanted_argument (codes "length")) in
@@ -192,8 +195,8 @@ command_of (Show word as_line) = codes "show"
 command_of (Explain word) = codes "explain"
 command_of (ExplainLength base size) = codes "explain"
 command_of (Round size) = codes "round"
-command_of (Run limit file) = codes "run"
-command_of (Plan limit pool align file) = codes "plan"
+command_of (Run limit stats file) = codes "run"
+command_of (Plan limit pool align stats file) = codes "plan"
 command_of (Decode options file) = codes "decode"
 
 -- each text of the command is the value of its name, and none where the name has no value
@@ -205,10 +208,12 @@ HasValues rows (ExplainLength base size) =
     (first_of (codes "word") rows ≡ None) × (first_of (codes "length") rows ≡ Some size.now)
     × (base.now ≡ unwrap_or (first_of (codes "base") rows) (codes "0"))
 HasValues rows (Round size) = first_of (codes "length") rows ≡ Some size.now
-HasValues rows (Run limit file) =
-    IsLimit (first_of (codes "slots") rows) limit × (first_of (codes "file") rows ≡ option_map (λ text. text.now) file)
-HasValues rows (Plan limit pool align file) =
+HasValues rows (Run limit stats file) =
+    IsLimit (first_of (codes "slots") rows) limit × IsGiven (first_of (codes "stats") rows) stats
+    × (first_of (codes "file") rows ≡ option_map (λ text. text.now) file)
+HasValues rows (Plan limit pool align stats file) =
     IsLimit (first_of (codes "slots") rows) limit × IsAlign (first_of (codes "align") rows) align
+    × IsGiven (first_of (codes "stats") rows) stats
     × (first_of (codes "base") rows ≡ Some pool.base.now) × (first_of (codes "length") rows ≡ Some pool.length.now)
     × (first_of (codes "file") rows ≡ option_map (λ text. text.now) file)
 HasValues rows (Decode options file) =
@@ -268,10 +273,11 @@ pub record HasLimit (rows : List Row) : Type 0 where
   pub read : one_of (codes "slots") rows ≡ first_of (codes "slots") rows
   pub limit : IfSome (first_of (codes "slots") rows) IsLimitText
 
--- the value of `--line`, where it has one, is `true` or `false`, and is read as it is written
-pub record HasLine (rows : List Row) : Type 0 where
-  pub read : one_of (codes "line") rows ≡ first_of (codes "line") rows
-  pub value : IfSome (first_of (codes "line") rows) (λ text. (text ≡ codes "true") ⊎ (text ≡ codes "false"))
+-- the value of an option of this name that has none of its own, where clap has one, is `true` or `false`, and is
+-- read as it is written
+pub record HasFlag (name : Text) (rows : List Row) : Type 0 where
+  pub read : one_of name rows ≡ first_of name rows
+  pub value : IfSome (first_of name rows) (λ text. (text ≡ codes "true") ⊎ (text ≡ codes "false"))
 
 -- the value of `--align`, where it has one, spells an alignment
 abbrev pub HasAlign : List Row → Type 0
@@ -288,10 +294,10 @@ HasOrder rows = IfSome (first_of (codes "bytes") rows) (λ text. IsSome (order_i
 -- the command of this name is one of the program's, and has what it wants
 pub record IsWhole (name : Text) (rows : List Row) : Type 0 where
   pub known : list_any (λ command. bytes_eq command name) (codes "show" ∷ codes "round" ∷ codes "run" ∷ codes "plan" ∷ codes "decode" ∷ codes "explain" ∷ []) ≡ true
-  pub show : name ≡ codes "show" → HasText (codes "word") rows × HasLine rows
+  pub show : name ≡ codes "show" → HasText (codes "word") rows × HasFlag (codes "line") rows
   pub round : name ≡ codes "round" → HasText (codes "length") rows
-  pub run : name ≡ codes "run" → HasLimit rows
-  pub plan : name ≡ codes "plan" → HasText (codes "base") rows × HasText (codes "length") rows × HasLimit rows × HasAlign rows
+  pub run : name ≡ codes "run" → HasLimit rows × HasFlag (codes "stats") rows
+  pub plan : name ≡ codes "plan" → HasText (codes "base") rows × HasText (codes "length") rows × HasLimit rows × HasAlign rows × HasFlag (codes "stats") rows
   pub decode : name ≡ codes "decode" → HasFormat rows × HasOrder rows
   pub explain : name ≡ codes "explain" → choice_fault_of rows ≡ None
 

@@ -3,7 +3,7 @@ ghost use Rattle.std.specs.Prelude.{◌≡◌, ◌∷◌, [], IfErr, IfOk, IsSom
 ghost use Rattle.clap.specs.Walk.{texts};
 ghost use Rattle.clap.specs.Words.{App, FailsBy, app_of, first_of, first_value, found_of, kind_of, new_app, rows_of, rule_of, subcommand_of, subcommand_rows_of};
 ghost use Rattle.clap.specs.declared.builder.command.Command.TheViews.{out-Command};
-ghost use Rattle.cheri_cap.specs.Invocation.{HasAlign, HasFormat, HasItsTexts, HasLimit, HasLine, IsAlign, IsFormat, IsGiven, IsInvocation, IsLimit, HasValues, IsProgram, align_option, bare_program, choice_fault_in, choice_fault_of, command_of, decode_command, explain_command, faults_of, format_names, format_option, is_taken, kinds_in, line_option, optional_argument, plan_command, plan_options, program, round_command, run_command, show_command, slots_option, valued_option, wanted_argument, HasOrder, IsInput, bytes_option, order_names};
+ghost use Rattle.cheri_cap.specs.Invocation.{HasAlign, HasFormat, HasItsTexts, HasLimit, IsAlign, IsFormat, IsGiven, IsInvocation, IsLimit, HasValues, IsProgram, align_option, bare_program, choice_fault_in, choice_fault_of, command_of, decode_command, explain_command, faults_of, format_names, format_option, is_taken, kinds_in, optional_argument, plan_command, plan_options, program, round_command, run_command, show_command, slots_option, valued_option, wanted_argument, HasOrder, IsInput, bytes_option, order_names, HasFlag, flag_option};
 
 use cc_command::PoolTexts;
 use cc_decode::{ByteOrder, Format, InputForm, Options};
@@ -40,14 +40,16 @@ pub enum Invocation<'a> {
         /// The text that stands for `N`, which may be none.
         length: &'a str,
     },
-    /// `run [--slots N] [FILE]`: the replies to a script.
+    /// `run [--slots N] [--stats] [FILE]`: the replies to a script.
     Run {
         /// The most slots, and the most objects, that the machine can have: from 1 to 65536.
         limit: u32,
+        /// Whether the run is summed up on standard error.
+        stats: bool,
         /// The script's file. Standard input where there is none, or where it is `-`.
         file: Option<&'a str>,
     },
-    /// `plan [--slots N] [--align ALIGN] BASE LENGTH [FILE]`: the replies to a script, on a machine with a pool.
+    /// `plan [--slots N] [--align ALIGN] [--stats] BASE LENGTH [FILE]`: the replies to a script, on a machine with a pool.
     Plan {
         /// The most slots, and the most objects, that the machine can have: from 1 to 65536.
         limit: u32,
@@ -55,6 +57,8 @@ pub enum Invocation<'a> {
         pool: PoolTexts<'a>,
         /// The pool's alignment.
         align: Align,
+        /// Whether the run is summed up on standard error.
+        stats: bool,
         /// The script's file. Standard input where there is none, or where it is `-`.
         file: Option<&'a str>,
     },
@@ -251,6 +255,9 @@ Examples:
 const SLOTS_HELP: &str = "\
 How many slots the machine can have, and how many objects, from 1 to 65536 [default: 4096]";
 
+const STATS_HELP: &str =
+    "When the script ends, sum up the run on standard error, a number on each line";
+
 const ALIGN_HELP: &str = "\
 How the bounds of each object are aligned at least: to bytes, or to 16 bytes [default: 1]";
 
@@ -320,7 +327,7 @@ fn show_command<'a>(alloc: Global) -> Result<Command<'a>, AllocError>
 {
     let word = wanted_argument(alloc, "word", "WORD", WORD_HELP);
     bare_command(alloc, "show", SHOW_ABOUT, SHOW_AFTER_HELP)
-        .arg(line_option(alloc))?
+        .arg(flag_option(alloc, "line", LINE_HELP))?
         .arg(word)
 }
 
@@ -345,7 +352,7 @@ fn round_command<'a>(alloc: Global) -> Result<Command<'a>, AllocError>
     bare_command(alloc, "round", ROUND_ABOUT, ROUND_AFTER_HELP).arg(length)
 }
 
-/// `run [--slots N] [FILE]`.
+/// `run [--slots N] [--stats] [FILE]`.
 fn run_command<'a>(alloc: Global) -> Result<Command<'a>, AllocError>
     ensures shape { IfOk result (λ command. app_of command ≡ run_command) }
     ensures local { IfOk result (λ command. (out-Command command).has_globals ≡ false) }
@@ -353,10 +360,11 @@ fn run_command<'a>(alloc: Global) -> Result<Command<'a>, AllocError>
     let file = optional_argument(alloc, "file", "FILE", FILE_HELP);
     bare_command(alloc, "run", RUN_ABOUT, RUN_AFTER_HELP)
         .arg(slots_option(alloc))?
+        .arg(flag_option(alloc, "stats", STATS_HELP))?
         .arg(file)
 }
 
-/// `plan [--slots N] [--align ALIGN] BASE LENGTH [FILE]`.
+/// `plan [--slots N] [--align ALIGN] [--stats] BASE LENGTH [FILE]`.
 fn plan_command<'a>(alloc: Global, aligns: &'a [&'a str]) -> Result<Command<'a>, AllocError>
     ensures shape { IfOk result (λ command. app_of command ≡ plan_command aligns.entry) }
     ensures local { IfOk result (λ command. (out-Command command).has_globals ≡ false) }
@@ -370,14 +378,15 @@ fn plan_command<'a>(alloc: Global, aligns: &'a [&'a str]) -> Result<Command<'a>,
         .arg(file)
 }
 
-/// `plan [--slots N] [--align ALIGN]`.
+/// `plan [--slots N] [--align ALIGN] [--stats]`.
 fn plan_options<'a>(alloc: Global, aligns: &'a [&'a str]) -> Result<Command<'a>, AllocError>
     ensures shape { IfOk result (λ command. app_of command ≡ plan_options aligns.entry) }
     ensures local { IfOk result (λ command. (out-Command command).has_globals ≡ false) }
 {
     bare_command(alloc, "plan", PLAN_ABOUT, PLAN_AFTER_HELP)
         .arg(slots_option(alloc))?
-        .arg(align_option(alloc, aligns))
+        .arg(align_option(alloc, aligns))?
+        .arg(flag_option(alloc, "stats", STATS_HELP))
 }
 
 /// `decode [--format FORMAT] [--bytes ORDER] [FILE]`.
@@ -459,14 +468,14 @@ fn valued_option<'a>(alloc: Global, name: &'a str, placeholder: &'a str, help: &
     optional_argument(alloc, name, placeholder, help).long(name)
 }
 
-/// The option `--line`.
-fn line_option<'a>(alloc: Global) -> Arg<'a>
-    ensures rule { rule_of result ≡ line_option }
+/// An option of this name that has no value.
+fn flag_option<'a>(alloc: Global, name: &'a str, help: &'a str) -> Arg<'a>
+    ensures rule { rule_of result ≡ flag_option name.now }
     ensures local { result.global ≡ false }
 {
-    Arg::new(alloc, "line")
-        .help(LINE_HELP)
-        .long("line")
+    Arg::new(alloc, name)
+        .help(help)
+        .long(name)
         .action(ArgAction::SetTrue)
 }
 
@@ -562,13 +571,14 @@ fn invocation_of<'a>(matches: &ArgMatches<'a>) -> Invocation<'a>
     match matches.subcommand() {
         Some(("show", show)) => Invocation::Show {
             word: wanted_text(show, "word"),
-            as_line: is_line_given(show),
+            as_line: is_given(show, "line"),
         },
         Some(("round", round)) => Invocation::Round {
             length: wanted_text(round, "length"),
         },
         Some(("run", run)) => Invocation::Run {
             limit: limit_of(run),
+            stats: is_given(run, "stats"),
             file: run.get_str("file"),
         },
         Some(("plan", plan)) => Invocation::Plan {
@@ -578,6 +588,7 @@ fn invocation_of<'a>(matches: &ArgMatches<'a>) -> Invocation<'a>
                 length: wanted_text(plan, "length"),
             },
             align: align_of(plan),
+            stats: is_given(plan, "stats"),
             file: plan.get_str("file"),
         },
         Some(("decode", decode)) => Invocation::Decode {
@@ -625,12 +636,12 @@ fn wanted_text<'a>(matches: &ArgMatches<'a>, name: &str) -> &'a str
     }
 }
 
-/// Whether `--line` is given.
-fn is_line_given(matches: &ArgMatches<'_>) -> bool
-    requires { HasLine (rows_of (found_of matches.now)) }
-    ensures { IsGiven (first_of (codes "line") (rows_of (found_of matches.now))) result }
+/// Whether an option is given that has no value.
+fn is_given(matches: &ArgMatches<'_>, name: &str) -> bool
+    requires { HasFlag name.now (rows_of (found_of matches.now)) }
+    ensures { IsGiven (first_of name.now (rows_of (found_of matches.now))) result }
 {
-    matches.get_flag("line")
+    matches.get_flag(name)
 }
 
 /// The value of `--slots`, or the default.

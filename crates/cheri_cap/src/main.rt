@@ -9,6 +9,7 @@ ghost use Rattle.cheri_cap.specs.declared.outcome.Ending.TheVariants as ending;
 ghost use Rattle.cheri_cap.specs.Invocation.{IsInvocation, IsProgram, faults_of, is_taken};
 ghost use Rattle.cheri_cap.specs.Outcome.{EndsBy, EndsOn, status_of};
 
+mod error_writer;
 mod invocation;
 mod outcome;
 mod running;
@@ -91,7 +92,7 @@ fn tell<R: Print + Eprint>(rt: &R, error: &Error) -> Ending
 }
 
 /// Does what was asked for, and writes the answer to standard output.
-fn answer<R: AllocGlobal + Files + Input + Print>(
+fn answer<R: AllocGlobal + Files + Input + Print + Eprint>(
     rt: &R,
     invocation: Invocation<'_>,
 ) -> Result<Summary, Fault>
@@ -112,13 +113,14 @@ fn answer<R: AllocGlobal + Files + Input + Print>(
             Ok(explain_length(base, length, &mut output)?)
         }
         Invocation::Round { length } => Ok(show_round(length.as_bytes(), &mut output)?),
-        Invocation::Run { limit, file } => running::run(rt, limit, file),
+        Invocation::Run { limit, stats, file } => running::run(rt, limit, stats, file),
         Invocation::Plan {
             limit,
             pool,
             align,
+            stats,
             file,
-        } => running::plan(rt, limit, pool, align, file),
+        } => running::plan(rt, limit, pool, align, stats, file),
         Invocation::Decode { options, file } => running::decode(rt, options, file),
     }
 }

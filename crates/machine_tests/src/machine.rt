@@ -4,9 +4,9 @@ mod memory;
 mod objects;
 mod quarantine;
 
-use cc_machine::{Align, Len, Machine, Op, Reply};
 use cc_bounds::Span;
 use cc_cap::{ObjType, Perms};
+use cc_machine::{Align, Len, Machine, Op, Reply};
 use cc_word::Refusal;
 use std::alloc::Global;
 use std::process::Abort;

@@ -5,5 +5,6 @@ mod explaining;
 mod planning;
 mod rounding;
 mod rows;
+mod statistics;
 mod values;
 mod word_line;

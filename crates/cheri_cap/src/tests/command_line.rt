@@ -94,28 +94,30 @@ fn round_is_taken(rt: HostRuntime) -> Result<(), Fail> {
     Ok(())
 }
 
-const RUN: [(&str, u32, Option<&str>); 13] = [
-    ("run", 4096, None),
-    ("run a", 4096, Some("a")),
-    ("run ", 4096, Some("")),
-    ("run -", 4096, Some("-")),
-    ("run -- -", 4096, Some("-")),
-    ("run -- -a", 4096, Some("-a")),
-    ("run plan", 4096, Some("plan")),
-    ("run --slots 5", 5, None),
-    ("run --slots=5", 5, None),
-    ("run --slots 5 a", 5, Some("a")),
-    ("run a --slots 5", 5, Some("a")),
-    ("run --slots=5 -- a", 5, Some("a")),
-    ("run -- --slots=5", 4096, Some("--slots=5")),
+const RUN: [(&str, u32, bool, Option<&str>); 15] = [
+    ("run", 4096, false, None),
+    ("run a", 4096, false, Some("a")),
+    ("run ", 4096, false, Some("")),
+    ("run -", 4096, false, Some("-")),
+    ("run -- -", 4096, false, Some("-")),
+    ("run -- -a", 4096, false, Some("-a")),
+    ("run plan", 4096, false, Some("plan")),
+    ("run --slots 5", 5, false, None),
+    ("run --slots=5", 5, false, None),
+    ("run --slots 5 a", 5, false, Some("a")),
+    ("run a --slots 5", 5, false, Some("a")),
+    ("run --slots=5 -- a", 5, false, Some("a")),
+    ("run -- --slots=5", 4096, false, Some("--slots=5")),
+    ("run --stats", 4096, true, None),
+    ("run a --stats --slots 5", 5, true, Some("a")),
 ];
 
 #[test]
 fn run_is_taken(rt: HostRuntime) -> Result<(), Fail> {
-    for (line, limit, file) in RUN {
+    for (line, limit, stats, file) in RUN {
         let words = words_of(rt.alloc(), line)?;
         let taken = read_words(rt.alloc(), words.as_slice())?;
-        assert_eq!(rt; taken, Invocation::Run { limit, file }, "{line}");
+        assert_eq!(rt; taken, Invocation::Run { limit, stats, file }, "{line}");
     }
     Ok(())
 }
@@ -151,46 +153,49 @@ fn decode_is_taken(rt: HostRuntime) -> Result<(), Fail> {
     Ok(())
 }
 
-/// A line, and the limit, the alignment, BASE, LENGTH and FILE of its plan.
+/// A line, and the limit, the alignment, whether it is summed up, BASE, LENGTH and FILE of its plan.
 type Plan = (
     &'static str,
     u32,
     Align,
+    bool,
     &'static str,
     &'static str,
     Option<&'static str>,
 );
 
 #[rattlefmt::skip]
-const PLANNED: [Plan; 17] = [
-    ("plan 0 9", 4096, Align::One, "0", "9", None),
-    ("plan 0 9 a", 4096, Align::One, "0", "9", Some("a")),
-    ("plan 0 9 -", 4096, Align::One, "0", "9", Some("-")),
-    ("plan 0 9 -- -a", 4096, Align::One, "0", "9", Some("-a")),
-    ("plan --slots 5 0 9", 5, Align::One, "0", "9", None),
-    ("plan 0 --slots=5 9", 5, Align::One, "0", "9", None),
-    ("plan 0 9 --slots 5 a", 5, Align::One, "0", "9", Some("a")),
-    ("plan 0 9 a --slots=5", 5, Align::One, "0", "9", Some("a")),
-    ("plan -- 0 9 a", 4096, Align::One, "0", "9", Some("a")),
-    ("plan --align 1 0 9", 4096, Align::One, "0", "9", None),
-    ("plan --align 16 0 9", 4096, Align::Sixteen, "0", "9", None),
-    ("plan 0 --align=16 9 --slots=5", 5, Align::Sixteen, "0", "9", None),
-    ("plan -- 0 9 --align=16", 4096, Align::One, "0", "9", Some("--align=16")),
-    ("plan q ", 4096, Align::One, "q", "", None),
-    ("plan  q", 4096, Align::One, "", "q", None),
-    ("plan -- -1 -2", 4096, Align::One, "-1", "-2", None),
-    ("plan run show", 4096, Align::One, "run", "show", None),
+const PLANNED: [Plan; 18] = [
+    ("plan 0 9", 4096, Align::One, false, "0", "9", None),
+    ("plan 0 9 a", 4096, Align::One, false, "0", "9", Some("a")),
+    ("plan 0 9 -", 4096, Align::One, false, "0", "9", Some("-")),
+    ("plan 0 9 -- -a", 4096, Align::One, false, "0", "9", Some("-a")),
+    ("plan --slots 5 0 9", 5, Align::One, false, "0", "9", None),
+    ("plan 0 --slots=5 9", 5, Align::One, false, "0", "9", None),
+    ("plan 0 9 --slots 5 a", 5, Align::One, false, "0", "9", Some("a")),
+    ("plan 0 9 a --slots=5", 5, Align::One, false, "0", "9", Some("a")),
+    ("plan -- 0 9 a", 4096, Align::One, false, "0", "9", Some("a")),
+    ("plan --align 1 0 9", 4096, Align::One, false, "0", "9", None),
+    ("plan --align 16 0 9", 4096, Align::Sixteen, false, "0", "9", None),
+    ("plan 0 --align=16 9 --slots=5", 5, Align::Sixteen, false, "0", "9", None),
+    ("plan -- 0 9 --align=16", 4096, Align::One, false, "0", "9", Some("--align=16")),
+    ("plan q ", 4096, Align::One, false, "q", "", None),
+    ("plan  q", 4096, Align::One, false, "", "q", None),
+    ("plan -- -1 -2", 4096, Align::One, false, "-1", "-2", None),
+    ("plan run show", 4096, Align::One, false, "run", "show", None),
+    ("plan 0 --stats 9", 4096, Align::One, true, "0", "9", None),
 ];
 
 #[test]
 fn plan_is_taken(rt: HostRuntime) -> Result<(), Fail> {
-    for (line, limit, align, base, length, file) in PLANNED {
+    for (line, limit, align, stats, base, length, file) in PLANNED {
         let words = words_of(rt.alloc(), line)?;
         let taken = read_words(rt.alloc(), words.as_slice())?;
         let plan = Invocation::Plan {
             limit,
             pool: PoolTexts { base, length },
             align,
+            stats,
             file,
         };
         assert_eq!(rt; taken, plan, "{line}");
@@ -226,7 +231,15 @@ fn limits_are_from_1_to_65536(rt: HostRuntime) -> Result<(), Fail> {
     for (text, limit) in LIMITS {
         let run = ["cheri-cap", "run", "--slots", text];
         let taken = read_words(rt.alloc(), run.as_slice())?;
-        assert_eq!(rt; taken, Invocation::Run { limit, file: None }, "{text}");
+        assert_eq!(rt;
+            taken,
+            Invocation::Run {
+                limit,
+                stats: false,
+                file: None
+            },
+            "{text}"
+        );
     }
     for text in NO_LIMITS {
         let attached = format!(in rt.alloc(); "--slots={text}")?;

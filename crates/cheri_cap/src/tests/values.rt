@@ -136,6 +136,7 @@ fn invocations_are_told_apart(rt: HostRuntime) {
         limit,
         pool,
         align: Align::One,
+        stats: false,
         file,
     };
     assert!(rt; plan(5, pool, None) != plan(6, pool, None));
@@ -145,6 +146,7 @@ fn invocations_are_told_apart(rt: HostRuntime) {
         limit: 5,
         pool,
         align: Align::Sixteen,
+        stats: false,
         file: None,
     };
     assert!(rt; plan(5, pool, None) != aligned);

@@ -1,7 +1,7 @@
 //! A pool of alignment 16: what each object is given, and what no alignment changes.
 use super::{Ask, Told, length, replies};
-use cc_machine::{Align, Machine, Op, Reply};
 use cc_bounds::Span;
+use cc_machine::{Align, Machine, Op, Reply};
 use cc_word::Refusal;
 use std::alloc::Global;
 use std::process::Abort;

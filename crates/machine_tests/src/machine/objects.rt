@@ -1,8 +1,8 @@
 //! Pools and objects: each operation with its reply, the slots that are revoked and the bytes held.
 use super::{Ask, END, Told, length, replies};
-use cc_machine::{Align, Machine, Object, ObjectState, Op, Reply};
 use cc_bounds::Span;
 use cc_cap::{ObjType, Perms};
+use cc_machine::{Align, Machine, Object, ObjectState, Op, Reply};
 use cc_word::Refusal;
 use std::alloc::Global;
 use std::process::Abort;

@@ -1,9 +1,9 @@
 //! Freed objects stay held until a sweep, which revokes exactly what belongs to them.
 use super::objects::with_pool;
 use super::{Ask, END, Told, length, replies};
-use cc_machine::{Align, Machine, ObjectState, Op, Reply};
 use cc_bounds::Span;
 use cc_cap::Perms;
+use cc_machine::{Align, Machine, ObjectState, Op, Reply};
 use cc_word::Refusal;
 use std::process::Abort;
 use std::test::Fail;

@@ -2,9 +2,9 @@
 ghost use Rattle.std.specs.Prelude.{◌≤◌};
 
 use super::pool;
-use cc_plan::{Align, BlockPlacer, ObjectId, Placer, Planner, ScanPlacer, SortedPlacer};
 use cc_bounds::Span;
 use cc_cap::Cap;
+use cc_plan::{Align, BlockPlacer, ObjectId, Placer, Planner, ScanPlacer, SortedPlacer};
 use cc_word::Refusal;
 use std::alloc::Global;
 use std::process::Abort;

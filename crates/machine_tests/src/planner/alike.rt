@@ -3,12 +3,12 @@ ghost use Rattle.std.specs.Prelude.{◌≤◌, ◌^◌};
 ghost use Rattle.cc_plan.specs.Replay.{IsWithinLimit};
 
 use super::pool;
+use PlanCall::{Alloc, Free, Sweep};
+use cc_cap::Cap;
 use cc_plan::{
     Align, BlockPlacer, ObjectId, Placer, PlanCall, PlanReply, Planner, ScanPlacer, SortedPlacer,
     plan_run,
 };
-use PlanCall::{Alloc, Free, Sweep};
-use cc_cap::Cap;
 use std::alloc::Global;
 use std::process::Abort;
 use std::test::Fail;

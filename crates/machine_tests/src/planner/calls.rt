@@ -1,8 +1,8 @@
 //! Each refusal in its order, the capability of an object, and the opening of a planner.
 use super::pool;
-use cc_plan::{ObjectId, ObjectState, Placer, PlannedObject, Planner, ScanPlacer, SortedPlacer};
 use cc_bounds::Span;
 use cc_cap::Cap;
+use cc_plan::{ObjectId, ObjectState, Placer, PlannedObject, Planner, ScanPlacer, SortedPlacer};
 use cc_word::Refusal;
 use std::alloc::Global;
 use std::process::Abort;

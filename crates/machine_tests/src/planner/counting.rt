@@ -1,7 +1,7 @@
 //! A planner does its work through its placer.
 use super::pool;
-use cc_plan::{ObjectId, Placer, Planner, SortedPlacer};
 use cc_bounds::Span;
+use cc_plan::{ObjectId, Placer, Planner, SortedPlacer};
 use cc_word::Refusal;
 use std::alloc::{AllocError, Global};
 use std::test::Fail;

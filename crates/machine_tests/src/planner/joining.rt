@@ -2,8 +2,8 @@
 ghost use Rattle.std.specs.Prelude.{◌≡◌, ◌<◌, IsSome};
 ghost use Rattle.cc_plan.specs.Placement.{AddsSpan};
 
-use cc_plan::{BlockPlacer, Placer};
 use cc_bounds::Span;
+use cc_plan::{BlockPlacer, Placer};
 use std::process::Abort;
 use std::test::Fail;
 

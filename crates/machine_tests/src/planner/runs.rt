@@ -1,10 +1,10 @@
 //! Runs of calls: the same for each placer.
 
 use super::pool;
+use PlanCall::{Alloc, Free, Sweep};
 use cc_plan::{
     BlockPlacer, ObjectId, Placer, PlanCall, PlanReply, Planner, ScanPlacer, SortedPlacer, plan_run,
 };
-use PlanCall::{Alloc, Free, Sweep};
 use cc_word::Refusal;
 use std::alloc::Global;
 use std::process::Abort;

@@ -1,10 +1,10 @@
 //! Sweeps: what stays held until one, and what it gives back.
 
 use super::pool;
+use cc_bounds::Span;
 use cc_plan::{
     BlockPlacer, ObjectId, ObjectState, Placer, PlanCall, Planner, ScanPlacer, SortedPlacer,
 };
-use cc_bounds::Span;
 use cc_word::Refusal;
 use std::alloc::Global;
 use std::process::Abort;

@@ -1,8 +1,8 @@
 //! Starts, bounds and held bytes of lists of calls, for each placer.
 
 use super::pool;
-use cc_plan::{Align, BlockPlacer, ObjectId, Placer, PlanCall, Planner, ScanPlacer, SortedPlacer};
 use cc_cap::Cap;
+use cc_plan::{Align, BlockPlacer, ObjectId, Placer, PlanCall, Planner, ScanPlacer, SortedPlacer};
 use cc_word::Refusal;
 use std::alloc::Global;
 use std::process::Abort;

@@ -1,7 +1,7 @@
 //! What `==` and `clone` are, of a planner's values: unequal ones are told apart, and a clone is its original.
-use cc_plan::{ObjectId, ObjectState, PlanCall, PlanReply, PlannedObject};
 use cc_bounds::Span;
 use cc_cap::Cap;
+use cc_plan::{ObjectId, ObjectState, PlanCall, PlanReply, PlannedObject};
 use cc_word::Refusal;
 use std::test::Fail;
 

@@ -11,8 +11,8 @@ wanted_text-requires c =
     let is = command_is c.args.matches.now (codes "show") (rows_of f) (sym (ap Some here.is-show) ∙ here.ensures.name) here.ensures.rows in
     has_text f (codes "word") ((whole _ (codes "show") (rows_of f) is c.requires).show refl).0
 
-pub is_line_given-requires : goal.is_line_given-requires
-is_line_given-requires c =
+pub is_given-requires : goal.is_given-requires
+is_given-requires c =
     let here = c.in-Some-show-default in
     let f = found_of here.show.now in
     let is = command_is c.args.matches.now (codes "show") (rows_of f) (sym (ap Some here.is-show) ∙ here.ensures.name) here.ensures.rows in
@@ -30,7 +30,21 @@ limit_of-requires c =
     let here = c.in-Some-run-default in
     let rows = rows_of (found_of here.run'.now) in
     let is = command_is c.args.matches.now (codes "run") rows (sym (ap Some here.is-run) ∙ here.ensures.name) here.ensures.rows in
-    (whole _ (codes "run") rows is c.requires).run refl
+    ((whole _ (codes "run") rows is c.requires).run refl).0
+
+pub is_given-requires-in-Some-run-default : goal.is_given-requires-in-Some-run-default
+is_given-requires-in-Some-run-default c =
+    let here = c.in-Some-run-default in
+    let rows = rows_of (found_of here.run'.now) in
+    let is = command_is c.args.matches.now (codes "run") rows (sym (ap Some here.is-run) ∙ here.ensures.name) here.ensures.rows in
+    ((whole _ (codes "run") rows is c.requires).run refl).1
+
+pub is_given-requires-in-Some-plan-default : goal.is_given-requires-in-Some-plan-default
+is_given-requires-in-Some-plan-default c =
+    let here = c.in-Some-plan-default in
+    let rows = rows_of (found_of here.plan.now) in
+    let is = command_is c.args.matches.now (codes "plan") rows (sym (ap Some here.is-plan) ∙ here.ensures.name) here.ensures.rows in
+    ((whole _ (codes "plan") rows is c.requires).plan refl).4
 
 pub limit_of-requires-in-Some-plan-default : goal.limit_of-requires-in-Some-plan-default
 limit_of-requires-in-Some-plan-default c =
@@ -66,7 +80,7 @@ returns-in-Some-show-default c =
     let f = found_of here.show.now in (
       rows_of f,
       command_is c.args.matches.now (codes "show") (rows_of f) (sym (ap Some here.is-show) ∙ here.ensures.name) here.ensures.rows,
-      (sym (first_value-rows f (codes "word")) ∙ c.wanted_text.ensures, c.is_line_given.ensures),
+      (sym (first_value-rows f (codes "word")) ∙ c.wanted_text.ensures, c.is_given.ensures),
     )
 
 pub returns-in-Some-round-default : goal.returns-in-Some-round-default
@@ -84,7 +98,7 @@ returns-in-Some-run-default c =
     let f = found_of here.run'.now in (
       rows_of f,
       command_is c.args.matches.now (codes "run") (rows_of f) (sym (ap Some here.is-run) ∙ here.ensures.name) here.ensures.rows,
-      (c.limit_of.ensures, sym (first_value-rows f (codes "file")) ∙ sym c.get_str.ensures),
+      (c.limit_of.ensures, c.is_given-in-Some-run-default.ensures, sym (first_value-rows f (codes "file")) ∙ sym c.get_str.ensures),
     )
 
 pub returns-in-Some-plan-default : goal.returns-in-Some-plan-default
@@ -96,6 +110,7 @@ returns-in-Some-plan-default c =
       (
         c.limit_of-in-Some-plan-default.ensures,
         c.align_of.ensures,
+        c.is_given-in-Some-plan-default.ensures,
         sym (first_value-rows f (codes "base")) ∙ c.wanted_text-in-Some-plan-default.ensures,
         sym (first_value-rows f (codes "length")) ∙ c.wanted_text-in-Some-plan-default-2.ensures,
         sym (first_value-rows f (codes "file")) ∙ sym c.get_str-in-Some-plan-default.ensures,

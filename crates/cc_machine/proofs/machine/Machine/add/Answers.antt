@@ -17,7 +17,8 @@ use Rattle.cc_machine.specs.Making.{Makes}
 use Rattle.cc_machine.specs.Run.{IsReached}
 use Rattle.cc_machine.specs.Owners.{is_freed_at, slot_state, CountsSlots, TellsOwners}
 use Rattle.cc_machine.specs.declared.machine.Machine.TheInside.{Inside}
-use Rattle.cc_machine.specs.Machine.{IsMachine, plan_of, state_of}
+use Rattle.cc_machine.specs.Machine.{IsMachine, state_of}
+use Rattle.cc_machine.specs.Planned.{plan_of}
 use Rattle.cc_machine.proofs.ActionLemmas.{state_with}
 use Rattle.cc_machine.proofs.StepLemmas.{Makes-Step}
 use Rattle.cc_machine.proofs.KeptSlotLemmas.{CountsSlots-push, count-within, freed-within}

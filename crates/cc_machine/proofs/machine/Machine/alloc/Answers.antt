@@ -15,7 +15,8 @@ use Rattle.cc_machine.specs.Step.{Allocates}
 use Rattle.cc_machine.specs.declared.machine.Machine.TheInside.{Inside}
 use Rattle.cc_machine.specs.Run.{IsReached}
 use Rattle.cc_machine.specs.Owners.{slot_state, CountsSlots, TellsOwners}
-use Rattle.cc_machine.specs.Machine.{IsMachine, plan_of, state_of}
+use Rattle.cc_machine.specs.Machine.{IsMachine, state_of}
+use Rattle.cc_machine.specs.Planned.{plan_of}
 use Rattle.cc_machine.proofs.TreeLemmas.{Keeps-reached}
 use Rattle.cc_machine.proofs.GrowthLemmas.{HasUnsealed}
 use Rattle.cc_machine.proofs.RunLemmas.{IsReached-step}

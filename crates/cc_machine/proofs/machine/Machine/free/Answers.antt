@@ -14,7 +14,8 @@ use Rattle.cc_machine.specs.Objects.{IsLiveObject}
 use Rattle.cc_machine.specs.Step.{Frees}
 use Rattle.cc_machine.specs.Run.{IsReached}
 use Rattle.cc_machine.specs.Owners.{slot_state, CountsSlots, TellsOwners}
-use Rattle.cc_machine.specs.Machine.{IsMachine, plan_of, state_of}
+use Rattle.cc_machine.specs.Machine.{IsMachine, state_of}
+use Rattle.cc_machine.specs.Planned.{plan_of}
 use Rattle.cc_machine.proofs.RunLemmas.{IsReached-step}
 use Rattle.cc_machine.proofs.KeptSlotLemmas.{CountsSlots-freed, freed-within, slots-freed}
 use Rattle.cc_machine.proofs.ActionLemmas.{state_with}

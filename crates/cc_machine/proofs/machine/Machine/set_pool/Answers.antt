@@ -10,7 +10,8 @@ use Rattle.cc_machine.specs.State.{State, tagged_slot}
 use Rattle.cc_machine.specs.Step.{usable_slot, SetsPool}
 use Rattle.cc_machine.specs.Run.{IsReached}
 use Rattle.cc_machine.specs.Owners.{slot_state, CountsSlots, TellsOwners}
-use Rattle.cc_machine.specs.Machine.{IsMachine, plan_of, state_of}
+use Rattle.cc_machine.specs.Machine.{IsMachine, state_of}
+use Rattle.cc_machine.specs.Planned.{plan_of}
 use Rattle.cc_machine.proofs.RunLemmas.{IsReached-step}
 use Rattle.cc_machine.proofs.OwnerLemmas.{TellsOwners-pool}
 use Rattle.cc_machine.proofs.StepLemmas.{usable-told}

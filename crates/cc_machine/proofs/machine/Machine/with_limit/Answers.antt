@@ -5,7 +5,8 @@ use Rattle.cc_machine.specs.declared.slot.Slot.{Slot}
 use Rattle.cc_machine.specs.State.{initial_state}
 use Rattle.cc_machine.specs.Run.{IsReached}
 use Rattle.cc_machine.specs.Owners.{slot_state, CountsSlots, TellsOwners}
-use Rattle.cc_machine.specs.Machine.{objects_in, plan_of}
+use Rattle.cc_machine.specs.Machine.{objects_in}
+use Rattle.cc_machine.specs.Planned.{plan_of}
 use Rattle.cc_machine.proofs.ActionLemmas.{state_with}
 use Rattle.cc_machine.proofs.OwnerLemmas.{TellsOwners-initial}
 use Rattle.cc_machine.proofs.KeptSlotLemmas.{CountsSlots-initial}

@@ -1,5 +1,5 @@
 use Rattle.std.proofs.Common.{◌≡◌, IsSome}
-use Rattle.cc_plan.proofs.tests.joining.blocks_of_one_span_are_joined.Given as goal
+use Rattle.machine_tests.proofs.planner.joining.blocks_of_one_span_are_joined.Given as goal
 
 -- the pool and the limit stay
 abbrev pub invariant-loop-len : goal.invariant-loop-len

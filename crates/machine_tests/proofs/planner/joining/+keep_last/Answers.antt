@@ -4,7 +4,7 @@ use Rattle.std.proofs.lemmas.List.Sums.{sum_by-cons}
 use Rattle.cc_bounds.specs.declared.span.Span.{Span}
 use Rattle.cc_plan.proofs.ChainLemmas.{contains_head, contains_tail}
 use Rattle.cc_plan.proofs.HeldSpanLemmas.{permutation_from_sums}
-use Rattle.cc_plan.proofs.tests.joining.+keep_last.Goals as goal
+use Rattle.machine_tests.proofs.planner.joining.+keep_last.Goals as goal
 
 still_held : (old middle high : List Span) (span kept : Span) → IsPermutation (span ∷ old) middle
     → IsPermutation (kept ∷ middle) high → Contains high span

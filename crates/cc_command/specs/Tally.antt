@@ -1,0 +1,42 @@
+-- What is counted of the replies to a script: how many there are, and of each refusal how many, and where first.
+use Rattle.std.specs.Prelude.{ℕ, suc, Bool, ◌≡◌, ◌-◌, ◌^◌, ◌<◌, List, [], ◌∷◌, count_by, get_or, if◌then◌else◌, length, min, take}
+use Rattle.std.specs.Str.{bytes_eq}
+use Rattle.cc_word.specs.declared.refusal.Refusal.{Refusal}
+use Rattle.cc_script.specs.Lines.{lines_of, rest_of}
+use Rattle.cc_script.specs.Replies.{refusal_text}
+use Rattle.cc_command.specs.declared.tally.TheConstants.{NONE}
+use Rattle.cc_command.specs.declared.tally.Count.{Count}
+use Rattle.cc_command.specs.declared.tally.Tally.{Tally}
+
+-- what a counter of 64 bits shows of a number: it stays at the highest that it has
+abbrev pub counted : ℕ → ℕ
+counted number = min number (2 ^ 64 - 1)
+
+-- the line is this refusal
+abbrev pub is_refusal : Refusal → (line : List ℕ) → Bool
+is_refusal refusal line = bytes_eq (refusal_text refusal) line
+
+-- the number of the first line that passes, where the first of the lines has this number, and 0 where none does
+abbrev pub first_from : (passes : List ℕ → Bool) (number : ℕ) → (lines : List (List ℕ)) → ℕ
+first_from passes number [] = 0
+first_from passes number (line ∷ lines) = if passes line then number else first_from passes (suc number) lines
+
+-- of the lines that are this refusal how many there are, and the number of the first, where lines are numbered from 1
+abbrev pub count_in : (lines : List (List ℕ)) → Refusal → Count
+count_in lines refusal = record {
+  refusal = refusal;
+  times = counted (count_by (is_refusal refusal) lines);
+  first = counted (first_from (is_refusal refusal) 1 lines);
+}
+
+-- The tally is that of the text of replies: of its lines how many there are, and of each refusal those that are it.
+-- Of a line that has not ended its first 129 bytes are kept, which is more than a refusal has.
+pub record IsTally (text : List ℕ) (tally : Tally) : Type 0 where
+  pub lines : tally.lines ≡ counted (length (lines_of text))
+  pub begun : tally.begun ≡ take 129 (rest_of text)
+  pub counts : (index : ℕ) (none : Count) → index < 22 → get_or tally.counts index none ≡ count_in (lines_of text) (get_or NONE index none).refusal
+
+-- A sink that counts: the sink behind it, and the tally of what passed.
+pub record CountedState (W : Type 0) : Type 0 where
+  pub inner : W
+  pub tally : Tally

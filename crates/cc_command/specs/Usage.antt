@@ -1,0 +1,78 @@
+-- What the objects of a machine take of its pool, and what is left.
+use Rattle.std.specs.Prelude.{ℕ, Bool, true, false, ◌≡◌, ◌-◌, List, [], ◌∷◌, ◌++◌, count_by, filter, length, max, nat_lt, option_map, sum_by, unwrap_or}
+use Rattle.std.specs.List.Sorted.{IsNonDecreasingBy, IsPermutation}
+use Rattle.cc_bounds.specs.declared.span.Span.{Span}
+use Rattle.cc_bounds.specs.Span.{from_zero, length_of}
+use Rattle.cc_plan.specs.declared.object.ObjectState.{ObjectState}
+use Rattle.cc_plan.specs.declared.object.ObjectState.TheVariants.{Live, Freed, Swept}
+use Rattle.cc_plan.specs.declared.object.PlannedObject.{PlannedObject}
+use Rattle.cc_plan.specs.Plan.{Plan, held_bytes_of, held_spans, is_freed, is_held}
+use Rattle.cc_machine.specs.State.{State}
+use Rattle.cc_machine.specs.Planned.{plan_of}
+use Rattle.cc_command.specs.declared.usage.Usage.{Usage}
+
+-- an object is live until it is freed
+abbrev pub is_live : ObjectState → Bool
+is_live Live = true
+is_live Freed = false
+is_live Swept = false
+
+-- an object is swept from the sweep on that gave its bytes back
+abbrev pub is_swept : ObjectState → Bool
+is_swept Live = false
+is_swept Freed = false
+is_swept Swept = true
+
+-- the bytes that the held objects were made for, without padding
+abbrev pub asked_bytes_of : List PlannedObject → ℕ
+asked_bytes_of objects = sum_by (λ object. object.size) (filter (λ object. is_held object.state) objects)
+
+-- where the object ends that ends highest, and 0 without an object
+abbrev pub highest_top : List PlannedObject → ℕ
+highest_top [] = 0
+highest_top (object ∷ objects) = max object.span.top (highest_top objects)
+
+-- the greatest of some numbers, and 0 without one
+abbrev pub greatest : List ℕ → ℕ
+greatest [] = 0
+greatest (number ∷ numbers) = max number (greatest numbers)
+
+-- the lengths of the hole that so many bytes in a row are: none for no byte
+abbrev pub hole : ℕ → List ℕ
+hole bytes = filter (λ number. nat_lt 0 number) (bytes ∷ [])
+
+-- The lengths of the holes from one address up to another, beside spans that stand in the order of their addresses:
+-- before the first of them, between each and the next, and behind the last.
+abbrev pub holes : (from to : ℕ) → List Span → List ℕ
+holes from to [] = hole (to - from)
+holes from to (span ∷ spans) = hole (span.base - from) ++ holes span.top to spans
+
+-- the bounds of the pool, and no bytes where there is none
+abbrev pub pool_span : Plan → Span
+pool_span plan = unwrap_or (option_map (λ pool. pool.span) plan.pool) (from_zero 0)
+
+-- the number of holes and the length of the largest beside these held spans, which are brought into order
+pub record HasHoles (pool : Span) (held : List Span) (usage : Usage) : Type 0 where
+  pub order : List Span
+  pub same : IsPermutation held order
+  pub in_order : IsNonDecreasingBy (λ span. span.base) order
+  pub count : usage.holes ≡ length (holes pool.base pool.top order)
+  pub largest : usage.largest ≡ greatest (holes pool.base pool.top order)
+
+-- what a plan uses of its pool and of its limit
+pub record UsesOf (plan : Plan) (usage : Usage) : Type 0 where
+  pub limit : usage.limit ≡ plan.limit
+  pub made : usage.made ≡ length plan.objects
+  pub live : usage.live ≡ count_by (λ object. is_live object.state) plan.objects
+  pub quarantined : usage.quarantined ≡ count_by (λ object. is_freed object.state) plan.objects
+  pub swept : usage.swept ≡ count_by (λ object. is_swept object.state) plan.objects
+  pub asked : usage.asked ≡ asked_bytes_of plan.objects
+  pub held : usage.held ≡ held_bytes_of plan.objects
+  pub pool : usage.pool ≡ length_of (pool_span plan)
+  pub holes : HasHoles (pool_span plan) (held_spans plan.objects) usage
+  pub end : usage.end ≡ highest_top plan.objects
+
+-- what a machine in this state uses
+pub record IsUsage (state : State) (usage : Usage) : Type 0 where
+  pub slots : usage.slots ≡ length state.slots
+  pub uses : UsesOf (plan_of state) usage

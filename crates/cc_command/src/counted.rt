@@ -1,0 +1,90 @@
+//! A sink that counts what passes through it.
+ghost use Rattle.std.specs.Prelude.{◌≡◌, ℕ, List, [], ◌++◌, ◌↔◌, ◌<◌, IfOk, IsErr, OnErr, OnOk, length, take, true};
+ghost use Rattle.std.specs.Io.{WritesAtMost};
+ghost use Rattle.std.specs.Io.KnownBytes.{Keeps, WriteAppends};
+ghost use Rattle.cc_command.specs.Tally.{IsTally};
+
+use crate::tally::Tally;
+use cc_script::{Failed, Sink};
+use std::marker::Model;
+
+/// Passes on each byte to another sink, and counts the replies that passed.
+#[derive(Drop)]
+pub struct Counted<W: Sink> {
+    inner: W,
+    tally: Tally,
+}
+
+impl<W: Sink> Model for Counted<W> {
+    ghost use Rattle.cc_command.specs.Tally.{CountedState};
+
+    ghost Value = { CountedState W };
+
+    ghost view = { λ s. record { inner = s.inner; tally = s.tally } };
+}
+
+impl<W: Sink> Counted<W> {
+    /// A sink before this one. No reply is counted.
+    pub fn new(inner: W) -> Self
+        ensures inner { result.inner ≡ inner }
+        ensures tally { IsTally [] result.tally }
+    {
+        Counted {
+            inner,
+            tally: Tally::new(),
+        }
+    }
+
+    /// What was counted of the replies that passed.
+    pub fn tally(&self) -> &Tally
+        ensures { result.now ≡ self.now.tally }
+    {
+        &self.tally
+    }
+}
+
+impl<W: Sink> Sink for Counted<W> {
+    ghost taken_bytes = { λ s. W.taken_bytes s.inner };
+
+    ghost waiting_bytes = { λ s. W.waiting_bytes s.inner };
+
+    ghost has_failed = { λ s. W.has_failed s.inner };
+
+    fn write(&mut self, piece: &[u8]) -> Result<usize, Failed>
+        ensures count { WritesAtMost result piece.now }
+        ensures takes { WriteAppends (W.taken_bytes self.old.inner) (W.taken_bytes self.new.inner) result piece.now }
+        ensures some { IfOk result (λ count. 0 < length piece.now → 0 < count) }
+        ensures fails { IsErr result ↔ (W.has_failed self.new.inner ≡ true) }
+        ensures stays { W.has_failed self.old.inner ≡ true → W.has_failed self.new.inner ≡ true }
+        ensures counts { IfOk result (λ count. (text : List ℕ) → IsTally text self.old.tally → IsTally (text ++ take count piece.now) self.new.tally) }
+        ensures counts_none { OnErr result (self.new.tally ≡ self.old.tally) }
+    {
+        match self.inner.write(piece) {
+            Ok(count) => {
+                self.tally.take(&piece[..count]);
+                Ok(count)
+            }
+            Err(Failed) => Err(Failed),
+        }
+    }
+
+    fn before_read(&mut self) -> Result<(), Failed>
+        ensures keeps { Keeps (W.taken_bytes self.old.inner) (W.taken_bytes self.new.inner) }
+        ensures passed { OnOk result (W.waiting_bytes self.new.inner ≡ []) }
+        ensures fails { IsErr result ↔ (W.has_failed self.new.inner ≡ true) }
+        ensures stays { W.has_failed self.old.inner ≡ true → W.has_failed self.new.inner ≡ true }
+        ensures counts_none { self.new.tally ≡ self.old.tally }
+    {
+        self.inner.before_read()
+    }
+
+    fn flush(&mut self) -> Result<(), Failed>
+        ensures keeps { Keeps (W.taken_bytes self.old.inner) (W.taken_bytes self.new.inner) }
+        ensures passed { OnOk result (W.waiting_bytes self.new.inner ≡ []) }
+        ensures fails { IsErr result ↔ (W.has_failed self.new.inner ≡ true) }
+        ensures stays { W.has_failed self.old.inner ≡ true → W.has_failed self.new.inner ≡ true }
+        ensures counts_none { self.new.tally ≡ self.old.tally }
+    {
+        self.inner.flush()
+    }
+}

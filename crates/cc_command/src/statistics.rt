@@ -1,0 +1,177 @@
+//! The summary of a run: a line for each number.
+ghost use Rattle.std.specs.Prelude.{◌≡◌, ◌+◌, ◌*◌, ◌≤◌, ◌^◌, ◌++◌, ◌↔◌, [], Err, IsErr, OnErr, OnOk, codes, false, length, true};
+ghost use Rattle.std.specs.Io.KnownBytes.{Appends};
+ghost use Rattle.cc_script.specs.Devices.{TakesBeginning};
+ghost use Rattle.cc_command.specs.Numbered.{line_with_decimal};
+ghost use Rattle.cc_command.specs.Statistics.{bytes_text, count_lines, counts_text, end_text, holes_text, hundredths_of, objects_text, percent_text, statistics_text};
+
+use crate::answers::write_answer;
+use crate::numbered::{end_with_decimal, end_with_hexadecimal};
+use crate::tally::{Count, Tally};
+use crate::text::{ROOM, Text};
+use crate::usage::Usage;
+use cc_script::{Line, ScriptFault, Sink};
+
+/// Writes the summary of a run, a line for each number, and flushes the sink once after the last: how many lines
+/// were answered, of each refusal how many and where first, and what the machine uses.
+///
+/// The first `opening` replies are those of operations before the script, and are not counted among its lines; a
+/// refusal among them has the line 0. The caller has that at most 2^80 bytes are held, as
+/// [`usage_of`](crate::usage_of) tells. Where the sink fails, a beginning of the summary was written.
+pub fn show_statistics<W: Sink>(
+    usage: &Usage,
+    tally: &Tally,
+    opening: u64,
+    sink: &mut W,
+) -> Result<(), ScriptFault>
+    requires sink { W.has_failed sink.old ≡ false }
+    requires fits { usage.now.held ≤ 2 ^ 80 }
+    ensures ok { OnOk result (Appends (W.taken_bytes sink.old) (W.taken_bytes sink.new) (statistics_text usage.now tally.now opening)) }
+    ensures err { OnErr result (TakesBeginning (W.taken_bytes sink.old) (W.taken_bytes sink.new) (statistics_text usage.now tally.now opening)) }
+    ensures fails { IsErr result ↔ (W.has_failed sink.new ≡ true) }
+    ensures write { OnErr result (result ≡ Err ScriptFault.Write) }
+{
+    let mut text = Text::new();
+    push_statistics(&mut text, usage, tally, opening);
+    write_answer(&text, sink)
+}
+
+/// Makes the text the summary of a run.
+fn push_statistics(text: &mut Text, usage: &Usage, tally: &Tally, opening: u64)
+    requires empty { text.old ≡ [] }
+    requires fits { usage.now.held ≤ 2 ^ 80 }
+    ensures { text.new ≡ statistics_text usage.now tally.now opening }
+{
+    push_number(
+        text,
+        b"lines ",
+        u128::from(tally.lines.saturating_sub(opening)),
+    );
+    push_counts(text, &tally.counts, opening);
+    push_objects(text, usage);
+    push_bytes(text, usage);
+    push_holes(text, usage);
+}
+
+/// Appends a name, which ends with a space, and a number.
+fn push_number(text: &mut Text, name: &[u8], number: u128)
+    requires name { length name.now ≤ 60 }
+    requires room { length text.old + length name.now + 41 ≤ ROOM }
+    ensures value { text.new ≡ text.old ++ line_with_decimal name.now number [] }
+    ensures fits { length text.new ≤ length text.old + length name.now + 41 }
+{
+    end_with_decimal(text, name, number, b"");
+}
+
+/// Appends the counts of the refusals that were replies.
+fn push_counts(text: &mut Text, counts: &[Count], opening: u64)
+    requires few { length counts.now ≤ 22 }
+    requires room { length text.old ≤ 100 }
+    ensures value { text.new ≡ text.old ++ counts_text opening counts.now }
+    ensures fits { length text.new ≤ 3180 }
+{
+    let mut rest = counts;
+    'counts: while let Some((count, after)) = rest.split_first() {
+        if count.times != 0 {
+            push_count(text, count, opening);
+        }
+        rest = after;
+    }
+}
+
+/// Appends the count of a refusal, and the line of the first.
+fn push_count(text: &mut Text, count: &Count, opening: u64)
+    requires { length text.old + 140 ≤ ROOM }
+    ensures value { text.new ≡ text.old ++ count_lines opening count.now }
+    ensures fits { length text.new ≤ length text.old + 140 }
+{
+    let name = count.refusal.name().as_bytes();
+    let mut line = Line::new();
+    line.push(b"refused.");
+    line.push(name);
+    line.push(b" ");
+    line.push_decimal(u128::from(count.times));
+    text.push_line(&line);
+    line.clear();
+    line.push(b"first.");
+    line.push(name);
+    line.push(b" ");
+    line.push_decimal(u128::from(count.first.saturating_sub(opening)));
+    text.push_line(&line);
+}
+
+/// Appends how many slots and objects there are.
+fn push_objects(text: &mut Text, usage: &Usage)
+    requires { length text.old ≤ 3180 }
+    ensures value { text.new ≡ text.old ++ objects_text usage.now }
+    ensures fits { length text.new ≤ length text.old + 300 }
+{
+    push_number(text, b"slots ", u128::from(usage.slots));
+    push_number(text, b"limit ", u128::from(usage.limit));
+    push_number(text, b"made ", usage.made as u128);
+    push_number(text, b"live ", usage.live as u128);
+    push_number(text, b"quarantined ", usage.quarantined as u128);
+    push_number(text, b"swept ", usage.swept as u128);
+}
+
+/// Appends how many bytes were asked for, and how many are held.
+fn push_bytes(text: &mut Text, usage: &Usage)
+    requires fits { usage.now.held ≤ 2 ^ 80 }
+    requires room { length text.old ≤ 3480 }
+    ensures value { text.new ≡ text.old ++ bytes_text usage.now }
+    ensures fits { length text.new ≤ length text.old + 300 }
+{
+    let padding = usage.held.saturating_sub(usage.asked);
+    push_number(text, b"asked ", usage.asked);
+    push_number(text, b"held ", usage.held);
+    push_number(text, b"padding ", padding);
+    push_percent(text, hundredths_of(padding, usage.held));
+}
+
+/// How many hundredths of a percent a part is of a whole, rounded down, and 0 of nothing.
+fn hundredths_of(part: u128, whole: u128) -> u128
+    requires { part ≤ 2 ^ 80 }
+    ensures { result ≡ hundredths_of part whole }
+{
+    if whole == 0 { 0 } else { part * 10_000 / whole }
+}
+
+/// Appends how many hundredths of a percent the padding is.
+#[tactic(auto, unfolding(crate::specs::Statistics::percent_text))]
+fn push_percent(text: &mut Text, hundredths: u128)
+    requires { length text.old + 140 ≤ ROOM }
+    ensures value { text.new ≡ text.old ++ percent_text hundredths }
+    ensures fits { length text.new ≤ length text.old + 140 }
+{
+    let mut line = Line::new();
+    line.push(b"padding.percent ");
+    line.push_decimal(hundredths / 100);
+    line.push(b".");
+    line.push_decimal(hundredths / 10 % 10);
+    line.push_decimal(hundredths % 10);
+    text.push_line(&line);
+}
+
+/// Appends what is left of the pool, and how far it was used.
+fn push_holes(text: &mut Text, usage: &Usage)
+    requires { length text.old ≤ 3780 }
+    ensures { text.new ≡ text.old ++ holes_text usage.now }
+{
+    push_number(text, b"pool ", usage.pool);
+    push_number(text, b"free ", usage.pool.saturating_sub(usage.held));
+    push_number(text, b"holes ", usage.holes as u128);
+    push_number(text, b"largest ", usage.largest);
+    push_end(text, usage.end);
+}
+
+/// Appends the highest address that an object had.
+fn push_end(text: &mut Text, end: u128)
+    requires { length text.old + 60 ≤ ROOM }
+    ensures { text.new ≡ text.old ++ end_text end }
+{
+    if end == 0 {
+        text.push(b"highest none\n");
+    } else {
+        end_with_hexadecimal(text, b"highest ", end - 1, b"");
+    }
+}

@@ -1,0 +1,121 @@
+//! What is counted of the replies to a script.
+ghost use Rattle.std.specs.Prelude.{◌≡◌, ℕ, ◌+◌, List, [], ◌∷◌, ◌++◌, length};
+ghost use Rattle.cc_script.specs.Lines.{IsLine};
+ghost use Rattle.cc_command.specs.Tally.{IsTally, count_in, counted};
+
+use cc_script::{LineStart, refusal_line, split_at_line_feed};
+use cc_word::Refusal;
+
+/// How often one refusal was the reply, and where first.
+#[derive(Clone, Copy, Debug, PartialEq, Eq)]
+pub struct Count {
+    /// The refusal.
+    pub refusal: Refusal,
+    /// How many replies are this refusal, at most 2^64 - 1.
+    pub times: u64,
+    /// The number of the first of them among all replies, from 1 up; 0 where none is.
+    pub first: u64,
+}
+
+/// What is counted of replies: how many there are, and of each refusal how many, and where first.
+#[derive(Drop)]
+pub struct Tally {
+    /// How many replies there are, at most 2^64 - 1.
+    pub lines: u64,
+    /// The beginning of a reply that has not ended yet.
+    pub begun: LineStart,
+    /// The counts of the refusals, in the order of their codes.
+    pub counts: [Count; 22],
+}
+
+/// No reply is this refusal.
+macro_rules! none {
+    ($refusal:ident) => {
+        Count {
+            refusal: Refusal::$refusal,
+            times: 0,
+            first: 0,
+        }
+    };
+}
+
+/// The counts of no replies.
+const NONE: [Count; 22] = [
+    none!(Syntax),
+    none!(Unfinished),
+    none!(TooLong),
+    none!(OutOfRange),
+    none!(NoSlot),
+    none!(Revoked),
+    none!(Sealed),
+    none!(Unsealed),
+    none!(OutOfBounds),
+    none!(Inexact),
+    none!(Unrepresentable),
+    none!(MissingPermission),
+    none!(ReservedType),
+    none!(TypeMismatch),
+    none!(NotCanonical),
+    none!(ExceedsAuthority),
+    none!(NoPool),
+    none!(PoolAlreadySet),
+    none!(ZeroSize),
+    none!(NoRoom),
+    none!(NoObject),
+    none!(Full),
+];
+
+impl Count {
+    /// The count with one reply more, whose number this is.
+    fn with_line(self, line: &[u8], number: u64) -> Count
+        ensures { (lines : List (List ℕ)) → self ≡ count_in lines self.refusal → number ≡ counted (length lines + 1)
+            → result ≡ count_in (lines ++ line.now ∷ []) self.refusal }
+    {
+        if refusal_line(self.refusal).bytes() != line {
+            return self;
+        }
+        Count {
+            refusal: self.refusal,
+            times: self.times.saturating_add(1),
+            first: if self.first == 0 { number } else { self.first },
+        }
+    }
+}
+
+impl Tally {
+    /// The tally of no replies.
+    pub fn new() -> Tally
+        ensures { IsTally [] result }
+    {
+        Tally {
+            lines: 0,
+            begun: LineStart::new(),
+            counts: NONE,
+        }
+    }
+
+    /// Counts what stands in the next bytes of the replies. They may begin and end within a reply.
+    pub fn take(&mut self, bytes: &[u8])
+        ensures { (text : List ℕ) → IsTally text self.old → IsTally (text ++ bytes.now) self.new }
+    {
+        let mut rest = bytes;
+        'lines: while let Some((end, after)) = split_at_line_feed(rest) {
+            self.end_line(end);
+            rest = after;
+        }
+        self.begun.extend(rest);
+    }
+
+    /// Counts the reply that ends with these bytes and a line feed.
+    fn end_line(&mut self, end: &[u8])
+        requires { IsLine end.now }
+        ensures { (text : List ℕ) → IsTally text self.old → IsTally (text ++ (end.now ++ 10 ∷ [])) self.new }
+    {
+        self.begun.extend(end);
+        self.lines = self.lines.saturating_add(1);
+        for index in 0..22usize {
+            self.counts[index] = self.counts[index].with_line(self.begun.as_slice(), self.lines);
+        }
+        self.begun.clear();
+    }
+}
