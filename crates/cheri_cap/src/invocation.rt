@@ -14,7 +14,7 @@ use clap::{Arg, ArgAction, ArgMatches, Command, Error, value_parser};
 use std::alloc::{AllocError, Global};
 
 /// What the program is asked to do.
-#[derive(Clone, Copy, Debug, PartialEq, Eq)]
+#[derive(Clone, Copy)]
 pub enum Invocation<'a> {
     /// `show [--line] WORD`: the listing of a word, or its line.
     Show {
@@ -517,6 +517,7 @@ fn bytes_option<'a>(alloc: Global, orders: &'a [&'a str]) -> Arg<'a>
     optional_argument(alloc, "bytes", "ORDER", BYTES_HELP)
         .long("bytes")
         .value_parser(ValueParser::Names(orders))
+}
 
 /// What the command that clap found asks for, or that its values are no choice that it has.
 fn chosen<'a>(alloc: Global, matches: &ArgMatches<'a>) -> Result<Invocation<'a>, Error>

@@ -134,6 +134,3 @@ fn finish<R: Eprint>(rt: &R, ending: Ending) -> u8
     }
     status(ending)
 }
-
-#[cfg(test)]
-mod tests;

@@ -8,7 +8,7 @@ use std::alloc::AllocError;
 use thiserror::Error;
 
 /// Why the program stopped before its end. Its text is the one line that stands on standard error.
-#[derive(Clone, Copy, Debug, PartialEq, Eq, Error)]
+#[derive(Clone, Copy, Debug, Error)]
 pub enum Fault {
     /// Memory was refused.
     #[error("cheri-cap: out of memory")]
@@ -25,7 +25,7 @@ pub enum Fault {
 }
 
 /// How the program ends.
-#[derive(Clone, Copy, Debug, PartialEq, Eq)]
+#[derive(Clone, Copy)]
 pub enum Ending {
     /// The answer was written, or the help that was asked for.
     Answered(Summary),

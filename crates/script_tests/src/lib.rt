@@ -8,3 +8,5 @@ mod bulk;
 mod commands;
 #[cfg(test)]
 mod scripts;
+#[cfg(test)]
+mod values;

@@ -1,8 +1,5 @@
 //! What `==` and `clone` are, of values from the machine up: unequal ones are told apart, and a clone is its original.
-use crate::invocation::Invocation;
-use crate::outcome::{Ending, Fault};
 use cc_bounds::Span;
-use cc_command::PoolTexts;
 use cc_machine::{Align, Len, Object, ObjectState, Op, Reply};
 use cc_script::{ScriptFault, Summary};
 use cc_word::Refusal;
@@ -109,49 +106,7 @@ fn operations_are_told_apart(rt: HostRuntime) -> Result<(), Fail> {
 }
 
 #[test]
-fn endings_are_told_apart(rt: HostRuntime) -> Result<(), Fail> {
-    let answered = |any_error| Ending::Answered(Summary { any_error });
+fn answers_of_a_run_are_told_apart(rt: HostRuntime) {
     assert!(rt; ScriptFault::Read != ScriptFault::Write);
-    assert!(rt; Fault::Memory != Fault::Open);
-    assert!(rt; Ending::Stopped(Fault::Read) != Ending::Stopped(Fault::Write));
-    assert!(rt; answered(false) != answered(true));
-    assert!(rt; answered(false) != Ending::Refused);
-    assert!(rt; Ending::Refused.clone()? == Ending::Refused);
-    assert!(rt; answered(true).clone()? == answered(true));
-    Ok(())
-}
-
-#[test]
-fn invocations_are_told_apart(rt: HostRuntime) {
-    let pool = PoolTexts {
-        base: "0",
-        length: "9",
-    };
-    let other = PoolTexts {
-        base: "9",
-        length: "0",
-    };
-    assert!(rt; pool != other);
-    let plan = |limit, pool, file| Invocation::Plan {
-        limit,
-        pool,
-        align: Align::One,
-        stats: false,
-        file,
-    };
-    assert!(rt; plan(5, pool, None) != plan(6, pool, None));
-    assert!(rt; plan(5, pool, None) != plan(5, other, None));
-    assert!(rt; plan(5, pool, None) != plan(5, pool, Some("a")));
-    let aligned = Invocation::Plan {
-        limit: 5,
-        pool,
-        align: Align::Sixteen,
-        stats: false,
-        file: None,
-    };
-    assert!(rt; plan(5, pool, None) != aligned);
-    let show = |word, as_line| Invocation::Show { word, as_line };
-    assert!(rt; show("1", false) != Invocation::Round { length: "1" });
-    assert!(rt; show("1", false) != show("2", false));
-    assert!(rt; show("1", false) != show("1", true));
+    assert!(rt; Summary { any_error: false } != Summary { any_error: true });
 }

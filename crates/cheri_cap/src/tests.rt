@@ -1,5 +1,0 @@
-//! The tests of the program, by topic.
-
-mod command_line;
-mod endings;
-mod values;
