@@ -1,17 +1,16 @@
 -- Bounds of groups of blocks: what covers the blocks after a change.
 use Rattle.std.proofs.Common.{ℕ, suc, ◌≡◌, ◌+◌, ◌-◌, ◌*◌, ◌/◌, ◌<◌, ◌≤◌, ◌^◌, min, List, [], ◌∷◌, ◌++◌, length, take, drop, get_or, set, arith, sym, ap, subst, ◌∙◌, inl, inr, length-drop, length-take, take-add}
 use Rattle.std.proofs.lemmas.Bool.{cases_eq, cases_lt}
-use Rattle.std.proofs.lemmas.List.{drop-drop, get_or-drop, get_or-set_other, get_or-set_same, get_or-take, get_or_append_left, length-set, take-append-drop, take_min}
-use Rattle.std.proofs.lemmas.List.Edits.{get_or-insert_below, get_or-remove_below}
+use Rattle.std.proofs.lemmas.List.{drop-drop, get_or-drop, get_or-set_other, get_or-set_same, get_or-take, length-set, take-append-drop, take_min}
 use Rattle.cc_bounds.specs.declared.span.Span.{Span}
 use Rattle.cc_plan.specs.BlockState.{BlockState}
-use Rattle.cc_plan.specs.Blocks.{AreBlocks, IsBlock, blocks_end, spans_in}
+use Rattle.cc_plan.specs.Blocks.{AreBlocks, blocks_end, spans_in}
 use Rattle.cc_plan.specs.Chain.{IsChain, IsStart, end_of, most_room}
 use Rattle.cc_plan.specs.Gap.{IsNeeded}
-use Rattle.cc_plan.specs.Groups.{AreCovered, AreCoveredBut, group_of}
+use Rattle.cc_plan.specs.Groups.{AreCovered, AreCoveredBut}
 use Rattle.cc_plan.proofs.BlockLemmas.{most_room_append}
 use Rattle.cc_plan.proofs.GapLemmas.{narrow}
-use Rattle.cc_plan.proofs.BlockRowLemmas.{blocks_end_append, row_above, row_chain, row_ends, spans_append}
+use Rattle.cc_plan.proofs.BlockRowLemmas.{blocks_end_append, row_chain, row_ends, spans_append}
 
 -- ---- A group's bound changed.
 

@@ -1,5 +1,5 @@
 -- Groups of 32 blocks of a row, each with a bound of its own. No public clause cites this file.
-use Rattle.std.specs.Prelude.{ℕ, ◌+◌, ◌*◌, ◌/◌, ◌<◌, ◌≤◌, List, length, take, drop}
+use Rattle.std.specs.Prelude.{ℕ, ◌*◌, ◌/◌, ◌<◌, ◌≤◌, List, length, take, drop}
 use Rattle.std.specs.List.{slice_index_or}
 use Rattle.cc_plan.specs.BlockState.{BlockState}
 
