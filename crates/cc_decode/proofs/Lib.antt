@@ -1,3 +1,4 @@
 mod EntryLemmas
 mod AnswerLemmas
 mod EngineLemmas
+mod ListingLemmas

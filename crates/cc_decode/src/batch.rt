@@ -1,5 +1,5 @@
 //! Answers that wait to be written, in fixed room.
-ghost use Rattle.std.specs.Prelude.{◌≡◌, ◌+◌, ◌-◌, ◌≤◌, ◌<◌, ◌++◌, ◌∷◌, ◌↔◌, [], decimal, false, length, take, IsTrue};
+ghost use Rattle.std.specs.Prelude.{◌≡◌, ◌+◌, ◌-◌, ◌≤◌, ◌<◌, ◌++◌, ◌∷◌, ◌↔◌, [], decimal, false, length, take, IsTrue, if◌then◌else◌};
 ghost use Rattle.std.specs.Fmt.{digits};
 ghost use Rattle.cc_word.specs.WordText.{digits_of};
 ghost use Rattle.cc_script.specs.Replies.{hexadecimal};
@@ -84,6 +84,17 @@ impl Batch {
         ensures fits { length self.new ≡ length self.old + 1 }
     {
         self.push(&[byte]);
+    }
+
+    /// Appends a byte where it is wanted. The byte is put there in any case, and counts or does not.
+    #[inline(always)]
+    pub(crate) fn push_byte_if(&mut self, byte: u8, wanted: bool)
+        requires { length self.old + 1 ≤ 32768 }
+        ensures value { self.new ≡ self.old ++ (if wanted then byte ∷ [] else []) }
+        ensures fits { length self.new ≤ length self.old + 1 }
+    {
+        self.room[self.len] = byte;
+        self.len += usize::from(wanted);
     }
 
     /// Appends the 32 hexadecimal digits of a word.

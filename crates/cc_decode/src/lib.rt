@@ -15,5 +15,5 @@ mod writing;
 pub use engine::decode_words;
 pub use format::Format;
 pub use input::{ByteOrder, InputForm};
-pub use laws::one_cut;
+pub use laws::{one_cut, one_listing};
 pub use options::Options;

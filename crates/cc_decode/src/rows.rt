@@ -1,8 +1,8 @@
 //! The answer to one word, on one line.
-ghost use Rattle.std.specs.Prelude.{◌≡◌, ◌≤◌, ◌<◌, ◌+◌, ◌^◌, ◌∷◌, ◌++◌, [], codes, decimal, length, if◌then◌else◌};
+ghost use Rattle.std.specs.Prelude.{◌≡◌, ◌≤◌, ◌<◌, ◌+◌, ◌^◌, ◌∷◌, ◌++◌, [], codes, decimal, length, true, if◌then◌else◌};
 ghost use Rattle.cc_word.specs.Word.{bit_of};
 ghost use Rattle.cc_word.specs.WordText.{digits_of};
-ghost use Rattle.cc_cap.specs.LineText.{line_of};
+ghost use Rattle.cc_cap.specs.LineText.{letter_of, letters_of, line_of, marks_of, prefixed_digits};
 ghost use Rattle.cc_cap.specs.Permissions.{bits_of};
 ghost use Rattle.cc_script.specs.Replies.{hexadecimal};
 ghost use Rattle.cc_command.specs.Permissions.{permissions_text};
@@ -13,10 +13,16 @@ use crate::batch::Batch;
 use crate::format::Format;
 use bitflags::Flags;
 use cc_bounds::{Span, decode, exponent};
-use cc_cap::{Perms, WordLine, is_canonical};
+use cc_cap::{Perms, is_canonical};
 use cc_command::push_permissions;
 use cc_script::Line;
 use cc_word::{Fields, unpack};
+
+/// The type of an unsealed capability.
+const UNSEALED_TYPE: u32 = 0x3ffff;
+
+/// The type of a sealed entry.
+const SENTRY_TYPE: u32 = 0x3fffe;
 
 /// Appends the answer to a word.
 pub(crate) fn push_row(batch: &mut Batch, format: Format, word: u128)
@@ -49,7 +55,79 @@ fn push_line(batch: &mut Batch, word: u128)
     ensures row { AppendsRow Format.Text word batch.old batch.new }
     ensures fits { length batch.new ≤ length batch.old + 500 }
 {
-    batch.push(WordLine::of_word(word, true).bytes());
+    let fields = unpack(word);
+    let bounds = decode(&fields);
+    push_line_of(batch, &fields, &bounds);
+}
+
+/// Appends the line of a tagged word with these fields and bounds.
+fn push_line_of(batch: &mut Batch, fields: &Fields, bounds: &Span)
+    requires { length batch.old + 500 ≤ 32768 }
+    ensures value { batch.new ≡ batch.old ++ line_of fields.now bounds.now true }
+    ensures fits { length batch.new ≤ length batch.old + 500 }
+{
+    push_address_and_letters(batch, fields);
+    push_bounds_and_mark(batch, fields, bounds);
+}
+
+/// Appends the address, and the letters of the permissions behind a bracket.
+fn push_address_and_letters(batch: &mut Batch, fields: &Fields)
+    requires { length batch.old + 41 ≤ 32768 }
+    ensures value { batch.new ≡ batch.old ++ prefixed_digits fields.now.address ++ codes " [" ++ letters_of fields.now.perms }
+    ensures fits { length batch.new ≤ length batch.old + 41 }
+{
+    batch.push_hexadecimal(u128::from(fields.address));
+    batch.push(b" [");
+    push_letters(batch, Perms::from_bits_retain(fields.perms));
+}
+
+/// Appends the letters of permissions.
+fn push_letters(batch: &mut Batch, perms: Perms)
+    requires { length batch.old + 5 ≤ 32768 }
+    ensures value { batch.new ≡ batch.old ++ letters_of (bits_of perms) }
+    ensures fits { length batch.new ≤ length batch.old + 5 }
+{
+    push_letter(batch, b'r', perms, Perms::LOAD);
+    push_letter(batch, b'w', perms, Perms::STORE);
+    push_letter(batch, b'x', perms, Perms::EXECUTE);
+    push_letter(batch, b'R', perms, Perms::LOAD_CAP);
+    push_letter(batch, b'W', perms, Perms::STORE_CAP);
+}
+
+/// Appends the letter of a permission, where the set has it.
+#[inline(always)]
+fn push_letter(batch: &mut Batch, letter: u8, perms: Perms, permission: Perms)
+    requires { length batch.old + 1 ≤ 32768 }
+    ensures value { batch.new ≡ batch.old ++ letter_of (letter ∷ []) (bits_of perms) (bits_of permission) }
+    ensures fits { length batch.new ≤ length batch.old + 1 }
+{
+    batch.push_byte_if(letter, perms.contains(permission));
+}
+
+/// Appends the bounds behind a comma, the bracket and the mark of a tagged word's type.
+fn push_bounds_and_mark(batch: &mut Batch, fields: &Fields, bounds: &Span)
+    requires { length batch.old + 90 ≤ 32768 }
+    ensures value { batch.new ≡ batch.old ++ codes "," ++ prefixed_digits bounds.now.base ++ codes "-" ++ prefixed_digits bounds.now.top
+        ++ codes "]" ++ marks_of fields.now.otype true }
+    ensures fits { length batch.new ≤ length batch.old + 90 }
+{
+    batch.push_byte(b',');
+    push_span(batch, b'-', bounds);
+    batch.push_byte(b']');
+    push_mark(batch, fields.otype);
+}
+
+/// Appends what is said of the type of a tagged word.
+fn push_mark(batch: &mut Batch, otype: u32)
+    requires { length batch.old + 10 ≤ 32768 }
+    ensures value { batch.new ≡ batch.old ++ marks_of otype true }
+    ensures fits { length batch.new ≤ length batch.old + 10 }
+{
+    match otype {
+        UNSEALED_TYPE => batch.push(b""),
+        SENTRY_TYPE => batch.push(b" (sentry)"),
+        _ => batch.push(b" (sealed)"),
+    }
 }
 
 /// Appends the comma-separated values of a word.
@@ -71,19 +149,19 @@ fn push_csv_values(batch: &mut Batch, word: u128, fields: &Fields, bounds: &Span
     ensures fits { length batch.new ≤ length batch.old + 500 }
 {
     push_values(batch, b',', word, fields, bounds, canonical);
-    push_address_and_names(batch, fields);
+    push_address_and_names(batch, fields.address, fields.perms);
 }
 
 /// Appends the address and the names of the permissions, with a comma before each.
-fn push_address_and_names(batch: &mut Batch, fields: &Fields)
+fn push_address_and_names(batch: &mut Batch, address: u64, perms: u16)
     requires { length batch.old + 200 ≤ 32768 }
-    ensures value { batch.new ≡ batch.old ++ codes "," ++ hexadecimal fields.now.address ++ codes "," ++ permissions_text fields.now.perms }
+    ensures value { batch.new ≡ batch.old ++ codes "," ++ hexadecimal address ++ codes "," ++ permissions_text perms }
     ensures fits { length batch.new ≤ length batch.old + 200 }
 {
     batch.push_byte(b',');
-    batch.push_hexadecimal(u128::from(fields.address));
+    batch.push_hexadecimal(u128::from(address));
     batch.push_byte(b',');
-    push_names(batch, fields.perms);
+    push_names(batch, perms);
 }
 
 /// Appends the names of permissions.
@@ -123,6 +201,16 @@ fn push_bounds(batch: &mut Batch, separator: u8, word: u128, bounds: &Span)
 {
     batch.push_word(word);
     batch.push_byte(separator);
+    push_span(batch, separator, bounds);
+}
+
+/// Appends base and top, and a separator between.
+#[inline(always)]
+fn push_span(batch: &mut Batch, separator: u8, bounds: &Span)
+    requires { length batch.old + 69 ≤ 32768 }
+    ensures value { batch.new ≡ batch.old ++ hexadecimal bounds.now.base ++ (separator ∷ []) ++ hexadecimal bounds.now.top }
+    ensures fits { length batch.new ≤ length batch.old + 69 }
+{
     batch.push_hexadecimal(u128::from(bounds.base));
     batch.push_byte(separator);
     batch.push_hexadecimal(bounds.top);
@@ -152,5 +240,9 @@ fn push_encoding(batch: &mut Batch, separator: u8, exponent: u8, canonical: bool
     batch.push_byte(separator);
     batch.push_decimal(exponent);
     batch.push_byte(separator);
-    batch.push(if canonical { b"yes" } else { b"no" });
+    if canonical {
+        batch.push(b"yes");
+    } else {
+        batch.push(b"no");
+    }
 }

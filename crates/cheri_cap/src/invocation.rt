@@ -221,11 +221,12 @@ Example:
 const DECODE_ABOUT: &str = "Shows what each word of a text holds, one on each line";
 
 const FORMAT_HELP: &str = "\
-How the answer to a word is written: its values in columns or with commas, or the line that debuggers
-show [default: columns]";
+How the answer to a word is written: its values in columns, the line that debuggers show, or its
+values with commas [default: columns]";
 
 const BYTES_HELP: &str = "\
-Read raw words of 16 bytes, the lowest byte first or the highest [default: lines of digits]";
+Read raw words of 16 bytes, the lowest byte first or the highest
+[default: lines of digits]";
 
 const WORDS_FILE_HELP: &str = "The words' file; standard input where it is `-` or left out";
 
@@ -248,9 +249,12 @@ Examples:
   ffff0000000f803d0000000000010070 0x10070 0x12070 ffff 0 3ffff 1 yes
   02001fffc48190040000000000001000 0x1000 0x1200 0200 0 00007 0 yes
 
-  cheri-cap decode --format csv words.txt >words.csv
-  dd if=memory.dump bs=16 skip=64 count=1 | cheri-cap decode --bytes little --format text
-  0x10070 [rwxRW,0x10070-0x12070]";
+  printf 'p\\0\\1\\0\\0\\0\\0\\0=\\200\\17\\0\\0\\0\\377\\377' | cheri-cap decode --bytes little --format text
+  0x10070 [rwxRW,0x10070-0x12070]
+
+  echo 02001fffc48190040000000000001000 | cheri-cap decode --format csv
+  word,base,top,perms,flag,type,exponent,canonical,address,names
+  02001fffc48190040000000000001000,0x1000,0x1200,0200,0,00007,0,yes,0x1000,UNSEAL";
 
 const SLOTS_HELP: &str = "\
 How many slots the machine can have, and how many objects, from 1 to 65536 [default: 4096]";

@@ -1,4 +1,4 @@
-use Rattle.std.proofs.Common.{rules, ◌≡◌, ℕ, List, [], sym, take, subst}
+use Rattle.std.proofs.Common.{rules, ◌≡◌, ℕ, List, sym, take, subst}
 use Rattle.std.specs.Io.KnownBytes.{Consumes, Appends}
 use Rattle.cc_script.specs.Devices.{TakesBeginning}
 use Rattle.cc_script.specs.Output.{rest_text}
