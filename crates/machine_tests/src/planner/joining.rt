@@ -72,6 +72,13 @@ fn blocks_of_one_span_are_joined(rt: HostRuntime) -> Result<(), Fail> {
         assert_eq!(rt; placer.room(u128::from(*len), 1), Some(end));
         end = kept.base.wrapping_add(*len);
     }
+    let mut end = 0u64;
+    for len in &LENGTHS {
+        let hole = len.wrapping_mul(56);
+        assert!(rt; hole > 0);
+        assert_eq!(rt; placer.room(u128::from(hole), 1), Some(end));
+        end = end.wrapping_add(len.wrapping_mul(57));
+    }
     assert_eq!(rt; placer.count(), 8);
     Ok(())
 }
