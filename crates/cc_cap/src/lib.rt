@@ -20,4 +20,3 @@ pub use laws::{
 pub use obj_type::ObjType;
 pub use perms::Perms;
 pub use word_line::WordLine;
-
