@@ -1,10 +1,9 @@
 //! The answer to one word, on one line.
 ghost use Rattle.std.specs.Prelude.{◌≡◌, ◌≤◌, ◌<◌, ◌+◌, ◌^◌, ◌∷◌, ◌++◌, [], codes, decimal, length, true, if◌then◌else◌};
 ghost use Rattle.cc_word.specs.Word.{bit_of};
-ghost use Rattle.cc_word.specs.WordText.{digits_of};
-ghost use Rattle.cc_cap.specs.LineText.{letter_of, letters_of, line_of, marks_of, prefixed_digits};
+ghost use Rattle.cc_word.specs.WordText.{digits_of, hexadecimal};
+ghost use Rattle.cc_cap.specs.LineText.{letter_of, letters_of, line_of, marks_of};
 ghost use Rattle.cc_cap.specs.Permissions.{bits_of};
-ghost use Rattle.cc_script.specs.Replies.{hexadecimal};
 ghost use Rattle.cc_command.specs.Permissions.{permissions_text};
 ghost use Rattle.cc_decode.specs.Engine.{AppendsRow};
 ghost use Rattle.cc_decode.specs.Row.{columns_text, csv_text, values_text};
@@ -73,7 +72,7 @@ fn push_line_of(batch: &mut Batch, fields: &Fields, bounds: &Span)
 /// Appends the address, and the letters of the permissions behind a bracket.
 fn push_address_and_letters(batch: &mut Batch, fields: &Fields)
     requires { length batch.old + 41 ≤ 32768 }
-    ensures value { batch.new ≡ batch.old ++ prefixed_digits fields.now.address ++ codes " [" ++ letters_of fields.now.perms }
+    ensures value { batch.new ≡ batch.old ++ hexadecimal fields.now.address ++ codes " [" ++ letters_of fields.now.perms }
     ensures fits { length batch.new ≤ length batch.old + 41 }
 {
     batch.push_hexadecimal(u128::from(fields.address));
@@ -107,7 +106,7 @@ fn push_letter(batch: &mut Batch, letter: u8, perms: Perms, permission: Perms)
 /// Appends the bounds behind a comma, the bracket and the mark of a tagged word's type.
 fn push_bounds_and_mark(batch: &mut Batch, fields: &Fields, bounds: &Span)
     requires { length batch.old + 90 ≤ 32768 }
-    ensures value { batch.new ≡ batch.old ++ codes "," ++ prefixed_digits bounds.now.base ++ codes "-" ++ prefixed_digits bounds.now.top
+    ensures value { batch.new ≡ batch.old ++ codes "," ++ hexadecimal bounds.now.base ++ codes "-" ++ hexadecimal bounds.now.top
         ++ codes "]" ++ marks_of fields.now.otype true }
     ensures fits { length batch.new ≤ length batch.old + 90 }
 {
