@@ -36,6 +36,25 @@ def evaluate(text):
         raise gdb.GdbError(str(error))
 
 
+def address_of(value):
+    """The address that a value is, or that of an array."""
+    try:
+        return int(value.address if value.type.strip_typedefs().code == gdb.TYPE_CODE_ARRAY else value)
+    except gdb.error:
+        raise gdb.GdbError("ADDRESS is a number, a pointer or an array; & before a value is its address")
+
+
+def count_of(value):
+    """A number of words."""
+    try:
+        count = int(value)
+    except gdb.error:
+        count = -1
+    if count < 0:
+        raise gdb.GdbError("COUNT is a number of words, from 0 up")
+    return count
+
+
 def from_memory(address):
     """The capability at an address of the inferior."""
     try:
@@ -59,8 +78,8 @@ def of_value(value):
 class CapDump(gdb.Command):
     """Show the capabilities from an address on: capdump ADDRESS [COUNT]
 
-COUNT words of 16 bytes each, one if it is left out, in the byte order of the target. Each line has the address, the
-word and what it stands for. Whether memory holds a capability is told by its tag, which is not looked at."""
+ADDRESS is a number, a pointer or an array; one with spaces stands in quotes. COUNT words of 16 bytes each, one if it is
+left out, in the byte order of the target. Each line has the address, the word and what it stands for. Whether memory holds a capability is told by its tag, which is not looked at."""
 
     def __init__(self):
         super().__init__("capdump", gdb.COMMAND_DATA, gdb.COMPLETE_EXPRESSION)
@@ -69,9 +88,8 @@ word and what it stands for. Whether memory holds a capability is told by its ta
         words = gdb.string_to_argv(argument)
         if len(words) not in (1, 2):
             raise gdb.GdbError("usage: capdump ADDRESS [COUNT]")
-        start = evaluate(words[0])
-        start = int(start.address if start.type.strip_typedefs().code == gdb.TYPE_CODE_ARRAY else start)
-        count = int(evaluate(words[1])) if len(words) == 2 else 1
+        start = address_of(evaluate(words[0]))
+        count = count_of(evaluate(words[1])) if len(words) == 2 else 1
         for address in range(start, start + BYTES * count, BYTES):
             cap = from_memory(address)
             print(f"{address:#x}: {cap.digits} {cap}")

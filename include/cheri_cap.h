@@ -4,7 +4,8 @@
  * CHERI Concentrate, the compressed 128-bit capabilities of CHERI-RISC-V for 64-bit addresses (CHERI
  * ISA version 9): fields, decoding, setting bounds, representable addresses and lengths, canonical words, and
  * the rules by which one capability is derived from another, on words.
- * The functions are those of the static library libcc_ffi.a. Each is proved to return what its contract
+ * The functions are those of the library libcheri_cap, static or shared; a checkout builds the static one as
+ * crates/cc_ffi/out/libcc_ffi.a. Each is proved to return what its contract
  * in crates/cc_ffi says; the comments here say the same in words. The inline functions at the end are
  * plain C: they are tested and not proved.
  *
@@ -255,6 +256,9 @@ size_t cheri_cap_format(uint64_t high, uint64_t low, bool tagged, char *text /* 
  * below of that result and of its bits, after "Standard:", is told from the standard, and is neither proved
  * nor tested here; so is that a result of an untagged word or by an untagged authority has no tag. A
  * processor takes a tagged sentry as a sealed capability.
+ *
+ * CSealEntry, CInvoke and jumps have no call here. The word with another type, as a sentry's or an unsealed one,
+ * is cheri_cap_pack of its fields with another `otype`.
  */
 
 /*
@@ -372,7 +376,10 @@ static inline int cheri_cap_compare(cheri_cap_u128 one, cheri_cap_u128 other)
     return (one.low > other.low) - (one.low < other.low);
 }
 
-/* The top of bounds, and their length: the top less the base, modulo 2^128 where it is below the base. */
+/*
+ * The top of bounds, and their length: the top less the base, modulo 2^128 where it is below the base. Standard:
+ * CGetLen answers 2^64 - 1 for a length of 2^64.
+ */
 static inline cheri_cap_u128 cheri_cap_top(const cheri_cap_bounds *bounds)
 {
     cheri_cap_u128 top = {bounds->top_high, bounds->top_low};
@@ -442,7 +449,10 @@ static inline const char *cheri_cap_refusal_name(uint8_t refusal)
     return refusal >= 7 && refusal <= 16 ? names[refusal - 7] : "";
 }
 
-/* Whether the bounds hold the byte at the address. */
+/*
+ * Whether the bounds hold the byte at the address. They hold all bytes of an access where they hold its first and
+ * its last, and the last address is not below the first.
+ */
 static inline bool cheri_cap_bounds_hold(const cheri_cap_bounds *bounds, uint64_t address)
 {
     return bounds->base <= address && (bounds->top_high != 0 || address < bounds->top_low);

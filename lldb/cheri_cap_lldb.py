@@ -58,7 +58,20 @@ def address_of(context, text):
     value = evaluate(context, text)
     if value.GetType().GetCanonicalType().IsArrayType():
         value = evaluate(context, f"&({text})")
-    return value.GetValueAsUnsigned()
+    error = lldb.SBError()
+    address = value.GetValueAsUnsigned(error, 0)
+    if error.Fail():
+        raise Refused("ADDRESS is a number, a pointer or an array; & before a value is its address")
+    return address
+
+
+def count_of(context, text):
+    """A number of words."""
+    error = lldb.SBError()
+    count = evaluate(context, text).GetValueAsSigned(error, -1)
+    if error.Fail() or count < 0:
+        raise Refused("COUNT is a number of words, from 0 up")
+    return count
 
 
 def of_value(context, value):
@@ -79,7 +92,7 @@ def capdump(debugger, command, context, result, _):
         if len(words) not in (1, 2):
             raise Refused("usage: capdump ADDRESS [COUNT]")
         start = address_of(context, words[0])
-        count = evaluate(context, words[1]).GetValueAsUnsigned() if len(words) == 2 else 1
+        count = count_of(context, words[1]) if len(words) == 2 else 1
         for address in range(start, start + BYTES * count, BYTES):
             cap = from_memory(context, address)
             result.AppendMessage(f"{address:#x}: {cap.digits} {cap}")

@@ -87,6 +87,7 @@ SENTRY = 0x3FFFE
 LAST_SEALING = 0x3FFEF
 
 _HALF = 2**64 - 1
+_HINT = "CHERI_CAP_LIBRARY names its file, and `examples/run shared` of a checkout makes it"
 _LINE_SIZE = 96
 
 
@@ -182,7 +183,7 @@ def _load():
             calls[name] = library[f"cheri_cap_{name}"]
             calls[name].restype, calls[name].argtypes = answer, parameters
     except (OSError, AttributeError) as error:
-        raise ImportError(f"cheri_cap: the shared library cannot be used: {error}") from error
+        raise ImportError(f"cheri_cap: the shared library cannot be used: {error}; {_HINT}") from error
     if calls["version"]() != VERSION:
         raise ImportError(f"cheri_cap: {place} is of version {calls['version']()}, and this module is for {VERSION}")
     return calls
