@@ -4,12 +4,13 @@ _cheri_cap() {
   local word=${COMP_WORDS[COMP_CWORD]} before=${COMP_WORDS[COMP_CWORD - 1]} command=${COMP_WORDS[1]} options='-h --help'
   COMPREPLY=()
   if ((COMP_CWORD == 1)); then
-    mapfile -t COMPREPLY < <(compgen -W 'show round run plan decode explain -h --help -V --version' -- "$word")
+    mapfile -t COMPREPLY < <(compgen -W 'show round run plan map decode explain -h --help -V --version' -- "$word")
     return
   fi
   case $command in
     run) options+=' --slots --stats' ;;
     plan) options+=' --slots --align --stats' ;;
+    map) options+=' --slots --align' ;;
     decode) options+=' --format --bytes' ;;
     show) options+=' --line' ;;
     explain) options+=' --length --base' ;;
@@ -24,7 +25,7 @@ _cheri_cap() {
     *)
       if [[ $word == -* ]]; then
         mapfile -t COMPREPLY < <(compgen -W "$options" -- "$word")
-      elif [[ $command == run || $command == plan || $command == decode ]]; then
+      elif [[ $command == run || $command == plan || $command == map || $command == decode ]]; then
         compopt -o filenames 2>/dev/null
         mapfile -t COMPREPLY < <(compgen -f -- "$word")
       fi

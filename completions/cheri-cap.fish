@@ -7,14 +7,15 @@ complete -c cheri-cap -n __fish_use_subcommand -a show -d 'Show the fields of a 
 complete -c cheri-cap -n __fish_use_subcommand -a round -d 'Show what bounds of N bytes take'
 complete -c cheri-cap -n __fish_use_subcommand -a run -d 'Run a script on a new machine'
 complete -c cheri-cap -n __fish_use_subcommand -a plan -d 'Run a script on a machine with a pool'
+complete -c cheri-cap -n __fish_use_subcommand -a map -d 'Draw a pool at the end of a script'
 complete -c cheri-cap -n __fish_use_subcommand -a decode -d 'Show what each word of a text holds'
 complete -c cheri-cap -n __fish_use_subcommand -a explain -d 'Explain how a capability word is decoded'
 complete -c cheri-cap -n '__fish_seen_subcommand_from show' -l line -d 'Show the word on one line'
 complete -c cheri-cap -n '__fish_seen_subcommand_from explain' -l length -x -d 'Explain bounds of so many bytes'
 complete -c cheri-cap -n '__fish_seen_subcommand_from explain' -l base -x -d 'Their first address'
-complete -c cheri-cap -n '__fish_seen_subcommand_from run plan' -l slots -x -d 'How many slots and objects, 1 to 65536'
+complete -c cheri-cap -n '__fish_seen_subcommand_from run plan map' -l slots -x -d 'How many slots and objects, 1 to 65536'
 complete -c cheri-cap -n '__fish_seen_subcommand_from run plan' -l stats -d 'Sum up the run on standard error'
-complete -c cheri-cap -n '__fish_seen_subcommand_from plan' -l align -x -a '1 16' -d 'How objects are aligned at least'
+complete -c cheri-cap -n '__fish_seen_subcommand_from plan map' -l align -x -a '1 16' -d 'How objects are aligned at least'
 complete -c cheri-cap -n '__fish_seen_subcommand_from decode' -l format -x -a 'columns text csv' -d 'How the answers are written'
 complete -c cheri-cap -n '__fish_seen_subcommand_from decode' -l bytes -x -a 'little big' -d 'Read raw words of 16 bytes'
-complete -c cheri-cap -n '__fish_seen_subcommand_from run plan decode' -F
+complete -c cheri-cap -n '__fish_seen_subcommand_from run plan map decode' -F

@@ -4,3 +4,4 @@ mod StandingLemmas
 mod RequestLemmas
 mod TallyLemmas
 mod UsageLemmas
+mod MapLemmas

@@ -14,3 +14,4 @@ pub mod Request
 pub mod Tally
 pub mod Usage
 pub mod Statistics
+pub mod Map

@@ -14,9 +14,11 @@ pub(crate) const CELLS: usize = 64;
 
 /// Bytes that follow one another, wherever they stand: from `first` up to, and without, `end`.
 #[derive(Clone, Copy, Debug)]
-struct Stretch {
-    first: u128,
-    end: u128,
+pub(crate) struct Stretch {
+    /// The first of them.
+    pub(crate) first: u128,
+    /// The one behind the last.
+    pub(crate) end: u128,
 }
 
 /// The rows of a picture.
@@ -101,7 +103,7 @@ fn row_of(steps: &Steps, stretch: &Stretch, mark: u8) -> [u8; CELLS]
 }
 
 /// Whether some byte is in both stretches.
-fn shares_byte(one: &Stretch, other: &Stretch) -> bool
+pub(crate) fn shares_byte(one: &Stretch, other: &Stretch) -> bool
     ensures { IsTrue result ↔ SharesByte (record { base = one.now.first; top = one.now.end }) (record { base = other.now.first; top = other.now.end }) }
 {
     one.first.max(other.first) < one.end.min(other.end)

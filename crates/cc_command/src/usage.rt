@@ -90,9 +90,10 @@ pub fn usage_of(alloc: Global, machine: &Machine) -> Result<Usage, AllocError>
 }
 
 /// The bounds of a pool, and no bytes where there is none.
-fn pool_span(pool: Option<Cap>) -> Span
+pub(crate) fn pool_span(pool: Option<Cap>) -> Span
     ensures value { result ≡ unwrap_or (option_map (λ pool. pool.span) pool) (from_zero 0) }
     ensures in_order { result.base ≤ result.top }
+    ensures fits { result.top ≤ 2 ^ 64 }
 {
     match pool {
         Some(pool) => pool.span(),

@@ -250,6 +250,7 @@ show_whole rows text line = record {
   round = λ same. absurd (other (codes "show") (codes "round") refl same);
   run = λ same. absurd (other (codes "show") (codes "run") refl same);
   plan = λ same. absurd (other (codes "show") (codes "plan") refl same);
+  map = λ same. absurd (other (codes "show") (codes "map") refl same);
   decode = λ same. absurd (other (codes "show") (codes "decode") refl same);
   explain = λ same. absurd (other (codes "show") (codes "explain") refl same);
 }
@@ -261,6 +262,7 @@ round_whole rows text = record {
   round = λ _. text;
   run = λ same. absurd (other (codes "round") (codes "run") refl same);
   plan = λ same. absurd (other (codes "round") (codes "plan") refl same);
+  map = λ same. absurd (other (codes "round") (codes "map") refl same);
   decode = λ same. absurd (other (codes "round") (codes "decode") refl same);
   explain = λ same. absurd (other (codes "round") (codes "explain") refl same);
 }
@@ -272,6 +274,7 @@ run_whole rows limit stats = record {
   round = λ same. absurd (other (codes "run") (codes "round") refl same);
   run = λ _. (limit, stats);
   plan = λ same. absurd (other (codes "run") (codes "plan") refl same);
+  map = λ same. absurd (other (codes "run") (codes "map") refl same);
   decode = λ same. absurd (other (codes "run") (codes "decode") refl same);
   explain = λ same. absurd (other (codes "run") (codes "explain") refl same);
 }
@@ -283,8 +286,21 @@ plan_whole rows base size limit align stats = record {
   round = λ same. absurd (other (codes "plan") (codes "round") refl same);
   run = λ same. absurd (other (codes "plan") (codes "run") refl same);
   plan = λ _. (base, size, limit, align, stats);
+  map = λ same. absurd (other (codes "plan") (codes "map") refl same);
   decode = λ same. absurd (other (codes "plan") (codes "decode") refl same);
   explain = λ same. absurd (other (codes "plan") (codes "explain") refl same);
+}
+
+map_whole : (rows : List Row) → HasText (codes "base") rows → HasText (codes "length") rows → HasLimit rows → HasAlign rows → IsWhole (codes "map") rows
+map_whole rows base size limit align = record {
+  known = refl;
+  show = λ same. absurd (other (codes "map") (codes "show") refl same);
+  round = λ same. absurd (other (codes "map") (codes "round") refl same);
+  run = λ same. absurd (other (codes "map") (codes "run") refl same);
+  plan = λ same. absurd (other (codes "map") (codes "plan") refl same);
+  map = λ _. (base, size, limit, align);
+  decode = λ same. absurd (other (codes "map") (codes "decode") refl same);
+  explain = λ same. absurd (other (codes "map") (codes "explain") refl same);
 }
 
 decode_whole : (rows : List Row) → HasFormat rows → HasOrder rows → IsWhole (codes "decode") rows
@@ -294,6 +310,7 @@ decode_whole rows format order = record {
   round = λ same. absurd (other (codes "decode") (codes "round") refl same);
   run = λ same. absurd (other (codes "decode") (codes "run") refl same);
   plan = λ same. absurd (other (codes "decode") (codes "plan") refl same);
+  map = λ same. absurd (other (codes "decode") (codes "map") refl same);
   decode = λ _. (format, order);
   explain = λ same. absurd (other (codes "decode") (codes "explain") refl same);
 }
@@ -305,6 +322,7 @@ explain_whole rows choice = record {
   round = λ same. absurd (other (codes "explain") (codes "round") refl same);
   run = λ same. absurd (other (codes "explain") (codes "run") refl same);
   plan = λ same. absurd (other (codes "explain") (codes "plan") refl same);
+  map = λ same. absurd (other (codes "explain") (codes "map") refl same);
   decode = λ same. absurd (other (codes "explain") (codes "decode") refl same);
   explain = λ _. choice;
 }
@@ -325,11 +343,14 @@ module _ (aligns : Bor (List (Bor Text))) (are : texts aligns.now ≡ codes "1" 
   abbrev plan : Shape
   plan = get_or (built (program aligns formats orders)).subs 3 help_shape
 
+  abbrev map : Shape
+  map = get_or (built (program aligns formats orders)).subs 4 help_shape
+
   abbrev decode : Shape
-  decode = get_or (built (program aligns formats orders)).subs 4 help_shape
+  decode = get_or (built (program aligns formats orders)).subs 5 help_shape
 
   abbrev explain : Shape
-  explain = get_or (built (program aligns formats orders)).subs 5 help_shape
+  explain = get_or (built (program aligns formats orders)).subs 6 help_shape
 
   -- a call for help is a fault, and no row's
   help_gives : (c : List Rule) → GivesValue c (filled help_rule)
@@ -366,6 +387,21 @@ module _ (aligns : Bor (List (Bor Text))) (are : texts aligns.now ≡ codes "1" 
             set_gives plan.rules _ refl refl refl refl,
             (set_gives plan.rules _ refl refl refl refl, (help_gives plan.rules, tt)),
           ),
+        ),
+      ),
+    ),
+  )
+
+  map_gives : GiveValues map.rules map.rules
+  map_gives = (
+    set_gives map.rules _ refl refl refl refl,
+    (
+      set_gives map.rules _ refl refl refl refl,
+      (
+        set_gives map.rules _ refl refl refl refl,
+        (
+          set_gives map.rules _ refl refl refl refl,
+          (set_gives map.rules _ refl refl refl refl, (help_gives map.rules, tt)),
         ),
       ),
     ),
@@ -426,6 +462,14 @@ module _ (aligns : Bor (List (Bor Text))) (are : texts aligns.now ≡ codes "1" 
       let stats = flag_served plan words (codes "stats") plan_gives refl e in
       (codes "plan", rows, refl, plan_whole rows (wanted.1.1.1.0 refl) (wanted.1.1.1.1.0 refl) limit align stats)
 
+  map_serves : Serves map
+  map_serves words e choice =
+      let rows = rows_after map.rules [] words in
+      let wanted = required_given map words map_gives e in
+      let limit = limit_served map words map_gives refl e in
+      let align = has_align aligns are rows (taken map.rules (codes "align") (filled (align_option aligns)) rows (level-given map [] words false [] map_gives e) refl) in
+      (codes "map", rows, refl, map_whole rows (wanted.1.1.0 refl) (wanted.1.1.1.0 refl) limit align)
+
   decode_serves : Serves decode
   decode_serves words e choice =
       let rows = rows_after decode.rules [] words in
@@ -438,7 +482,7 @@ module _ (aligns : Bor (List (Bor Text))) (are : texts aligns.now ≡ codes "1" 
   AllServe (s ∷ rest) = Serves s × AllServe rest
 
   all_serve : AllServe (built (program aligns formats orders)).subs
-  all_serve = (show_serves, (round_serves, (run_serves, (plan_serves, (decode_serves, (explain_serves, tt))))))
+  all_serve = (show_serves, (round_serves, (run_serves, (plan_serves, (map_serves, (decode_serves, (explain_serves, tt)))))))
 
   -- ---- the program
 
@@ -511,6 +555,33 @@ whole met name rows is (named, given, told, has) =
     let both : Some (named, given) ≡ Some (name, rows) = sym told ∙ is in
     let same : (named, given) ≡ (name, rows) = cc both in
     subst (λ (p : Text × List Row). IsWhole p.0 p.1) same has
+
+-- the text is none of these
+abbrev pub IsNone : (names : List Text) (text : Text) → Type 0
+IsNone [] text = ⊤
+IsNone (name ∷ names) text = (text ≡ name → ⊥) × IsNone names text
+
+none_any : (names : List Text) (text : Text) → IsNone names text → list_any (λ name. bytes_eq name text) names ≡ true → ⊥
+none_any [] text others e = cc e
+none_any (name ∷ names) text others e = go (bytes_eq name text) refl e (none_any names text others.1)
+  where
+    go : (b : Bool) → bytes_eq name text ≡ b → (b || list_any (λ name. bytes_eq name text) names) ≡ true
+        → (list_any (λ name. bytes_eq name text) names ≡ true → ⊥) → ⊥
+    go true is e later = others.0 (sym ((bytes_eq-Decides name text).0 is))
+    go false is e later = later e
+
+-- what was found is one of the program's commands
+pub known : (met : Option (Text × List Row)) (name : Text) → HasItsTexts met → Some name ≡ option_map (λ p. p.0) met
+    → IsNone (codes "show" ∷ codes "round" ∷ codes "run" ∷ codes "plan" ∷ codes "map" ∷ codes "decode" ∷ codes "explain" ∷ []) name → ⊥
+known met name (named, rows, is, has) told others =
+    let same : Some name ≡ Some named = told ∙ ap (λ (o : Option (Text × List Row)). option_map (λ p. p.0) o) is in
+    let name_is : name ≡ named = cc same in
+    none_any (codes "show" ∷ codes "round" ∷ codes "run" ∷ codes "plan" ∷ codes "map" ∷ codes "decode" ∷ codes "explain" ∷ []) named
+    (subst (IsNone (codes "show" ∷ codes "round" ∷ codes "run" ∷ codes "plan" ∷ codes "map" ∷ codes "decode" ∷ codes "explain" ∷ [])) name_is others) has.known
+
+-- the name that was found, with its rows
+pub found_name : (m : ArgMatches) (name : Text) → Some name ≡ subcommand_name_of m → Some name ≡ option_map (λ p. p.0) (subcommand_rows_of m)
+found_name m name named = named ∙ named_rows (out-ArgMatches m).subcommand
 
 -- the text as `get_str` gives it
 pub has_text : (f : Found) (id : Text) → HasText id (rows_of f) → IsSome (first_value f id)

@@ -23,7 +23,7 @@ use Rattle.cc_decode.specs.declared.format.Format.{Format}
 use Rattle.cc_decode.specs.declared.format.Format.TheVariants.{Columns, Csv}
 use Rattle.cc_decode.specs.declared.format.Format.TheVariants as format
 use Rattle.cheri_cap.specs.declared.invocation.Invocation.{Invocation}
-use Rattle.cheri_cap.specs.declared.invocation.Invocation.TheVariants.{Decode, Explain, ExplainLength, Plan, Round, Run, Show}
+use Rattle.cheri_cap.specs.declared.invocation.Invocation.TheVariants.{Decode, Explain, ExplainLength, Map, Plan, Round, Run, Show}
 
 -- ---- the program as clap reads it
 
@@ -102,6 +102,16 @@ plan_command aligns =
     let pool = with_rule (with_rule (plan_options aligns) (wanted_argument (codes "base"))) (wanted_argument (codes "length")) in
     with_rule pool (optional_argument (codes "file"))
 
+-- the command `map [--slots N] [--align ALIGN]`
+abbrev pub map_options : Bor (List (Bor Text)) → App
+map_options aligns = with_rule (with_rule (new_app (codes "map")) slots_option) (align_option aligns)
+
+-- the command `map [--slots N] [--align ALIGN] BASE LENGTH [FILE]`
+abbrev pub map_command : Bor (List (Bor Text)) → App
+map_command aligns =
+    let pool = with_rule (with_rule (map_options aligns) (wanted_argument (codes "base"))) (wanted_argument (codes "length")) in
+    with_rule pool (optional_argument (codes "file"))
+
 -- the names of the formats
 abbrev pub format_names : List Text
 format_names = codes "columns" ∷ codes "text" ∷ codes "csv" ∷ []
@@ -131,7 +141,7 @@ bare_program = let bare = new_app (codes "cheri-cap") in record bare {
 abbrev pub program : (aligns formats orders : Bor (List (Bor Text))) → App
 program aligns formats orders =
     let words = with_subcommand (with_subcommand bare_program show_command.top) round_command.top in
-    let scripts = with_subcommand (with_subcommand words run_command.top) (plan_command aligns).top in
+    let scripts = with_subcommand (with_subcommand (with_subcommand words run_command.top) (plan_command aligns).top) (map_command aligns).top in
     with_subcommand (with_subcommand scripts (decode_command formats orders).top) explain_command.top
 
 -- the program as clap reads it, where `--align` takes 1 and 16, `--format` the names of the formats, and `--bytes`
@@ -197,6 +207,7 @@ command_of (ExplainLength base size) = codes "explain"
 command_of (Round size) = codes "round"
 command_of (Run limit stats file) = codes "run"
 command_of (Plan limit pool align stats file) = codes "plan"
+command_of (Map limit pool align file) = codes "map"
 command_of (Decode options file) = codes "decode"
 
 -- each text of the command is the value of its name, and none where the name has no value
@@ -214,6 +225,10 @@ HasValues rows (Run limit stats file) =
 HasValues rows (Plan limit pool align stats file) =
     IsLimit (first_of (codes "slots") rows) limit × IsAlign (first_of (codes "align") rows) align
     × IsGiven (first_of (codes "stats") rows) stats
+    × (first_of (codes "base") rows ≡ Some pool.base.now) × (first_of (codes "length") rows ≡ Some pool.length.now)
+    × (first_of (codes "file") rows ≡ option_map (λ text. text.now) file)
+HasValues rows (Map limit pool align file) =
+    IsLimit (first_of (codes "slots") rows) limit × IsAlign (first_of (codes "align") rows) align
     × (first_of (codes "base") rows ≡ Some pool.base.now) × (first_of (codes "length") rows ≡ Some pool.length.now)
     × (first_of (codes "file") rows ≡ option_map (λ text. text.now) file)
 HasValues rows (Decode options file) =
@@ -293,11 +308,12 @@ HasOrder rows = IfSome (first_of (codes "bytes") rows) (λ text. IsSome (order_i
 
 -- the command of this name is one of the program's, and has what it wants
 pub record IsWhole (name : Text) (rows : List Row) : Type 0 where
-  pub known : list_any (λ command. bytes_eq command name) (codes "show" ∷ codes "round" ∷ codes "run" ∷ codes "plan" ∷ codes "decode" ∷ codes "explain" ∷ []) ≡ true
+  pub known : list_any (λ command. bytes_eq command name) (codes "show" ∷ codes "round" ∷ codes "run" ∷ codes "plan" ∷ codes "map" ∷ codes "decode" ∷ codes "explain" ∷ []) ≡ true
   pub show : name ≡ codes "show" → HasText (codes "word") rows × HasFlag (codes "line") rows
   pub round : name ≡ codes "round" → HasText (codes "length") rows
   pub run : name ≡ codes "run" → HasLimit rows × HasFlag (codes "stats") rows
   pub plan : name ≡ codes "plan" → HasText (codes "base") rows × HasText (codes "length") rows × HasLimit rows × HasAlign rows × HasFlag (codes "stats") rows
+  pub map : name ≡ codes "map" → HasText (codes "base") rows × HasText (codes "length") rows × HasLimit rows × HasAlign rows
   pub decode : name ≡ codes "decode" → HasFormat rows × HasOrder rows
   pub explain : name ≡ codes "explain" → choice_fault_of rows ≡ None
 

@@ -3,7 +3,7 @@ ghost use Rattle.std.specs.Prelude.{◌≡◌, ◌∷◌, [], IfErr, IfOk, IsSom
 ghost use Rattle.clap.specs.Walk.{texts};
 ghost use Rattle.clap.specs.Words.{App, FailsBy, app_of, first_of, first_value, found_of, kind_of, new_app, rows_of, rule_of, subcommand_of, subcommand_rows_of};
 ghost use Rattle.clap.specs.declared.builder.command.Command.TheViews.{out-Command};
-ghost use Rattle.cheri_cap.specs.Invocation.{HasAlign, HasFormat, HasItsTexts, HasLimit, IsAlign, IsFormat, IsGiven, IsInvocation, IsLimit, HasValues, IsProgram, align_option, bare_program, choice_fault_in, choice_fault_of, command_of, decode_command, explain_command, faults_of, format_names, format_option, is_taken, kinds_in, optional_argument, plan_command, plan_options, program, round_command, run_command, show_command, slots_option, valued_option, wanted_argument, HasOrder, IsInput, bytes_option, order_names, HasFlag, flag_option};
+ghost use Rattle.cheri_cap.specs.Invocation.{HasAlign, HasFormat, HasItsTexts, HasLimit, IsAlign, IsFormat, IsGiven, IsInvocation, IsLimit, HasValues, IsProgram, align_option, bare_program, choice_fault_in, choice_fault_of, command_of, decode_command, explain_command, faults_of, format_names, format_option, is_taken, kinds_in, map_command, map_options, optional_argument, plan_command, plan_options, program, round_command, run_command, show_command, slots_option, valued_option, wanted_argument, HasOrder, IsInput, bytes_option, order_names, HasFlag, flag_option};
 
 use cc_command::PoolTexts;
 use cc_decode::{ByteOrder, Format, InputForm, Options};
@@ -59,6 +59,17 @@ pub enum Invocation<'a> {
         align: Align,
         /// Whether the run is summed up on standard error.
         stats: bool,
+        /// The script's file. Standard input where there is none, or where it is `-`.
+        file: Option<&'a str>,
+    },
+    /// `map [--slots N] [--align ALIGN] BASE LENGTH [FILE]`: what holds the bytes of a pool after a script.
+    Map {
+        /// The most slots, and the most objects, that the machine can have: from 1 to 65536.
+        limit: u32,
+        /// The pool's bounds, as they were typed.
+        pool: PoolTexts<'a>,
+        /// The pool's alignment.
+        align: Align,
         /// The script's file. Standard input where there is none, or where it is `-`.
         file: Option<&'a str>,
     },
@@ -218,6 +229,22 @@ Example:
   freed 1 revoked 0 held 100
   swept 1 revoked 1 held 0";
 
+const MAP_ABOUT: &str =
+    "Runs a script on a machine with a pool, as plan does, and prints a map of the pool at its end";
+
+const MAP_AFTER_HELP: &str = "\
+In place of the replies the answer has a line with the size of a cell, at most 16 rows of 64 cells
+that cover the pool, each behind the address of its first cell, and the summary of the run that
+`cheri-cap plan --stats` writes. A cell is `#` where some of its bytes are live, `~` where some are
+freed and wait for a sweep, `*` where there are both, and `.` where no object holds one.
+
+BASE, LENGTH, the machine and the script are those of `cheri-cap plan`, and so is the exit status.
+
+Example:
+  printf 'alloc 20\\nalloc 9\\nfree 1\\n' | cheri-cap map 0x1000 64 | head -n 2
+  cells of 0x1 bytes: # live, ~ quarantined, * both, . free
+  0x1000 ~~~~~~~~~~~~~~~~~~~~#########...................................";
+
 const DECODE_ABOUT: &str = "Shows what each word of a text holds, one on each line";
 
 const FORMAT_HELP: &str = "\
@@ -320,6 +347,7 @@ fn program<'a>(
         .subcommand(round_command(alloc)?)?
         .subcommand(run_command(alloc)?)?
         .subcommand(plan_command(alloc, aligns)?)?
+        .subcommand(map_command(alloc, aligns)?)?
         .subcommand(decode_command(alloc, formats, orders)?)?
         .subcommand(explain_command(alloc)?)
 }
@@ -391,6 +419,30 @@ fn plan_options<'a>(alloc: Global, aligns: &'a [&'a str]) -> Result<Command<'a>,
         .arg(slots_option(alloc))?
         .arg(align_option(alloc, aligns))?
         .arg(flag_option(alloc, "stats", STATS_HELP))
+}
+
+/// `map [--slots N] [--align ALIGN] BASE LENGTH [FILE]`.
+fn map_command<'a>(alloc: Global, aligns: &'a [&'a str]) -> Result<Command<'a>, AllocError>
+    ensures shape { IfOk result (λ command. app_of command ≡ map_command aligns.entry) }
+    ensures local { IfOk result (λ command. (out-Command command).has_globals ≡ false) }
+{
+    let base = wanted_argument(alloc, "base", "BASE", BASE_HELP);
+    let length = wanted_argument(alloc, "length", "LENGTH", POOL_LENGTH_HELP);
+    let file = optional_argument(alloc, "file", "FILE", FILE_HELP);
+    map_options(alloc, aligns)?
+        .arg(base)?
+        .arg(length)?
+        .arg(file)
+}
+
+/// `map [--slots N] [--align ALIGN]`.
+fn map_options<'a>(alloc: Global, aligns: &'a [&'a str]) -> Result<Command<'a>, AllocError>
+    ensures shape { IfOk result (λ command. app_of command ≡ map_options aligns.entry) }
+    ensures local { IfOk result (λ command. (out-Command command).has_globals ≡ false) }
+{
+    bare_command(alloc, "map", MAP_ABOUT, MAP_AFTER_HELP)
+        .arg(slots_option(alloc))?
+        .arg(align_option(alloc, aligns))
 }
 
 /// `decode [--format FORMAT] [--bytes ORDER] [FILE]`.
@@ -595,6 +647,15 @@ fn invocation_of<'a>(matches: &ArgMatches<'a>) -> Invocation<'a>
             align: align_of(plan),
             stats: is_given(plan, "stats"),
             file: plan.get_str("file"),
+        },
+        Some(("map", map)) => Invocation::Map {
+            limit: limit_of(map),
+            pool: PoolTexts {
+                base: wanted_text(map, "base"),
+                length: wanted_text(map, "length"),
+            },
+            align: align_of(map),
+            file: map.get_str("file"),
         },
         Some(("decode", decode)) => Invocation::Decode {
             options: Options {

@@ -121,6 +121,12 @@ fn answer<R: AllocGlobal + Files + Input + Print + Eprint>(
             stats,
             file,
         } => running::plan(rt, limit, pool, align, stats, file),
+        Invocation::Map {
+            limit,
+            pool,
+            align,
+            file,
+        } => running::map(rt, limit, pool, align, file),
         Invocation::Decode { options, file } => running::decode(rt, options, file),
     }
 }

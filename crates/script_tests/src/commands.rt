@@ -2,6 +2,7 @@
 
 mod devices;
 mod explaining;
+mod map;
 mod planning;
 mod rounding;
 mod rows;

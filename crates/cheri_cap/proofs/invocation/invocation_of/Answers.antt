@@ -1,7 +1,8 @@
-use Rattle.std.proofs.Common.{◌∙◌, ap, codes, refl, sym, Some}
+use Rattle.std.proofs.Common.{rules, ◌∙◌, ap, codes, option_map, refl, sym, Some}
 use Rattle.clap.specs.Words.{Text, found_of, rows_of}
 use Rattle.clap.proofs.WalkLemmas.{first_value-rows}
-use Rattle.cheri_cap.proofs.InvocationLemmas.{command_is, has_text, whole}
+use Rattle.cheri_cap.proofs.InvocationLemmas.{command_is, found_name, has_text, known, whole}
+use Rattle.cheri_cap.proofs.invocation.invocation_of.Goals.{in_default-via-in-Some+in_default, in_default-via-in_default}
 use Rattle.cheri_cap.proofs.invocation.invocation_of.Goals as goal
 
 pub wanted_text-requires : goal.wanted_text-requires
@@ -117,6 +118,49 @@ returns-in-Some-plan-default c =
       ),
     )
 
+pub limit_of-requires-in-Some-map-default : goal.limit_of-requires-in-Some-map-default
+limit_of-requires-in-Some-map-default c =
+    let here = c.in-Some-map-default in
+    let rows = rows_of (found_of here.map.now) in
+    let is = command_is c.args.matches.now (codes "map") rows (sym (ap Some here.is-map) ∙ here.ensures.name) here.ensures.rows in
+    ((whole _ (codes "map") rows is c.requires).map refl).2
+
+pub align_of-requires-in-Some-map-default : goal.align_of-requires-in-Some-map-default
+align_of-requires-in-Some-map-default c =
+    let here = c.in-Some-map-default in
+    let rows = rows_of (found_of here.map.now) in
+    let is = command_is c.args.matches.now (codes "map") rows (sym (ap Some here.is-map) ∙ here.ensures.name) here.ensures.rows in
+    ((whole _ (codes "map") rows is c.requires).map refl).3
+
+pub wanted_text-requires-in-Some-map-default : goal.wanted_text-requires-in-Some-map-default
+wanted_text-requires-in-Some-map-default c =
+    let here = c.in-Some-map-default in
+    let f = found_of here.map.now in
+    let is = command_is c.args.matches.now (codes "map") (rows_of f) (sym (ap Some here.is-map) ∙ here.ensures.name) here.ensures.rows in
+    has_text f (codes "base") ((whole _ (codes "map") (rows_of f) is c.requires).map refl).0
+
+pub wanted_text-requires-in-Some-map-default-2 : goal.wanted_text-requires-in-Some-map-default-2
+wanted_text-requires-in-Some-map-default-2 c =
+    let here = c.in-Some-map-default in
+    let f = found_of here.map.now in
+    let is = command_is c.args.matches.now (codes "map") (rows_of f) (sym (ap Some here.is-map) ∙ here.ensures.name) here.ensures.rows in
+    has_text f (codes "length") ((whole _ (codes "map") (rows_of f) is c.requires).map refl).1
+
+pub returns-in-Some-map-default : goal.returns-in-Some-map-default
+returns-in-Some-map-default c =
+    let here = c.in-Some-map-default in
+    let f = found_of here.map.now in (
+      rows_of f,
+      command_is c.args.matches.now (codes "map") (rows_of f) (sym (ap Some here.is-map) ∙ here.ensures.name) here.ensures.rows,
+      (
+        c.limit_of-in-Some-map-default.ensures,
+        c.align_of-in-Some-map-default.ensures,
+        sym (first_value-rows f (codes "base")) ∙ c.wanted_text-in-Some-map-default.ensures,
+        sym (first_value-rows f (codes "length")) ∙ c.wanted_text-in-Some-map-default-2.ensures,
+        sym (first_value-rows f (codes "file")) ∙ sym c.get_str-in-Some-map-default.ensures,
+      ),
+    )
+
 pub format_of-requires : goal.format_of-requires
 format_of-requires c =
     let here = c.in-Some-decode-default in
@@ -153,3 +197,13 @@ returns-in-Some-explain-default c =
     let rows = rows_of (found_of here.explain.now) in
     let is = command_is c.args.matches.now (codes "explain") rows (sym (ap Some here.is-explain) ∙ here.ensures.name) here.ensures.rows in
     (rows, is ∙ ap (λ (name : Text). Some (name, rows)) (sym c.explanation_of.ensures.command), c.explanation_of.ensures.values)
+
+pub unreachable-requires : goal.unreachable-requires
+unreachable-requires c = elim c.in_default.branch [
+  | in_default-via-in-Some+in_default w ↦
+      let d = w.in_default in
+      known _ d.field-0.0.now c.requires
+      (found_name c.args.matches.now d.field-0.0.now (sym (ap (option_map (λ found. found.0.now)) d.is) ∙ c.subcommand.ensures.name))
+      (λ same. search rules, (λ same. search rules, (λ same. search rules, (λ same. search rules, (λ same. search rules, (λ same. search rules, (λ same. search rules, tt)))))))
+  | in_default-via-in_default w ↦ search rules
+]

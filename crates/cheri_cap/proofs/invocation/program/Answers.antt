@@ -17,9 +17,12 @@ returns c =
     let with_plan =
     c.in_ok-subcommand-4.ensures.shape c.in_ok-plan_command.ensures.local
     ∙ ap₂ with_subcommand with_run (ap (λ (a : App). a.top) c.in_ok-plan_command.ensures.shape) in
+    let with_map =
+    c.in_ok-subcommand-5.ensures.shape c.in_ok-map_command.ensures.local
+    ∙ ap₂ with_subcommand with_plan (ap (λ (a : App). a.top) c.in_ok-map_command.ensures.shape) in
     let with_decode =
-    c.in_ok-subcommand-5.ensures.shape c.in_ok-decode_command.ensures.local
-    ∙ ap₂ with_subcommand with_plan (ap (λ (a : App). a.top) c.in_ok-decode_command.ensures.shape) in
-    IfOk-weaker c.subcommand-6.result _ _
+    c.in_ok-subcommand-6.ensures.shape c.in_ok-decode_command.ensures.local
+    ∙ ap₂ with_subcommand with_map (ap (λ (a : App). a.top) c.in_ok-decode_command.ensures.shape) in
+    IfOk-weaker c.subcommand-7.result _ _
     (λ r added. added.shape c.in_ok-explain_command.ensures.local ∙ ap₂ with_subcommand with_decode (ap (λ (a : App). a.top) c.in_ok-explain_command.ensures.shape))
-    c.subcommand-6.ensures
+    c.subcommand-7.ensures
