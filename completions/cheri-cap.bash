@@ -10,7 +10,7 @@ _cheri_cap() {
   case $command in
     run) options+=' --slots --stats' ;;
     plan) options+=' --slots --align --stats' ;;
-    map) options+=' --slots --align' ;;
+    map) options+=' --slots --align --svg' ;;
     decode) options+=' --format --bytes' ;;
     show) options+=' --line' ;;
     explain) options+=' --length --base' ;;

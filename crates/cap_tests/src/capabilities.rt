@@ -7,7 +7,6 @@ mod words;
 
 use cc_cap::Cap;
 use cc_word::Refusal;
-use std::test::Fail;
 
 /// The end of the address space.
 const END: u128 = 1 << 64;
@@ -28,13 +27,17 @@ fn small() -> Result<Cap, Refusal> {
     at(0x1000)?.set_bounds(0x200)
 }
 
+/// The root has all permissions and all bytes, no flag and no seal.
+fn is_root(cap: Cap) -> bool {
+    told(cap) == (0xffff0000000000000000000000000000, 0, END)
+        && cap.perms().bits() == 0xffff
+        && cap.otype().bits() == 0x3ffff
+        && cap.address() == 0
+        && !cap.flag()
+        && !cap.is_sealed()
+}
+
 #[test]
 fn root_shown(rt: HostRuntime) {
-    let root = Cap::root();
-    assert_eq!(rt; told(root), (0xffff0000000000000000000000000000, 0, END));
-    assert_eq!(rt; root.perms().bits(), 0xffff);
-    assert_eq!(rt; root.otype().bits(), 0x3ffff);
-    assert_eq!(rt; root.address(), 0);
-    assert!(rt; !root.flag());
-    assert!(rt; !root.is_sealed());
+    assert!(rt; is_root(Cap::root()));
 }

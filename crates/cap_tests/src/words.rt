@@ -1,5 +1,6 @@
+ghost use Rattle.std.specs.Prelude.{◌<◌};
+
 use cc_word::{Refusal, pack, read_word, unpack, write_half, write_word, write_word_to};
-use std::process::Abort;
 use std::test::Fail;
 
 // A word's text, and of its fields: permissions, reserved bits, flag, type, IE, T field, B field, address.
@@ -33,55 +34,75 @@ const VECTORS: [Row; 24] = [
     (b"ffffffffffffffffffffffffffffffff", 0xffff, 3, true, 0x00000, false, 0xff9, 0x3ffb, 0xffffffffffffffff),
 ];
 
-fn vector(rt: &impl Abort, row: &Row) -> Result<(), Fail> {
+/// The text spells a word with these fields, which goes back to both.
+fn is_read(row: &Row) -> bool {
     let (text, perms, reserved, flag, otype, ie, t, b, address) = *row;
-    let word = read_word(text).ok_or("no word")?;
+    let Some(word) = read_word(text) else {
+        return false;
+    };
     let fields = unpack(word);
-    assert_eq!(rt; fields.perms, perms);
-    assert_eq!(rt; fields.reserved, reserved);
-    assert_eq!(rt; fields.flag, flag);
-    assert_eq!(rt; fields.otype, otype);
-    assert_eq!(rt; fields.ie, ie);
-    assert_eq!(rt; fields.t, t);
-    assert_eq!(rt; fields.b, b);
-    assert_eq!(rt; fields.address, address);
-    assert_eq!(rt; pack(&fields), word);
-    assert_eq!(rt; write_word(word), *text);
-    Ok(())
+    fields.perms == perms
+        && fields.reserved == reserved
+        && fields.flag == flag
+        && fields.otype == otype
+        && fields.ie == ie
+        && fields.t == t
+        && fields.b == b
+        && fields.address == address
+        && pack(&fields) == word
+        && write_word(word) == *text
 }
 
 #[test]
-fn vectors(rt: HostRuntime) -> Result<(), Fail> {
+fn vectors(rt: HostRuntime) {
     for row in &VECTORS {
-        vector(&rt, row)?;
+        assert!(rt; is_read(row), "{row:?}");
     }
-    Ok(())
 }
+
+const WORD: u128 = 0xfedc_ba98_7654_3210_0123_4567_89ab_cdef;
+
+/// The digits of a word, in a text, in room that is given, and of its upper half.
+fn is_written() -> bool {
+    let mut text = [0; 32];
+    write_word_to(WORD, &mut text);
+    write_word(WORD) == *b"fedcba98765432100123456789abcdef"
+        && text == *b"fedcba98765432100123456789abcdef"
+        && write_half(0xfedc_ba98_7654_3210) == *b"fedcba9876543210"
+}
+
+/// Too short or too long, or with a byte that is no digit.
+const NO_WORDS: [&[u8]; 5] = [
+    b"",
+    b"fedcba98765432100123456789abcde",
+    b"fedcba98765432100123456789abcdef0",
+    b"0xdcba98765432100123456789abcdef",
+    b"fedcba98765432100123456789abcdeg",
+];
 
 #[test]
 fn texts(rt: HostRuntime) {
-    let word = 0xfedc_ba98_7654_3210_0123_4567_89ab_cdef;
-    assert_eq!(rt; write_word(word), *b"fedcba98765432100123456789abcdef");
-    let mut text = [0; 32];
-    write_word_to(word, &mut text);
-    assert_eq!(rt; text, *b"fedcba98765432100123456789abcdef");
-    assert_eq!(rt; write_half(0xfedc_ba98_7654_3210), *b"fedcba9876543210");
-    assert_eq!(rt; read_word(b"FEDCBA98765432100123456789AbCdEf"), Some(word));
-    assert_eq!(rt; read_word(b""), None);
-    assert_eq!(rt; read_word(b"fedcba98765432100123456789abcde"), None);
-    assert_eq!(rt; read_word(b"fedcba98765432100123456789abcdef0"), None);
-    assert_eq!(rt; read_word(b"0xdcba98765432100123456789abcdef"), None);
-    assert_eq!(rt; read_word(b"fedcba98765432100123456789abcdeg"), None);
+    assert!(rt; is_written());
+    assert!(rt; read_word(b"FEDCBA98765432100123456789AbCdEf") == Some(WORD));
+    for text in NO_WORDS {
+        assert!(rt; read_word(text).is_none(), "{text:?}");
+    }
 }
 
 #[test]
 fn refusals(rt: HostRuntime) {
-    assert_eq!(rt; Refusal::Syntax.code(), 1);
-    assert_eq!(rt; Refusal::Full.code(), 22);
-    assert_eq!(rt; Refusal::ReservedType.name(), "type");
+    assert!(rt; Refusal::Syntax.code() == 1 && Refusal::Full.code() == 22);
+    assert!(rt; Refusal::ReservedType.name() == "type");
     let sealed = unpack(0x0000_1fff_f800_0000_0000_0000_0000_0000);
-    assert_eq!(rt; sealed.otype, 0);
-    assert!(rt; sealed != unpack(0));
+    assert!(rt; sealed.otype == 0 && sealed != unpack(0));
+}
+
+/// The fields of a word with one bit set are not those of null, and are their clone.
+fn is_told_apart(bit: u32) -> bool
+    requires { bit < 128 }
+{
+    let fields = unpack(1 << bit);
+    fields != unpack(0) && fields.clone().is_ok_and(|copy| copy == fields)
 }
 
 // What `==` and `Clone` are has no contract of its own: each of these values is told from the others, and is its clone.
@@ -89,11 +110,8 @@ fn refusals(rt: HostRuntime) {
 fn values_are_told_apart(rt: HostRuntime) -> Result<(), Fail> {
     assert!(rt; Refusal::Sealed != Refusal::Unsealed);
     assert!(rt; Refusal::Syntax != Refusal::Full);
-    let null = unpack(0);
     for bit in [0u32, 63, 64, 78, 90, 91, 109, 110, 112, 127] {
-        let fields = unpack(1 << bit);
-        assert!(rt; fields != null, "bit {bit}");
-        assert!(rt; fields.clone()? == fields, "bit {bit}");
+        assert!(rt; is_told_apart(bit), "bit {bit}");
     }
     assert!(rt; Refusal::Sealed.clone()? == Refusal::Sealed);
     Ok(())

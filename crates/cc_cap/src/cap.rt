@@ -87,6 +87,7 @@ impl Cap {
     /// The address may leave the bounds, and then grants nothing there. It may not go so far that the word
     /// would decode to other bounds. Refusals in order: `Sealed`, `Unrepresentable`. The instruction
     /// CSetAddr.
+    #[inline(always)]
     pub fn set_address(&self, address: u64) -> Result<Cap, Refusal>
         ensures made { SetsAddress self.now address result }
         ensures monotonic { IfOk result (λ cap. GrantsNoMore cap self.now) }
@@ -103,6 +104,7 @@ impl Cap {
     /// This capability with its address moved up, round the end of the address space.
     ///
     /// Refusals in order: `Sealed`, `Unrepresentable`. The instruction CIncOffset.
+    #[inline(always)]
     pub fn increment(&self, amount: u64) -> Result<Cap, Refusal>
         ensures made { Increments self.now amount result }
         ensures monotonic { IfOk result (λ cap. GrantsNoMore cap self.now) }
@@ -115,6 +117,7 @@ impl Cap {
     ///
     /// The caller has `len <= 2^64`. Refusals in order: `Sealed`; `OutOfBounds`, unless the bytes asked for
     /// lie within the bounds. Rounding never leaves them. The instruction CSetBounds.
+    #[inline(always)]
     pub fn set_bounds(&self, len: u128) -> Result<Cap, Refusal>
         requires { len ≤ 2 ^ 64 }
         ensures made { SetsBounds self.now len result }
@@ -131,6 +134,7 @@ impl Cap {
     /// The caller has `len <= 2^64`. Refusals in order: `Sealed`; `OutOfBounds`, as for
     /// [`Cap::set_bounds`]; `Inexact`, where the bounds can't be stored without rounding. The instruction
     /// CSetBoundsExact.
+    #[inline(always)]
     pub fn set_bounds_exact(&self, len: u128) -> Result<Cap, Refusal>
         requires { len ≤ 2 ^ 64 }
         ensures made { SetsExactBounds self.now len result }
@@ -147,6 +151,7 @@ impl Cap {
     ///
     /// Refusals: `Sealed`. The instruction CAndPerm.
     #[tactic(auto, using(crate::proofs::DerivationLemmas::permissions_stay))]
+    #[inline(always)]
     pub fn and_perms(&self, mask: Perms) -> Result<Cap, Refusal>
         ensures made { MasksPermissions self.now (bits_of mask) result }
         ensures monotonic { IfOk result (λ cap. GrantsNoMore cap self.now) }
@@ -161,6 +166,7 @@ impl Cap {
     /// This capability with this flag.
     ///
     /// Refusals: `Sealed`. The instruction CSetFlags.
+    #[inline(always)]
     pub fn set_flag(&self, flag: bool) -> Result<Cap, Refusal>
         ensures made { SetsFlag self.now flag result }
         ensures monotonic { IfOk result (λ cap. GrantsNoMore cap self.now) }
@@ -243,6 +249,7 @@ impl Cap {
 
     /// The capability's word, which is canonical, and which no other capability has. The standard:
     /// UCAM-CL-TR-987, the compressed capability encoding.
+    #[inline(always)]
     pub fn word(&self) -> u128
         ensures word { IsWordOf self.now result }
         ensures computed { result ≡ word_of_capability self.now }

@@ -4,4 +4,7 @@ mod StandingLemmas
 mod RequestLemmas
 mod TallyLemmas
 mod UsageLemmas
+mod WatchLemmas
 mod MapLemmas
+mod WritingLemmas
+mod DrawingLemmas

@@ -51,21 +51,21 @@ count_by-more : (passes : List ℕ → Bool) (lines : List (List ℕ)) (line : L
 count_by-more passes lines line b is =
     sum_by_push (λ x. cond (passes x) 1 0) lines line ∙ ap (λ (b : Bool). count_by passes lines + cond b 1 0) is
 
-first-other : (passes : List ℕ → Bool) (lines : List (List ℕ)) (line : List ℕ) → passes line ≡ false → first_from passes 1 (lines ++ line ∷ []) ≡ first_from passes 1 lines
+pub first-other : (passes : List ℕ → Bool) (lines : List (List ℕ)) (line : List ℕ) → passes line ≡ false → first_from passes 1 (lines ++ line ∷ []) ≡ first_from passes 1 lines
 first-other passes lines line is = first-more passes 0 lines line ∙ by_found (first_from passes 1 lines) (passes line) is
   where
     by_found : (found : ℕ) (b : Bool) → b ≡ false → kept_or found (if b then 1 + length lines else 0) ≡ found
     by_found zero b is = rw is refl
     by_found (suc found) b is = refl
 
-first-new : (passes : List ℕ → Bool) (lines : List (List ℕ)) (line : List ℕ) → passes line ≡ true → first_from passes 1 lines ≡ 0 → first_from passes 1 (lines ++ line ∷ []) ≡ length lines + 1
+pub first-new : (passes : List ℕ → Bool) (lines : List (List ℕ)) (line : List ℕ) → passes line ≡ true → first_from passes 1 lines ≡ 0 → first_from passes 1 (lines ++ line ∷ []) ≡ length lines + 1
 first-new passes lines line is none = first-more passes 0 lines line ∙ by_found (first_from passes 1 lines) (passes line) is none
   where
     by_found : (found : ℕ) (b : Bool) → b ≡ true → found ≡ 0 → kept_or found (if b then 1 + length lines else 0) ≡ length lines + 1
     by_found zero b is none = rw is (omega arith)
     by_found (suc found) b is none = absurd (omega arith)
 
-first-kept : (passes : List ℕ → Bool) (lines : List (List ℕ)) (line : List ℕ) → (first_from passes 1 lines ≡ 0 → ⊥) → first_from passes 1 (lines ++ line ∷ []) ≡ first_from passes 1 lines
+pub first-kept : (passes : List ℕ → Bool) (lines : List (List ℕ)) (line : List ℕ) → (first_from passes 1 lines ≡ 0 → ⊥) → first_from passes 1 (lines ++ line ∷ []) ≡ first_from passes 1 lines
 first-kept passes lines line some = first-more passes 0 lines line ∙ by_found (first_from passes 1 lines) (passes line) some
   where
     by_found : (found : ℕ) (b : Bool) → (found ≡ 0 → ⊥) → kept_or found (if b then 1 + length lines else 0) ≡ found

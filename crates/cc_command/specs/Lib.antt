@@ -15,3 +15,5 @@ pub mod Tally
 pub mod Usage
 pub mod Statistics
 pub mod Map
+pub mod Drawing
+pub mod Hints

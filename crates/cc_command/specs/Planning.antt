@@ -4,12 +4,12 @@ use Rattle.cc_word.specs.declared.refusal.Refusal.{Refusal}
 use Rattle.cc_plan.specs.declared.align.Align.{Align}
 use Rattle.cc_machine.specs.declared.op.Op.{Op}
 use Rattle.cc_machine.specs.declared.op.Op.TheVariants.{Addr, Exact, Pool}
-use Rattle.cc_script.specs.Commands.{address_in, length_in, two}
+use Rattle.cc_script.specs.Commands.{address_in, both, length_in}
 
 -- the base and the length that two texts spell, or the fault: a text that spells no number comes before one
 -- that is too large
 abbrev pub pool_of : (base size : List ℕ) → Result (ℕ × ℕ) Refusal
-pool_of base size = two (λ first bytes. (first, bytes)) (address_in base) (length_in size)
+pool_of base size = both (address_in base) (length_in size)
 
 -- the operations that make a pool of this alignment in a new machine, where slot 0 is the root
 abbrev pub plan_opening : (base size : ℕ) → Align → List Op

@@ -14,6 +14,7 @@ pub fn write_refusal<W: Sink>(refusal: Refusal, sink: &mut W) -> Result<Summary,
     requires { W.has_failed sink.old ≡ false }
     ensures shown { WritesAnswer (IsRefusalLine refusal) (W.taken_bytes sink.old) (W.taken_bytes sink.new) result }
     ensures any_error { IfOk result (λ summary. summary.any_error ≡ true) }
+    ensures passed { OnOk result (W.waiting_bytes sink.new ≡ []) }
     ensures fails { IsErr result ↔ (W.has_failed sink.new ≡ true) }
     ensures write { OnErr result (result ≡ Err ScriptFault.Write) }
 {
@@ -36,6 +37,7 @@ pub(crate) fn write_answer<W: Sink>(answer: &Text, sink: &mut W) -> Result<(), S
     requires { W.has_failed sink.old ≡ false }
     ensures ok { OnOk result (Appends (W.taken_bytes sink.old) (W.taken_bytes sink.new) answer.now) }
     ensures err { OnErr result (TakesBeginning (W.taken_bytes sink.old) (W.taken_bytes sink.new) answer.now) }
+    ensures passed { OnOk result (W.waiting_bytes sink.new ≡ []) }
     ensures fails { IsErr result ↔ (W.has_failed sink.new ≡ true) }
     ensures write { OnErr result (result ≡ Err ScriptFault.Write) }
 {

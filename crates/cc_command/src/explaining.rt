@@ -1,5 +1,5 @@
 //! The explanation of a word: each step of decoding it, with its numbers, and a picture of its window.
-ghost use Rattle.std.specs.Prelude.{◌≡◌, ◌↔◌, [], false, true, IfOk, IsErr, IsTrue, OnErr};
+ghost use Rattle.std.specs.Prelude.{◌≡◌, ◌↔◌, [], false, true, IfOk, IsErr, IsTrue, OnErr, OnOk};
 ghost use Rattle.cc_command.specs.Answer.{WritesAnswer};
 ghost use Rattle.cc_command.specs.Explanation.{IsExplanation};
 ghost use Rattle.cc_command.specs.Listing.{IsWordText};
@@ -24,6 +24,7 @@ pub fn explain_word<W: Sink>(text: &[u8], sink: &mut W) -> Result<Summary, Scrip
     requires { W.has_failed sink.old ≡ false }
     ensures shown { WritesAnswer (IsExplanation text.now) (W.taken_bytes sink.old) (W.taken_bytes sink.new) result }
     ensures any_error { IfOk result (λ summary. IsTrue summary.any_error ↔ (¬ IsWordText text.now)) }
+    ensures passed { OnOk result (W.waiting_bytes sink.new ≡ []) }
     ensures fails { IsErr result ↔ (W.has_failed sink.new ≡ true) }
     ensures write { OnErr result (result ≡ Err ScriptFault.Write) }
 {

@@ -1,5 +1,5 @@
 //! The explanation of a length: what setting bounds of it grants, and why.
-ghost use Rattle.std.specs.Prelude.{◌≡◌, ◌↔◌, [], false, true, IfOk, IsErr, IsTrue, OnErr};
+ghost use Rattle.std.specs.Prelude.{◌≡◌, ◌↔◌, [], false, true, IfOk, IsErr, IsTrue, OnErr, OnOk};
 ghost use Rattle.cc_command.specs.Answer.{WritesAnswer};
 ghost use Rattle.cc_command.specs.Request.{IsLengthExplanation, request_in};
 
@@ -25,6 +25,7 @@ pub fn explain_length<W: Sink>(
     requires { W.has_failed sink.old ≡ false }
     ensures shown { WritesAnswer (IsLengthExplanation base.now length.now) (W.taken_bytes sink.old) (W.taken_bytes sink.new) result }
     ensures any_error { IfOk result (λ summary. IsTrue summary.any_error ↔ IsErr (request_in base.now length.now)) }
+    ensures passed { OnOk result (W.waiting_bytes sink.new ≡ []) }
     ensures fails { IsErr result ↔ (W.has_failed sink.new ≡ true) }
     ensures write { OnErr result (result ≡ Err ScriptFault.Write) }
 {

@@ -5,10 +5,13 @@
 
 mod answers;
 mod counted;
+mod drawing;
 mod explained_request;
 mod explained_steps;
 mod explaining;
 mod explaining_bounds;
+mod hints;
+mod layout;
 mod listing;
 mod map;
 mod numbered;
@@ -23,12 +26,17 @@ mod steps;
 mod tally;
 mod text;
 mod usage;
+mod watch;
+mod watched;
 mod word_line;
 
 pub use answers::write_refusal;
 pub use counted::Counted;
+pub use drawing::show_drawing;
 pub use explaining::explain_word;
 pub use explaining_bounds::explain_length;
+pub use hints::{Hints, show_hints};
+pub use layout::cells_of;
 pub use listing::show_word;
 pub use map::{map_row, show_map};
 pub use permissions::push_permissions;
@@ -37,4 +45,6 @@ pub use rounding::show_round;
 pub use statistics::show_statistics;
 pub use tally::{Count, Tally};
 pub use usage::{Usage, usage_of};
+pub use watch::Watch;
+pub use watched::Watched;
 pub use word_line::show_line;

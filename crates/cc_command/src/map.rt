@@ -1,5 +1,5 @@
 //! A map of a pool: what holds the bytes of each cell.
-ghost use Rattle.std.specs.Prelude.{◌≡◌, ◌<◌, ◌≤◌, ◌+◌, ◌^◌, ◌++◌, ◌↔◌, ℕ, List, [], false, true, IfOk, IsErr, IsTrue, OnErr, length};
+ghost use Rattle.std.specs.Prelude.{◌≡◌, ◌<◌, ◌≤◌, ◌+◌, ◌^◌, ◌++◌, ◌↔◌, ℕ, List, [], false, true, IfOk, IsErr, IsTrue, OnErr, OnOk, length};
 ghost use Rattle.std.specs.Int.{div_ceil};
 ghost use Rattle.cc_machine.specs.Planned.{plan_of};
 ghost use Rattle.cc_command.specs.Answer.{WritesAnswer};
@@ -26,6 +26,7 @@ pub fn show_map<W: Sink>(machine: &Machine, sink: &mut W) -> Result<Summary, Scr
     requires { W.has_failed sink.old ≡ false }
     ensures shown { WritesAnswer (IsMap (plan_of machine.now)) (W.taken_bytes sink.old) (W.taken_bytes sink.new) result }
     ensures any_error { IfOk result (λ summary. summary.any_error ≡ false) }
+    ensures passed { OnOk result (W.waiting_bytes sink.new ≡ []) }
     ensures fails { IsErr result ↔ (W.has_failed sink.new ≡ true) }
     ensures write { OnErr result (result ≡ Err ScriptFault.Write) }
 {

@@ -1,5 +1,5 @@
 //! Lengths as setting bounds rounds them.
-ghost use Rattle.std.specs.Prelude.{◌≡◌, ◌↔◌, [], false, true, IfOk, IsErr, IsTrue, OnErr};
+ghost use Rattle.std.specs.Prelude.{◌≡◌, ◌↔◌, [], false, true, IfOk, IsErr, IsTrue, OnErr, OnOk};
 ghost use Rattle.cc_script.specs.Commands.{length_in};
 ghost use Rattle.cc_command.specs.Answer.{WritesAnswer};
 ghost use Rattle.cc_command.specs.Rounding.{IsRounding};
@@ -19,6 +19,7 @@ pub fn show_round<W: Sink>(text: &[u8], sink: &mut W) -> Result<Summary, ScriptF
     requires { W.has_failed sink.old ≡ false }
     ensures shown { WritesAnswer (IsRounding text.now) (W.taken_bytes sink.old) (W.taken_bytes sink.new) result }
     ensures any_error { IfOk result (λ summary. IsTrue summary.any_error ↔ IsErr (length_in text.now)) }
+    ensures passed { OnOk result (W.waiting_bytes sink.new ≡ []) }
     ensures fails { IsErr result ↔ (W.has_failed sink.new ≡ true) }
     ensures write { OnErr result (result ≡ Err ScriptFault.Write) }
 {

@@ -28,6 +28,7 @@ pub fn show_statistics<W: Sink>(
     requires fits { usage.now.held ≤ 2 ^ 80 }
     ensures ok { OnOk result (Appends (W.taken_bytes sink.old) (W.taken_bytes sink.new) (statistics_text usage.now tally.now opening)) }
     ensures err { OnErr result (TakesBeginning (W.taken_bytes sink.old) (W.taken_bytes sink.new) (statistics_text usage.now tally.now opening)) }
+    ensures passed { OnOk result (W.waiting_bytes sink.new ≡ []) }
     ensures fails { IsErr result ↔ (W.has_failed sink.new ≡ true) }
     ensures write { OnErr result (result ≡ Err ScriptFault.Write) }
 {

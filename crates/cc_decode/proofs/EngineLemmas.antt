@@ -16,8 +16,8 @@ use Rattle.cc_script.proofs.LineLemmas.{start_longer}
 use Rattle.cc_decode.specs.Input.{entries_from, left_from, entries_of, left_of}
 use Rattle.cc_decode.specs.Output.{Answer, AreAnswers, answers_text}
 use Rattle.cc_decode.specs.Row.{header_text}
-use Rattle.cc_decode.specs.Correct.{WritesListing, StopsInAnswers, StopsAfterAnswers, Lists, ListsWhole}
-use Rattle.cc_decode.specs.Engine.{Answers, AnswersEntry, AnswersFirst, EndsEntry, EndsNone, PassesSome, Reads, StopsInPiece}
+use Rattle.cc_decode.specs.Correct.{WritesAnswers, WritesListing, StopsInAnswers, StopsAfterAnswers, Lists, ListsWhole}
+use Rattle.cc_decode.specs.Engine.{Answers, AnswersEntry, AnswersFirst, EndsEntry, EndsNone, PassesSome, Reads}
 use Rattle.cc_decode.specs.declared.options.Options.{Options}
 use Rattle.cc_decode.proofs.AnswerLemmas.{answers_behind, answers_text-append}
 use Rattle.cc_decode.proofs.EntryLemmas.{entries_further, left_further, no_entry, all_left}
@@ -43,21 +43,22 @@ begins_whole t u xs p = record {
 -- ---- entries in a row
 
 -- the sink failed in an answer behind others
-stops_behind : (options : Options) (t u v : Option (List ℕ)) (xs ys : List (List ℕ)) (rs : List Answer)
-    → AreAnswers options xs rs → Appends t u (answers_text rs) → StopsInPiece options ys u v → StopsInPiece options (xs ++ ys) t v
-stops_behind options t u v xs ys rs are written q = record {
+stops_behind : (options : Options) (t u v : Option (List ℕ)) (xs ys : List (List ℕ)) → WritesAnswers options [] xs t u
+    → StopsInAnswers options [] ys u v → StopsInAnswers options [] (xs ++ ys) t v
+stops_behind options t u v xs ys p q = record {
   earlier = xs ++ q.earlier;
   later = q.later;
   entries_are = ap (λ (l : List (List ℕ)). xs ++ l) q.entries_are ∙ sym (append_assoc xs q.earlier q.later);
-  answers = rs ++ q.answers;
-  are_answers = answers_behind options xs q.earlier rs q.answers are q.are_answers;
-  written = subst (λ (l : List ℕ). TakesBeginning t v l) (sym (answers_text-append rs q.answers))
-      (begins_behind t u v (answers_text rs) (answers_text q.answers) written q.written);
+  answers = p.answers ++ q.answers;
+  are_answers = answers_behind options xs q.earlier p.answers q.answers p.are_answers q.are_answers;
+  written = subst (λ (l : List ℕ). TakesBeginning t v l) (sym (answers_text-append p.answers q.answers))
+      (begins_behind t u v (answers_text p.answers) (answers_text q.answers) p.written q.written);
 }
 
 -- and before others
-stops_before : (options : Options) (t u : Option (List ℕ)) (xs ys : List (List ℕ)) → StopsInAnswers options xs t u → StopsInAnswers options (xs ++ ys) t u
-stops_before options t u xs ys q = record {
+stops_before : (options : Options) (t u : Option (List ℕ)) (header : List ℕ) (xs ys : List (List ℕ)) → StopsInAnswers options header xs t u
+    → StopsInAnswers options header (xs ++ ys) t u
+stops_before options t u header xs ys q = record {
   earlier = q.earlier;
   later = q.later ++ ys;
   entries_are = ap (λ (l : List (List ℕ)). l ++ ys) q.entries_are ∙ append_assoc q.earlier q.later ys;
@@ -67,15 +68,15 @@ stops_before options t u xs ys q = record {
 }
 
 -- and after the header
-stops_opened : (options : Options) (t u v : Option (List ℕ)) (xs : List (List ℕ)) → Appends t u (header_text options.format)
-    → StopsInPiece options xs u v → StopsInAnswers options xs t v
-stops_opened options t u v xs header q = record {
+stops_opened : (options : Options) (t u v : Option (List ℕ)) (header : List ℕ) (xs : List (List ℕ)) → Appends t u header
+    → StopsInAnswers options [] xs u v → StopsInAnswers options header xs t v
+stops_opened options t u v header xs written q = record {
   earlier = q.earlier;
   later = q.later;
   entries_are = q.entries_are;
   answers = q.answers;
   are_answers = q.are_answers;
-  written = begins_behind t u v (header_text options.format) (answers_text q.answers) header q.written;
+  written = begins_behind t u v header (answers_text q.answers) written q.written;
 }
 
 or_false : (b : Bool) → b ≡ (b || false)
@@ -88,27 +89,29 @@ answers_further : (options : Options) (t u v : Option (List ℕ)) (begun xs ys s
     → Answers options begun xs start t u e → Answers options (left_from options.input begun xs) ys end u v f
     → Answers options begun (xs ++ ys) end t v (e || f)
 answers_further options t u v begun xs ys start end e f p q = record {
-  answers = p.answers ++ q.answers;
-  are_answers = rw (entries_further options.input begun xs ys)
-      (answers_behind options (entries_from options.input begun xs) (entries_from options.input (left_from options.input begun xs) ys) p.answers q.answers p.are_answers q.are_answers);
-  written = rw (answers_text-append p.answers q.answers) (appends_twice t u v _ _ p.written q.written);
-  error_is = rw (list_any-append (λ (answer : Answer). answer.is_error) p.answers q.answers, ← p.error_is, ← q.error_is) refl;
+  writes = record {
+    answers = p.writes.answers ++ q.writes.answers;
+    are_answers = rw (entries_further options.input begun xs ys)
+        (answers_behind options (entries_from options.input begun xs) (entries_from options.input (left_from options.input begun xs) ys) p.writes.answers q.writes.answers p.writes.are_answers q.writes.are_answers);
+    written = rw (answers_text-append p.writes.answers q.writes.answers) (appends_twice t u v _ _ p.writes.written q.writes.written);
+  };
+  error_is = rw (list_any-append (λ (answer : Answer). answer.is_error) p.writes.answers q.writes.answers, ← p.error_is, ← q.error_is) refl;
   start_is = rw (left_further options.input begun xs ys) q.start_is;
 }
 
 stops_further : (options : Options) (t u v : Option (List ℕ)) (begun xs ys start : List ℕ) (e : Bool)
-    → Answers options begun xs start t u e → StopsInPiece options (entries_from options.input (left_from options.input begun xs) ys) u v
-    → StopsInPiece options (entries_from options.input begun (xs ++ ys)) t v
+    → Answers options begun xs start t u e → StopsInAnswers options [] (entries_from options.input (left_from options.input begun xs) ys) u v
+    → StopsInAnswers options [] (entries_from options.input begun (xs ++ ys)) t v
 stops_further options t u v begun xs ys start e p q =
-    subst (λ (l : List (List ℕ)). StopsInPiece options l t v) (sym (entries_further options.input begun xs ys))
-    (stops_behind options t u v (entries_from options.input begun xs) (entries_from options.input (left_from options.input begun xs) ys) p.answers p.are_answers p.written q)
+    subst (λ (l : List (List ℕ)). StopsInAnswers options [] l t v) (sym (entries_further options.input begun xs ys))
+    (stops_behind options t u v (entries_from options.input begun xs) (entries_from options.input (left_from options.input begun xs) ys) p.writes q)
 
 -- where the sink failed in a text, it failed in every longer one
-pub stops_earlier : (options : Options) (t u : Option (List ℕ)) (begun xs ys : List ℕ)
-    → StopsInAnswers options (entries_from options.input begun xs) t u → StopsInAnswers options (entries_from options.input begun (xs ++ ys)) t u
-stops_earlier options t u begun xs ys q =
-    subst (λ (l : List (List ℕ)). StopsInAnswers options l t u) (sym (entries_further options.input begun xs ys))
-    (stops_before options t u (entries_from options.input begun xs) (entries_from options.input (left_from options.input begun xs) ys) q)
+pub stops_earlier : (options : Options) (t u : Option (List ℕ)) (header begun xs ys : List ℕ)
+    → StopsInAnswers options header (entries_from options.input begun xs) t u → StopsInAnswers options header (entries_from options.input begun (xs ++ ys)) t u
+stops_earlier options t u header begun xs ys q =
+    subst (λ (l : List (List ℕ)). StopsInAnswers options header l t u) (sym (entries_further options.input begun xs ys))
+    (stops_before options t u header (entries_from options.input begun xs) (entries_from options.input (left_from options.input begun xs) ys) q)
 
 -- ---- a piece, of which the first entries were answered
 
@@ -184,10 +187,12 @@ pub first_ends : (options : Options) (t u v : Option (List ℕ)) (begun piece re
     → (p : AnswersFirst options begun piece rest start t u waiting e) → EndsNone options.input p.begun_now rest
     → end ≡ take 129 (start ++ rest) → Appends u v waiting → Answers options begun piece end t v e
 first_ends options t u v begun piece rest start end waiting e p none end_is w = record {
-  answers = p.answers;
-  are_answers = subst (λ (l : List (List ℕ)). AreAnswers options l p.answers)
-      (sym (p.entries_are ∙ ap (λ (l : List (List ℕ)). p.entries ++ l) none.entries ∙ append-nil p.entries)) p.are_answers;
-  written = subst (λ (l : List ℕ). Appends t v l) (sym p.waits) (appends_twice t u v p.passed waiting p.written w);
+  writes = record {
+    answers = p.answers;
+    are_answers = subst (λ (l : List (List ℕ)). AreAnswers options l p.answers)
+        (sym (p.entries_are ∙ ap (λ (l : List (List ℕ)). p.entries ++ l) none.entries ∙ append-nil p.entries)) p.are_answers;
+    written = subst (λ (l : List ℕ). Appends t v l) (sym p.waits) (appends_twice t u v p.passed waiting p.written w);
+  };
   error_is = p.error_is;
   start_is =
       end_is ∙ ap (λ (l : List ℕ). take 129 (l ++ rest)) p.start_is ∙ start_longer p.begun_now rest
@@ -197,7 +202,7 @@ first_ends options t u v begun piece rest start end waiting e p none end_is w = 
 -- the sink failed as what waits was written
 pub first_stops : (options : Options) (t u v : Option (List ℕ)) (begun piece rest start waiting : List ℕ) (e : Bool)
     → AnswersFirst options begun piece rest start t u waiting e → TakesBeginning u v waiting
-    → StopsInPiece options (entries_from options.input begun piece) t v
+    → StopsInAnswers options [] (entries_from options.input begun piece) t v
 first_stops options t u v begun piece rest start waiting e p q =
     record {
       earlier = p.entries;
@@ -219,9 +224,7 @@ reads_begins options c t u start is header = record {
   opened = u;
   header = header;
   answers = record {
-    answers = [];
-    are_answers = rw (no_entry options.input []) tt;
-    written = appends_none u;
+    writes = record { answers = []; are_answers = rw (no_entry options.input []) tt; written = appends_none u };
     error_is = refl;
     start_is = rw (all_left options.input []) is;
   };
@@ -264,20 +267,20 @@ fails_reading options c l j t u start e r nothing = record {
   text = r.text;
   given = still c l j r.text r.given nothing;
   lists = record {
-    answers = r.answers.answers;
-    are_answers = r.answers.are_answers;
-    written = appends_twice t r.opened u (header_text options.format) (answers_text r.answers.answers) r.header r.answers.written;
+    answers = r.answers.writes.answers;
+    are_answers = r.answers.writes.are_answers;
+    written = appends_twice t r.opened u (header_text options.format) (answers_text r.answers.writes.answers) r.header r.answers.writes.written;
   };
 }
 
 -- the sink failed in a piece
 pub stops_reading : (options : Options) (c l j t u v : Option (List ℕ)) (start piece : List ℕ) (e : Bool)
     → (r : Reads options c l start t u e) → Consumes l j piece
-    → StopsInPiece options (entries_from options.input (left_of options.input r.text) piece) u v → Lists options c j t v (Err Write)
+    → StopsInAnswers options [] (entries_from options.input (left_of options.input r.text) piece) u v → Lists options c j t v (Err Write)
 stops_reading options c l j t u v start piece e r given s = record {
   text = r.text ++ piece;
   given = consumes_twice c l j r.text piece r.given given;
-  lists = inl (stops_opened options t r.opened v (entries_of options.input (r.text ++ piece)) r.header
+  lists = inl (stops_opened options t r.opened v (header_text options.format) (entries_of options.input (r.text ++ piece)) r.header
       (stops_further options r.opened u v [] r.text piece start e r.answers s));
 }
 
@@ -303,11 +306,11 @@ ends options c l j t u v start e f r nothing at_end s f_is =
       lists = (
         at_end,
         record {
-          answers = r.answers.answers;
-          are_answers = r.answers.are_answers;
-          written = subst (λ (l : List ℕ). Appends t v l) (sym (append_assoc (header_text options.format) (answers_text r.answers.answers) (rest_text rest)))
-              (appends_twice t r.opened v (header_text options.format) (answers_text r.answers.answers ++ rest_text rest) r.header
-              (appends_twice r.opened u v (answers_text r.answers.answers) (rest_text rest) r.answers.written
+          answers = r.answers.writes.answers;
+          are_answers = r.answers.writes.are_answers;
+          written = subst (λ (l : List ℕ). Appends t v l) (sym (append_assoc (header_text options.format) (answers_text r.answers.writes.answers) (rest_text rest)))
+              (appends_twice t r.opened v (header_text options.format) (answers_text r.answers.writes.answers ++ rest_text rest) r.header
+              (appends_twice r.opened u v (answers_text r.answers.writes.answers) (rest_text rest) r.answers.writes.written
               (subst (λ (x : List ℕ). Appends u v x) (ap rest_text r.answers.start_is ∙ rest_start rest) s)));
           error_is = rw (← r.answers.error_is, f_is, r.answers.start_is, empty_start rest) refl;
         },
@@ -327,11 +330,11 @@ stops_ending options c l j t u v start e r nothing at_end s =
       lists = inr (
         at_end,
         record {
-          answers = r.answers.answers;
-          are_answers = r.answers.are_answers;
-          written = subst (λ (l : List ℕ). TakesBeginning t v l) (sym (append_assoc (header_text options.format) (answers_text r.answers.answers) (rest_text rest)))
-              (begins_behind t r.opened v (header_text options.format) (answers_text r.answers.answers ++ rest_text rest) r.header
-              (begins_behind r.opened u v (answers_text r.answers.answers) (rest_text rest) r.answers.written
+          answers = r.answers.writes.answers;
+          are_answers = r.answers.writes.are_answers;
+          written = subst (λ (l : List ℕ). TakesBeginning t v l) (sym (append_assoc (header_text options.format) (answers_text r.answers.writes.answers) (rest_text rest)))
+              (begins_behind t r.opened v (header_text options.format) (answers_text r.answers.writes.answers ++ rest_text rest) r.header
+              (begins_behind r.opened u v (answers_text r.answers.writes.answers) (rest_text rest) r.answers.writes.written
               (subst (λ (x : List ℕ). TakesBeginning u v x) same s)));
         },
       );
@@ -360,7 +363,7 @@ lists_input options input (Some rest) t u (Err Read) r = record {
 lists_input options input None t u (Err Write) r = absurd r.given
 lists_input options input (Some rest) t u (Err Write) r = elim r.lists [
   | inl s ↦
-      inl (subst (λ (x : List ℕ). StopsInAnswers options (entries_of options.input x) t u) (sym r.given) (stops_earlier options t u [] r.text rest s))
+      inl (subst (λ (x : List ℕ). StopsInAnswers options (header_text options.format) (entries_of options.input x) t u) (sym r.given) (stops_earlier options t u (header_text options.format) [] r.text rest s))
   | inr s ↦
       inr (subst (λ (x : List ℕ). StopsAfterAnswers options x t u) (all_given input r.text (Some rest) r.given s.0).0 s.1)
 ]

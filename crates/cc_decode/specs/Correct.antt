@@ -20,20 +20,20 @@ pub record WritesListing (options : Options) (text : List ℕ) (taken taken_now 
   pub written : Appends taken taken_now (header_text options.format ++ answers_text answers ++ rest_text (left_of options.input text))
   pub error_is : any_error ≡ (list_any (λ answer. answer.is_error) answers || not (length (left_of options.input text) == 0))
 
--- the sink took the header and the answers to the entries of the text, and nothing for the rest
-pub record WritesAnswers (options : Options) (text : List ℕ) (taken taken_now : Option (List ℕ)) : Type 0 where
+-- the sink took the header and the answers to these entries
+pub record WritesAnswers (options : Options) (header : List ℕ) (entries : List (List ℕ)) (taken taken_now : Option (List ℕ)) : Type 0 where
   pub answers : List Answer
-  pub are_answers : AreAnswers options (entries_of options.input text) answers
-  pub written : Appends taken taken_now (header_text options.format ++ answers_text answers)
+  pub are_answers : AreAnswers options entries answers
+  pub written : Appends taken taken_now (header ++ answers_text answers)
 
 -- The sink failed when it had taken a beginning of the header and of the answers to the first of these entries.
-pub record StopsInAnswers (options : Options) (entries : List (List ℕ)) (taken taken_now : Option (List ℕ)) : Type 0 where
+pub record StopsInAnswers (options : Options) (header : List ℕ) (entries : List (List ℕ)) (taken taken_now : Option (List ℕ)) : Type 0 where
   pub earlier : List (List ℕ)
   pub later : List (List ℕ)
   pub entries_are : entries ≡ earlier ++ later
   pub answers : List Answer
   pub are_answers : AreAnswers options earlier answers
-  pub written : TakesBeginning taken taken_now (header_text options.format ++ answers_text answers)
+  pub written : TakesBeginning taken taken_now (header ++ answers_text answers)
 
 -- the sink failed after the answers to all entries, in the answer to the rest, or in the flush
 pub record StopsAfterAnswers (options : Options) (text : List ℕ) (taken taken_now : Option (List ℕ)) : Type 0 where
@@ -46,9 +46,10 @@ pub record StopsAfterAnswers (options : Options) (text : List ℕ) (taken taken_
 abbrev pub ListsText : Options → (text : List ℕ) (left taken taken_now : Option (List ℕ)) → Result Summary ScriptFault → Type 0
 ListsText options text left taken taken_now (Ok summary) =
     IsAtEnd left × WritesListing options text taken taken_now summary.any_error
-ListsText options text left taken taken_now (Err Read) = WritesAnswers options text taken taken_now
+ListsText options text left taken taken_now (Err Read) =
+    WritesAnswers options (header_text options.format) (entries_of options.input text) taken taken_now
 ListsText options text left taken taken_now (Err Write) =
-    StopsInAnswers options (entries_of options.input text) taken taken_now
+    StopsInAnswers options (header_text options.format) (entries_of options.input text) taken taken_now
     ⊎ (IsAtEnd left × StopsAfterAnswers options text taken taken_now)
 
 -- What is left of the text that the source gave: where it tells what was to come, a beginning of that.
@@ -63,7 +64,7 @@ pub record GivesBeginning (options : Options) (text : List ℕ) (left taken take
   pub rest : List ℕ
   pub text_is : text ≡ given ++ rest
   pub left_is : left ≡ Some rest
-  pub writes : WritesAnswers options given taken taken_now
+  pub writes : WritesAnswers options (header_text options.format) (entries_of options.input given) taken taken_now
 
 -- What is left where the text is all that was to come: the whole listing at the end, and else what came before
 -- the failure of a device.
@@ -72,4 +73,4 @@ ListsWhole options text left taken taken_now (Ok summary) =
     (left ≡ Some []) × WritesListing options text taken taken_now summary.any_error
 ListsWhole options text left taken taken_now (Err Read) = GivesBeginning options text left taken taken_now
 ListsWhole options text left taken taken_now (Err Write) =
-    StopsInAnswers options (entries_of options.input text) taken taken_now ⊎ StopsAfterAnswers options text taken taken_now
+    StopsInAnswers options (header_text options.format) (entries_of options.input text) taken taken_now ⊎ StopsAfterAnswers options text taken taken_now

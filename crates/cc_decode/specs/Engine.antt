@@ -2,10 +2,10 @@
 use Rattle.std.specs.Prelude.{◌≡◌, ◌<◌, ℕ, Bool, ⊤, List, [], ◌∷◌, ◌++◌, length, take, Option}
 use Rattle.std.specs.Io.KnownBytes.{Appends, Consumes}
 use Rattle.std.specs.List.{list_any}
-use Rattle.cc_script.specs.Devices.{TakesBeginning}
 use Rattle.cc_script.specs.Output.{with_line_feed}
 use Rattle.cc_decode.specs.Input.{entries_from, left_from}
 use Rattle.cc_decode.specs.Row.{IsWordRow, header_text}
+use Rattle.cc_decode.specs.Correct.{WritesAnswers}
 use Rattle.cc_decode.specs.Output.{Answer, IsAnswer, AreAnswers, answers_text}
 use Rattle.cc_decode.specs.declared.format.Format.{Format}
 use Rattle.cc_decode.specs.declared.input.InputForm.{InputForm}
@@ -43,10 +43,8 @@ pub record AnswersEntry (options : Options) (entry old new : List ℕ) (error : 
 -- the entries that end in the text were answered, where the first of them had begun with `begun`; `start` is
 -- the beginning of what follows the last
 pub record Answers (options : Options) (begun text start : List ℕ) (taken taken_now : Option (List ℕ)) (any_error : Bool) : Type 0 where
-  pub answers : List Answer
-  pub are_answers : AreAnswers options (entries_from options.input begun text) answers
-  pub written : Appends taken taken_now (answers_text answers)
-  pub error_is : any_error ≡ list_any (λ answer. answer.is_error) answers
+  pub writes : WritesAnswers options [] (entries_from options.input begun text) taken taken_now
+  pub error_is : any_error ≡ list_any (λ answer. answer.is_error) writes.answers
   pub start_is : start ≡ take 129 (left_from options.input begun text)
 
 -- the first bytes of what waited were written, and the others wait
@@ -69,15 +67,6 @@ pub record AnswersFirst (options : Options) (begun piece rest start : List ℕ) 
   pub written : Appends taken taken_now passed
   pub waits : answers_text answers ≡ passed ++ waiting
   pub error_is : any_error ≡ list_any (λ answer. answer.is_error) answers
-
--- the sink failed when it had taken a beginning of the answers to the first of these entries, which are in a piece
-pub record StopsInPiece (options : Options) (entries : List (List ℕ)) (taken taken_now : Option (List ℕ)) : Type 0 where
-  pub earlier : List (List ℕ)
-  pub later : List (List ℕ)
-  pub entries_are : entries ≡ earlier ++ later
-  pub answers : List Answer
-  pub are_answers : AreAnswers options earlier answers
-  pub written : TakesBeginning taken taken_now (answers_text answers)
 
 -- what was done up to a read: the header, and then the answers to a text
 pub record Reads (options : Options) (to_come left : Option (List ℕ)) (start : List ℕ) (taken taken_now : Option (List ℕ)) (any_error : Bool) : Type 0 where

@@ -3,8 +3,8 @@ ghost use Rattle.std.specs.Prelude.{◌≡◌, ◌≤◌, ℕ, true, false, List
 ghost use Rattle.std.specs.Io.KnownBytes.{Appends};
 ghost use Rattle.cc_script.specs.Devices.{TakesBeginning};
 ghost use Rattle.cc_script.specs.Output.{rest_text};
-ghost use Rattle.cc_decode.specs.Correct.{Lists, ListsWhole};
-ghost use Rattle.cc_decode.specs.Engine.{Answers, IsBegun, StopsInPiece};
+ghost use Rattle.cc_decode.specs.Correct.{Lists, ListsWhole, StopsInAnswers};
+ghost use Rattle.cc_decode.specs.Engine.{Answers, IsBegun};
 ghost use Rattle.cc_decode.specs.Input.{entries_from};
 ghost use Rattle.cc_decode.specs.Row.{header_text};
 
@@ -129,7 +129,7 @@ fn take_piece<W: Sink>(
     ensures ok { (begun : List ℕ) → start.old ≡ take 129 begun → IfOk result (λ error.
         Answers options begun piece.now start.new (W.taken_bytes sink.old) (W.taken_bytes sink.new) error) }
     ensures err { (begun : List ℕ) → start.old ≡ take 129 begun → OnErr result (
-        StopsInPiece options (entries_from options.input begun piece.now) (W.taken_bytes sink.old) (W.taken_bytes sink.new)) }
+        StopsInAnswers options [] (entries_from options.input begun piece.now) (W.taken_bytes sink.old) (W.taken_bytes sink.new)) }
     ensures begun { OnOk result (IsBegun options.input start.new) }
     ensures empty { OnOk result (batch.new ≡ []) }
     ensures passed { OnOk result (W.waiting_bytes sink.new ≡ []) }

@@ -1,4 +1,4 @@
-//! What the definitions come to. Each function's contract is a law, and its body is empty.
+//! What holds of every input of words. Each function's contract is a law, and its body is empty.
 ghost use Rattle.std.specs.Prelude.{◌≡◌, ℕ, Bool, List, Option, Some};
 ghost use Rattle.cc_decode.specs.Correct.{WritesListing};
 ghost use Rattle.cc_decode.specs.Input.{OneCut};

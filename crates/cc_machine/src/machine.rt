@@ -120,6 +120,7 @@ impl Machine {
     }
 
     /// The slot of this number. Refusals in order: `NoSlot`, `Revoked`.
+    #[inline(always)]
     pub(crate) fn usable(&self, number: u32) -> Result<Slot, Refusal>
         ensures { usable_slot self.now.slots number
             ≡ result_map_both (λ slot. tagged_slot slot.capability slot.parent) (λ refusal. refusal) result }
@@ -181,6 +182,7 @@ impl Machine {
     /// A refused operation leaves the machine as it was; [`Op`] says when each refusal comes. What is made goes
     /// into a new slot, the last, and is refused with `Full` where there are as many slots as the limit: after
     /// every other check, save that a place for an object is looked for only then.
+    #[inline(always)]
     pub fn step(&mut self, op: &Op) -> Reply
         ensures step { Step self.old op.now result self.new }
         ensures refused { IsRefused result → self.new ≡ self.old }
@@ -217,7 +219,7 @@ impl Machine {
     }
 
     /// What a slot holds. Refusals in order: `NoSlot`, `Revoked`.
-    #[inline(never)]
+    #[inline(always)]
     fn show(&self, number: u32) -> Reply
         ensures { Shows self.now.slots number result }
     {
@@ -236,6 +238,7 @@ impl Machine {
 
     /// Puts what was made into a new slot, the last, where fewer slots than the limit were made. It belongs to
     /// what its parent belongs to.
+    #[inline(always)]
     fn add(&mut self, parent: u32, made: Result<Cap, Refusal>) -> Reply
         requires { IsMade self.old.slots parent made }
         ensures { (op : Op) → Makes self.old.slots op parent made → Step self.old op result self.new }

@@ -20,8 +20,8 @@ use Rattle.cc_machine.specs.declared.op.Op.TheVariants as op
 use Rattle.cc_script.specs.declared.keyword.Keyword.{Keyword}
 use Rattle.cc_script.specs.declared.keyword.Keyword.TheVariants as keyword
 use Rattle.cc_script.specs.Numbers.{numeral_of, number_of, within_limit}
-use Rattle.cc_script.specs.Commands.{words_of, permissions_in, with_names, align_in, flag_in, word_in, index_in, length_in, one, two, one_value, two_values, second_value, command_of, BeginsWithIndex, BeginsWithNumber}
-use Rattle.cc_script.proofs.CommandLemmas.{three_values, values_at, index_fits}
+use Rattle.cc_script.specs.Commands.{words_of, permissions_in, with_names, align_in, flag_in, word_in, index_in, length_in, one, two, one_value, two_values, command_of, BeginsWithIndex, BeginsWithNumber}
+use Rattle.cc_script.proofs.CommandLemmas.{three_values, index_fits, index_over}
 
 -- no byte of the text is a space
 abbrev is_word : List ℕ → Bool
@@ -149,29 +149,27 @@ no_permissions text spaced = by (bytes_eq text (codes "-")) refl where
 
 -- ---- commands
 
-two-syntax : {B : Type 0} (make : ℕ → B → Op) (limit : ℕ) (number : Option ℕ) → two make (within_limit limit number) (Err Syntax) ≡ Err Syntax
-two-syntax make limit None = refl
-two-syntax make limit (Some number) = by (nat_le number limit) where
-  by : (fits : Bool) → two make (if fits then Ok number else Err OutOfRange) (Err Syntax) ≡ Err Syntax
-  by true = refl
-  by false = refl
+two-syntax : {B : Type 0} (make : ℕ → B → Op) (slot : Result ℕ Refusal) → two make slot (Err Syntax) ≡ Err Syntax
+two-syntax make (Ok slot) = refl
+two-syntax make (Err Syntax) = refl
+two-syntax make (Err fault) = refl
 
-spaced-second : (k : Keyword) (first second : List ℕ) → is_word second ≡ false → two_values k first second ≡ Err Syntax
-spaced-second keyword.Bounds first second e = rw (limited (2 ^ 64) second e) (two-syntax op.Bounds (2 ^ 32 - 1) (number_of first))
-spaced-second keyword.Exact first second e = rw (limited (2 ^ 64) second e) (two-syntax op.Exact (2 ^ 32 - 1) (number_of first))
-spaced-second keyword.Addr first second e = rw (limited (2 ^ 64 - 1) second e) (two-syntax op.Addr (2 ^ 32 - 1) (number_of first))
-spaced-second keyword.Inc first second e = rw (limited (2 ^ 64 - 1) second e) (two-syntax op.Inc (2 ^ 32 - 1) (number_of first))
-spaced-second keyword.Perms first second e = rw (no_permissions second e) (two-syntax op.Perms (2 ^ 32 - 1) (number_of first))
-spaced-second keyword.Flag first second e = rw (no_flag second e) (two-syntax op.Flag (2 ^ 32 - 1) (number_of first))
-spaced-second keyword.Seal first second e = rw (limited (2 ^ 32 - 1) second e) (two-syntax op.Seal (2 ^ 32 - 1) (number_of first))
-spaced-second keyword.Unseal first second e = rw (limited (2 ^ 32 - 1) second e) (two-syntax op.Unseal (2 ^ 32 - 1) (number_of first))
-spaced-second keyword.Rebuild first second e = rw (no_word second e) (two-syntax op.Rebuild (2 ^ 32 - 1) (number_of first))
-spaced-second keyword.Pool first second e = rw (no_align second e) (two-syntax op.Pool (2 ^ 32 - 1) (number_of first))
-spaced-second keyword.Show first second e = refl
-spaced-second keyword.Round first second e = refl
-spaced-second keyword.Alloc first second e = refl
-spaced-second keyword.Free first second e = refl
-spaced-second keyword.Sweep first second e = refl
+spaced-second : (k : Keyword) (slot : Result ℕ Refusal) (second : List ℕ) → is_word second ≡ false → two_values k slot second ≡ Err Syntax
+spaced-second keyword.Bounds slot second e = rw (limited (2 ^ 64) second e) (two-syntax op.Bounds slot)
+spaced-second keyword.Exact slot second e = rw (limited (2 ^ 64) second e) (two-syntax op.Exact slot)
+spaced-second keyword.Addr slot second e = rw (limited (2 ^ 64 - 1) second e) (two-syntax op.Addr slot)
+spaced-second keyword.Inc slot second e = rw (limited (2 ^ 64 - 1) second e) (two-syntax op.Inc slot)
+spaced-second keyword.Perms slot second e = rw (no_permissions second e) (two-syntax op.Perms slot)
+spaced-second keyword.Flag slot second e = rw (no_flag second e) (two-syntax op.Flag slot)
+spaced-second keyword.Seal slot second e = rw (limited (2 ^ 32 - 1) second e) (two-syntax op.Seal slot)
+spaced-second keyword.Unseal slot second e = rw (limited (2 ^ 32 - 1) second e) (two-syntax op.Unseal slot)
+spaced-second keyword.Rebuild slot second e = rw (no_word second e) (two-syntax op.Rebuild slot)
+spaced-second keyword.Pool slot second e = rw (no_align second e) (two-syntax op.Pool slot)
+spaced-second keyword.Show slot second e = refl
+spaced-second keyword.Round slot second e = refl
+spaced-second keyword.Alloc slot second e = refl
+spaced-second keyword.Free slot second e = refl
+spaced-second keyword.Sweep slot second e = refl
 
 alone : (text : List ℕ) → is_word text ≡ true → words_of text ≡ text ∷ []
 alone [] is = refl
@@ -190,15 +188,15 @@ many (x ∷ text) spaced = by (x == 32) spaced (words_of text) (many text) (leng
   by false spaced (word ∷ words) later sized = later spaced
 
 -- a keyword and what stands after its first value: the rest is one value, or has a space and is none
-pub two_or_more : (k : Keyword) (first rest : List ℕ) → two_values k first rest ≡ command_of k (first ∷ words_of rest)
+pub two_or_more : (k : Keyword) (first rest : List ℕ) → two_values k (index_in first) rest ≡ command_of k (first ∷ words_of rest)
 two_or_more k first rest = by (is_word rest) refl where
-  by : (word : Bool) → is_word rest ≡ word → two_values k first rest ≡ command_of k (first ∷ words_of rest)
+  by : (word : Bool) → is_word rest ≡ word → two_values k (index_in first) rest ≡ command_of k (first ∷ words_of rest)
   by true is = rw (alone rest is) refl
-  by false is = spaced-second k first rest is ∙ sym (three_values k first (words_of rest) (many rest is))
+  by false is = spaced-second k (index_in first) rest is ∙ sym (three_values k first (words_of rest) (many rest is))
 
 -- a keyword of one value, which is a number: what stands after the keyword is that, or has a space and is none
 pub one_or_more : (k : Keyword) (value : List ℕ) → (is_word value ≡ false → one_value k value ≡ Err Syntax)
-    → ((first second : List ℕ) → two_values k first second ≡ Err Syntax) → one_value k value ≡ command_of k (words_of value)
+    → ((first second : List ℕ) → two_values k (index_in first) second ≡ Err Syntax) → one_value k value ≡ command_of k (words_of value)
 one_or_more k value spaced two_none = by (is_word value) refl where
   fewer : (words : List (List ℕ)) → 2 ≤ length words → Err Syntax ≡ command_of k words
   fewer [] h = absurd (omega arith)
@@ -279,9 +277,17 @@ number_begins text at number within some space digits is =
     }
 
 -- what a keyword and a slot that stands first come to
-pub indexed : (k : Keyword) (text second : List ℕ) (slot : ℕ) → BeginsWithIndex text slot second → second_value k slot second ≡ command_of k (words_of text)
+pub indexed : (k : Keyword) (text second : List ℕ) (slot : ℕ) → BeginsWithIndex text slot second → two_values k (Ok slot) second ≡ command_of k (words_of text)
 indexed k text second slot is =
     let begins = is.begins in
-    values_at k begins.word second slot (index_fits begins.word slot begins.spelled is.fits)
+    ap (λ (first : Result ℕ Refusal). two_values k first second) (sym (index_fits begins.word slot begins.spelled is.fits))
+    ∙ two_or_more k begins.word second
+    ∙ ap (command_of k) (sym begins.whole)
+
+-- the same where the number is over a slot's limit
+pub number_over : (k : Keyword) (text second : List ℕ) (number : ℕ) → BeginsWithNumber text number second → 2 ^ 32 - 1 < number
+    → two_values k (Err OutOfRange) second ≡ command_of k (words_of text)
+number_over k text second number begins over =
+    ap (λ (first : Result ℕ Refusal). two_values k first second) (sym (index_over begins.word number begins.spelled over))
     ∙ two_or_more k begins.word second
     ∙ ap (command_of k) (sym begins.whole)

@@ -59,25 +59,25 @@ one_value-Fits keyword.Alloc value = one-Fits op.Alloc (length_in value) (λ a. 
 one_value-Fits keyword.Free value = one-Fits op.Free (index_in value) (λ a. tt)
 one_value-Fits k value = tt
 
-two_values-Fits : (k : Keyword) (first second : List ℕ) → Fits (two_values k first second)
-two_values-Fits keyword.Bounds first second = two-Fits op.Bounds (index_in first) (length_in second) (λ a b e. tt)
-two_values-Fits keyword.Exact first second = two-Fits op.Exact (index_in first) (length_in second) (λ a b e. tt)
-two_values-Fits keyword.Addr first second =
-    two-Fits op.Addr (index_in first) (address_in second)
+two_values-Fits : (k : Keyword) (slot : Result ℕ Refusal) (second : List ℕ) → Fits (two_values k slot second)
+two_values-Fits keyword.Bounds slot second = two-Fits op.Bounds slot (length_in second) (λ a b e. tt)
+two_values-Fits keyword.Exact slot second = two-Fits op.Exact slot (length_in second) (λ a b e. tt)
+two_values-Fits keyword.Addr slot second =
+    two-Fits op.Addr slot (address_in second)
     (λ a b e. let small = within (2 ^ 64 - 1) (number_of second) b e in omega (arith, small))
-two_values-Fits keyword.Inc first second = two-Fits op.Inc (index_in first) (address_in second) (λ a b e. tt)
-two_values-Fits keyword.Perms first second = two-Fits op.Perms (index_in first) (permissions_in second) (λ a b e. tt)
-two_values-Fits keyword.Flag first second = two-Fits op.Flag (index_in first) (flag_in second) (λ a b e. tt)
-two_values-Fits keyword.Seal first second = two-Fits op.Seal (index_in first) (index_in second) (λ a b e. tt)
-two_values-Fits keyword.Unseal first second = two-Fits op.Unseal (index_in first) (index_in second) (λ a b e. tt)
-two_values-Fits keyword.Rebuild first second = two-Fits op.Rebuild (index_in first) (word_in second) (λ a b e. tt)
-two_values-Fits keyword.Pool first second = two-Fits op.Pool (index_in first) (align_in second) (λ a b e. tt)
-two_values-Fits k first second = tt
+two_values-Fits keyword.Inc slot second = two-Fits op.Inc slot (address_in second) (λ a b e. tt)
+two_values-Fits keyword.Perms slot second = two-Fits op.Perms slot (permissions_in second) (λ a b e. tt)
+two_values-Fits keyword.Flag slot second = two-Fits op.Flag slot (flag_in second) (λ a b e. tt)
+two_values-Fits keyword.Seal slot second = two-Fits op.Seal slot (index_in second) (λ a b e. tt)
+two_values-Fits keyword.Unseal slot second = two-Fits op.Unseal slot (index_in second) (λ a b e. tt)
+two_values-Fits keyword.Rebuild slot second = two-Fits op.Rebuild slot (word_in second) (λ a b e. tt)
+two_values-Fits keyword.Pool slot second = two-Fits op.Pool slot (align_in second) (λ a b e. tt)
+two_values-Fits k slot second = tt
 
 command_of-Fits : (k : Keyword) (values : List (List ℕ)) → Fits (command_of k values)
 command_of-Fits k [] = no_value-Fits k
 command_of-Fits k (value ∷ []) = one_value-Fits k value
-command_of-Fits k (first ∷ second ∷ []) = two_values-Fits k first second
+command_of-Fits k (first ∷ second ∷ []) = two_values-Fits k (index_in first) second
 command_of-Fits k (first ∷ second ∷ third ∷ more) = tt
 
 command_in-Fits : (words : List (List ℕ)) → Fits (command_in words)

@@ -118,12 +118,16 @@ one make (Ok value) = Ok (make value)
 one make (Err fault) = Err fault
 
 -- both values, or the fault: a text that spells no value comes before a number over its limit
-abbrev pub two : {A B C : Type 0} → (A → B → C) → Result A Refusal → Result B Refusal → Result C Refusal
-two make (Ok first) (Ok second) = Ok (make first second)
-two make (Ok first) (Err fault) = Err fault
-two make (Err Syntax) second = Err Syntax
-two make (Err fault) (Ok second) = Err fault
-two make (Err fault) (Err other) = Err other
+abbrev pub both : {A B : Type 0} → Result A Refusal → Result B Refusal → Result (A × B) Refusal
+both (Ok first) (Ok second) = Ok (first, second)
+both (Ok first) (Err fault) = Err fault
+both (Err Syntax) second = Err Syntax
+both (Err fault) (Ok second) = Err fault
+both (Err fault) (Err other) = Err other
+
+-- a command of two values, or its fault
+abbrev pub two : {A B : Type 0} → (A → B → Op) → Result A Refusal → Result B Refusal → Result Op Refusal
+two make first second = one (λ values. make values.0 values.1) (both first second)
 
 -- the commands of one value after the keyword
 abbrev pub one_value : Keyword → (value : List ℕ) → Result Op Refusal
@@ -134,39 +138,25 @@ one_value keyword.Alloc len = one op.Alloc (length_in len)
 one_value keyword.Free object = one op.Free (index_in object)
 one_value keyword value = Err Syntax
 
--- the commands of two values after the keyword
-abbrev pub two_values : Keyword → (first second : List ℕ) → Result Op Refusal
-two_values keyword.Bounds slot len = two op.Bounds (index_in slot) (length_in len)
-two_values keyword.Exact slot len = two op.Exact (index_in slot) (length_in len)
-two_values keyword.Addr slot address = two op.Addr (index_in slot) (address_in address)
-two_values keyword.Inc slot amount = two op.Inc (index_in slot) (address_in amount)
-two_values keyword.Perms slot names = two op.Perms (index_in slot) (permissions_in names)
-two_values keyword.Flag slot flag = two op.Flag (index_in slot) (flag_in flag)
-two_values keyword.Seal slot authority = two op.Seal (index_in slot) (index_in authority)
-two_values keyword.Unseal slot authority = two op.Unseal (index_in slot) (index_in authority)
-two_values keyword.Rebuild authority word = two op.Rebuild (index_in authority) (word_in word)
-two_values keyword.Pool slot align = two op.Pool (index_in slot) (align_in align)
-two_values keyword first second = Err Syntax
-
--- The commands of two values, where the first is a slot that is known. No public clause cites it.
-abbrev pub second_value : Keyword → (slot : ℕ) → (second : List ℕ) → Result Op Refusal
-second_value keyword.Bounds slot len = one (op.Bounds slot) (length_in len)
-second_value keyword.Exact slot len = one (op.Exact slot) (length_in len)
-second_value keyword.Addr slot address = one (op.Addr slot) (address_in address)
-second_value keyword.Inc slot amount = one (op.Inc slot) (address_in amount)
-second_value keyword.Perms slot names = one (op.Perms slot) (permissions_in names)
-second_value keyword.Flag slot flag = one (op.Flag slot) (flag_in flag)
-second_value keyword.Seal slot authority = one (op.Seal slot) (index_in authority)
-second_value keyword.Unseal slot authority = one (op.Unseal slot) (index_in authority)
-second_value keyword.Rebuild authority word = one (op.Rebuild authority) (word_in word)
-second_value keyword.Pool slot align = one (op.Pool slot) (align_in align)
-second_value keyword slot second = Err Syntax
+-- the commands of two values after the keyword: the number of a slot, or its fault, and a second value
+abbrev pub two_values : Keyword → (slot : Result ℕ Refusal) → (second : List ℕ) → Result Op Refusal
+two_values keyword.Bounds slot len = two op.Bounds slot (length_in len)
+two_values keyword.Exact slot len = two op.Exact slot (length_in len)
+two_values keyword.Addr slot address = two op.Addr slot (address_in address)
+two_values keyword.Inc slot amount = two op.Inc slot (address_in amount)
+two_values keyword.Perms slot names = two op.Perms slot (permissions_in names)
+two_values keyword.Flag slot flag = two op.Flag slot (flag_in flag)
+two_values keyword.Seal slot authority = two op.Seal slot (index_in authority)
+two_values keyword.Unseal slot authority = two op.Unseal slot (index_in authority)
+two_values keyword.Rebuild authority word = two op.Rebuild authority (word_in word)
+two_values keyword.Pool slot align = two op.Pool slot (align_in align)
+two_values keyword slot second = Err Syntax
 
 -- the commands by how many words follow the keyword
 abbrev pub command_of : Keyword → (values : List (List ℕ)) → Result Op Refusal
 command_of keyword [] = no_value keyword
 command_of keyword (value ∷ []) = one_value keyword value
-command_of keyword (first ∷ second ∷ []) = two_values keyword first second
+command_of keyword (first ∷ second ∷ []) = two_values keyword (index_in first) second
 command_of keyword (first ∷ second ∷ third ∷ more) = Err Syntax
 
 -- the command of these words, or its fault

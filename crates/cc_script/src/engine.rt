@@ -10,11 +10,11 @@ ghost use Rattle.cc_script.specs.Devices.{TakesBeginning};
 ghost use Rattle.cc_script.specs.Correct.{StopsInReply, AnswersScript, RunsScript, stand};
 ghost use Rattle.cc_script.specs.Engine.{AnswersLine, CutsLine, AnswersOpening, commands_from, Answers};
 
-use crate::devices::{Failed, Sink, Source};
+use crate::answering::{answer, step};
+use crate::devices::{Failed, Sink, Source, write_all};
 use crate::line::Line;
 use crate::line_start::{LineStart, split_at_line_feed};
-use crate::parsing::parse_line;
-use crate::printing::{push_refusal, push_reply, refusal_line};
+use crate::printing::{push_any_reply, refusal_bytes, refusal_line};
 use crate::summary::{ScriptFault, Summary};
 use cc_machine::{Machine, Op, Reply};
 use cc_word::Refusal;
@@ -139,7 +139,7 @@ fn take_opening<W: Sink>(
 {
     let mut any_error = false;
     for op in opening {
-        let reply = machine.step(op);
+        let reply = step(machine, op);
         match write_reply(text, &reply, sink) {
             Ok(is_error) => any_error |= is_error,
             Err(Failed) => return Err(Failed),
@@ -238,32 +238,28 @@ fn answer_line<W: Sink>(
     ensures err { OnErr result (CutsLine machine.old line.now (W.taken_bytes sink.old) (W.taken_bytes sink.new) machine.new) }
     ensures fails { IsErr result ↔ (W.has_failed sink.new ≡ true) }
 {
-    let op = match parse_line(line) {
-        Ok(op) => op,
-        Err(refusal) => {
-            return match write_refusal(text, refusal, sink) {
-                Ok(is_error) => Ok(is_error),
-                Err(Failed) => Err(Failed),
-            };
-        }
-    };
-    match write_reply(text, &machine.step(&op), sink) {
-        Ok(is_error) => Ok(is_error),
-        Err(Failed) => Err(Failed),
+    match answer(machine, text, line) {
+        Ok(()) => match text.write(sink) {
+            Ok(()) => Ok(false),
+            Err(Failed) => Err(Failed),
+        },
+        Err(refusal) => match write_refusal(refusal, sink) {
+            Ok(is_error) => Ok(is_error),
+            Err(Failed) => Err(Failed),
+        },
     }
 }
 
-/// Writes the refusal of a line for its fault, which is an error.
-fn write_refusal<W: Sink>(text: &mut Line, refusal: Refusal, sink: &mut W) -> Result<bool, Failed>
+/// Writes the refusal of a line or of its operation, which is an error.
+#[inline(always)]
+fn write_refusal<W: Sink>(refusal: Refusal, sink: &mut W) -> Result<bool, Failed>
     requires { W.has_failed sink.old ≡ false }
     ensures error { IfOk result (λ error. error ≡ true) }
     ensures ok { OnOk result (Appends (W.taken_bytes sink.old) (W.taken_bytes sink.new) (with_line_feed (refusal_text refusal))) }
     ensures err { OnErr result (TakesBeginning (W.taken_bytes sink.old) (W.taken_bytes sink.new) (with_line_feed (refusal_text refusal))) }
     ensures fails { IsErr result ↔ (W.has_failed sink.new ≡ true) }
 {
-    text.clear();
-    push_refusal(text, refusal);
-    match text.write(sink) {
+    match write_all(sink, refusal_bytes(refusal)) {
         Ok(()) => Ok(true),
         Err(Failed) => Err(Failed),
     }
@@ -278,7 +274,7 @@ fn write_reply<W: Sink>(text: &mut Line, reply: &Reply, sink: &mut W) -> Result<
     ensures fails { IsErr result ↔ (W.has_failed sink.new ≡ true) }
 {
     text.clear();
-    push_reply(text, reply);
+    push_any_reply(text, reply);
     match text.write(sink) {
         Ok(()) => Ok(is_refusal(reply)),
         Err(Failed) => Err(Failed),

@@ -1,5 +1,5 @@
 //! The first words of commands.
-ghost use Rattle.std.specs.Prelude.{◌≡◌, ◌++◌, IfSome};
+ghost use Rattle.std.specs.Prelude.{◌≡◌, IfSome};
 ghost use Rattle.cc_script.specs.Commands.{keyword_of, words_of, command_in, command_of};
 
 /// The first word of a command, which says what the words after it are.
@@ -20,6 +20,16 @@ pub enum Keyword {
     Alloc,
     Free,
     Sweep,
+}
+
+/// What stands after these bytes and a space, where a line begins with them.
+macro_rules! after {
+    ($line:expr, $($byte:literal)*) => {
+        match $line {
+            [$($byte,)* b' ', values @ ..] => Some(values),
+            _ => None,
+        }
+    };
 }
 
 impl Keyword {
@@ -103,29 +113,21 @@ impl Keyword {
         ensures { IfSome result (λ values. command_in (words_of line.now) ≡ command_of self (words_of values.now)) }
     {
         match self {
-            Keyword::Show => strip(line, b"show "),
-            Keyword::Bounds => strip(line, b"bounds "),
-            Keyword::Exact => strip(line, b"exact "),
-            Keyword::Addr => strip(line, b"addr "),
-            Keyword::Inc => strip(line, b"inc "),
-            Keyword::Perms => strip(line, b"perms "),
-            Keyword::Flag => strip(line, b"flag "),
-            Keyword::Seal => strip(line, b"seal "),
-            Keyword::Unseal => strip(line, b"unseal "),
-            Keyword::Rebuild => strip(line, b"rebuild "),
-            Keyword::Round => strip(line, b"round "),
-            Keyword::Pool => strip(line, b"pool "),
-            Keyword::Alloc => strip(line, b"alloc "),
-            Keyword::Free => strip(line, b"free "),
-            Keyword::Sweep => strip(line, b"sweep "),
+            Keyword::Show => after!(line, b's' b'h' b'o' b'w'),
+            Keyword::Bounds => after!(line, b'b' b'o' b'u' b'n' b'd' b's'),
+            Keyword::Exact => after!(line, b'e' b'x' b'a' b'c' b't'),
+            Keyword::Addr => after!(line, b'a' b'd' b'd' b'r'),
+            Keyword::Inc => after!(line, b'i' b'n' b'c'),
+            Keyword::Perms => after!(line, b'p' b'e' b'r' b'm' b's'),
+            Keyword::Flag => after!(line, b'f' b'l' b'a' b'g'),
+            Keyword::Seal => after!(line, b's' b'e' b'a' b'l'),
+            Keyword::Unseal => after!(line, b'u' b'n' b's' b'e' b'a' b'l'),
+            Keyword::Rebuild => after!(line, b'r' b'e' b'b' b'u' b'i' b'l' b'd'),
+            Keyword::Round => after!(line, b'r' b'o' b'u' b'n' b'd'),
+            Keyword::Pool => after!(line, b'p' b'o' b'o' b'l'),
+            Keyword::Alloc => after!(line, b'a' b'l' b'l' b'o' b'c'),
+            Keyword::Free => after!(line, b'f' b'r' b'e' b'e'),
+            Keyword::Sweep => after!(line, b's' b'w' b'e' b'e' b'p'),
         }
     }
-}
-
-/// What stands after these bytes, where a text begins with them.
-#[inline(always)]
-fn strip<'a>(text: &'a [u8], start: &[u8]) -> Option<&'a [u8]>
-    ensures { IfSome result (λ rest. text.now ≡ start.now ++ rest.now) }
-{
-    text.strip_prefix(start)
 }

@@ -1,4 +1,4 @@
-//! What the definitions come to. Each function's contract is a law, and its body is empty.
+//! What holds of every line and of every script. Each function's contract is a law, and its body is empty.
 ghost use Rattle.std.specs.Prelude.{◌≡◌, ◌⊎◌, ℕ, Bool, List, Option, Result};
 ghost use Rattle.std.specs.Io.KnownBytes.{Appends};
 ghost use Rattle.std.specs.List.{AllByRecursion};

@@ -1,6 +1,6 @@
 -- Hexadecimal digits, without leading zeros too.
 use Rattle.std.proofs.Common.{◌≡◌, ℕ, ◌+◌, ◌*◌, ◌/◌, ◌%◌, ◌^◌, ◌<◌, ◌≤◌, List, [], ◌∷◌, drop, length, refl, sym, subst, ◌∙◌, ap, false, true, ◌==◌, arith, suc, zero, ◌++◌, ◌-◌, take, slice_index, append_assoc, append-nil}
-use Rattle.std.proofs.Math.Nat.{div-div-eq-div-mul, div-one, pow-suc}
+use Rattle.std.proofs.Math.Nat.{add-mul-div_right, add-mul-mod_self_right, div-div-eq-div-mul, div-one, pow-suc}
 use Rattle.std.proofs.lemmas.Bool.{agree_below_at, eqb-true, eq-eqb, ne_eqb}
 use Rattle.std.proofs.lemmas.Nat.{pow-add}
 use Rattle.std.specs.Fmt.{digits, digits_onto, digit_glyph}
@@ -52,6 +52,36 @@ digits_of-join (suc c) d (suc total) n e =
     let order : total ≡ d + c = omega arith in
     let place : n / 16 ^ total ≡ n / 16 ^ d / 16 ^ c = ap (λ (t : ℕ). n / 16 ^ t) order ∙ ap (λ (p : ℕ). n / p) (pow-add 16 d c) ∙ sym (div-div-eq-div-mul n (16 ^ d) (16 ^ c)) in
     rw (place, digits_of-join c d total n (omega arith)) refl
+
+-- ---- the last digits are those of what is left of the number
+
+digits_of-low : (d r h m : ℕ) → digits_of d (m + h * 16 ^ (d + r)) ≡ digits_of d m
+unfolding digits_of
+digits_of-low zero r h m = refl
+digits_of-low (suc d) r h m =
+    let order : suc d + r ≡ d + suc r = omega arith in
+    let further : digits_of d (m + h * 16 ^ (suc d + r)) ≡ digits_of d m =
+    ap (λ (k : ℕ). digits_of d (m + h * 16 ^ k)) order ∙ digits_of-low d (suc r) h m in
+    let power : h * 16 ^ (suc d + r) ≡ h * 16 ^ r * 16 * 16 ^ d =
+    ap (λ (k : ℕ). h * 16 ^ k) order ∙ ap (λ (p : ℕ). h * p) (pow-add 16 d (suc r)) ∙ parts in
+    let place : (m + h * 16 ^ (suc d + r)) / 16 ^ d % 16 ≡ m / 16 ^ d % 16 =
+    ap (λ (k : ℕ). (m + k) / 16 ^ d % 16) power
+    ∙ ap (λ (k : ℕ). k % 16) (add-mul-div_right m (h * 16 ^ r * 16) (pos_pow d))
+    ∙ add-mul-mod_self_right (m / 16 ^ d) (h * 16 ^ r) 16 in
+    rw (place, further) refl
+  where
+    parts : h * (16 ^ d * 16 ^ suc r) ≡ h * 16 ^ r * 16 * 16 ^ d
+    parts = rw (pow-suc 16 r) (grind arith)
+
+pub in-halves : (n : ℕ) → digits_of 16 n ≡ digits_of 16 (n % 2 ^ 64)
+in-halves n = ap (λ (m : ℕ). digits_of 16 m) (whole n) ∙ digits_of-low 16 0 (n / 2 ^ 64) (n % 2 ^ 64) where
+  whole : (m : ℕ) → m ≡ m % 2 ^ 64 + m / 2 ^ 64 * 16 ^ 16
+  whole m = omega arith
+
+-- the sixteen digits of a half, and then those of the other
+pub word_halves : (n : ℕ) → digits_of 16 (n / 2 ^ 64) ++ digits_of 16 (n % 2 ^ 64) ≡ digits_of 32 n
+word_halves n =
+    sym (digits_of-join 16 16 32 n refl ∙ ap (λ (l : List ℕ). digits_of 16 (n / 2 ^ 64) ++ l) (in-halves n))
 
 -- ---- without leading zeros
 

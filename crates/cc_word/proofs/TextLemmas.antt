@@ -1,7 +1,8 @@
 -- The digits of words, over the bytes that stand between.
-use Rattle.std.proofs.Common.{◌-◌, ◌<◌, ◌≤◌, inl, inr, ◌≡◌, ℕ, zero, suc, ◌/◌, ◌%◌, ◌^◌, Some, None, refl, sym, arith}
+use Rattle.std.proofs.Common.{◌-◌, ◌<◌, ◌≤◌, inl, inr, ◌≡◌, ℕ, zero, suc, ◌/◌, ◌%◌, ◌^◌, Some, None, refl, sym, arith, ap, ◌∙◌, ◌++◌, List, [], take, drop, length, append-nil}
+use Rattle.std.proofs.lemmas.List.{take_all, take-append-le, drop_all, drop_at, length-drop}
 use Rattle.std.proofs.Math.Nat.{pow-suc, div-div-eq-div-mul, div-one}
-use Rattle.std.specs.Int.{w64, w128, to_be_bytes, byte_at, bytes_high_first}
+use Rattle.std.specs.Int.{w64, to_be_bytes, byte_at, bytes_high_first}
 use Rattle.hex.specs.Hex.{encode_with, lower_digits, hex_digit_value}
 use Rattle.std.proofs.lemmas.Bool.{cases_lt, le-ltb, lt-ltb}
 use Rattle.std.specs.Char.{digit_value}
@@ -42,11 +43,18 @@ encode-bytes_high_first zero n = refl
 encode-bytes_high_first (suc k) n =
     rw (byte-high k n, byte-low k n, encode-bytes_high_first k n) refl
 
-pub word_written : (word : ℕ) → encode_with lower_digits (to_be_bytes w128 word) ≡ digits_of 32 word
-word_written word = encode-bytes_high_first 16 word
-
 pub half_written : (half : ℕ) → encode_with lower_digits (to_be_bytes w64 half) ≡ digits_of 16 half
 half_written half = encode-bytes_high_first 8 half
+
+-- the first half of a text written, and then the other
+pub put_halves : (text first second : List ℕ) → length text ≡ 32 → length first ≡ 16 → length second ≡ 16
+    → take 16 (first ++ drop 16 text) ++ (second ++ drop 16 (drop 16 (first ++ drop 16 text))) ≡ first ++ second
+put_halves text first second whole one other =
+    let rest : List ℕ = drop 16 text in
+    let left : length rest ≤ 16 = omega (arith, length-drop 16 text, whole) in
+    let kept : take 16 (first ++ rest) ≡ first = take-append-le 16 first rest (omega (arith, one)) ∙ take_all 16 first (omega (arith, one)) in
+    let none : drop 16 (drop 16 (first ++ rest)) ≡ [] = ap (λ (l : List ℕ). drop 16 l) (drop_at first rest 16 one) ∙ drop_all 16 rest left in
+    rw (kept, none) (ap (λ (l : List ℕ). first ++ l) (append-nil second))
 
 -- ---- reading
 

@@ -1,5 +1,5 @@
 //! Words as text: 32 hexadecimal digits, the highest first.
-ghost use Rattle.std.specs.Prelude.{◌≡◌, ◌↔◌, ◌+◌, ◌*◌, ◌/◌, ◌%◌, ◌<◌, ◌^◌, length, slice_index, if◌then◌else◌, IsSome, IfSome};
+ghost use Rattle.std.specs.Prelude.{◌≡◌, ◌↔◌, ◌+◌, ◌*◌, ◌/◌, ◌%◌, ◌<◌, ◌^◌, ◌++◌, length, slice_index, if◌then◌else◌, IsSome, IfSome};
 ghost use Rattle.std.specs.Char.{digit_value};
 ghost use Rattle.std.specs.List.{AllPass};
 ghost use Rattle.std.specs.Str.Parse.{digits_value};
@@ -54,26 +54,6 @@ const FIRST_DIGIT_VALUES: [u64; 256] = [
     MORE, MORE, MORE, MORE, MORE, MORE, MORE, MORE, MORE, MORE, MORE, MORE, MORE, MORE, MORE, MORE,
 ];
 
-/// The hexadecimal digits of each byte, in lower case: two for each.
-#[rattlefmt::skip]
-const BYTE_DIGITS: [u8; 512] = *b"\
-    000102030405060708090a0b0c0d0e0f\
-    101112131415161718191a1b1c1d1e1f\
-    202122232425262728292a2b2c2d2e2f\
-    303132333435363738393a3b3c3d3e3f\
-    404142434445464748494a4b4c4d4e4f\
-    505152535455565758595a5b5c5d5e5f\
-    606162636465666768696a6b6c6d6e6f\
-    707172737475767778797a7b7c7d7e7f\
-    808182838485868788898a8b8c8d8e8f\
-    909192939495969798999a9b9c9d9e9f\
-    a0a1a2a3a4a5a6a7a8a9aaabacadaeaf\
-    b0b1b2b3b4b5b6b7b8b9babbbcbdbebf\
-    c0c1c2c3c4c5c6c7c8c9cacbcccdcecf\
-    d0d1d2d3d4d5d6d7d8d9dadbdcdddedf\
-    e0e1e2e3e4e5e6e7e8e9eaebecedeeef\
-    f0f1f2f3f4f5f6f7f8f9fafbfcfdfeff";
-
 /// The value of a digit, and [`NONE`] for a byte that is no digit.
 #[tactic(auto, using(crate::proofs::ReadingLemmas::value_listed))]
 fn value_of_digit(byte: u8) -> u64
@@ -90,20 +70,34 @@ fn value_of_first_digit(byte: u8) -> u64
     FIRST_DIGIT_VALUES[usize::from(byte)]
 }
 
+/// The hexadecimal digit of a number below 16, in lower case.
+#[inline(always)]
+#[tactic(auto, using(crate::proofs::WritingLemmas::decimal_listed, crate::proofs::WritingLemmas::letter_listed))]
+fn digit_of(value: u8) -> u8
+    requires { value < 16 }
+    ensures { result ≡ slice_index lower_digits value }
+{
+    if value < 10 {
+        b'0' + value
+    } else {
+        b'a' - 10 + value
+    }
+}
+
 /// The first of the two hexadecimal digits of a byte.
-#[tactic(auto, using(crate::proofs::WritingLemmas::high_listed))]
+#[inline(always)]
 fn high_digit(byte: u8) -> u8
     ensures { result ≡ slice_index lower_digits (byte / 16) }
 {
-    BYTE_DIGITS[2 * usize::from(byte)]
+    digit_of(byte / 16)
 }
 
 /// The second of them.
-#[tactic(auto, using(crate::proofs::WritingLemmas::low_listed))]
+#[inline(always)]
 fn low_digit(byte: u8) -> u8
     ensures { result ≡ slice_index lower_digits (byte % 16) }
 {
-    BYTE_DIGITS[2 * usize::from(byte) + 1]
+    digit_of(byte % 16)
 }
 
 /// The number that eight digits spell, which is below 2^32, or a greater one where a byte is no digit.
@@ -136,12 +130,27 @@ fn write_digits(bytes: &[u8], text: &mut [u8])
     }
 }
 
-/// The bytes of a word, the highest first.
-#[inline(always)]
-fn bytes_of_word(word: u128) -> [u8; 16]
-    ensures { encode_with lower_digits result ≡ digits_of 32 word }
+/// The digits of eight bytes.
+///
+/// It is called and not inlined, so that the bytes lie in memory and the compiler takes the digits of all in one vector.
+#[inline(never)]
+fn digits_of_eight(bytes: &[u8; 8]) -> [u8; 16]
+    ensures { result ≡ encode_with lower_digits bytes.now }
 {
-    word.to_be_bytes()
+    let mut text = [0; 16];
+    write_digits(bytes, &mut text);
+    text
+}
+
+/// Writes the digits of a word's two halves.
+///
+/// It is called and not inlined, since the compiler turns the bytes of a half round at once where it has that half alone.
+#[inline(never)]
+fn write_halves(high: u64, low: u64, text: &mut [u8; 32])
+    ensures { text.new ≡ digits_of 16 high ++ digits_of 16 low }
+{
+    text[..16].copy_from_slice(&write_half(high));
+    text[16..32].copy_from_slice(&write_half(low));
 }
 
 /// The word that 32 hexadecimal digits of either case spell, and `None` for any other text: fewer or
@@ -178,10 +187,11 @@ pub fn write_word(word: u128) -> [u8; 32]
 
 /// Writes the digits of [`write_word`] to room that the caller has.
 #[inline(always)]
+#[tactic(auto, using(crate::proofs::DigitLemmas::word_halves))]
 pub fn write_word_to(word: u128, text: &mut [u8; 32])
     ensures { text.new ≡ digits_of 32 word }
 {
-    write_digits(&bytes_of_word(word), text);
+    write_halves((word >> 64) as u64, (word % (1 << 64)) as u64, text);
 }
 
 /// The 16 hexadecimal digits of half a word, as of an address, in lower case, the highest first.
@@ -190,7 +200,5 @@ pub fn write_word_to(word: u128, text: &mut [u8; 32])
 pub fn write_half(half: u64) -> [u8; 16]
     ensures { result ≡ digits_of 16 half }
 {
-    let mut text = [0; 16];
-    write_digits(&half.to_be_bytes(), &mut text);
-    text
+    digits_of_eight(&half.to_be_bytes())
 }

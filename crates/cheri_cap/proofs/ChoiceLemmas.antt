@@ -1,6 +1,6 @@
 -- The choice that `explain` wants, and the faults of the program's words.
 use Rattle.std.proofs.Common.{◌≡◌, Bool, true, false, List, [], ◌∷◌, Option, Some, None, inl, inr, is_some, refl, subst, sym, option_map}
-use Rattle.std.specs.Prelude.{◌&&◌, IsSome, Result, Ok, Err, not, unwrap_or}
+use Rattle.std.specs.Prelude.{◌&&◌, Result, Ok, Err, not, unwrap_or}
 use Rattle.std.specs.Borrow.{Bor}
 use Rattle.std.specs.Result.{IfErr}
 use Rattle.clap.specs.Kinds.{or_else}
@@ -20,9 +20,9 @@ word_alone None (Some text) e = cc e
 word_alone (Some text) base e = cc e
 
 -- without a word a length is wanted
-pub length_wanted : (size base : Option Text) → choice_fault false (is_some size) (is_some base) ≡ None → IsSome size
+pub length_wanted : (size base : Option Text) → choice_fault false (is_some size) (is_some base) ≡ None → (text : Text) × (size ≡ Some text)
 length_wanted None base e = cc e
-length_wanted (Some text) base e = refl
+length_wanted (Some text) base e = (text, refl)
 
 -- a default for a text
 pub text_or : (given : Option (Bor Text)) (other : Bor Text)

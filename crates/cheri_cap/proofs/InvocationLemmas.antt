@@ -1,10 +1,11 @@
 -- Which command lines clap takes for the program: those that name one of its commands and give it its texts.
 use Rattle.std.proofs.Common.{◌≡◌, ◌==◌, ◌∙◌, ◌⊎◌, ℕ, Bool, true, false, List, [], ◌∷◌, Option, Some, None, arith, is_some, refl, subst, sym, ap, ap₂, inl, inr, codes, get_or, if◌then◌else◌, option_map}
-use Rattle.std.specs.Prelude.{⊤, ◌&&◌, ◌||◌, IfSome, IsOk, IsSome, Result, Ok, Err, find, not, Box, pos, unwrap_or}
+use Rattle.std.specs.Prelude.{cond, ⊤, ◌&&◌, ◌||◌, IfSome, IsOk, IsSome, Result, Ok, Err, find, not, Box, pos, unwrap_or}
 use Rattle.std.specs.Borrow.{Bor}
 use Rattle.std.specs.Box.{box_value}
 use Rattle.std.specs.List.{list_any}
 use Rattle.std.specs.Option.{option_map_or}
+use Rattle.std.specs.Result.{result_ok}
 use Rattle.std.specs.Str.{bytes_eq}
 use Rattle.std.specs.Str.Parse.{ParsesUnsigned, starts_with_minus}
 use Rattle.std.proofs.lemmas.Int.{ints}
@@ -30,13 +31,14 @@ use Rattle.cc_word.specs.declared.refusal.Refusal.TheVariants.{Syntax}
 use Rattle.cc_plan.specs.declared.align.Align.{Align}
 use Rattle.cc_plan.specs.declared.align.Align.TheVariants.{One, Sixteen}
 use Rattle.cc_script.specs.Commands.{align_in}
-use Rattle.cc_decode.specs.declared.input.ByteOrder.{ByteOrder}
+use Rattle.cc_decode.specs.declared.input.InputForm.{InputForm}
 use Rattle.cc_decode.specs.declared.input.ByteOrder.TheVariants.{Little, Big}
-use Rattle.cc_decode.specs.declared.input.InputForm.TheVariants.{Bytes}
+use Rattle.cc_decode.specs.declared.input.InputForm.TheVariants.{Bytes, Lines}
 use Rattle.cc_decode.specs.declared.format.Format.{Format}
 use Rattle.cc_decode.specs.declared.format.Format.TheVariants.{Columns}
 use Rattle.cc_decode.specs.declared.format.Format.TheVariants as format
-use Rattle.cheri_cap.specs.Invocation.{HasAlign, HasFormat, HasItsTexts, HasLimit, HasText, IsAlign, IsFormat, IsGiven, IsLimit, IsLimitText, IsWhole, align_option, choice_fault_in, choice_fault_of, decimal_value, format_in, format_names, format_option, program, slots_option, HasOrder, IsInput, bytes_option, order_in, order_names, HasFlag, flag_option}
+use Rattle.cheri_cap.specs.Invocation.{HasChoice, HasItsTexts, HasLimit, HasText, HasValues, HasWanted, IsChosen, IsGiven, IsLimit, IsInvocation, IsLimitText, choice_fault_in, choice_fault_of, align_named, decimal_value, format_named, format_names, program, slots_option, choice_option, command_of, input_named, order_names, HasFlag, flag_option}
+use Rattle.cheri_cap.specs.declared.invocation.Invocation.{Invocation}
 use Rattle.cheri_cap.proofs.GivenLemmas.{GiveValues, GivesValue, IsTaken, flag_gives, level-given, level_parts, no_default-given, required_given, set_gives, taken}
 
 -- ---- numbers
@@ -86,7 +88,7 @@ limit_read gives (Some text) read limit none some parses = go read (some text re
         record { value = same; from_one = rw same limit.from_one; at_most = rw same limit.at_most }
     go None h = absurd (parses text (Err h.0) h.1 (limit.numeral, omega (arith, limit.at_most)))
 
--- ---- alignments
+-- ---- choices
 
 -- a text that is among names is among the texts that they stand for
 among_texts : (names : List (Bor Text)) (text : Text)
@@ -94,28 +96,30 @@ among_texts : (names : List (Bor Text)) (text : Text)
 among_texts [] text = refl
 among_texts (name ∷ names) text = ap (λ (rest : Bool). bytes_eq name.now text || rest) (among_texts names text)
 
+-- a text that clap takes for a choice names one, where all its names do
+has_choice : {A : Type 0} (named : Text → Option A) (name : Text) (names : List Text) → ((text : Text) → list_any (λ n. bytes_eq n text) names ≡ true → IsSome (named text))
+    → (choices : Bor (List (Bor Text))) → texts choices.now ≡ names → (rows : List Row)
+    → IsTaken (filled (choice_option name choices)) (first_of name rows) (one_of name rows) → HasChoice named name rows
+has_choice named name names each choices are rows taken = go (first_of name rows) (one_of name rows) taken
+  where
+    go : (given read : Option Text) → IsTaken (filled (choice_option name choices)) given read → IfSome given (λ text. IsSome (named text))
+    go None read is = tt
+    go (Some text) read is =
+        let among = sym (among_texts choices.now text) ∙ is.1 in
+        each text (subst (λ (ns : List Text). list_any (λ n. bytes_eq n text) ns ≡ true) are among)
+
 -- 1 and 16 are alignments
-align_read : (text : Text) → list_any (λ name. bytes_eq name text) (codes "1" ∷ codes "16" ∷ []) ≡ true → IsOk (align_in text)
+align_read : (text : Text) → list_any (λ name. bytes_eq name text) (codes "1" ∷ codes "16" ∷ []) ≡ true → IsSome (align_named text)
 align_read text among = go (bytes_eq (codes "1") text) (bytes_eq (codes "16") text) refl refl among
   where
     go : (one sixteen : Bool) → bytes_eq (codes "1") text ≡ one → bytes_eq (codes "16") text ≡ sixteen
-        → (one || (sixteen || false)) ≡ true → IsOk (align_in text)
-    go true sixteen is other e = subst (λ (t : Text). IsOk (align_in t)) ((bytes_eq-Decides (codes "1") text).0 is) refl
-    go false true other is e = subst (λ (t : Text). IsOk (align_in t)) ((bytes_eq-Decides (codes "16") text).0 is) refl
+        → (one || (sixteen || false)) ≡ true → IsSome (align_named text)
+    go true sixteen is other e = subst (λ (t : Text). IsSome (align_named t)) ((bytes_eq-Decides (codes "1") text).0 is) refl
+    go false true other is e = subst (λ (t : Text). IsSome (align_named t)) ((bytes_eq-Decides (codes "16") text).0 is) refl
     go false false one sixteen e = cc e
 
-has_align : (aligns : Bor (List (Bor Text))) → texts aligns.now ≡ codes "1" ∷ codes "16" ∷ [] → (rows : List Row)
-    → IsTaken (filled (align_option aligns)) (first_of (codes "align") rows) (one_of (codes "align") rows) → HasAlign rows
-has_align aligns are rows taken = go (first_of (codes "align") rows) (one_of (codes "align") rows) taken
-  where
-    go : (given read : Option Text) → IsTaken (filled (align_option aligns)) given read → IfSome given (λ text. IsOk (align_in text))
-    go None read is = tt
-    go (Some text) read is =
-        let among = sym (among_texts aligns.now text) ∙ is.1 in
-        align_read text (subst (λ (names : List Text). list_any (λ name. bytes_eq name text) names ≡ true) are among)
-
 -- what is read of an alignment that is not 16
-pub align_one : (given : Option Text) → IfSome given (λ text. IsOk (align_in text)) → (given ≡ Some (codes "16") → ⊥) → IsAlign given One
+pub align_one : (given : Option Text) → IfSome given (λ text. IsSome (align_named text)) → (given ≡ Some (codes "16") → ⊥) → IsChosen align_named One given One
 align_one None read other = refl
 align_one (Some text) read other =
     go (bytes_eq text (codes "1")) (bytes_eq text (codes "16")) (λ is. other (ap Some ((bytes_eq-Decides text (codes "16")).0 is))) read
@@ -123,7 +127,7 @@ align_one (Some text) read other =
     spelt : (one sixteen : Bool) → Result Align Refusal
     spelt one sixteen = if one then Ok One else if sixteen then Ok Sixteen else Err Syntax
 
-    go : (one sixteen : Bool) → (sixteen ≡ true → ⊥) → IsOk (spelt one sixteen) → spelt one sixteen ≡ Ok One
+    go : (one sixteen : Bool) → (sixteen ≡ true → ⊥) → IsSome (result_ok (spelt one sixteen)) → result_ok (spelt one sixteen) ≡ Some One
     go true sixteen not_sixteen read = refl
     go false true not_sixteen read = absurd (not_sixteen refl)
     go false false not_sixteen read = cc read
@@ -131,29 +135,19 @@ align_one (Some text) read other =
 -- ---- formats
 
 -- what has a name is a format
-format_read : (text : Text) → list_any (λ name. bytes_eq name text) format_names ≡ true → IsSome (format_in text)
+format_read : (text : Text) → list_any (λ name. bytes_eq name text) format_names ≡ true → IsSome (format_named text)
 format_read text among = go (bytes_eq (codes "columns") text) (bytes_eq (codes "text") text) (bytes_eq (codes "csv") text) refl refl refl among
   where
     go : (columns line csv : Bool) → bytes_eq (codes "columns") text ≡ columns → bytes_eq (codes "text") text ≡ line → bytes_eq (codes "csv") text ≡ csv
-        → (columns || (line || (csv || false))) ≡ true → IsSome (format_in text)
-    go true line csv is one two e = subst (λ (t : Text). IsSome (format_in t)) ((bytes_eq-Decides (codes "columns") text).0 is) refl
-    go false true csv one is two e = subst (λ (t : Text). IsSome (format_in t)) ((bytes_eq-Decides (codes "text") text).0 is) refl
-    go false false true one two is e = subst (λ (t : Text). IsSome (format_in t)) ((bytes_eq-Decides (codes "csv") text).0 is) refl
+        → (columns || (line || (csv || false))) ≡ true → IsSome (format_named text)
+    go true line csv is one two e = subst (λ (t : Text). IsSome (format_named t)) ((bytes_eq-Decides (codes "columns") text).0 is) refl
+    go false true csv one is two e = subst (λ (t : Text). IsSome (format_named t)) ((bytes_eq-Decides (codes "text") text).0 is) refl
+    go false false true one two is e = subst (λ (t : Text). IsSome (format_named t)) ((bytes_eq-Decides (codes "csv") text).0 is) refl
     go false false false one two three e = cc e
 
-has_format : (formats : Bor (List (Bor Text))) → texts formats.now ≡ format_names → (rows : List Row)
-    → IsTaken (filled (format_option formats)) (first_of (codes "format") rows) (one_of (codes "format") rows) → HasFormat rows
-has_format formats are rows taken = go (first_of (codes "format") rows) (one_of (codes "format") rows) taken
-  where
-    go : (given read : Option Text) → IsTaken (filled (format_option formats)) given read → IfSome given (λ text. IsSome (format_in text))
-    go None read is = tt
-    go (Some text) read is =
-        let among = sym (among_texts formats.now text) ∙ is.1 in
-        format_read text (subst (λ (names : List Text). list_any (λ name. bytes_eq name text) names ≡ true) are among)
-
 -- what is read of a format that is none of the others
-pub format_columns : (given : Option Text) → IfSome given (λ text. IsSome (format_in text)) → (given ≡ Some (codes "text") → ⊥) → (given ≡ Some (codes "csv") → ⊥)
-    → IsFormat given Columns
+pub format_columns : (given : Option Text) → IfSome given (λ text. IsSome (format_named text)) → (given ≡ Some (codes "text") → ⊥) → (given ≡ Some (codes "csv") → ⊥)
+    → IsChosen format_named Columns given Columns
 format_columns None read not_line not_csv = refl
 format_columns (Some text) read not_line not_csv =
     go (bytes_eq text (codes "columns")) (bytes_eq text (codes "text")) (bytes_eq text (codes "csv"))
@@ -171,34 +165,24 @@ format_columns (Some text) read not_line not_csv =
 -- ---- orders of bytes
 
 -- what has a name is an order
-order_read : (text : Text) → list_any (λ name. bytes_eq name text) order_names ≡ true → IsSome (order_in text)
+order_read : (text : Text) → list_any (λ name. bytes_eq name text) order_names ≡ true → IsSome (input_named text)
 order_read text among = go (bytes_eq (codes "little") text) (bytes_eq (codes "big") text) refl refl among
   where
     go : (little big : Bool) → bytes_eq (codes "little") text ≡ little → bytes_eq (codes "big") text ≡ big
-        → (little || (big || false)) ≡ true → IsSome (order_in text)
-    go true big is other e = subst (λ (t : Text). IsSome (order_in t)) ((bytes_eq-Decides (codes "little") text).0 is) refl
-    go false true other is e = subst (λ (t : Text). IsSome (order_in t)) ((bytes_eq-Decides (codes "big") text).0 is) refl
+        → (little || (big || false)) ≡ true → IsSome (input_named text)
+    go true big is other e = subst (λ (t : Text). IsSome (input_named t)) ((bytes_eq-Decides (codes "little") text).0 is) refl
+    go false true other is e = subst (λ (t : Text). IsSome (input_named t)) ((bytes_eq-Decides (codes "big") text).0 is) refl
     go false false one two e = cc e
 
-has_order : (orders : Bor (List (Bor Text))) → texts orders.now ≡ order_names → (rows : List Row)
-    → IsTaken (filled (bytes_option orders)) (first_of (codes "bytes") rows) (one_of (codes "bytes") rows) → HasOrder rows
-has_order orders are rows taken = go (first_of (codes "bytes") rows) (one_of (codes "bytes") rows) taken
-  where
-    go : (given read : Option Text) → IsTaken (filled (bytes_option orders)) given read → IfSome given (λ text. IsSome (order_in text))
-    go None read is = tt
-    go (Some text) read is =
-        let among = sym (among_texts orders.now text) ∙ is.1 in
-        order_read text (subst (λ (names : List Text). list_any (λ name. bytes_eq name text) names ≡ true) are among)
-
 -- what is read of an order that is not big
-pub order_little : (text : Text) → IsSome (order_in text) → (text ≡ codes "big" → ⊥) → IsInput (Some text) (Bytes Little)
+pub order_little : (text : Text) → IsSome (input_named text) → (text ≡ codes "big" → ⊥) → IsChosen input_named Lines (Some text) (Bytes Little)
 order_little text read other =
     go (bytes_eq text (codes "little")) (bytes_eq text (codes "big")) (λ is. other ((bytes_eq-Decides text (codes "big")).0 is)) read
   where
-    named : (little big : Bool) → Option ByteOrder
-    named little big = if little then Some Little else if big then Some Big else None
+    named : (little big : Bool) → Option InputForm
+    named little big = if little then Some (Bytes Little) else if big then Some (Bytes Big) else None
 
-    go : (little big : Bool) → (big ≡ true → ⊥) → IsSome (named little big) → option_map Bytes (named little big) ≡ Some (Bytes Little)
+    go : (little big : Bool) → (big ≡ true → ⊥) → IsSome (named little big) → named little big ≡ Some (Bytes Little)
     go true big not_big read = refl
     go false true not_big read = absurd (not_big refl)
     go false false not_big read = cc read
@@ -242,90 +226,6 @@ flag_read (Some text) flag either none on off = elim either [
     λ given. let same : codes "true" ≡ codes "false" = cc (sym given ∙ ap Some is) in absurd (other (codes "true") (codes "false") refl same),
   )
 ]
-
-show_whole : (rows : List Row) → HasText (codes "word") rows → HasFlag (codes "line") rows → IsWhole (codes "show") rows
-show_whole rows text line = record {
-  known = refl;
-  show = λ _. (text, line);
-  round = λ same. absurd (other (codes "show") (codes "round") refl same);
-  run = λ same. absurd (other (codes "show") (codes "run") refl same);
-  plan = λ same. absurd (other (codes "show") (codes "plan") refl same);
-  map = λ same. absurd (other (codes "show") (codes "map") refl same);
-  decode = λ same. absurd (other (codes "show") (codes "decode") refl same);
-  explain = λ same. absurd (other (codes "show") (codes "explain") refl same);
-}
-
-round_whole : (rows : List Row) → HasText (codes "length") rows → IsWhole (codes "round") rows
-round_whole rows text = record {
-  known = refl;
-  show = λ same. absurd (other (codes "round") (codes "show") refl same);
-  round = λ _. text;
-  run = λ same. absurd (other (codes "round") (codes "run") refl same);
-  plan = λ same. absurd (other (codes "round") (codes "plan") refl same);
-  map = λ same. absurd (other (codes "round") (codes "map") refl same);
-  decode = λ same. absurd (other (codes "round") (codes "decode") refl same);
-  explain = λ same. absurd (other (codes "round") (codes "explain") refl same);
-}
-
-run_whole : (rows : List Row) → HasLimit rows → HasFlag (codes "stats") rows → IsWhole (codes "run") rows
-run_whole rows limit stats = record {
-  known = refl;
-  show = λ same. absurd (other (codes "run") (codes "show") refl same);
-  round = λ same. absurd (other (codes "run") (codes "round") refl same);
-  run = λ _. (limit, stats);
-  plan = λ same. absurd (other (codes "run") (codes "plan") refl same);
-  map = λ same. absurd (other (codes "run") (codes "map") refl same);
-  decode = λ same. absurd (other (codes "run") (codes "decode") refl same);
-  explain = λ same. absurd (other (codes "run") (codes "explain") refl same);
-}
-
-plan_whole : (rows : List Row) → HasText (codes "base") rows → HasText (codes "length") rows → HasLimit rows → HasAlign rows → HasFlag (codes "stats") rows → IsWhole (codes "plan") rows
-plan_whole rows base size limit align stats = record {
-  known = refl;
-  show = λ same. absurd (other (codes "plan") (codes "show") refl same);
-  round = λ same. absurd (other (codes "plan") (codes "round") refl same);
-  run = λ same. absurd (other (codes "plan") (codes "run") refl same);
-  plan = λ _. (base, size, limit, align, stats);
-  map = λ same. absurd (other (codes "plan") (codes "map") refl same);
-  decode = λ same. absurd (other (codes "plan") (codes "decode") refl same);
-  explain = λ same. absurd (other (codes "plan") (codes "explain") refl same);
-}
-
-map_whole : (rows : List Row) → HasText (codes "base") rows → HasText (codes "length") rows → HasLimit rows → HasAlign rows → IsWhole (codes "map") rows
-map_whole rows base size limit align = record {
-  known = refl;
-  show = λ same. absurd (other (codes "map") (codes "show") refl same);
-  round = λ same. absurd (other (codes "map") (codes "round") refl same);
-  run = λ same. absurd (other (codes "map") (codes "run") refl same);
-  plan = λ same. absurd (other (codes "map") (codes "plan") refl same);
-  map = λ _. (base, size, limit, align);
-  decode = λ same. absurd (other (codes "map") (codes "decode") refl same);
-  explain = λ same. absurd (other (codes "map") (codes "explain") refl same);
-}
-
-decode_whole : (rows : List Row) → HasFormat rows → HasOrder rows → IsWhole (codes "decode") rows
-decode_whole rows format order = record {
-  known = refl;
-  show = λ same. absurd (other (codes "decode") (codes "show") refl same);
-  round = λ same. absurd (other (codes "decode") (codes "round") refl same);
-  run = λ same. absurd (other (codes "decode") (codes "run") refl same);
-  plan = λ same. absurd (other (codes "decode") (codes "plan") refl same);
-  map = λ same. absurd (other (codes "decode") (codes "map") refl same);
-  decode = λ _. (format, order);
-  explain = λ same. absurd (other (codes "decode") (codes "explain") refl same);
-}
-
-explain_whole : (rows : List Row) → choice_fault_of rows ≡ None → IsWhole (codes "explain") rows
-explain_whole rows choice = record {
-  known = refl;
-  show = λ same. absurd (other (codes "explain") (codes "show") refl same);
-  round = λ same. absurd (other (codes "explain") (codes "round") refl same);
-  run = λ same. absurd (other (codes "explain") (codes "run") refl same);
-  plan = λ same. absurd (other (codes "explain") (codes "plan") refl same);
-  map = λ same. absurd (other (codes "explain") (codes "map") refl same);
-  decode = λ same. absurd (other (codes "explain") (codes "decode") refl same);
-  explain = λ _. choice;
-}
 
 -- ---- the commands, as building leaves them
 
@@ -398,10 +298,13 @@ module _ (aligns : Bor (List (Bor Text))) (are : texts aligns.now ≡ codes "1" 
     (
       set_gives map.rules _ refl refl refl refl,
       (
-        set_gives map.rules _ refl refl refl refl,
+        flag_gives map.rules _ refl refl refl refl refl,
         (
           set_gives map.rules _ refl refl refl refl,
-          (set_gives map.rules _ refl refl refl refl, (help_gives map.rules, tt)),
+          (
+            set_gives map.rules _ refl refl refl refl,
+            (set_gives map.rules _ refl refl refl refl, (help_gives map.rules, tt)),
+          ),
         ),
       ),
     ),
@@ -429,17 +332,17 @@ module _ (aligns : Bor (List (Bor Text))) (are : texts aligns.now ≡ codes "1" 
   show_serves words e choice =
       let rows = rows_after show.rules [] words in
       let line = flag_served show words (codes "line") show_gives refl e in
-      (codes "show", rows, refl, show_whole rows ((required_given show words show_gives e).1.0 refl) line)
+      (codes "show", rows, refl, ((required_given show words show_gives e).1.0 refl, line))
 
   round_serves : Serves round
   round_serves words e choice =
       let rows = rows_after round.rules [] words in
-      (codes "round", rows, refl, round_whole rows ((required_given round words round_gives e).0 refl))
+      (codes "round", rows, refl, (required_given round words round_gives e).0 refl)
 
   explain_serves : Serves explain
   explain_serves words e choice =
       let rows = rows_after explain.rules [] words in
-      (codes "explain", rows, refl, explain_whole rows choice)
+      (codes "explain", rows, refl, choice)
 
   -- the value of `--slots`
   limit_served : (s : Shape) (words : List Text) → GiveValues s.rules s.rules → arg_by_id s.rules (codes "slots") ≡ Some (filled slots_option)
@@ -451,31 +354,32 @@ module _ (aligns : Bor (List (Bor Text))) (are : texts aligns.now ≡ codes "1" 
   run_serves : Serves run
   run_serves words e choice =
       let rows = rows_after run.rules [] words in
-      (codes "run", rows, refl, run_whole rows (limit_served run words run_gives refl e) (flag_served run words (codes "stats") run_gives refl e))
+      (codes "run", rows, refl, (limit_served run words run_gives refl e, flag_served run words (codes "stats") run_gives refl e))
 
   plan_serves : Serves plan
   plan_serves words e choice =
       let rows = rows_after plan.rules [] words in
       let wanted = required_given plan words plan_gives e in
       let limit = limit_served plan words plan_gives refl e in
-      let align = has_align aligns are rows (taken plan.rules (codes "align") (filled (align_option aligns)) rows (level-given plan [] words false [] plan_gives e) refl) in
+      let align = has_choice align_named (codes "align") (codes "1" ∷ codes "16" ∷ []) align_read aligns are rows (taken plan.rules (codes "align") (filled (choice_option (codes "align") aligns)) rows (level-given plan [] words false [] plan_gives e) refl) in
       let stats = flag_served plan words (codes "stats") plan_gives refl e in
-      (codes "plan", rows, refl, plan_whole rows (wanted.1.1.1.0 refl) (wanted.1.1.1.1.0 refl) limit align stats)
+      (codes "plan", rows, refl, ((wanted.1.1.1.0 refl, wanted.1.1.1.1.0 refl), limit, align, stats))
 
   map_serves : Serves map
   map_serves words e choice =
       let rows = rows_after map.rules [] words in
       let wanted = required_given map words map_gives e in
       let limit = limit_served map words map_gives refl e in
-      let align = has_align aligns are rows (taken map.rules (codes "align") (filled (align_option aligns)) rows (level-given map [] words false [] map_gives e) refl) in
-      (codes "map", rows, refl, map_whole rows (wanted.1.1.0 refl) (wanted.1.1.1.0 refl) limit align)
+      let align = has_choice align_named (codes "align") (codes "1" ∷ codes "16" ∷ []) align_read aligns are rows (taken map.rules (codes "align") (filled (choice_option (codes "align") aligns)) rows (level-given map [] words false [] map_gives e) refl) in
+      let svg = flag_served map words (codes "svg") map_gives refl e in
+      (codes "map", rows, refl, ((wanted.1.1.1.0 refl, wanted.1.1.1.1.0 refl), limit, align, svg))
 
   decode_serves : Serves decode
   decode_serves words e choice =
       let rows = rows_after decode.rules [] words in
-      let format = has_format formats are_formats rows (taken decode.rules (codes "format") (filled (format_option formats)) rows (level-given decode [] words false [] decode_gives e) refl) in
-      let order = has_order orders are_orders rows (taken decode.rules (codes "bytes") (filled (bytes_option orders)) rows (level-given decode [] words false [] decode_gives e) refl) in
-      (codes "decode", rows, refl, decode_whole rows format order)
+      let format = has_choice format_named (codes "format") format_names format_read formats are_formats rows (taken decode.rules (codes "format") (filled (choice_option (codes "format") formats)) rows (level-given decode [] words false [] decode_gives e) refl) in
+      let order = has_choice input_named (codes "bytes") order_names order_read orders are_orders rows (taken decode.rules (codes "bytes") (filled (choice_option (codes "bytes") orders)) rows (level-given decode [] words false [] decode_gives e) refl) in
+      (codes "decode", rows, refl, (format, order))
 
   abbrev AllServe : List Shape → Type 0
   AllServe [] = ⊤
@@ -550,39 +454,47 @@ pub command_is : (m : ArgMatches) (name : Text) (rows : List Row) → Some name 
 command_is m name rows named told = met_is (subcommand_rows_of m) name rows (named ∙ named_rows (out-ArgMatches m).subcommand) told
 
 -- what was found has what its command wants
-pub whole : (met : Option (Text × List Row)) (name : Text) (rows : List Row) → met ≡ Some (name, rows) → HasItsTexts met → IsWhole name rows
-whole met name rows is (named, given, told, has) =
+pub wanted_of : (met : Option (Text × List Row)) (name : Text) (rows : List Row) → met ≡ Some (name, rows) → HasItsTexts met → HasWanted name rows
+wanted_of met name rows is (named, given, told, has) =
     let both : Some (named, given) ≡ Some (name, rows) = sym told ∙ is in
     let same : (named, given) ≡ (name, rows) = cc both in
-    subst (λ (p : Text × List Row). IsWhole p.0 p.1) same has
+    subst (λ (p : Text × List Row). HasWanted p.0 p.1) same has
+
+abbrev command_names : List Text
+command_names = codes "show" ∷ codes "round" ∷ codes "run" ∷ codes "plan" ∷ codes "map" ∷ codes "decode" ∷ codes "explain" ∷ []
 
 -- the text is none of these
 abbrev pub IsNone : (names : List Text) (text : Text) → Type 0
 IsNone [] text = ⊤
 IsNone (name ∷ names) text = (text ≡ name → ⊥) × IsNone names text
 
-none_any : (names : List Text) (text : Text) → IsNone names text → list_any (λ name. bytes_eq name text) names ≡ true → ⊥
-none_any [] text others e = cc e
-none_any (name ∷ names) text others e = go (bytes_eq name text) refl e (none_any names text others.1)
-  where
-    go : (b : Bool) → bytes_eq name text ≡ b → (b || list_any (λ name. bytes_eq name text) names) ≡ true
-        → (list_any (λ name. bytes_eq name text) names ≡ true → ⊥) → ⊥
-    go true is e later = others.0 (sym ((bytes_eq-Decides name text).0 is))
-    go false is e later = later e
+not_this : (b : Bool) (P Q : Type 0) → (b ≡ true → ⊥) → (Q → ⊥) → cond b P Q → ⊥
+not_this true P Q other rest has = other refl
+not_this false P Q other rest has = rest has
+
+-- the program has no other commands
+none_wanted : (name : Text) (rows : List Row) → IsNone command_names name → HasWanted name rows → ⊥
+none_wanted name rows others =
+    not_this _ _ _ (λ e. others.0 ((bytes_eq-Decides name (codes "show")).0 e))
+    (not_this _ _ _ (λ e. others.1.0 ((bytes_eq-Decides name (codes "round")).0 e))
+    (not_this _ _ _ (λ e. others.1.1.0 ((bytes_eq-Decides name (codes "run")).0 e))
+    (not_this _ _ _ (λ e. others.1.1.1.0 ((bytes_eq-Decides name (codes "plan")).0 e))
+    (not_this _ _ _ (λ e. others.1.1.1.1.0 ((bytes_eq-Decides name (codes "map")).0 e))
+    (not_this _ _ _ (λ e. others.1.1.1.1.1.0 ((bytes_eq-Decides name (codes "decode")).0 e))
+    (not_this _ _ _ (λ e. others.1.1.1.1.1.1.0 ((bytes_eq-Decides name (codes "explain")).0 e)) (λ none. none)))))))
 
 -- what was found is one of the program's commands
-pub known : (met : Option (Text × List Row)) (name : Text) → HasItsTexts met → Some name ≡ option_map (λ p. p.0) met
-    → IsNone (codes "show" ∷ codes "round" ∷ codes "run" ∷ codes "plan" ∷ codes "map" ∷ codes "decode" ∷ codes "explain" ∷ []) name → ⊥
+pub known : (met : Option (Text × List Row)) (name : Text) → HasItsTexts met → Some name ≡ option_map (λ p. p.0) met → IsNone command_names name → ⊥
 known met name (named, rows, is, has) told others =
     let same : Some name ≡ Some named = told ∙ ap (λ (o : Option (Text × List Row)). option_map (λ p. p.0) o) is in
     let name_is : name ≡ named = cc same in
-    none_any (codes "show" ∷ codes "round" ∷ codes "run" ∷ codes "plan" ∷ codes "map" ∷ codes "decode" ∷ codes "explain" ∷ []) named
-    (subst (IsNone (codes "show" ∷ codes "round" ∷ codes "run" ∷ codes "plan" ∷ codes "map" ∷ codes "decode" ∷ codes "explain" ∷ [])) name_is others) has.known
+    none_wanted named rows (subst (IsNone command_names) name_is others) has
+
+-- what was read is what was found
+pub invocation_is : (met : Option (Text × List Row)) (name : Text) (rows : List Row) (invocation : Invocation) → met ≡ Some (name, rows) → command_of invocation ≡ name
+    → HasValues rows invocation → IsInvocation met invocation
+invocation_is met name rows invocation is command values = (rows, is ∙ ap (λ (n : Text). Some (n, rows)) (sym command), values)
 
 -- the name that was found, with its rows
 pub found_name : (m : ArgMatches) (name : Text) → Some name ≡ subcommand_name_of m → Some name ≡ option_map (λ p. p.0) (subcommand_rows_of m)
 found_name m name named = named ∙ named_rows (out-ArgMatches m).subcommand
-
--- the text as `get_str` gives it
-pub has_text : (f : Found) (id : Text) → HasText id (rows_of f) → IsSome (first_value f id)
-has_text f id text = rw (first_value-rows f id ∙ text.1) refl

@@ -1,8 +1,8 @@
 -- What a command line asks for.
-use Rattle.std.specs.Prelude.{◌≡◌, ◌≤◌, ◌⊎◌, ◌↔◌, ◌&&◌, ◌||◌, ℕ, Bool, IsTrue, true, not, pos, List, [], ◌∷◌, Option, Some, None, IfSome, IsSome, is_some, Ok, IsOk, codes, option_map, unwrap_or, if◌then◌else◌}
+use Rattle.std.specs.Prelude.{cond, ◌≡◌, ◌≤◌, ◌⊎◌, ◌↔◌, ◌&&◌, ◌||◌, ℕ, Bool, IsTrue, true, not, pos, List, [], ◌∷◌, Option, Some, None, IfSome, IsSome, is_some, Ok, IsOk, codes, option_map, unwrap_or, if◌then◌else◌}
 use Rattle.std.specs.Borrow.{Bor}
-use Rattle.std.specs.List.{list_any}
 use Rattle.std.specs.Option.{option_map_or}
+use Rattle.std.specs.Result.{result_ok}
 use Rattle.std.specs.Str.{bytes_eq}
 use Rattle.std.specs.Str.Parse.{IsNumeral, digits_value, without_leading_plus}
 use Rattle.clap.specs.Walk.{texts}
@@ -15,7 +15,7 @@ use Rattle.clap.specs.declared.builder.value_parser.ValueParser.TheVariants.{Nam
 use Rattle.cc_plan.specs.declared.align.Align.{Align}
 use Rattle.cc_plan.specs.declared.align.Align.TheVariants.{One}
 use Rattle.cc_script.specs.Commands.{align_in}
-use Rattle.cc_decode.specs.declared.input.ByteOrder.{ByteOrder}
+use Rattle.cc_command.specs.declared.planning.PoolTexts.{PoolTexts}
 use Rattle.cc_decode.specs.declared.input.ByteOrder.TheVariants.{Little, Big}
 use Rattle.cc_decode.specs.declared.input.InputForm.{InputForm}
 use Rattle.cc_decode.specs.declared.input.InputForm.TheVariants.{Lines, Bytes}
@@ -35,37 +35,17 @@ optional_argument name = record (new_rule name) { action = Some Set; value_names
 abbrev pub wanted_argument : Text → Rule
 wanted_argument name = record (optional_argument name) { required = true }
 
--- the option `--slots N`, whose value is a number from 1 to 65536
-abbrev pub slots_option : Rule
-slots_option = record (optional_argument (codes "slots")) {
-  long = Some (codes "slots");
-  parser = Some (Signed (pos 1) (pos 65536));
-}
-
--- the option `--align ALIGN`, whose value is one of these texts
-abbrev pub align_option : Bor (List (Bor Text)) → Rule
-align_option aligns = record (optional_argument (codes "align")) {
-  long = Some (codes "align");
-  parser = Some (Names aligns);
-}
-
--- the option `--format FORMAT`, whose value is one of these texts
-abbrev pub format_option : Bor (List (Bor Text)) → Rule
-format_option formats = record (optional_argument (codes "format")) {
-  long = Some (codes "format");
-  parser = Some (Names formats);
-}
-
 -- an option of this name, which has one value
 abbrev pub valued_option : Text → Rule
 valued_option name = record (optional_argument name) { long = Some name }
 
--- the option `--bytes ORDER`, whose value is one of these texts
-abbrev pub bytes_option : Bor (List (Bor Text)) → Rule
-bytes_option orders = record (optional_argument (codes "bytes")) {
-  long = Some (codes "bytes");
-  parser = Some (Names orders);
-}
+-- an option of this name, whose value is one of these texts
+abbrev pub choice_option : Text → Bor (List (Bor Text)) → Rule
+choice_option name choices = record (valued_option name) { parser = Some (Names choices) }
+
+-- the option `--slots N`, whose value is a number from 1 to 65,536
+abbrev pub slots_option : Rule
+slots_option = record (valued_option (codes "slots")) { parser = Some (Signed (pos 1) (pos 65536)) }
 
 -- an option of this name that has no value
 abbrev pub flag_option : Text → Rule
@@ -91,26 +71,23 @@ run_command =
     let options = with_rule (with_rule (new_app (codes "run")) slots_option) (flag_option (codes "stats")) in
     with_rule options (optional_argument (codes "file"))
 
--- the command `plan [--slots N] [--align ALIGN] [--stats]`
-abbrev pub plan_options : Bor (List (Bor Text)) → App
-plan_options aligns =
-    with_rule (with_rule (with_rule (new_app (codes "plan")) slots_option) (align_option aligns)) (flag_option (codes "stats"))
+-- the command with `[--slots N] [--align ALIGN]`
+abbrev pub with_pool_options : App → Bor (List (Bor Text)) → App
+with_pool_options command aligns = with_rule (with_rule command slots_option) (choice_option (codes "align") aligns)
+
+-- the command with `BASE LENGTH [FILE]`
+abbrev pub with_pool : App → App
+with_pool command =
+    let pool = with_rule (with_rule command (wanted_argument (codes "base"))) (wanted_argument (codes "length")) in
+    with_rule pool (optional_argument (codes "file"))
 
 -- the command `plan [--slots N] [--align ALIGN] [--stats] BASE LENGTH [FILE]`
 abbrev pub plan_command : Bor (List (Bor Text)) → App
-plan_command aligns =
-    let pool = with_rule (with_rule (plan_options aligns) (wanted_argument (codes "base"))) (wanted_argument (codes "length")) in
-    with_rule pool (optional_argument (codes "file"))
+plan_command aligns = with_pool (with_rule (with_pool_options (new_app (codes "plan")) aligns) (flag_option (codes "stats")))
 
--- the command `map [--slots N] [--align ALIGN]`
-abbrev pub map_options : Bor (List (Bor Text)) → App
-map_options aligns = with_rule (with_rule (new_app (codes "map")) slots_option) (align_option aligns)
-
--- the command `map [--slots N] [--align ALIGN] BASE LENGTH [FILE]`
+-- the command `map [--slots N] [--align ALIGN] [--svg] BASE LENGTH [FILE]`
 abbrev pub map_command : Bor (List (Bor Text)) → App
-map_command aligns =
-    let pool = with_rule (with_rule (map_options aligns) (wanted_argument (codes "base"))) (wanted_argument (codes "length")) in
-    with_rule pool (optional_argument (codes "file"))
+map_command aligns = with_pool (with_rule (with_pool_options (new_app (codes "map")) aligns) (flag_option (codes "svg")))
 
 -- the names of the formats
 abbrev pub format_names : List Text
@@ -123,7 +100,7 @@ order_names = codes "little" ∷ codes "big" ∷ []
 -- the command `decode [--format FORMAT] [--bytes ORDER] [FILE]`
 abbrev pub decode_command : (formats orders : Bor (List (Bor Text))) → App
 decode_command formats orders =
-    let options = with_rule (with_rule (new_app (codes "decode")) (format_option formats)) (bytes_option orders) in
+    let options = with_rule (with_rule (new_app (codes "decode")) (choice_option (codes "format") formats)) (choice_option (codes "bytes") orders) in
     with_rule options (optional_argument (codes "file"))
 
 -- a program that wants one of its commands and has a version, before its commands are added
@@ -168,32 +145,26 @@ pub record IsLimit (given : Option Text) (limit : ℕ) : Type 0 where
   pub from_one : 1 ≤ limit
   pub at_most : limit ≤ 65536
 
--- the alignment is the one that the value of `--align` spells, or 1 where it is not given
-abbrev pub IsAlign : (given : Option Text) → Align → Type 0
-IsAlign None align = align ≡ One
-IsAlign (Some text) align = align_in text ≡ Ok align
+-- the value is the one that the text names, or the default where no text is given
+abbrev pub IsChosen : {A : Type 0} → (named : Text → Option A) → (default : A) → (given : Option Text) → A → Type 0
+IsChosen named default None value = value ≡ default
+IsChosen named default (Some text) value = named text ≡ Some value
+
+-- the alignment that a text names
+abbrev pub align_named : Text → Option Align
+align_named text = result_ok (align_in text)
 
 -- the format that a text names
-abbrev pub format_in : Text → Option Format
-format_in text =
+abbrev pub format_named : Text → Option Format
+format_named text =
     if bytes_eq text (codes "columns") then Some Columns
     else if bytes_eq text (codes "text") then Some format.Text
     else if bytes_eq text (codes "csv") then Some Csv
     else None
 
--- the format is the one that the value of `--format` names, or columns where it is not given
-abbrev pub IsFormat : (given : Option Text) → Format → Type 0
-IsFormat None format = format ≡ Columns
-IsFormat (Some text) format = format_in text ≡ Some format
-
--- the order of bytes that a text names
-abbrev pub order_in : Text → Option ByteOrder
-order_in text = if bytes_eq text (codes "little") then Some Little else if bytes_eq text (codes "big") then Some Big else None
-
--- the input is lines where `--bytes` is not given, and else bytes in the order that its value names
-abbrev pub IsInput : (given : Option Text) → InputForm → Type 0
-IsInput None input = input ≡ Lines
-IsInput (Some text) input = option_map Bytes (order_in text) ≡ Some input
+-- bytes, in the order that a text names
+abbrev pub input_named : Text → Option InputForm
+input_named text = if bytes_eq text (codes "little") then Some (Bytes Little) else if bytes_eq text (codes "big") then Some (Bytes Big) else None
 
 -- whether the option was given: clap has the value `true` for one that was
 abbrev pub IsGiven : (value : Option Text) → Bool → Type 0
@@ -207,8 +178,16 @@ command_of (ExplainLength base size) = codes "explain"
 command_of (Round size) = codes "round"
 command_of (Run limit stats file) = codes "run"
 command_of (Plan limit pool align stats file) = codes "plan"
-command_of (Map limit pool align file) = codes "map"
+command_of (Map limit pool align svg file) = codes "map"
 command_of (Decode options file) = codes "decode"
+
+-- the texts of the pool are the values of BASE and LENGTH
+abbrev pub HasPool : List Row → PoolTexts → Type 0
+HasPool rows pool = (first_of (codes "base") rows ≡ Some pool.base.now) × (first_of (codes "length") rows ≡ Some pool.length.now)
+
+-- the file is the value of FILE, and none where that is not given
+abbrev pub HasFile : List Row → Option (Bor Text) → Type 0
+HasFile rows file = first_of (codes "file") rows ≡ option_map (λ text. text.now) file
 
 -- each text of the command is the value of its name, and none where the name has no value
 abbrev pub HasValues : List Row → Invocation → Type 0
@@ -220,20 +199,16 @@ HasValues rows (ExplainLength base size) =
     × (base.now ≡ unwrap_or (first_of (codes "base") rows) (codes "0"))
 HasValues rows (Round size) = first_of (codes "length") rows ≡ Some size.now
 HasValues rows (Run limit stats file) =
-    IsLimit (first_of (codes "slots") rows) limit × IsGiven (first_of (codes "stats") rows) stats
-    × (first_of (codes "file") rows ≡ option_map (λ text. text.now) file)
+    IsLimit (first_of (codes "slots") rows) limit × IsGiven (first_of (codes "stats") rows) stats × HasFile rows file
 HasValues rows (Plan limit pool align stats file) =
-    IsLimit (first_of (codes "slots") rows) limit × IsAlign (first_of (codes "align") rows) align
-    × IsGiven (first_of (codes "stats") rows) stats
-    × (first_of (codes "base") rows ≡ Some pool.base.now) × (first_of (codes "length") rows ≡ Some pool.length.now)
-    × (first_of (codes "file") rows ≡ option_map (λ text. text.now) file)
-HasValues rows (Map limit pool align file) =
-    IsLimit (first_of (codes "slots") rows) limit × IsAlign (first_of (codes "align") rows) align
-    × (first_of (codes "base") rows ≡ Some pool.base.now) × (first_of (codes "length") rows ≡ Some pool.length.now)
-    × (first_of (codes "file") rows ≡ option_map (λ text. text.now) file)
+    IsLimit (first_of (codes "slots") rows) limit × IsChosen align_named One (first_of (codes "align") rows) align
+    × IsGiven (first_of (codes "stats") rows) stats × HasPool rows pool × HasFile rows file
+HasValues rows (Map limit pool align svg file) =
+    IsLimit (first_of (codes "slots") rows) limit × IsChosen align_named One (first_of (codes "align") rows) align
+    × IsGiven (first_of (codes "svg") rows) svg × HasPool rows pool × HasFile rows file
 HasValues rows (Decode options file) =
-    IsFormat (first_of (codes "format") rows) options.format × IsInput (first_of (codes "bytes") rows) options.input
-    × (first_of (codes "file") rows ≡ option_map (λ text. text.now) file)
+    IsChosen format_named Columns (first_of (codes "format") rows) options.format
+    × IsChosen input_named Lines (first_of (codes "bytes") rows) options.input × HasFile rows file
 
 -- the command is the subcommand that clap found, and each text is the value that it gives to its name
 abbrev pub IsInvocation : Option (Text × List Row) → Invocation → Type 0
@@ -277,13 +252,17 @@ faults_of app words = or_else (fault_of app words) (kinds_in (choice_fault_in (s
 abbrev pub HasText : Text → List Row → Type 0
 HasText name rows = (text : Text) × (first_of name rows ≡ Some text)
 
--- a number from 1 to 65536
+-- BASE and LENGTH have values
+abbrev pub HasPoolTexts : List Row → Type 0
+HasPoolTexts rows = HasText (codes "base") rows × HasText (codes "length") rows
+
+-- a number from 1 to 65,536
 pub record IsLimitText (text : Text) : Type 0 where
   pub numeral : IsNumeral 10 (without_leading_plus text)
   pub from_one : 1 ≤ decimal_value text
   pub at_most : decimal_value text ≤ 65536
 
--- the value of `--slots`, where it has one, is a number from 1 to 65536, and is read as it is written
+-- the value of `--slots`, where it has one, is a number from 1 to 65,536, and is read as it is written
 pub record HasLimit (rows : List Row) : Type 0 where
   pub read : one_of (codes "slots") rows ≡ first_of (codes "slots") rows
   pub limit : IfSome (first_of (codes "slots") rows) IsLimitText
@@ -294,29 +273,21 @@ pub record HasFlag (name : Text) (rows : List Row) : Type 0 where
   pub read : one_of name rows ≡ first_of name rows
   pub value : IfSome (first_of name rows) (λ text. (text ≡ codes "true") ⊎ (text ≡ codes "false"))
 
--- the value of `--align`, where it has one, spells an alignment
-abbrev pub HasAlign : List Row → Type 0
-HasAlign rows = IfSome (first_of (codes "align") rows) (λ text. IsOk (align_in text))
+-- the value of this name, where it has one, names what the option chooses
+abbrev pub HasChoice : {A : Type 0} → (named : Text → Option A) → (name : Text) → List Row → Type 0
+HasChoice named name rows = IfSome (first_of name rows) (λ text. IsSome (named text))
 
--- the value of `--format`, where it has one, names a format
-abbrev pub HasFormat : List Row → Type 0
-HasFormat rows = IfSome (first_of (codes "format") rows) (λ text. IsSome (format_in text))
-
--- the value of `--bytes`, where it has one, names an order
-abbrev pub HasOrder : List Row → Type 0
-HasOrder rows = IfSome (first_of (codes "bytes") rows) (λ text. IsSome (order_in text))
-
--- the command of this name is one of the program's, and has what it wants
-pub record IsWhole (name : Text) (rows : List Row) : Type 0 where
-  pub known : list_any (λ command. bytes_eq command name) (codes "show" ∷ codes "round" ∷ codes "run" ∷ codes "plan" ∷ codes "map" ∷ codes "decode" ∷ codes "explain" ∷ []) ≡ true
-  pub show : name ≡ codes "show" → HasText (codes "word") rows × HasFlag (codes "line") rows
-  pub round : name ≡ codes "round" → HasText (codes "length") rows
-  pub run : name ≡ codes "run" → HasLimit rows × HasFlag (codes "stats") rows
-  pub plan : name ≡ codes "plan" → HasText (codes "base") rows × HasText (codes "length") rows × HasLimit rows × HasAlign rows × HasFlag (codes "stats") rows
-  pub map : name ≡ codes "map" → HasText (codes "base") rows × HasText (codes "length") rows × HasLimit rows × HasAlign rows
-  pub decode : name ≡ codes "decode" → HasFormat rows × HasOrder rows
-  pub explain : name ≡ codes "explain" → choice_fault_of rows ≡ None
+-- what clap has for the command of this name, which is one of the program's
+abbrev pub HasWanted : Text → List Row → Type 0
+HasWanted name rows =
+    cond (bytes_eq name (codes "show")) (HasText (codes "word") rows × HasFlag (codes "line") rows)
+    (cond (bytes_eq name (codes "round")) (HasText (codes "length") rows)
+    (cond (bytes_eq name (codes "run")) (HasLimit rows × HasFlag (codes "stats") rows)
+    (cond (bytes_eq name (codes "plan")) (HasPoolTexts rows × HasLimit rows × HasChoice align_named (codes "align") rows × HasFlag (codes "stats") rows)
+    (cond (bytes_eq name (codes "map")) (HasPoolTexts rows × HasLimit rows × HasChoice align_named (codes "align") rows × HasFlag (codes "svg") rows)
+    (cond (bytes_eq name (codes "decode")) (HasChoice format_named (codes "format") rows × HasChoice input_named (codes "bytes") rows)
+    (cond (bytes_eq name (codes "explain")) (choice_fault_of rows ≡ None) ⊥))))))
 
 -- a command was found that has what it wants
 abbrev pub HasItsTexts : Option (Text × List Row) → Type 0
-HasItsTexts found = (name : Text) × (rows : List Row) × (found ≡ Some (name, rows)) × IsWhole name rows
+HasItsTexts found = (name : Text) × (rows : List Row) × (found ≡ Some (name, rows)) × HasWanted name rows

@@ -2,3 +2,5 @@
 pub mod Script
 pub mod Outcome
 pub mod Invocation
+pub mod Answering
+pub mod Running

@@ -9,30 +9,45 @@ ghost use Rattle.cheri_cap.specs.declared.outcome.Ending.TheVariants as ending;
 ghost use Rattle.cheri_cap.specs.Invocation.{IsInvocation, IsProgram, faults_of, is_taken};
 ghost use Rattle.cheri_cap.specs.Outcome.{EndsBy, EndsOn, status_of};
 
+mod answering;
+mod arguments;
+mod commands;
 mod error_writer;
+mod help;
 mod invocation;
 mod outcome;
+mod reading;
 mod running;
+mod values;
 
-use cc_command::{explain_length, explain_word, show_line, show_round, show_word};
-use cc_script::{FromWriter, Summary};
+use answering::answer_question;
+use cc_script::{FromWriter, Sink, Summary};
 use clap::Error;
 use clap::error::ErrorKind;
-use invocation::{Invocation, read_words};
+use invocation::Invocation;
 use outcome::{Ending, Fault, ending_of, status};
+use reading::read_words;
+use running::{Telling, Terminals};
 use std::alloc::AllocError;
 use std::env::{self, Env};
-use std::io;
+use std::io::{self, IsTerminal};
 use std::process::ExitCode;
 use std::rt::Files;
 
 fn main(rt: HostRuntime) -> ExitCode {
-    let ending = run(&rt);
+    let terminals = Terminals {
+        input: rt.stdin().is_terminal(),
+        errors: rt.stderr().is_terminal(),
+    };
+    let ending = answer_arguments(&rt, terminals);
     ExitCode::from(finish(&rt, ending))
 }
 
-/// Runs the program on its arguments.
-fn run<R: Env + AllocGlobal + Files + Input + Print + Eprint>(rt: &R) -> Ending {
+/// Does what the program's arguments ask for.
+fn answer_arguments<R: Env + AllocGlobal + Files + Input + Print + Eprint>(
+    rt: &R,
+    terminals: Terminals,
+) -> Ending {
     let arguments = match env::args(rt) {
         Ok(arguments) => arguments.collect::<Vec<String>>(rt.alloc()),
         Err(error) if error.kind() == io::ErrorKind::OutOfMemory => Err(AllocError),
@@ -42,14 +57,15 @@ fn run<R: Env + AllocGlobal + Files + Input + Print + Eprint>(rt: &R) -> Ending 
         }
     };
     match arguments {
-        Ok(arguments) => run_arguments(rt, arguments.as_slice()),
+        Ok(arguments) => answer_strings(rt, terminals, arguments.as_slice()),
         Err(_) => Ending::Stopped(Fault::Memory),
     }
 }
 
-/// Does what the arguments ask for.
-fn run_arguments<R: AllocGlobal + Files + Input + Print + Eprint>(
+/// Does what the arguments ask for, the program's own name first.
+fn answer_strings<R: AllocGlobal + Files + Input + Print + Eprint>(
     rt: &R,
+    terminals: Terminals,
     arguments: &[String],
 ) -> Ending {
     let words: Result<Vec<&str>, AllocError> = arguments
@@ -57,18 +73,27 @@ fn run_arguments<R: AllocGlobal + Files + Input + Print + Eprint>(
         .map(|argument| argument.as_str())
         .collect(rt.alloc());
     match words {
-        Ok(words) => run_words(rt, words.as_slice()),
+        Ok(words) => answer_words(rt, terminals, words.as_slice()),
         Err(_) => Ending::Stopped(Fault::Memory),
     }
 }
 
 /// Does what the words ask for.
-fn run_words<R: AllocGlobal + Files + Input + Print + Eprint>(rt: &R, words: &[&str]) -> Ending
+fn answer_words<R: AllocGlobal + Files + Input + Print + Eprint>(
+    rt: &R,
+    terminals: Terminals,
+    words: &[&str],
+) -> Ending
     ensures refused { result ≡ ending.Refused → (app : App) × IsProgram app × (is_taken app (texts words.now) ≡ false) }
     ensures ends { (app : App) × IsProgram app × EndsOn (faults_of app (texts words.now)) result }
 {
     match read_words(rt.alloc(), words) {
-        Ok(invocation) => ending_of(answer(rt, invocation)),
+        Ok(invocation) => ending_of(answer(
+            rt,
+            terminals,
+            invocation,
+            FromWriter::new(io::writer(rt)),
+        )),
         Err(error) => tell(rt, &error),
     }
 }
@@ -91,43 +116,48 @@ fn tell<R: Print + Eprint>(rt: &R, error: &Error) -> Ending
     }
 }
 
-/// Does what was asked for, and writes the answer to standard output.
-fn answer<R: AllocGlobal + Files + Input + Print + Eprint>(
+/// Does what was asked for, and writes the answer to the output.
+fn answer<R: AllocGlobal + Files + Input + Eprint, W: Sink + Drop>(
     rt: &R,
+    terminals: Terminals,
     invocation: Invocation<'_>,
+    mut output: W,
 ) -> Result<Summary, Fault>
-    requires { (found : Option (Text × List Row)) × IsInvocation found invocation }
+    requires invocation { (found : Option (Text × List Row)) × IsInvocation found invocation }
+    requires output { W.has_failed output ≡ false }
 {
-    let mut output = FromWriter::new(io::writer(rt));
     match invocation {
-        Invocation::Show {
-            word,
-            as_line: false,
-        } => Ok(show_word(word.as_bytes(), &mut output)?),
-        Invocation::Show {
-            word,
-            as_line: true,
-        } => Ok(show_line(word.as_bytes(), &mut output)?),
-        Invocation::Explain { word } => Ok(explain_word(word.as_bytes(), &mut output)?),
-        Invocation::ExplainLength { base, length } => {
-            Ok(explain_length(base, length, &mut output)?)
-        }
-        Invocation::Round { length } => Ok(show_round(length.as_bytes(), &mut output)?),
-        Invocation::Run { limit, stats, file } => running::run(rt, limit, stats, file),
+        Invocation::Run { limit, stats, file } => running::run(
+            rt,
+            limit,
+            Telling::new(stats, terminals),
+            file,
+            output,
+        ),
         Invocation::Plan {
             limit,
             pool,
             align,
             stats,
             file,
-        } => running::plan(rt, limit, pool, align, stats, file),
+        } => running::plan(
+            rt,
+            limit,
+            pool,
+            align,
+            Telling::new(stats, terminals),
+            file,
+            output,
+        ),
         Invocation::Map {
             limit,
             pool,
             align,
+            svg,
             file,
-        } => running::map(rt, limit, pool, align, file),
-        Invocation::Decode { options, file } => running::decode(rt, options, file),
+        } => running::map(rt, limit, pool, align, svg, file, output),
+        Invocation::Decode { options, file } => running::decode(rt, options, file, output),
+        question => Ok(answer_question(question, &mut output)?),
     }
 }
 

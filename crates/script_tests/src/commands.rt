@@ -2,6 +2,7 @@
 
 mod devices;
 mod explaining;
+mod hints;
 mod map;
 mod planning;
 mod rounding;

@@ -5,8 +5,24 @@ use cc_script::{ScriptFault, Summary};
 use cc_word::Refusal;
 use std::test::Fail;
 
+/// A reply is its clone, and not this one.
+fn reply_is_told_apart(other: &Reply, reply: &Reply) -> bool {
+    let Ok(copy) = other.clone() else {
+        return false;
+    };
+    *other != *reply && copy == *other
+}
+
+/// An operation is its clone, and not this one.
+fn op_is_told_apart(other: &Op, op: &Op) -> bool {
+    let Ok(copy) = other.clone() else {
+        return false;
+    };
+    *other != *op && copy == *other
+}
+
 #[test]
-fn replies_are_told_apart(rt: HostRuntime) -> Result<(), Fail> {
+fn replies_are_told_apart(rt: HostRuntime) {
     let span = Span { base: 0, top: 16 };
     let align = Align::One;
     let reply = Reply::PoolSet {
@@ -38,11 +54,9 @@ fn replies_are_told_apart(rt: HostRuntime) -> Result<(), Fail> {
             span,
         },
     ] {
-        assert!(rt; other != reply);
-        assert!(rt; other.clone()? == other);
+        assert!(rt; reply_is_told_apart(&other, &reply));
     }
     assert!(rt; Reply::Refused(Refusal::Sealed) != Reply::Refused(Refusal::Unsealed));
-    Ok(())
 }
 
 #[test]
@@ -95,8 +109,7 @@ fn operations_are_told_apart(rt: HostRuntime) -> Result<(), Fail> {
         Op::Alloc(longer),
         Op::Free(1),
     ] {
-        assert!(rt; other != Op::Alloc(length));
-        assert!(rt; other.clone()? == other);
+        assert!(rt; op_is_told_apart(&other, &Op::Alloc(length)));
     }
     assert!(rt; Op::Show(1) != Op::Show(2));
     assert!(rt; Op::Pool(1, Align::One) != Op::Pool(2, Align::One));

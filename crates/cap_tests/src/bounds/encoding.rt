@@ -4,7 +4,6 @@
 use cc_bounds::{Set, Span, alignment_mask, granule, represents, round_length, set_bounds};
 use cc_word::unpack;
 use std::process::Abort;
-use std::test::Fail;
 
 /// The size of the address space.
 const LAP: u128 = 1 << 64;
@@ -34,13 +33,18 @@ const LENGTHS: [(u128, u128, u64, u64); 11] = [
     ),
 ];
 
+/// A length up to that of the address space has this representable length, granule and mask.
+fn is_rounded(len: u128, rounded: u128, unit: u64, mask: u64) -> bool {
+    len <= LAP
+        && round_length(len) == rounded
+        && granule(len) == unit
+        && alignment_mask(len) == mask
+}
+
 #[test]
 fn lengths(rt: HostRuntime) {
     for (len, rounded, unit, mask) in LENGTHS {
-        assert!(rt; len <= LAP);
-        assert_eq!(rt; round_length(len), rounded, "length {len}");
-        assert_eq!(rt; granule(len), unit, "length {len}");
-        assert_eq!(rt; alignment_mask(len), mask, "length {len}");
+        assert!(rt; is_rounded(len, rounded, unit, mask), "length {len}");
     }
 }
 
@@ -52,19 +56,13 @@ fn granules_on_both_sides_of_each_growth(rt: HostRuntime) {
         let small = 1_u64 << power;
         let large = small << 1;
         let last = 1023_u128 << power;
-        assert!(rt; last < LAP);
-        assert_eq!(rt; granule(last), small, "power {power}");
-        assert_eq!(rt; round_length(last), last, "power {power}");
-        assert_eq!(rt;
-            alignment_mask(last),
-            0_u64.wrapping_sub(small),
+        let next = 1024_u128 << power;
+        assert!(rt;
+            is_rounded(last, last, small, 0_u64.wrapping_sub(small)),
             "power {power}"
         );
-        assert_eq!(rt; granule(last + 1), large, "power {power}");
-        assert_eq!(rt; round_length(last + 1), 1024_u128 << power, "power {power}");
-        assert_eq!(rt;
-            alignment_mask(last + 1),
-            0_u64.wrapping_sub(large),
+        assert!(rt;
+            is_rounded(last | 1, next, large, 0_u64.wrapping_sub(large)),
             "power {power}"
         );
     }
@@ -73,22 +71,31 @@ fn granules_on_both_sides_of_each_growth(rt: HostRuntime) {
 /// The base and length of a request; e, ie, t and b; the base and top that are granted; exact.
 type SetRow = ((u64, u128), (u8, bool, u16, u16), (u64, u128), bool);
 
-/// The granted bounds of a request, whose row is one that can be met.
-fn granted_to(rt: &impl Abort, (base, len): (u64, u128)) -> Set {
-    assert!(rt; len <= LAP);
-    assert!(rt; u128::from(base) + len <= LAP);
-    set_bounds(base, len)
+/// The granted bounds of a request that can be met.
+fn granted_to((base, len): (u64, u128)) -> Option<Set> {
+    if len <= LAP && u128::from(base) + len <= LAP {
+        Some(set_bounds(base, len))
+    } else {
+        None
+    }
+}
+
+fn is_granted(row: &SetRow) -> bool {
+    let (request, (e, ie, t, b), (base, top), exact) = *row;
+    let Some(set) = granted_to(request) else {
+        return false;
+    };
+    set.e() == e
+        && set.ie() == ie
+        && set.t() == t
+        && set.b() == b
+        && set.granted() == Span { base, top }
+        && set.exact() == exact
 }
 
 fn check_sets(rt: &impl Abort, rows: &[SetRow]) {
-    for (request, (e, ie, t, b), (base, top), exact) in rows.iter().copied() {
-        let set = granted_to(rt, request);
-        assert_eq!(rt; set.e(), e, "{request:?}");
-        assert_eq!(rt; set.ie(), ie, "{request:?}");
-        assert_eq!(rt; set.t(), t, "{request:?}");
-        assert_eq!(rt; set.b(), b, "{request:?}");
-        assert_eq!(rt; set.granted(), Span { base, top }, "{request:?}");
-        assert_eq!(rt; set.exact(), exact, "{request:?}");
+    for row in rows {
+        assert!(rt; is_granted(row), "{row:?}");
     }
 }
 
@@ -212,16 +219,24 @@ const WINDOWS: [(u8, (u64, u128), u64, u64); 6] = [
     ),
 ];
 
+/// The set that a request is granted exactly, with this exponent.
+fn exactly(e: u8, request: (u64, u128)) -> Option<Set> {
+    granted_to(request).filter(|set| set.exact() && set.e() == e)
+}
+
+/// The first and the last address of the window are representable, and those beside them are not.
+fn has_edges(set: &Set, first: u64, last: u64) -> bool {
+    represents(set, first)
+        && represents(set, last)
+        && !represents(set, first.wrapping_sub(1))
+        && !represents(set, last.wrapping_add(1))
+}
+
 #[test]
 fn window_edges(rt: HostRuntime) {
     for (e, request, first, last) in WINDOWS {
-        let set = granted_to(&rt, request);
-        assert!(rt; set.exact(), "{request:?}");
-        assert_eq!(rt; set.e(), e, "{request:?}");
-        assert!(rt; represents(&set, first), "{request:?}");
-        assert!(rt; represents(&set, last), "{request:?}");
-        assert!(rt; !represents(&set, first.wrapping_sub(1)), "{request:?}");
-        assert!(rt; !represents(&set, last.wrapping_add(1)), "{request:?}");
+        let has = exactly(e, request).is_some_and(|set| has_edges(&set, first, last));
+        assert!(rt; has, "{request:?}");
     }
 }
 
@@ -234,15 +249,18 @@ const WITHOUT_EDGES: [(u8, (u64, u128)); 5] = [
     (52, (0, 0x1_0000_0000_0000_0000)),
 ];
 
+fn represents_all(set: &Set) -> bool {
+    represents(set, 0)
+        && represents(set, 0x7fff_ffff_ffff_ffff)
+        && represents(set, 0x8000_0000_0000_0000)
+        && represents(set, u64::MAX)
+}
+
 #[test]
 fn every_address_representable(rt: HostRuntime) {
     for (e, request) in WITHOUT_EDGES {
-        let set = granted_to(&rt, request);
-        assert!(rt; set.exact(), "{request:?}");
-        assert_eq!(rt; set.e(), e, "{request:?}");
-        for address in [0, 0x7fff_ffff_ffff_ffff, 0x8000_0000_0000_0000, u64::MAX] {
-            assert!(rt; represents(&set, address), "{request:?}");
-        }
+        let has = exactly(e, request).is_some_and(|set| represents_all(&set));
+        assert!(rt; has, "{request:?}");
     }
 }
 
@@ -270,45 +288,46 @@ const WORDS: [(u128, Option<(u64, u128)>); 9] = [
     (0xffff_0000_0441_bf04_ffff_ffff_ffff_ff00, None),
 ];
 
-#[test]
-fn stored_spans(rt: HostRuntime) {
-    for (word, expected) in WORDS {
-        match (Set::of_fields(&unpack(word)), expected) {
-            (Some(set), Some((base, top))) => {
-                assert_eq!(rt; set.granted(), Span { base, top }, "word {word}");
-                assert!(rt; set.exact(), "word {word}");
-            }
-            (found, expected) => {
-                assert!(rt; found.is_none(), "word {word}");
-                assert!(rt; expected.is_none(), "word {word}");
-            }
-        }
+/// The word's fields store this span, or none.
+fn is_stored(word: u128, expected: Option<(u64, u128)>) -> bool {
+    match (Set::of_fields(&unpack(word)), expected) {
+        (Some(set), Some((base, top))) => set.granted() == Span { base, top } && set.exact(),
+        (found, expected) => found.is_none() && expected.is_none(),
     }
 }
 
 #[test]
-fn values_are_told_apart(rt: HostRuntime) -> Result<(), Fail> {
+fn stored_spans(rt: HostRuntime) {
+    for (word, expected) in WORDS {
+        assert!(rt; is_stored(word, expected), "word {word:x}");
+    }
+}
+
+/// A span is its clone, and none of these.
+fn span_is_told_apart(span: Span, other: Span) -> bool {
+    span != other && other.clone().is_ok_and(|copy| copy == other)
+}
+
+/// A set of bounds is its clone, and not this one.
+fn set_is_told_apart(set: &Set, other: Set) -> bool {
+    *set != other && other.clone().is_ok_and(|copy| copy == other)
+}
+
+#[test]
+fn values_are_told_apart(rt: HostRuntime) {
     let span = Span { base: 1, top: 3 };
-    for other in [
-        Span { base: 2, top: 3 },
-        Span { base: 1, top: 2 },
-        Span { base: 0, top: LAP },
-    ] {
-        assert!(rt; span != other);
-        assert!(rt; other.clone()? == other);
+    for (base, top) in [(2, 3), (1, 2), (0, LAP)] {
+        assert!(rt;
+            span_is_told_apart(span, Span { base, top }),
+            "{base} {top}"
+        );
     }
     // the same span granted, with and without rounding, and other spans
     let rounded = set_bounds(1, 8184);
-    for other in [
-        set_bounds(0, 8192),
-        set_bounds(0, 8200),
-        set_bounds(16, 8192),
-        set_bounds(0, 0),
-    ] {
-        assert!(rt; rounded != other);
-        assert!(rt; other.clone()? == other);
-    }
+    assert!(rt; set_is_told_apart(&rounded, set_bounds(0, 8192)));
+    assert!(rt; set_is_told_apart(&rounded, set_bounds(0, 8200)));
+    assert!(rt; set_is_told_apart(&rounded, set_bounds(16, 8192)));
+    assert!(rt; set_is_told_apart(&rounded, set_bounds(0, 0)));
     assert!(rt; rounded.granted() == set_bounds(0, 8192).granted());
-    assert!(rt; rounded.clone()? == rounded);
-    Ok(())
+    assert!(rt; rounded.clone().is_ok_and(|copy| copy == rounded));
 }

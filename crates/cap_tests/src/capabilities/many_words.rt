@@ -9,20 +9,39 @@ const WORDS: [u128; 3] = [
     0xffff0000000000010000000000000000,
 ];
 
+const SPANS: [Span; 3] = [
+    Span { base: 0, top: END },
+    Span {
+        base: 0x1000,
+        top: 0x1200,
+    },
+    Span { base: 0, top: END },
+];
+
 /// Addresses of which the second is out of the window of its word.
 const ADDRESSES: [u64; 3] = [7, 0x10000, 0];
 
-#[test]
-fn many_words_are_told(rt: HostRuntime) {
+fn are_decoded() -> bool {
     let mut spans = [Span { base: 1, top: 1 }; 3];
     many::decode(&WORDS, &mut spans);
-    assert_eq!(rt; (spans[0].base, spans[0].top), (0, END));
-    assert_eq!(rt; (spans[1].base, spans[1].top), (0x1000, 0x1200));
-    assert_eq!(rt; (spans[2].base, spans[2].top), (0, END));
+    spans == SPANS
+}
+
+fn are_told_canonical() -> bool {
     let mut canonical = [false; 3];
     many::is_canonical(&WORDS, &mut canonical);
-    assert_eq!(rt; canonical, [true, true, false]);
+    canonical == [true, true, false]
+}
+
+fn are_told_representable() -> bool {
     let mut representable = [false, true, true];
     many::represents(&WORDS, &ADDRESSES, &mut representable);
-    assert_eq!(rt; representable, [true, false, false]);
+    representable == [true, false, false]
+}
+
+#[test]
+fn many_words_are_told(rt: HostRuntime) {
+    assert!(rt; are_decoded());
+    assert!(rt; are_told_canonical());
+    assert!(rt; are_told_representable());
 }

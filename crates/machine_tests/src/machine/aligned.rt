@@ -1,6 +1,5 @@
 //! A pool of alignment 16: what each object is given, and what no alignment changes.
 use super::{Ask, Told, length, replies};
-use cc_bounds::Span;
 use cc_machine::{Align, Machine, Op, Reply};
 use cc_word::Refusal;
 use std::alloc::Global;
@@ -31,8 +30,8 @@ fn planned(rt: &impl Abort, alloc: Global) -> Result<Machine, Fail> {
 #[test]
 fn objects_of_alignment_16(rt: HostRuntime) -> Result<(), Fail> {
     let machine = planned(&rt, rt.alloc())?;
-    assert_eq!(rt; machine.held_bytes(), 17424);
-    assert_eq!(rt; machine.slots(), 8);
+    assert!(rt; machine.held_bytes() == 17424);
+    assert!(rt; machine.slots() == 8);
     Ok(())
 }
 
@@ -44,7 +43,7 @@ fn round_knows_no_alignment(rt: HostRuntime) -> Result<(), Fail> {
         granule: 1,
         mask: u64::MAX,
     };
-    assert_eq!(rt; machine.step(&Op::Round(length(100)?)), rounded);
+    assert!(rt; machine.step(&Op::Round(length(100)?)) == rounded);
     Ok(())
 }
 

@@ -5,6 +5,20 @@ use cc_word::Refusal;
 use std::alloc::AllocError;
 use std::test::Fail;
 
+/// The machine makes slots up to its limit, and no more.
+fn makes_slots(machine: &mut Machine, limit: u32) -> bool {
+    for _ in 1..limit {
+        if !matches!(machine.step(&Op::Flag(0, true)), Reply::Made { .. }) {
+            return false;
+        }
+    }
+    machine.slots() == limit
+        && matches!(
+            machine.step(&Op::Flag(0, true)),
+            Reply::Refused(Refusal::Full)
+        )
+}
+
 #[test]
 fn machine_opens_again(rt: HostRuntime) -> Result<(), Fail> {
     for limit in [1, 2, 16u32] {
@@ -13,15 +27,7 @@ fn machine_opens_again(rt: HostRuntime) -> Result<(), Fail> {
             Ok(machine) => machine,
             Err(AllocError) => Machine::with_limit(rt.alloc(), limit)?,
         };
-        for _ in 1..limit {
-            let reply = machine.step(&Op::Flag(0, true));
-            assert!(rt; matches!(reply, Reply::Made { .. }));
-        }
-        assert_eq!(rt; machine.slots(), limit);
-        assert_eq!(rt;
-            machine.step(&Op::Flag(0, true)),
-            Reply::Refused(Refusal::Full)
-        );
+        assert!(rt; makes_slots(&mut machine, limit));
     }
     Ok(())
 }

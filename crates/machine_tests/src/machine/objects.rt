@@ -1,8 +1,6 @@
 //! Pools and objects: each operation with its reply, the slots that are revoked and the bytes held.
 use super::{Ask, END, Told, length, replies};
-use cc_bounds::Span;
-use cc_cap::{ObjType, Perms};
-use cc_machine::{Align, Machine, Object, ObjectState, Op, Reply};
+use cc_machine::{Align, Len, Machine, Object, ObjectState, Op, Reply};
 use cc_word::Refusal;
 use std::alloc::Global;
 use std::process::Abort;
@@ -16,43 +14,74 @@ pub(super) fn with_pool(
     bytes: u128,
 ) -> Result<Machine, Fail> {
     let mut machine = Machine::with_limit(alloc, 4096)?;
-    machine.step(&Op::Addr(0, base));
-    machine.step(&Op::Exact(1, length(bytes)?));
-    assert_eq!(rt;
-        machine.step(&Op::Pool(2, Align::One)),
-        Told::PoolSet(2, base, u128::from(base).saturating_add(bytes), Align::One).reply()
-    );
+    let len = length(bytes)?;
+    assert!(rt; sets_pool(&mut machine, base, len));
     Ok(machine)
 }
 
-/// Objects of these sizes are made at these places, one after another; their numbers begin with `object`.
-fn places(
-    rt: &impl Abort,
-    machine: &mut Machine,
-    object: u32,
-    rows: &[(u128, u64, u128, u128)],
-) -> Result<(), Fail> {
-    let mut object = object;
-    for (size, base, top, held) in rows {
-        let slot = machine.slots();
-        let reply = machine.step(&Op::Alloc(length(*size)?));
-        let word = machine.slot(slot)?.word();
-        assert_eq!(rt;
-            reply,
-            Told::Allocated(object, slot, word, *base, *top, *held).reply()
-        );
-        assert_eq!(rt;
-            machine.object(object),
-            Ok(Object {
-                size: *size,
-                slot,
-                state: ObjectState::Live
-            })
-        );
-        assert_eq!(rt; machine.parent(slot), Ok(Some(2)));
-        object = object.saturating_add(1);
+/// The pool of these bytes is made in slot 2.
+fn sets_pool(machine: &mut Machine, base: u64, len: Len) -> bool {
+    let top = u128::from(base).saturating_add(len.get());
+    makes_slot(machine, Op::Addr(0, base))
+        && makes_slot(machine, Op::Exact(1, len))
+        && machine.step(&Op::Pool(2, Align::One)) == Told::PoolSet(2, base, top, Align::One).reply()
+}
+
+fn makes_slot(machine: &mut Machine, op: Op) -> bool {
+    matches!(machine.step(&op), Reply::Made { .. })
+}
+
+/// Each of these slots is revoked.
+pub(super) fn are_revoked(machine: &Machine, slots: &[u32]) -> bool {
+    for slot in slots {
+        if !matches!(machine.slot(*slot), Err(Refusal::Revoked)) {
+            return false;
+        }
     }
-    Ok(())
+    true
+}
+
+/// Each of these slots can be used.
+pub(super) fn are_usable(machine: &Machine, slots: &[u32]) -> bool {
+    for slot in slots {
+        if machine.slot(*slot).is_err() {
+            return false;
+        }
+    }
+    true
+}
+
+/// The size of an object, where it is made, and the bytes held.
+type Place = (u128, u64, u128, u128);
+
+/// An object is made at this place.
+fn places(machine: &mut Machine, object: u32, place: &Place) -> bool {
+    let (size, base, top, held) = *place;
+    let slot = machine.slots();
+    let Some(len) = Len::new(size) else {
+        return false;
+    };
+    let reply = machine.step(&Op::Alloc(len));
+    let Ok(cap) = machine.slot(slot) else {
+        return false;
+    };
+    let word = cap.word();
+    reply == Told::Allocated(object, slot, word, base, top, held).reply()
+        && is_live(machine, object, size, slot)
+        && matches!(machine.parent(slot), Ok(Some(2)))
+}
+
+/// The object of this number is live, of this size, and its capability is in this slot.
+fn is_live(machine: &Machine, object: u32, size: u128, slot: u32) -> bool {
+    let live = Object {
+        size,
+        slot,
+        state: ObjectState::Live,
+    };
+    match machine.object(object) {
+        Ok(found) => found == live,
+        Err(_) => false,
+    }
 }
 
 #[rattlefmt::skip]
@@ -78,26 +107,30 @@ fn planned(rt: &impl Abort, alloc: Global) -> Result<Machine, Fail> {
     Ok(machine)
 }
 
+/// Object 2 is swept, and there is none of these two numbers.
+fn has_swept(machine: &Machine) -> bool {
+    let is_swept = match machine.object(2) {
+        Ok(object) => object == SECOND,
+        Err(_) => false,
+    };
+    is_swept
+        && matches!(machine.object(0), Err(Refusal::NoObject))
+        && matches!(machine.object(6), Err(Refusal::NoObject))
+}
+
+const SECOND: Object = Object {
+    size: 5000,
+    slot: 4,
+    state: ObjectState::Swept,
+};
+
 #[test]
 fn first_fit_plan(rt: HostRuntime) -> Result<(), Fail> {
     let machine = planned(&rt, rt.alloc())?;
-    assert_eq!(rt; machine.held_bytes(), 12400);
-    assert_eq!(rt; machine.planner().held_bytes(), 12400);
-    let live = Object {
-        size: 8191,
-        slot: 6,
-        state: ObjectState::Live,
-    };
-    let ended = Object {
-        size: 5000,
-        slot: 4,
-        state: ObjectState::Swept,
-    };
-    assert_eq!(rt; machine.object(4), Ok(live));
-    assert_eq!(rt; machine.object(2), Ok(ended));
-    assert_eq!(rt; machine.object(0), Err(Refusal::NoObject));
-    assert_eq!(rt; machine.object(6), Err(Refusal::NoObject));
-    assert_eq!(rt; machine.slots(), 8);
+    assert!(rt; machine.held_bytes() == 12400 && machine.planner().held_bytes() == 12400);
+    assert!(rt; is_live(&machine, 4, 8191, 6));
+    assert!(rt; has_swept(&machine));
+    assert!(rt; machine.slots() == 8);
     Ok(())
 }
 
@@ -118,13 +151,17 @@ const SWEEP_REVOKES_DESCENDANTS: [(Ask, Told); 9] = [
 fn sweep_revokes_descendants(rt: HostRuntime) -> Result<(), Fail> {
     let mut machine = planned(&rt, rt.alloc())?;
     replies(&rt, &mut machine, &SWEEP_REVOKES_DESCENDANTS);
-    assert_eq!(rt; machine.held_bytes(), 12300);
-    assert_eq!(rt; machine.parent(8), Ok(Some(3)));
+    assert!(rt; machine.held_bytes() == 12300);
+    assert!(rt; matches!(machine.parent(8), Ok(Some(3))));
     Ok(())
 }
 
 #[rattlefmt::skip]
-const GRANDCHILDREN_ARE_REVOKED_AND_COUNTED_ONCE: [(Ask, Told); 6] = [
+const GRANDCHILDREN_ARE_REVOKED_AND_COUNTED_ONCE: [(Ask, Told); 10] = [
+    (Ask::Alloc(100), Told::Allocated(1, 3, 0xffff0000041880040000000000010000, 0x10000, 0x10064, 100)),
+    (Ask::Alloc(100), Told::Allocated(2, 4, 0xffff0000043380600000000000010064, 0x10064, 0x100c8, 200)),
+    (Ask::Op(Op::Inc(4, 1)), Told::Made(5, 0xffff0000043380600000000000010065, 0x10064, 0x100c8)),
+    (Ask::Op(Op::Inc(5, 1)), Told::Made(6, 0xffff0000043380600000000000010066, 0x10064, 0x100c8)),
     (Ask::Op(Op::Free(2)), Told::Freed(2, 200)),
     (Ask::Op(Op::Sweep), Told::Swept(1, 3, 100)),
     (Ask::Op(Op::Show(6)), Told::Refused(Refusal::Revoked)),
@@ -136,16 +173,12 @@ const GRANDCHILDREN_ARE_REVOKED_AND_COUNTED_ONCE: [(Ask, Told); 6] = [
 #[test]
 fn grandchildren_are_revoked_and_counted_once(rt: HostRuntime) -> Result<(), Fail> {
     let mut machine = with_pool(&rt, rt.alloc(), 0x10000, 0x10000)?;
-    machine.step(&Op::Alloc(length(100)?));
-    machine.step(&Op::Alloc(length(100)?));
-    machine.step(&Op::Inc(4, 1));
-    machine.step(&Op::Inc(5, 1));
     replies(
         &rt,
         &mut machine,
         &GRANDCHILDREN_ARE_REVOKED_AND_COUNTED_ONCE,
     );
-    assert_eq!(rt; machine.parent(6), Ok(Some(5)));
+    assert!(rt; matches!(machine.parent(6), Ok(Some(5))));
     Ok(())
 }
 
@@ -162,7 +195,7 @@ const POOL_OF_EVERYTHING: [(Ask, Told); 5] = [
 fn pool_of_everything(rt: HostRuntime) -> Result<(), Fail> {
     let mut machine = Machine::with_limit(rt.alloc(), 4096)?;
     replies(&rt, &mut machine, &POOL_OF_EVERYTHING);
-    assert_eq!(rt; machine.held_bytes(), END);
+    assert!(rt; machine.held_bytes() == END);
     Ok(())
 }
 
@@ -205,12 +238,8 @@ const REVOCATION_FOLLOWS_PARENTS: [(Ask, Told); 12] = [
 fn revocation_follows_parents(rt: HostRuntime) -> Result<(), Fail> {
     let mut machine = with_pool(&rt, rt.alloc(), 0x10000, 0x10000)?;
     replies(&rt, &mut machine, &REVOCATION_FOLLOWS_PARENTS);
-    for slot in [3, 5, 7, 8, 9] {
-        assert_eq!(rt; machine.slot(slot), Err(Refusal::Revoked));
-    }
-    for slot in [0, 1, 2, 4, 6, 10] {
-        assert_eq!(rt; machine.slot(slot).is_ok(), true);
-    }
+    assert!(rt; are_revoked(&machine, &[3, 5, 7, 8, 9]));
+    assert!(rt; are_usable(&machine, &[0, 1, 2, 4, 6, 10]));
     Ok(())
 }
 
@@ -251,11 +280,8 @@ fn pool_at_the_end_of_memory(rt: HostRuntime) -> Result<(), Fail> {
     let base = 0xffffffffffffe000;
     let mut machine = with_pool(&rt, rt.alloc(), base, 8192)?;
     replies(&rt, &mut machine, &POOL_AT_THE_END_OF_MEMORY);
-    #[rattlefmt::skip]
-    let again = [
-        (8191, base, END, 8192),
-    ];
-    places(&rt, &mut machine, 2, &again)
+    assert!(rt; places(&mut machine, 2, &(8191, base, END, 8192)));
+    Ok(())
 }
 
 #[rattlefmt::skip]
@@ -270,7 +296,7 @@ const POOL_OF_NO_BYTES: [(Ask, Told); 4] = [
 fn pool_of_no_bytes(rt: HostRuntime) -> Result<(), Fail> {
     let mut machine = with_pool(&rt, rt.alloc(), 0x10000, 0)?;
     replies(&rt, &mut machine, &POOL_OF_NO_BYTES);
-    assert_eq!(rt; machine.held_bytes(), 0);
+    assert!(rt; machine.held_bytes() == 0);
     Ok(())
 }
 
@@ -297,12 +323,18 @@ const ORDER_OF_REFUSALS_SEALED: [(Ask, Told); 11] = [
     (Ask::Alloc(END), Told::Refused(Refusal::Full)),
 ];
 
+/// A machine of one slot, the root's, makes no object.
+fn full_machine_refuses(rt: &impl Abort, alloc: Global) -> Result<(), Fail> {
+    let mut full = Machine::with_limit(alloc, 1)?;
+    replies(rt, &mut full, &ORDER_OF_REFUSALS);
+    assert!(rt; full.held_bytes() == 0);
+    assert!(rt; matches!(full.object(1), Err(Refusal::NoObject)));
+    Ok(())
+}
+
 #[test]
 fn order_of_refusals(rt: HostRuntime) -> Result<(), Fail> {
-    let mut full = Machine::with_limit(rt.alloc(), 1)?;
-    replies(&rt, &mut full, &ORDER_OF_REFUSALS);
-    assert_eq!(rt; full.held_bytes(), 0);
-    assert_eq!(rt; full.object(1), Err(Refusal::NoObject));
+    full_machine_refuses(&rt, rt.alloc())?;
     let mut machine = Machine::with_limit(rt.alloc(), 4)?;
     replies(&rt, &mut machine, &ORDER_OF_REFUSALS_SEALED);
     Ok(())

@@ -1,7 +1,7 @@
 //! Pools of both alignments: what an object takes, where it begins, and what stays free.
 ghost use Rattle.std.specs.Prelude.{◌≤◌};
 
-use super::pool;
+use super::{code, pool, with_pool};
 use cc_bounds::Span;
 use cc_cap::Cap;
 use cc_plan::{Align, BlockPlacer, ObjectId, Placer, Planner, ScanPlacer, SortedPlacer};
@@ -9,24 +9,6 @@ use cc_word::Refusal;
 use std::alloc::Global;
 use std::process::Abort;
 use std::test::Fail;
-
-/// A planner with a pool of this alignment.
-fn with_pool<P: Placer>(alloc: Global, pool: Cap, align: Align) -> Result<Planner<P>, Fail> {
-    let mut planner = Planner::with_limit(alloc, 16)?;
-    planner.give_pool_aligned(pool, align)?;
-    Ok(planner)
-}
-
-/// Where an object of so many bytes is placed, or why not.
-fn placed<P: Placer>(
-    rt: &impl Abort,
-    planner: &mut Planner<P>,
-    size: u128,
-) -> Result<Span, Refusal> {
-    assert!(rt; size <= 1 << 64);
-    let (_, cap) = planner.alloc(size)?;
-    Ok(cap.span())
-}
 
 // A size, the word of its object, the object's bounds, and how many bytes are held after it.
 type Row = (u128, u128, u64, u128, u128);
@@ -69,25 +51,26 @@ const ALIGNED: [Row; 5] = [
     ),
 ];
 
-fn check_rows<P: Placer>(rt: &impl Abort, alloc: Global) -> Result<(), Fail> {
-    let mut planner: Planner<P> = with_pool(alloc, pool(0x10000, 0x10000)?, Align::Sixteen)?;
-    for (size, word, base, top, held) in &ALIGNED {
-        assert!(rt; *size <= 1 << 64);
-        let (_, cap) = planner.alloc(*size)?;
-        assert_eq!(rt; cap.word(), *word);
-        assert_eq!(rt;
-            cap.span(),
-            Span {
-                base: *base,
-                top: *top
-            }
-        );
-        assert_eq!(rt; planner.held_bytes(), *held);
+/// An object of the row's size has its word and bounds, and so many bytes are held.
+fn makes<P: Placer>(planner: &mut Planner<P>, row: &Row) -> bool {
+    let (size, word, base, top, held) = *row;
+    if size > 1 << 64 {
+        return false;
     }
-    assert_eq!(rt;
-        planner.give_pool(Cap::root()),
-        Err(Refusal::PoolAlreadySet)
-    );
+    match planner.alloc(size) {
+        Ok((_, cap)) => {
+            cap.word() == word && cap.span() == Span { base, top } && planner.held_bytes() == held
+        }
+        Err(_) => false,
+    }
+}
+
+fn check_rows<P: Placer>(rt: &impl Abort, alloc: Global) -> Result<(), Fail> {
+    let mut planner: Planner<P> = with_pool(alloc, 16, pool(0x10000, 0x10000)?, Align::Sixteen)?;
+    for row in &ALIGNED {
+        assert!(rt; makes(&mut planner, row), "{row:?}");
+    }
+    assert!(rt; code(&planner.give_pool(Cap::root())) == Refusal::PoolAlreadySet.code());
     Ok(())
 }
 
@@ -113,32 +96,53 @@ fn unit_power(size: u128, align: Align) -> u32
 
 /// Where an object of so many bytes is placed in all of the address space beside an object of one byte at
 /// its beginning, by a plain search.
-fn searched(size: u128, align: Align) -> Result<Span, Refusal> {
+fn searched(size: u128, align: Align) -> Option<Span> {
     let power = unit_power(size, align);
     let start = 1u64 << power;
     let padded = size.div_ceil(1 << power) << power;
     let top = u128::from(start).saturating_add(padded);
     if top > 1 << 64 {
-        Err(Refusal::NoRoom)
+        None
     } else {
-        Ok(Span { base: start, top })
+        Some(Span { base: start, top })
+    }
+}
+
+/// An object of so many bytes is placed there, or has no room where no place is told.
+fn places(planner: &mut Planner<BlockPlacer>, size: u128, place: Option<Span>) -> bool {
+    if size > 1 << 64 {
+        return false;
+    }
+    match (planner.alloc(size), place) {
+        (Ok((_, cap)), Some(span)) => cap.span() == span,
+        (Err(refusal), None) => refusal.code() == Refusal::NoRoom.code(),
+        _ => false,
     }
 }
 
 /// An object of so many bytes is placed where the plain search says, and so is the same after a sweep.
+fn places_twice(planner: &mut Planner<BlockPlacer>, size: u128, align: Align) -> bool {
+    let place = searched(size, align);
+    places(planner, size, place)
+        && (place.is_none()
+            || planner.free(ObjectId(2)).is_ok()
+                && planner.sweep() == 1
+                && places(planner, size, place))
+}
+
+/// A planner for all of the address space, with an object of one byte at its beginning.
+fn with_one_byte(alloc: Global, align: Align) -> Result<Planner<BlockPlacer>, Fail> {
+    let mut planner = with_pool(alloc, 16, Cap::root(), align)?;
+    planner.alloc(1)?;
+    Ok(planner)
+}
+
 fn check_size(rt: &impl Abort, alloc: Global, size: u128, align: Align) -> Result<(), Fail> {
     if size == 0 || size > 1 << 64 {
         return Ok(());
     }
-    let mut planner: Planner<BlockPlacer> = with_pool(alloc, Cap::root(), align)?;
-    planner.alloc(1)?;
-    let expected = searched(size, align);
-    assert_eq!(rt; placed(rt, &mut planner, size), expected, "size {size}");
-    if expected.is_ok() {
-        planner.free(ObjectId(2))?;
-        assert_eq!(rt; planner.sweep(), 1);
-        assert_eq!(rt; placed(rt, &mut planner, size), expected, "size {size}");
-    }
+    let mut planner = with_one_byte(alloc, align)?;
+    assert!(rt; places_twice(&mut planner, size, align), "size {size}");
     Ok(())
 }
 
@@ -177,22 +181,29 @@ fn check_set_aside(
     alloc: Global,
     size: u128,
     align: Align,
-    unit: u64,
-    bytes: u128,
+    place: (u64, u128),
 ) -> Result<(), Fail> {
-    let mut planner: Planner<BlockPlacer> = with_pool(alloc, Cap::root(), align)?;
-    planner.alloc(1)?;
-    let top = u128::from(unit).saturating_add(bytes);
-    let expected = Span { base: unit, top };
-    assert_eq!(rt; placed(rt, &mut planner, size), Ok(expected));
+    let (base, bytes) = place;
+    let mut planner = with_one_byte(alloc, align)?;
+    let top = u128::from(base).saturating_add(bytes);
+    assert!(rt;
+        places(&mut planner, size, Some(Span { base, top })),
+        "size {size}"
+    );
     Ok(())
 }
 
 #[test]
 fn set_aside_for_a_dozen_sizes(rt: HostRuntime) -> Result<(), Fail> {
     for (size, unit, bytes, unit_16, bytes_16) in &SET_ASIDE {
-        check_set_aside(&rt, rt.alloc(), *size, Align::One, *unit, *bytes)?;
-        check_set_aside(&rt, rt.alloc(), *size, Align::Sixteen, *unit_16, *bytes_16)?;
+        check_set_aside(&rt, rt.alloc(), *size, Align::One, (*unit, *bytes))?;
+        check_set_aside(
+            &rt,
+            rt.alloc(),
+            *size,
+            Align::Sixteen,
+            (*unit_16, *bytes_16),
+        )?;
     }
     Ok(())
 }

@@ -2,7 +2,7 @@
 ghost use Rattle.std.specs.Prelude.{◌≤◌, ◌^◌};
 ghost use Rattle.cc_plan.specs.Replay.{IsWithinLimit};
 
-use super::pool;
+use super::{pool, with_pool};
 use PlanCall::{Alloc, Free, Sweep};
 use cc_cap::Cap;
 use cc_plan::{
@@ -23,31 +23,41 @@ struct Planners {
 
 impl Planners {
     fn over(alloc: Global, pool: Cap, align: Align) -> Result<Planners, Fail> {
-        let mut planners = Planners {
-            scanning: Planner::with_limit(alloc, 400)?,
-            sorted: Planner::with_limit(alloc, 400)?,
-            blocks: Planner::with_limit(alloc, 400)?,
-        };
-        planners.scanning.give_pool_aligned(pool, align)?;
-        planners.sorted.give_pool_aligned(pool, align)?;
-        planners.blocks.give_pool_aligned(pool, align)?;
-        Ok(planners)
+        Ok(Planners {
+            scanning: with_pool(alloc, 400, pool, align)?,
+            sorted: with_pool(alloc, 400, pool, align)?,
+            blocks: with_pool(alloc, 400, pool, align)?,
+        })
     }
 
-    // The reply of each to the call, which is the same.
-    fn reply(&mut self, rt: &impl Abort, call: PlanCall) -> PlanReply
+    // The reply of each to the call, if it is the same.
+    fn reply(&mut self, call: PlanCall) -> Option<PlanReply>
         requires { IsWithinLimit call }
     {
         let scanned = reply(&mut self.scanning, call);
-        assert_eq!(rt; reply(&mut self.sorted, call), scanned);
-        assert_eq!(rt; reply(&mut self.blocks, call), scanned);
-        assert_eq!(rt; self.sorted.held_bytes(), self.scanning.held_bytes());
-        assert_eq!(rt; self.blocks.held_bytes(), self.scanning.held_bytes());
-        assert_eq!(rt;
-            self.blocks.placer().count(),
-            self.scanning.placer().count()
-        );
-        scanned
+        let sorted = reply(&mut self.sorted, call);
+        let blocks = reply(&mut self.blocks, call);
+        if sorted == scanned && blocks == scanned && self.hold_alike() {
+            Some(scanned)
+        } else {
+            None
+        }
+    }
+
+    // As many bytes are held by each, and as many spans by those that count them alike.
+    fn hold_alike(&self) -> bool {
+        self.sorted.held_bytes() == self.scanning.held_bytes()
+            && self.blocks.held_bytes() == self.scanning.held_bytes()
+            && self.blocks.placer().count() == self.scanning.placer().count()
+    }
+
+    // Each frees the object, with the same reply.
+    fn free(&mut self, number: u32) -> bool {
+        self.reply(Free(ObjectId(number))).is_some()
+    }
+
+    fn sweep(&mut self) -> bool {
+        self.reply(Sweep).is_some()
     }
 }
 
@@ -87,6 +97,25 @@ fn next_call(seed: u32, kinds: u32, objects: u32) -> PlanCall
     }
 }
 
+// The replies of all are the same in a walk of 900 calls, which makes more than 100 objects.
+fn walks(planners: &mut Planners, first: u32, kinds: u32) -> bool {
+    let mut seed = first;
+    let mut made = 0u32;
+    for _ in 0..900u32 {
+        seed = seed.wrapping_mul(1664525).wrapping_add(1013904223);
+        match planners.reply(next_call(seed, kinds, made)) {
+            Some(PlanReply::Placed(object, _)) => made = object.0,
+            Some(_) => {}
+            None => return false,
+        }
+        // sweeps take no freed object, one or some
+        if seed >> 20 & 1 == 0 && !planners.sweep() {
+            return false;
+        }
+    }
+    made > 100
+}
+
 fn check_walk(
     rt: &impl Abort,
     alloc: Global,
@@ -96,20 +125,7 @@ fn check_walk(
     align: Align,
 ) -> Result<(), Fail> {
     let mut planners = Planners::over(alloc, pool, align)?;
-    let mut seed = first;
-    let mut made = 0u32;
-    for _ in 0..900u32 {
-        seed = seed.wrapping_mul(1664525).wrapping_add(1013904223);
-        let call = next_call(seed, kinds, made);
-        if let PlanReply::Placed(object, _) = planners.reply(rt, call) {
-            made = object.0;
-        }
-        // sweeps take no freed object, one or some
-        if seed >> 20 & 1 == 0 {
-            planners.reply(rt, Sweep);
-        }
-    }
-    assert!(rt; made > 100);
+    assert!(rt; walks(&mut planners, first, kinds));
     Ok(())
 }
 
@@ -155,54 +171,104 @@ fn order_of(number: u32) -> [u32; 5] {
     order
 }
 
+// Objects 2 i - 1 of 16 i bytes, so that no hole below its own has room for it, each before one of a byte.
+fn makes_ten(planners: &mut Planners) -> bool {
+    for i in 1..6u32 {
+        if planners.reply(Alloc(16 * u128::from(i))).is_none()
+            || planners.reply(Alloc(1)).is_none()
+        {
+            return false;
+        }
+    }
+    true
+}
+
+// Frees the large ones, each before a sweep.
+fn sweeps_each(planners: &mut Planners, order: &[u32; 5]) -> bool {
+    for i in order {
+        if !planners.free(i.wrapping_mul(2).wrapping_sub(1)) || !planners.sweep() {
+            return false;
+        }
+    }
+    true
+}
+
+fn makes_again(planners: &mut Planners, order: &[u32; 5]) -> bool {
+    for i in order {
+        if planners.reply(Alloc(16 * u128::from(*i))).is_none() {
+            return false;
+        }
+    }
+    true
+}
+
+fn frees_last(planners: &mut Planners) -> bool {
+    for object in 11..16u32 {
+        if !planners.free(object) {
+            return false;
+        }
+    }
+    planners.sweep() && planners.blocks.held_bytes() == 5
+}
+
 #[test]
 fn freed_and_made_in_every_order(rt: HostRuntime) -> Result<(), Fail> {
     for number in 0..120u32 {
-        // Object 2 i - 1 has 16 i bytes, so that no hole below its own has room for it.
         let mut planners = Planners::over(rt.alloc(), pool(0x10000, 0x10000)?, Align::One)?;
-        for i in 1..6u32 {
-            planners.reply(&rt, Alloc(16 * u128::from(i)));
-            planners.reply(&rt, Alloc(1));
-        }
         let order = order_of(number);
-        for i in order {
-            planners.reply(&rt, Free(ObjectId(i.wrapping_mul(2).wrapping_sub(1))));
-            planners.reply(&rt, Sweep);
-        }
-        for i in order {
-            planners.reply(&rt, Alloc(16 * u128::from(i)));
-        }
-        for object in 11..16u32 {
-            planners.reply(&rt, Free(ObjectId(object)));
-        }
-        planners.reply(&rt, Sweep);
-        assert_eq!(rt; planners.blocks.held_bytes(), 5);
+        assert!(rt; makes_ten(&mut planners), "{number}");
+        assert!(rt; sweeps_each(&mut planners, &order), "{number}");
+        assert!(rt; makes_again(&mut planners, &order), "{number}");
+        assert!(rt; frees_last(&mut planners), "{number}");
     }
     Ok(())
 }
 
-#[test]
-fn many_objects_in_the_places_of_a_few(rt: HostRuntime) -> Result<(), Fail> {
-    let mut planner: Planner<BlockPlacer> = Planner::with_limit(rt.alloc(), 800)?;
-    planner.give_pool(Cap::root())?;
-    for object in 1..401u32 {
-        planner.alloc(4096)?;
-    }
-    // One object of each block stays, and below the first of them the first block is split again and again.
-    for object in 1..401u32 {
-        if object % 56 != 0 {
-            planner.free(ObjectId(object))?;
+fn makes_400(planner: &mut Planner<BlockPlacer>) -> bool {
+    for _ in 0..400u32 {
+        if planner.alloc(4096).is_err() {
+            return false;
         }
     }
-    assert_eq!(rt; planner.sweep(), 393);
+    true
+}
+
+// One object of each block stays.
+fn sweeps_393(planner: &mut Planner<BlockPlacer>) -> bool {
+    for object in 1..401u32 {
+        if object % 56 != 0 && planner.free(ObjectId(object)).is_err() {
+            return false;
+        }
+    }
+    planner.sweep() == 393
+}
+
+// Below the first of those that stayed the first block is split again and again.
+fn makes_393(planner: &mut Planner<BlockPlacer>) -> bool {
     for start in 0..393u64 {
-        assert_eq!(rt; planner.alloc(1)?.1.span().base, start);
+        match planner.alloc(1) {
+            Ok((_, cap)) if cap.span().base == start => {}
+            _ => return false,
+        }
     }
-    assert_eq!(rt; planner.placer().count(), 400);
+    planner.placer().count() == 400
+}
+
+fn sweeps_seven(planner: &mut Planner<BlockPlacer>) -> bool {
     for object in 1..8u32 {
-        planner.free(ObjectId(object.wrapping_mul(56)))?;
+        if planner.free(ObjectId(object.wrapping_mul(56))).is_err() {
+            return false;
+        }
     }
-    assert_eq!(rt; planner.sweep(), 7);
-    assert_eq!(rt; planner.held_bytes(), 393);
+    planner.sweep() == 7 && planner.held_bytes() == 393
+}
+
+#[test]
+fn many_objects_in_the_places_of_a_few(rt: HostRuntime) -> Result<(), Fail> {
+    let mut planner = with_pool(rt.alloc(), 800, Cap::root(), Align::One)?;
+    assert!(rt; makes_400(&mut planner));
+    assert!(rt; sweeps_393(&mut planner));
+    assert!(rt; makes_393(&mut planner));
+    assert!(rt; sweeps_seven(&mut planner));
     Ok(())
 }

@@ -1,7 +1,9 @@
 //! A planner does its work through its placer.
-use super::pool;
+use super::Answer::{Freed, Placed, Refused, Swept};
+use super::{Row, answers, pool, with_pool};
+use PlanCall::{Alloc, Free, Sweep};
 use cc_bounds::Span;
-use cc_plan::{ObjectId, Placer, Planner, SortedPlacer};
+use cc_plan::{Align, ObjectId, Placer, PlanCall, Planner, SortedPlacer};
 use cc_word::Refusal;
 use std::alloc::{AllocError, Global};
 use std::test::Fail;
@@ -49,21 +51,37 @@ impl<P: Placer> Placer for CountingPlacer<P> {
     }
 }
 
+const FOUR: [Row; 6] = [
+    (Alloc(16), Placed(1, 0x10000, 0x10010), 16),
+    (Alloc(16), Placed(2, 0x10010, 0x10020), 32),
+    (Alloc(16), Placed(3, 0x10020, 0x10030), 48),
+    (Alloc(16), Placed(4, 0x10030, 0x10040), 64),
+    (Alloc(16), Refused(Refusal::NoRoom), 64),
+    (Free(ObjectId(2)), Freed, 64),
+];
+
+const SWEPT: [Row; 1] = [(Sweep, Swept(1), 48)];
+
+const FIFTH: [Row; 1] = [(Alloc(8), Placed(5, 0x10010, 0x10018), 56)];
+
+/// So many spans were held, and so many are held.
+fn has_held(planner: &Planner<CountingPlacer<SortedPlacer>>, holds: u32, count: u32) -> bool {
+    planner.placer().holds == holds && planner.placer().count() == count
+}
+
 #[test]
 fn one_hold_for_each_object(rt: HostRuntime) -> Result<(), Fail> {
-    let mut planner: Planner<CountingPlacer<SortedPlacer>> = Planner::with_limit(rt.alloc(), 8)?;
-    planner.give_pool(pool(0x10000, 64)?)?;
-    for _ in 0..4 {
-        planner.alloc(16)?;
-    }
-    assert_eq!(rt; planner.alloc(16), Err(Refusal::NoRoom));
-    assert_eq!(rt; planner.placer().holds, 4);
-    planner.free(ObjectId(2))?;
-    assert_eq!(rt; planner.placer().count(), 4);
-    planner.sweep();
-    assert_eq!(rt; planner.placer().count(), 3);
-    planner.alloc(8)?;
-    assert_eq!(rt; planner.placer().holds, 5);
-    assert_eq!(rt; planner.placer().count(), 4);
+    let mut planner: Planner<CountingPlacer<SortedPlacer>> = with_pool(
+        rt.alloc(),
+        8,
+        pool(0x10000, 64)?,
+        Align::One,
+    )?;
+    answers(&rt, &mut planner, &FOUR);
+    assert!(rt; has_held(&planner, 4, 4));
+    answers(&rt, &mut planner, &SWEPT);
+    assert!(rt; has_held(&planner, 4, 3));
+    answers(&rt, &mut planner, &FIFTH);
+    assert!(rt; has_held(&planner, 5, 4));
     Ok(())
 }

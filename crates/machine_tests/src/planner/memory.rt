@@ -1,26 +1,45 @@
 //! Opening where memory is refused: the next attempt succeeds. In an ordinary run none is refused; the script
 //! `tests/opening` has each request of these tests refused in turn.
+ghost use Rattle.std.specs.Prelude.{◌≤◌};
+
 use cc_plan::{BlockPlacer, ObjectId, Placer, Planner, ScanPlacer, SortedPlacer};
 use std::alloc::{AllocError, Global};
 use std::process::Abort;
 use std::test::Fail;
 
+/// An object is made, freed and swept.
+fn works<P: Placer>(planner: &mut Planner<P>) -> bool {
+    planner.alloc(16).is_ok() && planner.free(ObjectId(1)).is_ok() && planner.sweep() == 1
+}
+
+fn placer_opens<P: Placer>(alloc: Global, limit: u32) -> Result<bool, Fail>
+    requires least { 1 ≤ limit }
+    requires most { limit ≤ 4096 }
+{
+    let placer = match P::with_limit(alloc, limit) {
+        Ok(placer) => placer,
+        Err(AllocError) => P::with_limit(alloc, limit)?,
+    };
+    Ok(placer.count() == 0)
+}
+
+fn planner_opens<P: Placer>(alloc: Global, limit: u32) -> Result<bool, Fail>
+    requires least { 1 ≤ limit }
+    requires most { limit ≤ 4096 }
+{
+    let mut planner: Planner<P> = match Planner::with_limit(alloc, limit) {
+        Ok(planner) => planner,
+        Err(AllocError) => Planner::with_limit(alloc, limit)?,
+    };
+    planner.give_pool(super::pool(0x1000, 0x100)?)?;
+    Ok(works(&mut planner))
+}
+
 fn opens<P: Placer>(rt: &impl Abort, alloc: Global, most: u32) -> Result<(), Fail> {
     for limit in [1, 2, most] {
         assert!(rt; limit >= 1 && limit <= 4096);
-        let placer = match P::with_limit(alloc, limit) {
-            Ok(placer) => placer,
-            Err(AllocError) => P::with_limit(alloc, limit)?,
-        };
-        assert_eq!(rt; placer.count(), 0);
-        let mut planner: Planner<P> = match Planner::with_limit(alloc, limit) {
-            Ok(planner) => planner,
-            Err(AllocError) => Planner::with_limit(alloc, limit)?,
-        };
-        planner.give_pool(super::pool(0x1000, 0x100)?)?;
-        planner.alloc(16)?;
-        assert_eq!(rt; planner.free(ObjectId(1)), Ok(()));
-        assert_eq!(rt; planner.sweep(), 1);
+        assert!(rt; placer_opens::<P>(alloc, limit)?);
+        assert!(rt; planner_opens::<P>(alloc, limit)?);
     }
     Ok(())
 }

@@ -1,48 +1,54 @@
 //! Runs of calls: the same for each placer.
 
-use super::pool;
+use super::{pool, with_pool};
 use PlanCall::{Alloc, Free, Sweep};
 use cc_plan::{
-    BlockPlacer, ObjectId, Placer, PlanCall, PlanReply, Planner, ScanPlacer, SortedPlacer, plan_run,
+    Align, BlockPlacer, ObjectId, Placer, PlanCall, PlanReply, Planner, ScanPlacer, SortedPlacer,
+    plan_run,
 };
 use cc_word::Refusal;
 use std::alloc::Global;
 use std::process::Abort;
 use std::test::Fail;
 
-fn start(reply: &PlanReply) -> Option<(u32, u64)> {
+/// The reply is this object, which begins there.
+fn is_placed(reply: &PlanReply, number: u32, start: u64) -> bool {
     match reply {
-        PlanReply::Placed(object, cap) => Some((object.0, cap.address())),
-        PlanReply::Freed | PlanReply::Swept(_) | PlanReply::Refused(_) => None,
+        PlanReply::Placed(object, cap) => object.0 == number && cap.address() == start,
+        PlanReply::Freed | PlanReply::Swept(_) | PlanReply::Refused(_) => false,
     }
 }
 
+const CALLS: [PlanCall; 9] = [
+    Alloc(24),
+    Alloc(40),
+    Alloc(8),
+    Free(ObjectId(2)),
+    Sweep,
+    Alloc(32),
+    Alloc(16),
+    Alloc(8),
+    Alloc(1),
+];
+
+fn are_replies(replies: &[PlanReply; 9]) -> bool {
+    is_placed(&replies[0], 1, 0x10000)
+        && is_placed(&replies[1], 2, 0x10018)
+        && is_placed(&replies[2], 3, 0x10040)
+        && matches!(replies[3], PlanReply::Freed)
+        && matches!(replies[4], PlanReply::Swept(1))
+        && is_placed(&replies[5], 4, 0x10018)
+        && is_placed(&replies[6], 5, 0x10048)
+        && is_placed(&replies[7], 6, 0x10038)
+        && matches!(replies[8], PlanReply::Refused(Refusal::Full))
+}
+
 fn check_run<P: Placer>(rt: &impl Abort, alloc: Global) -> Result<(), Fail> {
-    let mut planner: Planner<P> = Planner::with_limit(alloc, 6)?;
-    planner.give_pool(pool(0x10000, 0x10000)?)?;
-    let calls = [
-        Alloc(24),
-        Alloc(40),
-        Alloc(8),
-        Free(ObjectId(2)),
-        Sweep,
-        Alloc(32),
-        Alloc(16),
-        Alloc(8),
-        Alloc(1),
-    ];
+    let mut planner: Planner<P> = with_pool(alloc, 6, pool(0x10000, 0x10000)?, Align::One)?;
     let mut replies = [PlanReply::Freed; 9];
-    plan_run(&mut planner, &calls, &mut replies);
-    assert_eq!(rt; start(&replies[0]), Some((1, 0x10000)));
-    assert_eq!(rt; start(&replies[1]), Some((2, 0x10018)));
-    assert_eq!(rt; start(&replies[2]), Some((3, 0x10040)));
-    assert_eq!(rt; replies[3], PlanReply::Freed);
-    assert_eq!(rt; replies[4], PlanReply::Swept(1));
-    assert_eq!(rt; start(&replies[5]), Some((4, 0x10018)));
-    assert_eq!(rt; start(&replies[6]), Some((5, 0x10048)));
-    assert_eq!(rt; start(&replies[7]), Some((6, 0x10038)));
-    assert_eq!(rt; replies[8], PlanReply::Refused(Refusal::Full));
-    assert_eq!(rt; planner.held_bytes(), 88);
+    plan_run(&mut planner, &CALLS, &mut replies);
+    assert!(rt; are_replies(&replies));
+    assert!(rt; planner.held_bytes() == 88);
     Ok(())
 }
 

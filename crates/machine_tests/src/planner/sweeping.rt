@@ -1,65 +1,86 @@
 //! Sweeps: what stays held until one, and what it gives back.
 
-use super::pool;
+use super::Answer::{Placed, Refused, Swept};
+use super::{Row, answers, code, pool, with_pool};
+use PlanCall::{Alloc, Free, Sweep};
 use cc_bounds::Span;
 use cc_plan::{
-    BlockPlacer, ObjectId, ObjectState, Placer, PlanCall, Planner, ScanPlacer, SortedPlacer,
+    Align, BlockPlacer, ObjectId, ObjectState, Placer, PlanCall, Planner, ScanPlacer, SortedPlacer,
 };
 use cc_word::Refusal;
 use std::alloc::Global;
 use std::process::Abort;
 use std::test::Fail;
 
-/// The state of the object of this number.
-fn state<P: Placer>(planner: &Planner<P>, number: u32) -> Option<ObjectState> {
-    planner.object(ObjectId(number)).map(|object| object.state)
+/// The object of this number is in this state.
+fn is_in_state<P: Placer>(planner: &Planner<P>, number: u32, state: ObjectState) -> bool {
+    match planner.object(ObjectId(number)) {
+        Some(object) => object.state == state,
+        None => false,
+    }
+}
+
+const FOUR: [Row; 4] = [
+    (Alloc(64), Placed(1, 0x10000, 0x10040), 64),
+    (Alloc(64), Placed(2, 0x10040, 0x10080), 128),
+    (Alloc(64), Placed(3, 0x10080, 0x100c0), 192),
+    (Alloc(64), Placed(4, 0x100c0, 0x10100), 256),
+];
+
+const TWO_SWEPT: [Row; 2] = [
+    (Sweep, Swept(2), 128),
+    (Free(ObjectId(2)), Refused(Refusal::NoObject), 128),
+];
+
+const PLACED_AGAIN: [Row; 2] = [
+    (Alloc(128), Placed(5, 0x10040, 0x100c0), 256),
+    (Sweep, Swept(0), 256),
+];
+
+/// A live object is freed, once, and keeps its bytes.
+fn frees<P: Placer>(planner: &mut Planner<P>, number: u32) -> bool {
+    planner.free(ObjectId(number)).is_ok()
+        && is_in_state(planner, number, ObjectState::Freed)
+        && code(&planner.free(ObjectId(number))) == Refusal::NoObject.code()
+        && planner.held_bytes() == 256
+        && code(&planner.alloc(1)) == Refusal::NoRoom.code()
+}
+
+/// The second and the third of four objects are swept.
+fn two_are_swept<P: Placer>(planner: &Planner<P>) -> bool {
+    is_in_state(planner, 1, ObjectState::Live)
+        && is_in_state(planner, 2, ObjectState::Swept)
+        && is_in_state(planner, 3, ObjectState::Swept)
+        && is_in_state(planner, 4, ObjectState::Live)
 }
 
 /// Four objects fill a pool; the second and the third are freed in this order, and swept at once.
 fn two_freed_and_swept<P: Placer>(
     rt: &impl Abort,
     alloc: Global,
-    order: [u32; 2],
+    first: u32,
+    second: u32,
 ) -> Result<(), Fail> {
-    let mut planner: Planner<P> = Planner::with_limit(alloc, 8)?;
-    planner.give_pool(pool(0x10000, 256)?)?;
-    for _ in 0..4u32 {
-        planner.alloc(64)?;
-    }
-    for number in order {
-        assert_eq!(rt; planner.free(ObjectId(number)), Ok(()));
-        assert_eq!(rt; state(&planner, number), Some(ObjectState::Freed));
-        assert_eq!(rt; planner.free(ObjectId(number)), Err(Refusal::NoObject));
-        assert_eq!(rt; planner.held_bytes(), 256);
-        assert_eq!(rt; planner.alloc(1), Err(Refusal::NoRoom));
-    }
-    assert_eq!(rt; planner.sweep(), 2);
-    assert_eq!(rt; planner.held_bytes(), 128);
-    assert_eq!(rt; state(&planner, 1), Some(ObjectState::Live));
-    assert_eq!(rt; state(&planner, 2), Some(ObjectState::Swept));
-    assert_eq!(rt; state(&planner, 3), Some(ObjectState::Swept));
-    assert_eq!(rt; state(&planner, 4), Some(ObjectState::Live));
-    assert_eq!(rt; planner.free(ObjectId(2)), Err(Refusal::NoObject));
-    let (_, cap) = planner.alloc(128)?;
-    assert_eq!(rt;
-        cap.span(),
-        Span {
-            base: 0x10040,
-            top: 0x100c0
-        }
-    );
-    assert_eq!(rt; planner.sweep(), 0);
-    assert_eq!(rt; planner.held_bytes(), 256);
+    let mut planner: Planner<P> = with_pool(alloc, 8, pool(0x10000, 256)?, Align::One)?;
+    answers(rt, &mut planner, &FOUR);
+    assert!(rt; frees(&mut planner, first) && frees(&mut planner, second));
+    answers(rt, &mut planner, &TWO_SWEPT);
+    assert!(rt; two_are_swept(&planner));
+    answers(rt, &mut planner, &PLACED_AGAIN);
     Ok(())
 }
+
+const BEFORE_ANY_POOL: [Row; 2] = [
+    (Sweep, Swept(0), 0),
+    (Alloc(1), Refused(Refusal::NoPool), 0),
+];
 
 /// A sweep before there is a pool, and two frees in both orders.
 fn check_sweeps<P: Placer>(rt: &impl Abort, alloc: Global) -> Result<(), Fail> {
     let mut planner: Planner<P> = Planner::with_limit(alloc, 1)?;
-    assert_eq!(rt; planner.sweep(), 0);
-    assert_eq!(rt; planner.alloc(1), Err(Refusal::NoPool));
-    two_freed_and_swept::<P>(rt, alloc, [2, 3])?;
-    two_freed_and_swept::<P>(rt, alloc, [3, 2])
+    answers(rt, &mut planner, &BEFORE_ANY_POOL);
+    two_freed_and_swept::<P>(rt, alloc, 2, 3)?;
+    two_freed_and_swept::<P>(rt, alloc, 3, 2)
 }
 
 /// What the test knows of an object.
@@ -83,28 +104,34 @@ fn padded(size: u128) -> u128 {
     }
 }
 
-/// How many bytes the objects have that are not swept, none of which is in the span too.
-fn held_beside(rt: &impl Abort, known: &[Known], span: Span) -> u128 {
+/// How many bytes the objects have that are not swept; none, where one of these bytes is in the span too.
+fn held_beside(known: &[Known], span: Span) -> Option<u128> {
     let mut held = 0u128;
     for object in known {
         if object.state != ObjectState::Swept {
             let base = object.bytes.base.max(span.base);
-            assert!(rt; object.bytes.top.min(span.top) <= u128::from(base));
+            if object.bytes.top.min(span.top) > u128::from(base) {
+                return None;
+            }
             held = held.wrapping_add(length(object.bytes));
         }
     }
-    held
+    Some(held)
 }
 
-/// Frees a live object of the list.
-fn free_known(known: &mut [Known], id: ObjectId) -> Result<(), Refusal> {
-    let position = (id.0 as usize).checked_sub(1).ok_or(Refusal::NoObject)?;
-    let object = known.get_mut(position).ok_or(Refusal::NoObject)?;
-    if object.state != ObjectState::Live {
-        return Err(Refusal::NoObject);
+/// Frees a live object of the list, and tells whether there is one.
+fn free_known(known: &mut [Known], id: ObjectId) -> bool {
+    let Some(position) = (id.0 as usize).checked_sub(1) else {
+        return false;
+    };
+    let Some(object) = known.get_mut(position) else {
+        return false;
+    };
+    let is_live = object.state == ObjectState::Live;
+    if is_live {
+        object.state = ObjectState::Freed;
     }
-    object.state = ObjectState::Freed;
-    Ok(())
+    is_live
 }
 
 /// Sweeps the freed objects of the list.
@@ -123,58 +150,72 @@ fn sweep_known(known: &mut [Known]) -> u32 {
 fn next_call(seed: u32) -> PlanCall {
     let number = seed >> 8;
     if seed % 2 == 0 {
-        PlanCall::Alloc(u128::from(number % 6000 + 1))
+        Alloc(u128::from(number % 6000 + 1))
     } else if number % 16 == 0 {
-        PlanCall::Sweep
+        Sweep
     } else {
-        PlanCall::Free(ObjectId(number % 256))
+        Free(ObjectId(number % 256))
     }
 }
 
-/// Makes a call, of the planner and of the list alike.
-fn call_both<P: Placer>(
-    rt: &impl Abort,
+/// Makes an object, which is padded and shares no byte with those of the list, or has no room.
+fn made_in_both<P: Placer>(planner: &mut Planner<P>, known: &mut Vec<Known>, size: u128) -> bool {
+    if size > 1 << 64 {
+        return false;
+    }
+    match planner.alloc(size) {
+        Ok((_, cap)) => {
+            let bytes = cap.span();
+            let state = ObjectState::Live;
+            let fits = length(bytes) == padded(size) && held_beside(known, bytes).is_some();
+            fits && known.push(Known { bytes, state }).is_ok()
+        }
+        Err(refusal) => refusal.code() == Refusal::NoRoom.code(),
+    }
+}
+
+/// The planner and the list answer alike.
+fn same_in_both<P: Placer>(
     planner: &mut Planner<P>,
     known: &mut Vec<Known>,
     call: PlanCall,
-) -> Result<(), Fail> {
+) -> bool {
     match call {
-        PlanCall::Alloc(size) => {
-            assert!(rt; size <= 1 << 64);
-            match planner.alloc(size) {
-                Ok((_, cap)) => {
-                    let bytes = cap.span();
-                    assert_eq!(rt; length(bytes), padded(size));
-                    held_beside(rt, known, bytes);
-                    let state = ObjectState::Live;
-                    known.push(Known { bytes, state })?;
-                }
-                Err(refusal) => assert_eq!(rt; refusal, Refusal::NoRoom),
-            }
-        }
-        PlanCall::Free(id) => assert_eq!(rt; planner.free(id), free_known(known, id)),
-        PlanCall::Sweep => assert_eq!(rt; planner.sweep(), sweep_known(known)),
+        Alloc(size) => made_in_both(planner, known, size),
+        Free(id) => match planner.free(id) {
+            Ok(()) => free_known(known, id),
+            Err(refusal) => refusal.code() == Refusal::NoObject.code() && !free_known(known, id),
+        },
+        Sweep => planner.sweep() == sweep_known(known),
     }
-    Ok(())
+}
+
+/// How many objects of the list are swept.
+fn swept(known: &[Known]) -> u32 {
+    let mut count = 0u32;
+    for object in known {
+        if object.state == ObjectState::Swept {
+            count = count.wrapping_add(1);
+        }
+    }
+    count
 }
 
 /// 400 calls, after each of which the bytes held are those of a plain list of objects.
 fn check_held<P: Placer>(rt: &impl Abort, alloc: Global) -> Result<(), Fail> {
-    let mut planner: Planner<P> = Planner::with_limit(alloc, 512)?;
-    planner.give_pool(pool(0x10000, 0x10000)?)?;
+    let mut planner: Planner<P> = with_pool(alloc, 512, pool(0x10000, 0x10000)?, Align::One)?;
     let mut known = Vec::with_capacity(alloc, 512)?;
     let mut seed = 1u32;
     for _ in 0..400u32 {
         seed = seed.wrapping_mul(1664525).wrapping_add(1013904223);
-        call_both(rt, &mut planner, &mut known, next_call(seed))?;
-        let nothing = Span { base: 0, top: 0 };
-        assert_eq!(rt; planner.held_bytes(), held_beside(rt, &known, nothing));
+        assert!(rt;
+            same_in_both(&mut planner, &mut known, next_call(seed)),
+            "{seed}"
+        );
+        let held = held_beside(&known, Span { base: 0, top: 0 });
+        assert!(rt; held == Some(planner.held_bytes()), "{seed}");
     }
-    let swept = known
-        .iter()
-        .filter(|object| object.state == ObjectState::Swept)
-        .count();
-    assert!(rt; swept > 10);
+    assert!(rt; swept(&known) > 10);
     Ok(())
 }
 

@@ -1,27 +1,14 @@
 //! Starts, bounds and held bytes of lists of calls, for each placer.
 
-use super::pool;
+use super::Answer::{Freed, Placed, Refused, Swept};
+use super::{Row, answers, pool, with_pool};
+use PlanCall::{Alloc, Free, Sweep};
 use cc_cap::Cap;
 use cc_plan::{Align, BlockPlacer, ObjectId, Placer, PlanCall, Planner, ScanPlacer, SortedPlacer};
 use cc_word::Refusal;
 use std::alloc::Global;
 use std::process::Abort;
 use std::test::Fail;
-
-// What a call is to answer: the number and the bounds of the object that it makes, or a refusal.
-#[derive(Clone, Copy, PartialEq, Eq, Debug)]
-enum Answer {
-    Placed(u32, u64, u128),
-    Freed,
-    Swept(u32),
-    Refused(Refusal),
-}
-
-use Answer::{Freed, Placed, Refused, Swept};
-use PlanCall::{Alloc, Free, Sweep};
-
-// A call, its answer, and how many bytes are held after it.
-type Row = (PlanCall, Answer, u128);
 
 const FIRST_FIT: [Row; 9] = [
     (Alloc(24), Placed(1, 0x10000, 0x10018), 24),
@@ -162,26 +149,6 @@ const WHOLE_ADDRESS_SPACE_OF_16: [Row; 2] = [
     (Alloc(1), Refused(Refusal::NoRoom), 1 << 64),
 ];
 
-fn made<P: Placer>(rt: &impl Abort, planner: &mut Planner<P>, call: PlanCall) -> Answer {
-    match call {
-        Alloc(size) => {
-            assert!(rt; size <= 1 << 64);
-            match planner.alloc(size) {
-                Ok((id, cap)) => {
-                    assert_eq!(rt; cap.address(), cap.span().base);
-                    Placed(id.0, cap.span().base, cap.span().top)
-                }
-                Err(refusal) => Refused(refusal),
-            }
-        }
-        Free(id) => match planner.free(id) {
-            Ok(()) => Freed,
-            Err(refusal) => Refused(refusal),
-        },
-        Sweep => Swept(planner.sweep()),
-    }
-}
-
 fn check_rows<P: Placer>(
     rt: &impl Abort,
     alloc: Global,
@@ -189,12 +156,8 @@ fn check_rows<P: Placer>(
     align: Align,
     rows: &[Row],
 ) -> Result<(), Fail> {
-    let mut planner: Planner<P> = Planner::with_limit(alloc, 16)?;
-    planner.give_pool_aligned(pool, align)?;
-    for (call, expected, held) in rows {
-        assert_eq!(rt; made(rt, &mut planner, *call), *expected);
-        assert_eq!(rt; planner.held_bytes(), *held);
-    }
+    let mut planner: Planner<P> = with_pool(alloc, 16, pool, align)?;
+    answers(rt, &mut planner, rows);
     Ok(())
 }
 

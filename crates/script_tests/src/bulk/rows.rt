@@ -48,7 +48,22 @@ ffff0000000f803d0000000000010070
 no word
 ";
 
-/// Decodes the input in pieces of this size, and compares what was written and how it ended.
+/// The input in pieces of this size has these answers.
+fn is_answered(
+    options: Options,
+    input: &[u8],
+    answers: &str,
+    piece: usize,
+    any_error: bool,
+) -> bool {
+    let mut source = SliceSource::new(input, piece.max(1), None);
+    let mut room = [0; 512];
+    let mut sink = SliceSink::new(&mut room, piece.max(1), None);
+    let ended = decode_words(options, &mut source, &mut sink);
+    let taken = sink.taken();
+    ended == Ok(Summary { any_error }) && room.get(..taken) == Some(answers.as_bytes())
+}
+
 fn assert_answers(
     rt: &impl Abort,
     options: Options,
@@ -57,15 +72,8 @@ fn assert_answers(
     piece: usize,
     any_error: bool,
 ) {
-    let mut source = SliceSource::new(input, piece.max(1), None);
-    let mut room = [0; 512];
-    let mut sink = SliceSink::new(&mut room, piece.max(1), None);
-    let outcome = decode_words(options, &mut source, &mut sink);
-    let taken = sink.taken();
-    assert_eq!(rt; outcome, Ok(Summary { any_error }), "pieces of {piece}");
-    assert_eq!(rt;
-        room.get(..taken),
-        Some(answers.as_bytes()),
+    assert!(rt;
+        is_answered(options, input, answers, piece, any_error),
         "pieces of {piece}"
     );
 }

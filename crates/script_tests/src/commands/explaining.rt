@@ -1,7 +1,6 @@
 //! Worked answers of `explain`.
 use cc_command::{explain_length, explain_word};
 use cc_script::{SliceSink, Summary};
-use std::process::Abort;
 
 /// The first worked word of docs/FORMAT.md: an exponent of 0, which is not stored.
 const SHORT: &str = "\
@@ -84,20 +83,19 @@ const EXPLAINED: [(&str, &str, bool); 4] = [
     ("0x000000000000000000000000000000", NO_WORD, true),
 ];
 
-/// Explains the text into ample room, and compares what was written and how it ended.
-fn assert_explained(rt: &impl Abort, text: &str, answer: &str, any_error: bool) {
+/// What is written of a text into ample room, and how that ends.
+fn is_explained(text: &str, answer: &str, any_error: bool) -> bool {
     let mut room = [0; 2048];
     let mut sink = SliceSink::new(&mut room, 500, None);
-    let outcome = explain_word(text.as_bytes(), &mut sink);
+    let ended = explain_word(text.as_bytes(), &mut sink);
     let taken = sink.taken();
-    assert_eq!(rt; outcome, Ok(Summary { any_error }), "at {text}");
-    assert_eq!(rt; room.get(..taken), Some(answer.as_bytes()), "at {text}");
+    ended == Ok(Summary { any_error }) && room.get(..taken) == Some(answer.as_bytes())
 }
 
 #[test]
 fn words_are_explained(rt: HostRuntime) {
     for (text, answer, any_error) in EXPLAINED {
-        assert_explained(&rt, text, answer, any_error);
+        assert!(rt; is_explained(text, answer, any_error), "at {text}");
     }
 }
 
@@ -125,20 +123,19 @@ const FAULTY: [(&str, &str); 5] = [
     ),
 ];
 
-/// Explains the text, and looks for the reason in what was written.
-fn assert_reason(rt: &impl Abort, text: &str, reason: &str) {
+/// The reason stands in what is written of the text.
+fn has_reason(text: &str, reason: &str) -> bool {
     let mut room = [0; 2048];
     let mut sink = SliceSink::new(&mut room, 2048, None);
-    let outcome = explain_word(text.as_bytes(), &mut sink);
-    assert_eq!(rt; outcome, Ok(Summary { any_error: false }), "at {text}");
+    let ended = explain_word(text.as_bytes(), &mut sink);
     let answer = str::from_utf8(&room).unwrap_or("");
-    assert!(rt; answer.contains(reason), "at {text}");
+    ended == Ok(Summary { any_error: false }) && answer.contains(reason)
 }
 
 #[test]
 fn words_of_no_capability_are_told_why(rt: HostRuntime) {
     for (text, reason) in FAULTY {
-        assert_reason(&rt, text, reason);
+        assert!(rt; has_reason(text, reason), "at {text}");
     }
 }
 
@@ -159,29 +156,21 @@ const REQUESTS: [(&str, &str, &str, bool); 3] = [
     ("1", "0x10000000000000000", "error 9 bounds\n", true),
 ];
 
-/// Explains a length into ample room, and compares what was written and how it ended.
-fn assert_length_explained(
-    rt: &impl Abort,
-    base: &str,
-    length: &str,
-    answer: &str,
-    any_error: bool,
-) {
+/// What is written of a length into ample room, and how that ends.
+fn length_is_explained(base: &str, length: &str, answer: &str, any_error: bool) -> bool {
     let mut room = [0; 1024];
     let mut sink = SliceSink::new(&mut room, 100, None);
-    let outcome = explain_length(base, length, &mut sink);
+    let ended = explain_length(base, length, &mut sink);
     let taken = sink.taken();
-    assert_eq!(rt; outcome, Ok(Summary { any_error }), "{base} {length}");
-    assert_eq!(rt;
-        room.get(..taken),
-        Some(answer.as_bytes()),
-        "{base} {length}"
-    );
+    ended == Ok(Summary { any_error }) && room.get(..taken) == Some(answer.as_bytes())
 }
 
 #[test]
 fn lengths_are_explained(rt: HostRuntime) {
     for (base, length, answer, any_error) in REQUESTS {
-        assert_length_explained(&rt, base, length, answer, any_error);
+        assert!(rt;
+            length_is_explained(base, length, answer, any_error),
+            "{base} {length}"
+        );
     }
 }

@@ -3,7 +3,6 @@ use cc_command::{PoolTexts, plan_numbers, plan_script};
 use cc_machine::{Align, Machine};
 use cc_script::{ScriptFault, SliceSink, SliceSource, Summary};
 use cc_word::Refusal;
-use std::process::Abort;
 use std::test::Fail;
 
 /// A pool's base, length and alignment, a script, what is written, and whether a reply is an error.
@@ -29,29 +28,28 @@ const ROWS: [Row; 7] = [
         "slot 1 ffff0000000000000000000000010000 0x0 0x10000000000000000\nslot 2 ffff0000000190000000000000010000 0x10000 0x20000\npool 2 0x10000 0x20000 align 16\nobject 1 slot 3 ffff0000041d80040000000000010000 0x10000 0x10070 held 112\nobject 2 slot 4 ffff0000010180740000000000010070 0x10070 0x11400 held 5120\nobject 3 slot 5 ffff0000050594040000000000011400 0x11400 0x11410 held 5136\nobject 4 slot 6 ffff000002838a0d0000000000011410 0x11410 0x13410 held 13328\nobject 5 slot 7 ffff00000105b4140000000000013410 0x13410 0x14410 held 17424\nerror 1 syntax\nerror 18 poolset\n", true),
 ];
 
-/// Plans a row in pieces of these sizes, into room of a size, and compares how it ended and what was
-/// written.
-fn assert_planned(
-    rt: &impl Abort,
+/// A row in pieces of these sizes, into room of a size, ends so, and writes what it has to as far as there is
+/// room.
+fn is_planned(
     machine: &mut Machine,
     row: &Row,
     pieces: (usize, usize),
     fail_at: Option<u32>,
     size: usize,
     answer: Result<Summary, ScriptFault>,
-) {
+) -> bool {
     let (base, length, align, script, output, _) = *row;
+    let Ok((base, length)) = plan_numbers(&PoolTexts { base, length }) else {
+        return false;
+    };
     let mut room = [0u8; 2048];
     let mut source = SliceSource::new(script.as_bytes(), pieces.0.max(1), fail_at);
     let mut sink = SliceSink::new(room.split_at_mut(size.min(2048)).0, pieces.1.max(1), None);
-    let Ok((base, length)) = plan_numbers(&PoolTexts { base, length }) else {
-        panic!(rt; "{base} {length}");
-    };
     let ended = plan_script(machine, base, length, align, &mut source, &mut sink);
     let taken = sink.taken();
-    assert!(rt; ended == answer);
-    assert!(rt; taken == output.len().min(size));
-    assert!(rt; room.get(..taken) == output.as_bytes().get(..taken));
+    ended == answer
+        && taken == output.len().min(size)
+        && room.get(..taken) == output.as_bytes().get(..taken)
 }
 
 #[test]
@@ -60,7 +58,11 @@ fn plans_are_answered(rt: HostRuntime) -> Result<(), Fail> {
         for pieces in [(1usize, 1usize), (7, 200), (4096, 4096)] {
             let mut machine = Machine::with_limit(rt.alloc(), 4096)?;
             let answer = Ok(Summary { any_error: row.5 });
-            assert_planned(&rt, &mut machine, row, pieces, None, 2048, answer);
+            assert!(rt;
+                is_planned(&mut machine, row, pieces, None, 2048, answer),
+                "{}",
+                row.3
+            );
         }
     }
     Ok(())
@@ -70,7 +72,7 @@ fn plans_are_answered(rt: HostRuntime) -> Result<(), Fail> {
 fn pool_is_made_before_the_first_read(rt: HostRuntime) -> Result<(), Fail> {
     let mut machine = Machine::with_limit(rt.alloc(), 4096)?;
     let answer = Err(ScriptFault::Read);
-    assert_planned(&rt, &mut machine, &POOL, (1, 200), Some(1), 2048, answer);
+    assert!(rt; is_planned(&mut machine, &POOL, (1, 200), Some(1), 2048, answer));
     assert!(rt; machine.slots() == 3);
     Ok(())
 }
@@ -81,7 +83,10 @@ fn full_sink_ends_a_plan(rt: HostRuntime) -> Result<(), Fail> {
     for (size, slots) in [(0usize, 2), (63, 2), (64, 3), (65, 3)] {
         let mut machine = Machine::with_limit(rt.alloc(), 4096)?;
         let answer = Err(ScriptFault::Write);
-        assert_planned(&rt, &mut machine, &POOL, (1, 200), None, size, answer);
+        assert!(rt;
+            is_planned(&mut machine, &POOL, (1, 200), None, size, answer),
+            "{size}"
+        );
         assert!(rt; machine.slots() == slots, "{size}");
     }
     Ok(())
@@ -104,11 +109,18 @@ const FAULTS: [(&str, &str, Refusal); 10] = [
     ("1 ", "1", Refusal::Syntax),
 ];
 
+/// The numbers are refused so.
+fn is_fault(base: &str, length: &str, refusal: Refusal) -> bool {
+    match plan_numbers(&PoolTexts { base, length }) {
+        Ok(_) => false,
+        Err(found) => found.code() == refusal.code(),
+    }
+}
+
 #[test]
 fn faults_of_the_numbers(rt: HostRuntime) {
     for (base, length, refusal) in FAULTS {
-        let numbers = plan_numbers(&PoolTexts { base, length });
-        assert!(rt; numbers == Err(refusal), "{base} {length}");
+        assert!(rt; is_fault(base, length, refusal), "{base} {length}");
     }
 }
 
@@ -123,15 +135,20 @@ const NUMBERS: [(&str, &str, u64, u128); 3] = [
     ),
 ];
 
+/// The texts are these numbers.
+fn are_numbers(base: &str, length: &str, address: u64, bytes: u128) -> bool {
+    match plan_numbers(&PoolTexts { base, length }) {
+        Ok((found, len)) => found == address && len.get() == bytes,
+        Err(_) => false,
+    }
+}
+
 #[test]
 fn numbers_of_a_pool(rt: HostRuntime) {
     for (base, length, address, bytes) in NUMBERS {
-        match plan_numbers(&PoolTexts { base, length }) {
-            Ok(numbers) => {
-                assert_eq!(rt; numbers.0, address, "{base}");
-                assert_eq!(rt; numbers.1.get(), bytes, "{length}");
-            }
-            Err(_) => panic!(rt; "{base} {length}"),
-        }
+        assert!(rt;
+            are_numbers(base, length, address, bytes),
+            "{base} {length}"
+        );
     }
 }

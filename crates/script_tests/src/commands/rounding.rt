@@ -9,14 +9,17 @@ const RANGE: &str = "error 4 range\n";
 
 const WHOLE_ADDRESS_SPACE: &str = "round 0x10000000000000000 0x80000000000000 0xff80000000000000\n";
 
-/// Rounds the text into ample room, and compares what was written and how it ended.
-fn assert_rounded(rt: &impl Abort, text: &str, answer: &str, any_error: bool) {
+/// What is written of a text into ample room, and how that ends.
+fn is_rounded(text: &str, answer: &str, any_error: bool) -> bool {
     let mut room = [0; 128];
     let mut sink = SliceSink::new(&mut room, 128, None);
-    let outcome = show_round(text.as_bytes(), &mut sink);
+    let ended = show_round(text.as_bytes(), &mut sink);
     let taken = sink.taken();
-    assert_eq!(rt; outcome, Ok(Summary { any_error }), "at {text}");
-    assert_eq!(rt; room.get(..taken), Some(answer.as_bytes()), "at {text}");
+    ended == Ok(Summary { any_error }) && room.get(..taken) == Some(answer.as_bytes())
+}
+
+fn assert_rounded(rt: &impl Abort, text: &str, answer: &str, any_error: bool) {
+    assert!(rt; is_rounded(text, answer, any_error), "at {text}");
 }
 
 #[rattlefmt::skip]
@@ -63,34 +66,30 @@ fn numbers_that_are_no_length(rt: HostRuntime) {
     }
 }
 
-/// Each call of the sink fails in turn, the flush too, and then no call does.
+/// Call `fail_at` of the sink fails, the flush too, where there are as many calls; pieces are of this size.
+fn fails_at(answer: &[u8], piece: usize, fail_at: u32) -> bool {
+    let mut room = [0; 128];
+    let mut sink = SliceSink::new(&mut room, piece.max(1), Some(fail_at));
+    let ended = show_round(b"0x10000000000000000", &mut sink);
+    let taken = sink.taken();
+    let call = fail_at as usize;
+    let writes = answer.len().div_ceil(piece.max(1));
+    let is_as_wanted = if call == 0 || call > writes.saturating_add(1) {
+        ended == Ok(Summary { any_error: false }) && taken == answer.len()
+    } else {
+        let before = (call - 1).saturating_mul(piece);
+        ended == Err(ScriptFault::Write) && taken == before.min(answer.len())
+    };
+    is_as_wanted && room.get(..taken) == answer.get(..taken)
+}
+
+/// Each call of the sink fails in turn, and then no call does.
 #[test]
 fn each_call_fails_in_turn(rt: HostRuntime) {
-    let answer = WHOLE_ADDRESS_SPACE.as_bytes();
     for piece in [1usize, 7, 128] {
-        let writes = answer.len().div_ceil(piece);
         for fail_at in 0..72u32 {
-            let mut room = [0; 128];
-            let mut sink = SliceSink::new(&mut room, piece, Some(fail_at));
-            let outcome = show_round(b"0x10000000000000000", &mut sink);
-            let taken = sink.taken();
-            let calls = fail_at as usize;
-            let (wanted_outcome, wanted_taken) = if calls == 0 || calls > writes + 1 {
-                (Ok(Summary { any_error: false }), answer.len())
-            } else {
-                let before = (calls - 1).saturating_mul(piece);
-                (Err(ScriptFault::Write), before.min(answer.len()))
-            };
-            assert_eq!(rt;
-                outcome,
-                wanted_outcome,
-                "call {fail_at}, pieces of {piece}"
-            );
-            assert_eq!(rt;
-                room.get(..taken),
-                answer.get(..wanted_taken),
-                "call {fail_at}, pieces of {piece}"
-            );
+            let is_so = fails_at(WHOLE_ADDRESS_SPACE.as_bytes(), piece, fail_at);
+            assert!(rt; is_so, "call {fail_at}, pieces of {piece}");
         }
     }
 }

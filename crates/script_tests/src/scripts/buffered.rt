@@ -1,43 +1,75 @@
 //! A sink with lent room.
 use cc_machine::Machine;
 use cc_script::{
-    Buffered, Failed, FromReader, FromWriter, Sink, SliceSink, SliceSource, Summary, run_script,
+    Buffered, FromReader, FromWriter, Sink, SliceSink, SliceSource, Summary, run_script,
 };
 use std::alloc::{AllocError, Global};
 use std::cell::Cell;
 use std::io;
 use std::io::{Read, Write};
 
+/// A call of a sink.
+#[derive(Clone, Copy)]
+enum Call<'a> {
+    Write(&'a [u8]),
+    BeforeRead,
+    Flush,
+}
+
+use Call::{BeforeRead, Flush, Write as Put};
+
+/// A call, how many bytes it takes, or none where it fails, and how many have reached the slice after it.
+type Row<'a> = (Call<'a>, Option<usize>, usize);
+
+fn answer<S: Sink>(sink: &mut S, call: Call) -> Option<usize> {
+    match call {
+        Put(bytes) => sink.write(bytes).ok(),
+        BeforeRead => sink.before_read().ok().map(|()| 0),
+        Flush => sink.flush().ok().map(|()| 0),
+    }
+}
+
+/// The sink with lent room answers each call as its row says.
+fn answers(sink: &mut Buffered<SliceSink>, rows: &[Row]) -> bool {
+    for (call, wanted, taken) in rows {
+        if answer(sink, *call) != *wanted || sink.inner().taken() != *taken {
+            return false;
+        }
+    }
+    true
+}
+
+const PASSED_ON: [Row; 6] = [
+    (Put(b"abc"), Some(3), 0),
+    (Put(b"de"), Some(2), 3),
+    (BeforeRead, Some(0), 5),
+    (Put(b"fghij"), Some(5), 10),
+    (Put(b"k"), Some(1), 10),
+    (Flush, Some(0), 11),
+];
+
 #[test]
 fn bytes_wait_until_passed_on(rt: HostRuntime) {
     let mut taken = [0u8; 16];
     let mut room = [0u8; 4];
     let mut sink = Buffered::new(SliceSink::new(&mut taken, 16, None), &mut room);
-    assert!(rt; sink.write(b"abc") == Ok(3));
-    assert!(rt; sink.inner().taken() == 0);
-    assert!(rt; sink.write(b"de") == Ok(2));
-    assert!(rt; sink.inner().taken() == 3);
-    assert!(rt; sink.before_read() == Ok(()));
-    assert!(rt; sink.inner().taken() == 5);
-    assert!(rt; sink.write(b"fghij") == Ok(5));
-    assert!(rt; sink.inner().taken() == 10);
-    assert!(rt; sink.write(b"k") == Ok(1));
-    assert!(rt; sink.flush() == Ok(()));
-    assert!(rt; sink.inner().taken() == 11);
+    assert!(rt; answers(&mut sink, &PASSED_ON));
     assert!(rt; taken == *b"abcdefghijk\0\0\0\0\0");
 }
+
+const NOT_TAKEN: [Row; 4] = [
+    (Put(b"abcde"), Some(5), 0),
+    (BeforeRead, None, 2),
+    (Put(b"f"), None, 2),
+    (Flush, None, 2),
+];
 
 #[test]
 fn bytes_not_taken_go_on_waiting(rt: HostRuntime) {
     let mut taken = [0u8; 16];
     let mut room = [0u8; 8];
     let mut sink = Buffered::new(SliceSink::new(&mut taken, 2, Some(2)), &mut room);
-    assert!(rt; sink.write(b"abcde") == Ok(5));
-    assert!(rt; sink.before_read() == Err(Failed));
-    assert!(rt; sink.inner().taken() == 2);
-    assert!(rt; sink.write(b"f") == Err(Failed));
-    assert!(rt; sink.flush() == Err(Failed));
-    assert!(rt; sink.inner().taken() == 2);
+    assert!(rt; answers(&mut sink, &NOT_TAKEN));
 }
 
 /// A script, its replies, and the rooms in which they wait: less than a reply, as much, and all of them.
@@ -83,30 +115,43 @@ fn replies_are_the_same_in_any_room(rt: HostRuntime) -> Result<(), AllocError> {
     Ok(())
 }
 
+const FULL_ROOM: [Row; 4] = [
+    (Put(b"abcd"), Some(4), 0),
+    (Put(b""), Some(0), 0),
+    (Put(b"e"), Some(1), 4),
+    (Flush, Some(0), 5),
+];
+
 #[test]
 fn full_room_is_passed_on_at_the_next_byte(rt: HostRuntime) {
     let mut taken = [0u8; 16];
     let mut room = [0u8; 4];
     let mut sink = Buffered::new(SliceSink::new(&mut taken, 16, None), &mut room);
-    assert!(rt; sink.write(b"abcd") == Ok(4));
-    assert!(rt; sink.inner().taken() == 0);
-    assert!(rt; sink.write(b"") == Ok(0));
-    assert!(rt; sink.inner().taken() == 0);
-    assert!(rt; sink.write(b"e") == Ok(1));
-    assert!(rt; sink.inner().taken() == 4);
-    assert!(rt; sink.flush() == Ok(()));
+    assert!(rt; answers(&mut sink, &FULL_ROOM));
     assert!(rt; taken == *b"abcde\0\0\0\0\0\0\0\0\0\0\0");
 }
+
+const FAILED_FLUSH: [Row; 3] = [
+    (Put(b"abc"), Some(3), 0),
+    (Flush, None, 3),
+    (Flush, None, 3),
+];
 
 #[test]
 fn failed_flush_behind_is_told(rt: HostRuntime) {
     let mut taken = [0u8; 16];
     let mut room = [0u8; 4];
     let mut sink = Buffered::new(SliceSink::new(&mut taken, 16, Some(2)), &mut room);
-    assert!(rt; sink.write(b"abc") == Ok(3));
-    assert!(rt; sink.flush() == Err(Failed));
-    assert!(rt; sink.inner().taken() == 3);
-    assert!(rt; sink.flush() == Err(Failed));
+    assert!(rt; answers(&mut sink, &FAILED_FLUSH));
+}
+
+/// Of two sinks with lent room, one behind the other, the call that passes bytes on fails, and all later ones.
+fn fails_behind(sink: &mut Buffered<Buffered<SliceSink>>) -> bool {
+    answer(sink, Put(b"abc")) == Some(3)
+        && answer(sink, BeforeRead).is_none()
+        && sink.inner().inner().taken() == 0
+        && answer(sink, BeforeRead).is_none()
+        && answer(sink, Flush).is_none()
 }
 
 #[test]
@@ -114,12 +159,7 @@ fn failed_passing_on_behind_is_told(rt: HostRuntime) {
     let mut taken = [0u8; 16];
     let (mut near, mut far) = ([0u8; 4], [0u8; 8]);
     let behind = Buffered::new(SliceSink::new(&mut taken, 16, Some(1)), &mut far);
-    let mut sink = Buffered::new(behind, &mut near);
-    assert!(rt; sink.write(b"abc") == Ok(3));
-    assert!(rt; sink.before_read() == Err(Failed));
-    assert!(rt; sink.inner().inner().taken() == 0);
-    assert!(rt; sink.before_read() == Err(Failed));
-    assert!(rt; sink.flush() == Err(Failed));
+    assert!(rt; fails_behind(&mut Buffered::new(behind, &mut near)));
 }
 
 /// A writer that tells how many bytes it took.
@@ -161,31 +201,36 @@ impl<'a> Read for Waits<'a> {
     }
 }
 
+// Each reply has fifteen bytes.
+const PIECES: [(usize, &[u8]); 7] = [
+    (0, b"a\n"),
+    (15, b"b\nc\n"),
+    (45, b"d"),
+    (45, b"e\nf"),
+    (60, b"g"),
+    (60, b"\n"),
+    (75, b"h"),
+];
+
+/// All replies came, in time, through room of this size.
+fn come_in_time(machine: &mut Machine, size: usize) -> bool {
+    let taken = Cell::new(0usize);
+    let mut room = [0u8; 64];
+    let mut source = FromReader::new(Waits {
+        taken: &taken,
+        pieces: &PIECES,
+    });
+    let writer = FromWriter::new(Told { taken: &taken });
+    let mut sink = Buffered::new(writer, &mut room[..size.min(64)]);
+    let result = run_script(machine, &mut source, &mut sink);
+    result == Ok(Summary { any_error: true }) && taken.get() == 94
+}
+
 #[test]
 fn replies_come_before_the_next_read(rt: HostRuntime) -> Result<(), AllocError> {
-    // each reply has fifteen bytes
-    let pieces: [(usize, &[u8]); 7] = [
-        (0, b"a\n"),
-        (15, b"b\nc\n"),
-        (45, b"d"),
-        (45, b"e\nf"),
-        (60, b"g"),
-        (60, b"\n"),
-        (75, b"h"),
-    ];
     for size in [0usize, 1, 14, 15, 16, 64] {
-        let taken = Cell::new(0usize);
-        let mut room = [0u8; 64];
         let mut machine = Machine::with_limit(rt.alloc(), 4)?;
-        let mut source = FromReader::new(Waits {
-            taken: &taken,
-            pieces: &pieces,
-        });
-        let writer = FromWriter::new(Told { taken: &taken });
-        let mut sink = Buffered::new(writer, &mut room[..size]);
-        let result = run_script(&mut machine, &mut source, &mut sink);
-        assert!(rt; result == Ok(Summary { any_error: true }));
-        assert!(rt; taken.get() == 94);
+        assert!(rt; come_in_time(&mut machine, size), "{size}");
     }
     Ok(())
 }

@@ -6,15 +6,20 @@ use std::test::Fail;
 
 const SYNTAX: &str = "error 1 syntax\n";
 
+/// The run of a text in pieces of this size writes this, of which some is an error.
+fn writes(machine: &mut Machine, text: &[u8], size: usize, output: &[u8]) -> bool {
+    let mut room = [0u8; 64];
+    let mut source = SliceSource::new(text, size.max(1), None);
+    let mut sink = SliceSink::new(&mut room, size.max(1), None);
+    let ended = run_script(machine, &mut source, &mut sink);
+    ended == Ok(Summary { any_error: true })
+        && sink.taken() == output.len()
+        && room.starts_with(output)
+}
+
 fn run(rt: &impl Abort, machine: &mut Machine, text: &[u8], output: &str) {
     for size in &[1usize, 7, 128, 4096] {
-        let mut room = [0u8; 64];
-        let mut source = SliceSource::new(text, (*size).max(1), None);
-        let mut sink = SliceSink::new(&mut room, (*size).max(1), None);
-        let answer = run_script(machine, &mut source, &mut sink);
-        assert!(rt; answer == Ok(Summary { any_error: true }));
-        assert!(rt; sink.taken() == output.len());
-        assert!(rt; room.starts_with(output.as_bytes()));
+        assert!(rt; writes(machine, text, *size, output.as_bytes()), "{output}");
     }
 }
 

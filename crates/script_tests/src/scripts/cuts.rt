@@ -3,7 +3,6 @@
 use cc_machine::Machine;
 use cc_script::{Buffered, ScriptFault, SliceSink, SliceSource, Summary, run_script};
 use std::alloc::{AllocError, Global};
-use std::process::Abort;
 use std::test::Fail;
 
 const SCRIPT: &[u8] =
@@ -118,84 +117,103 @@ fn run_between(
     (answer, sink.inner().taken())
 }
 
-fn run(
-    rt: &impl Abort,
+/// The run of a text ends so, and writes this.
+fn writes(
     machine: &mut Machine,
     text: &[u8],
     devices: &Devices,
     answer: Result<Summary, ScriptFault>,
     output: &[u8],
-) {
+) -> bool {
     let mut taken = [0u8; 2048];
     let (answered, count) = run_between(machine, text, devices, &mut taken);
-    assert!(rt; answered == answer);
-    assert!(rt; count == output.len());
-    assert!(rt; taken.starts_with(output));
+    answered == answer && count == output.len() && taken.starts_with(output)
 }
 
 /// The machine stands after these first lines of the script: it gives the replies to all the others.
-fn stands_after(
-    rt: &impl Abort,
-    alloc: Global,
-    machine: &mut Machine,
-    lines: usize,
-) -> Result<(), AllocError> {
+fn stands_after(alloc: Global, machine: &mut Machine, lines: usize) -> Result<bool, AllocError> {
     let text = after_lines(lines);
     let (output, any_error) = output_of(alloc, lines, text, true)?;
-    run(
-        rt,
-        machine,
-        text,
-        &SOUND,
-        Ok(Summary { any_error }),
-        &output,
-    );
-    Ok(())
+    Ok(writes(machine, text, &SOUND, Ok(Summary { any_error }), &output))
+}
+
+/// The run of a text on a new machine ends so and writes this, and the machine stands after these lines.
+fn runs(
+    alloc: Global,
+    text: &[u8],
+    devices: &Devices,
+    answer: Result<Summary, ScriptFault>,
+    output: &[u8],
+    lines: usize,
+) -> Result<bool, AllocError> {
+    let mut machine = Machine::with_limit(alloc, 16)?;
+    let is_written = writes(&mut machine, text, devices, answer, output);
+    Ok(is_written && stands_after(alloc, &mut machine, lines)?)
+}
+
+/// The same through pieces of so many bytes, into each room.
+fn runs_in_all(
+    alloc: Global,
+    text: &[u8],
+    devices: &Devices,
+    answer: Result<Summary, ScriptFault>,
+    output: &[u8],
+    lines: usize,
+) -> Result<bool, AllocError> {
+    for room in &ROOMS {
+        let devices = Devices {
+            room: *room,
+            ..*devices
+        };
+        if !runs(alloc, text, &devices, answer, output, lines)? {
+            return Ok(false);
+        }
+    }
+    Ok(true)
+}
+
+/// The first bytes of the script, read in pieces of this size, are a script of their own.
+fn is_cut(alloc: Global, cut: usize, size: usize) -> Result<bool, AllocError> {
+    let text = &SCRIPT[..cut.min(SCRIPT.len())];
+    let (output, any_error) = output_of(alloc, 0, text, true)?;
+    let devices = Devices {
+        pieces: (size, 200),
+        ..SOUND
+    };
+    let answer = Ok(Summary { any_error });
+    runs_in_all(alloc, text, &devices, answer, &output, line_feeds(text))
 }
 
 #[test]
 fn script_cut_after_each_byte(rt: HostRuntime) -> Result<(), Fail> {
-    let sizes: [usize; 5] = [1, 2, 3, 7, 128];
     for cut in 0..=SCRIPT.len() {
-        let text = &SCRIPT[..cut];
-        let (output, any_error) = output_of(rt.alloc(), 0, text, true)?;
-        for size in &sizes {
-            for room in &ROOMS {
-                let devices = Devices {
-                    pieces: (*size, 200),
-                    room: *room,
-                    ..SOUND
-                };
-                let mut machine = Machine::with_limit(rt.alloc(), 16)?;
-                let answer = Ok(Summary { any_error });
-                run(&rt, &mut machine, text, &devices, answer, &output);
-                stands_after(&rt, rt.alloc(), &mut machine, line_feeds(text))?;
-            }
+        for size in [1usize, 2, 3, 7, 128] {
+            assert!(rt; is_cut(rt.alloc(), cut, size)?, "{cut} {size}");
         }
     }
     Ok(())
 }
 
+/// The call of the source fails, in pieces of this size: the lines that it gave before it are answered.
+fn read_fails(alloc: Global, size: usize, call: u32) -> Result<bool, AllocError> {
+    let given = (call as usize).saturating_sub(1).saturating_mul(size);
+    let text = &SCRIPT[..given.min(SCRIPT.len())];
+    let (output, _) = output_of(alloc, 0, text, false)?;
+    let devices = Devices {
+        pieces: (size, 200),
+        fails: (Some(call), None),
+        ..SOUND
+    };
+    let answer = Err(ScriptFault::Read);
+    runs_in_all(alloc, SCRIPT, &devices, answer, &output, line_feeds(text))
+}
+
 #[test]
 fn each_read_fails(rt: HostRuntime) -> Result<(), Fail> {
-    let sizes: [usize; 5] = [1, 2, 3, 7, 128];
-    for size in &sizes {
-        let mut call = 0u32;
-        for given in (0..SCRIPT.len().saturating_add(*size)).step_by((*size).max(1)) {
-            call = call.saturating_add(1);
-            let text = &SCRIPT[..given.min(SCRIPT.len())];
-            let (output, _) = output_of(rt.alloc(), 0, text, false)?;
-            for room in &ROOMS {
-                let devices = Devices {
-                    pieces: (*size, 200),
-                    fails: (Some(call), None),
-                    room: *room,
-                };
-                let mut machine = Machine::with_limit(rt.alloc(), 16)?;
-                let answer = Err(ScriptFault::Read);
-                run(&rt, &mut machine, SCRIPT, &devices, answer, &output);
-                stands_after(&rt, rt.alloc(), &mut machine, line_feeds(text))?;
-            }
+    for size in [1usize, 2, 3, 7, 128] {
+        let calls = SCRIPT.len().div_ceil(size) as u32;
+        for call in 1..=calls.saturating_add(1) {
+            assert!(rt; read_fails(rt.alloc(), size, call)?, "{size} {call}");
         }
     }
     Ok(())
@@ -204,86 +222,120 @@ fn each_read_fails(rt: HostRuntime) -> Result<(), Fail> {
 /// The call of the sink fails when it took this output, and the machine stands after these lines, whatever
 /// the room: a piece of six bytes ends one line at most, whose reply is passed on before the next.
 fn write_fails(
-    rt: &impl Abort,
     alloc: Global,
     size: usize,
     call: u32,
     output: &[u8],
     lines: usize,
-) -> Result<(), AllocError> {
-    for room in &ROOMS {
-        let devices = Devices {
-            pieces: (6, size),
-            fails: (None, Some(call)),
-            room: *room,
-        };
-        let mut machine = Machine::with_limit(alloc, 16)?;
-        let answer = Err(ScriptFault::Write);
-        run(rt, &mut machine, SCRIPT, &devices, answer, output);
-        stands_after(rt, alloc, &mut machine, lines.min(17))?;
+) -> Result<bool, AllocError> {
+    let devices = Devices {
+        pieces: (6, size),
+        fails: (None, Some(call)),
+        ..SOUND
+    };
+    let answer = Err(ScriptFault::Write);
+    runs_in_all(alloc, SCRIPT, &devices, answer, output, lines.min(17))
+}
+
+/// Each write of the replies fails in turn, in pieces of this size; then the flush; and then no call does.
+fn all_writes_fail(alloc: Global, whole: &[u8], size: usize) -> Result<bool, AllocError> {
+    let mut call = 0u32;
+    let mut before = 0usize;
+    for (line, reply) in REPLIES.iter().enumerate() {
+        for taken in (0..reply.len()).step_by(size.max(1)) {
+            call = call.saturating_add(1);
+            let output = whole
+                .get(..before.saturating_add(taken))
+                .unwrap_or(b"no output");
+            if !write_fails(alloc, size, call, output, line.saturating_add(1))? {
+                return Ok(false);
+            }
+        }
+        before = before.saturating_add(reply.len());
     }
-    Ok(())
+    Ok(
+        write_fails(alloc, size, call.saturating_add(1), whole, 18)?
+            && no_write_fails(alloc, size, call.saturating_add(2), whole)?,
+    )
+}
+
+fn no_write_fails(alloc: Global, size: usize, call: u32, whole: &[u8]) -> Result<bool, AllocError> {
+    let devices = Devices {
+        pieces: (6, size),
+        fails: (None, Some(call)),
+        ..SOUND
+    };
+    let answer = Ok(Summary { any_error: true });
+    runs_in_all(alloc, SCRIPT, &devices, answer, whole, 18)
 }
 
 #[test]
 fn each_write_and_the_flush_fail(rt: HostRuntime) -> Result<(), Fail> {
-    let sizes: [usize; 3] = [1, 5, 200];
     let (whole, any_error) = output_of(rt.alloc(), 0, SCRIPT, true)?;
-    for size in &sizes {
-        let mut call = 0u32;
-        let mut before = 0usize;
-        for (line, reply) in REPLIES.iter().enumerate() {
-            for taken in (0..reply.len()).step_by((*size).max(1)) {
-                call = call.saturating_add(1);
-                let output = whole
-                    .get(..before.saturating_add(taken))
-                    .unwrap_or(b"no output");
-                write_fails(&rt, rt.alloc(), *size, call, output, line.saturating_add(1))?;
-            }
-            before = before.saturating_add(reply.len());
-        }
-        let flush = call.saturating_add(1);
-        write_fails(&rt, rt.alloc(), *size, flush, &whole, 18)?;
-        for room in &ROOMS {
-            let devices = Devices {
-                pieces: (6, *size),
-                fails: (None, Some(flush.saturating_add(1))),
-                room: *room,
-            };
-            let mut machine = Machine::with_limit(rt.alloc(), 16)?;
-            let answer = Ok(Summary { any_error });
-            run(&rt, &mut machine, SCRIPT, &devices, answer, &whole);
-        }
+    assert!(rt; any_error);
+    for size in [1usize, 5, 200] {
+        assert!(rt; all_writes_fail(rt.alloc(), &whole, size)?, "{size}");
     }
     Ok(())
 }
 
+/// What the run answers where this call of the sink fails, and how many bytes of the output it took before
+/// it; none, where it took others.
+fn taken_before(
+    machine: &mut Machine,
+    whole: &[u8],
+    size: usize,
+    room: Option<usize>,
+    call: u32,
+) -> Option<(Result<Summary, ScriptFault>, usize)> {
+    let devices = Devices {
+        pieces: (SCRIPT.len(), size),
+        fails: (None, Some(call)),
+        room,
+    };
+    let mut taken = [0u8; 2048];
+    let (answer, count) = run_between(machine, SCRIPT, &devices, &mut taken);
+    if taken.get(..count) == whole.get(..count) {
+        Some((answer, count))
+    } else {
+        None
+    }
+}
+
+/// Each call of the sink fails in turn, after more and more bytes, and then none does.
+fn more_and_more_is_taken(
+    alloc: Global,
+    whole: &[u8],
+    size: usize,
+    room: Option<usize>,
+) -> Result<bool, AllocError> {
+    let mut before = 0usize;
+    for call in 1u32..1000 {
+        let mut machine = Machine::with_limit(alloc, 16)?;
+        let Some((answer, count)) = taken_before(&mut machine, whole, size, room, call) else {
+            return Ok(false);
+        };
+        if answer == Ok(Summary { any_error: true }) {
+            return Ok(count == whole.len());
+        }
+        if answer != Err(ScriptFault::Write) || count < before {
+            return Ok(false);
+        }
+        before = count;
+    }
+    Ok(false)
+}
+
 #[test]
 fn each_call_fails_where_many_replies_wait(rt: HostRuntime) -> Result<(), Fail> {
-    let sizes: [usize; 3] = [1, 5, 200];
     let (whole, any_error) = output_of(rt.alloc(), 0, SCRIPT, true)?;
-    for size in &sizes {
-        for room in &ROOMS {
-            let mut before = 0usize;
-            for call in 1u32..1000 {
-                let devices = Devices {
-                    pieces: (SCRIPT.len(), *size),
-                    fails: (None, Some(call)),
-                    room: *room,
-                };
-                let mut machine = Machine::with_limit(rt.alloc(), 16)?;
-                let mut taken = [0u8; 2048];
-                let (answer, count) = run_between(&mut machine, SCRIPT, &devices, &mut taken);
-                assert!(rt; taken.get(..count) == whole.get(..count));
-                assert!(rt; before <= count);
-                before = count;
-                if answer == Ok(Summary { any_error }) {
-                    assert!(rt; count == whole.len());
-                    break;
-                }
-                assert!(rt; answer == Err(ScriptFault::Write));
-            }
-            assert!(rt; before == whole.len());
+    assert!(rt; any_error);
+    for size in [1usize, 5, 200] {
+        for room in ROOMS {
+            assert!(rt;
+                more_and_more_is_taken(rt.alloc(), &whole, size, room)?,
+                "{size} {room:?}"
+            );
         }
     }
     Ok(())

@@ -2,38 +2,57 @@
 use cc_script::{Failed, FromReader, FromWriter, Sink, SliceSink, SliceSource, Source, write_all};
 use std::io;
 use std::io::Read;
-use std::test::Fail;
+
+/// A read into so many bytes gives these.
+fn reads<S: Source>(source: &mut S, room: usize, given: &[u8]) -> bool {
+    let mut piece = [0u8; 8];
+    match source.read(&mut piece[..room.min(8)]) {
+        Ok(count) => piece.get(..count) == Some(given),
+        Err(Failed) => false,
+    }
+}
+
+fn read_fails<S: Source>(source: &mut S) -> bool {
+    let mut piece = [0u8; 8];
+    source.read(&mut piece).is_err()
+}
+
+fn gives_seven(source: &mut SliceSource) -> bool {
+    reads(source, 5, b"abc")
+        && reads(source, 2, b"de")
+        && reads(source, 5, b"fg")
+        && reads(source, 5, b"")
+}
+
+fn takes_four(room: &mut [u8; 4]) -> bool {
+    let mut sink = SliceSink::new(room, 3, None);
+    write_all(&mut sink, b"abcd").is_ok() && sink.write(b"e").is_err() && sink.taken() == 4
+}
 
 #[test]
 fn slices_give_and_take_in_pieces(rt: HostRuntime) {
-    let mut source = SliceSource::new(b"abcdefg", 3, None);
-    let mut piece = [0u8; 5];
-    assert!(rt; source.read(&mut piece) == Ok(3));
-    assert!(rt; &piece[..3] == b"abc".as_slice());
-    assert!(rt; source.read(&mut piece[..2]) == Ok(2));
-    assert!(rt; source.read(&mut piece) == Ok(2));
-    assert!(rt; source.read(&mut piece) == Ok(0));
+    assert!(rt; gives_seven(&mut SliceSource::new(b"abcdefg", 3, None)));
     let mut room = [0u8; 4];
-    let mut sink = SliceSink::new(&mut room, 3, None);
-    assert!(rt; write_all(&mut sink, b"abcd") == Ok(()));
-    assert!(rt; sink.write(b"e") == Err(Failed));
-    assert!(rt; sink.taken() == 4);
+    assert!(rt; takes_four(&mut room));
     assert!(rt; room == *b"abcd");
+}
+
+fn fails_after_one_byte(source: &mut SliceSource) -> bool {
+    reads(source, 1, b"a") && read_fails(source) && read_fails(source)
+}
+
+fn fails_after_two_bytes(sink: &mut SliceSink) -> bool {
+    matches!(sink.write(b"ab"), Ok(2))
+        && sink.flush().is_err()
+        && sink.write(b"c").is_err()
+        && sink.taken() == 2
 }
 
 #[test]
 fn chosen_call_fails_and_stays_failed(rt: HostRuntime) {
-    let mut source = SliceSource::new(b"abc", 1, Some(2));
-    let mut piece = [0u8; 1];
-    assert!(rt; source.read(&mut piece) == Ok(1));
-    assert!(rt; source.read(&mut piece) == Err(Failed));
-    assert!(rt; source.read(&mut piece) == Err(Failed));
+    assert!(rt; fails_after_one_byte(&mut SliceSource::new(b"abc", 1, Some(2))));
     let mut room = [0u8; 8];
-    let mut sink = SliceSink::new(&mut room, 8, Some(2));
-    assert!(rt; sink.write(b"ab") == Ok(2));
-    assert!(rt; sink.flush() == Err(Failed));
-    assert!(rt; sink.write(b"c") == Err(Failed));
-    assert!(rt; sink.taken() == 2);
+    assert!(rt; fails_after_two_bytes(&mut SliceSink::new(&mut room, 8, Some(2))));
 }
 
 /// A reader that has no end.
@@ -46,16 +65,20 @@ impl Read for Endless {
     }
 }
 
-#[test]
-fn reader_gives_at_most_2_to_the_30_bytes(rt: HostRuntime) {
-    let mut source = FromReader::new(Endless);
+/// It gives 2^30 bytes, and then fails where it is asked for more.
+fn gives_2_to_the_30(source: &mut FromReader<Endless>) -> bool {
     let mut piece = [0u8; 65_536];
     for _ in 0..16_384 {
-        assert!(rt; source.read(&mut piece) == Ok(65_536));
+        if !matches!(source.read(&mut piece), Ok(65_536)) {
+            return false;
+        }
     }
-    assert!(rt; source.read(&mut piece[..0]) == Ok(0));
-    assert!(rt; source.read(&mut piece) == Err(Failed));
-    assert!(rt; source.read(&mut piece) == Err(Failed));
+    reads(source, 0, b"") && read_fails(source) && read_fails(source)
+}
+
+#[test]
+fn reader_gives_at_most_2_to_the_30_bytes(rt: HostRuntime) {
+    assert!(rt; gives_2_to_the_30(&mut FromReader::new(Endless)));
 }
 
 /// A reader that fails at its first call.
@@ -70,22 +93,18 @@ impl Read for Broken {
 
 #[test]
 fn interrupted_reader_has_failed(rt: HostRuntime) {
-    let mut source = FromReader::new(Broken);
-    let mut piece = [0u8; 8];
-    assert!(rt; source.read(&mut piece) == Err(Failed));
+    assert!(rt; read_fails(&mut FromReader::new(Broken)));
+}
+
+fn gives_three(source: &mut FromReader<&[u8]>) -> bool {
+    reads(source, 8, b"abc") && reads(source, 8, b"")
 }
 
 #[test]
-fn reader_and_writer_move_bytes(rt: HostRuntime) -> Result<(), Fail> {
-    let mut source = FromReader::new(b"abc".as_slice());
-    let mut piece = [0u8; 8];
-    assert!(rt; source.read(&mut piece) == Ok(3));
-    assert!(rt; &piece[..3] == b"abc".as_slice());
-    assert!(rt; source.read(&mut piece) == Ok(0));
+fn reader_and_writer_move_bytes(rt: HostRuntime) {
+    assert!(rt; gives_three(&mut FromReader::new(b"abc".as_slice())));
     let mut taken = Vec::new(rt.alloc());
     let mut sink = FromWriter::new(&mut taken);
-    assert!(rt; write_all(&mut sink, b"abc") == Ok(()));
-    assert!(rt; sink.flush() == Ok(()));
+    assert!(rt; write_all(&mut sink, b"abc").is_ok() && sink.flush().is_ok());
     assert!(rt; taken.as_slice() == b"abc".as_slice());
-    Ok(())
 }

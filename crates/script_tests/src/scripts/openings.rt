@@ -11,6 +11,25 @@ use std::test::Fail;
 const PLAN: &[u8] =
     b"slot 1 ffff0000000000000000000000010000 0x0 0x10000000000000000\nslot 2 ffff0000000190000000000000010000 0x10000 0x20000\npool 2 0x10000 0x20000\n";
 
+/// The run after an opening ends so, and writes this.
+fn writes(
+    machine: &mut Machine,
+    opening: &[Op],
+    script: &[u8],
+    fails: (Option<u32>, Option<u32>),
+    output: (&[u8], &[u8]),
+    answer: Result<Summary, ScriptFault>,
+) -> bool {
+    let mut room = [0u8; 512];
+    let mut source = SliceSource::new(script, 5, fails.0);
+    let mut sink = SliceSink::new(&mut room, 512, fails.1);
+    let ended = run_script_after(opening, machine, &mut source, &mut sink);
+    let taken = sink.taken();
+    ended == answer
+        && room.starts_with(output.0)
+        && room.get(output.0.len()..taken) == Some(output.1)
+}
+
 fn run(
     rt: &impl Abort,
     alloc: Global,
@@ -20,14 +39,8 @@ fn run(
     output: (&[u8], &[u8]),
     answer: Result<Summary, ScriptFault>,
 ) -> Result<(), Fail> {
-    let mut room = [0u8; 512];
     let mut machine = Machine::with_limit(alloc, 16)?;
-    let mut source = SliceSource::new(script, 5, fails.0);
-    let mut sink = SliceSink::new(&mut room, 512, fails.1);
-    assert!(rt; run_script_after(opening, &mut machine, &mut source, &mut sink) == answer);
-    let taken = sink.taken();
-    assert!(rt; room.starts_with(output.0));
-    assert!(rt; room.get(output.0.len()..taken) == Some(output.1));
+    assert!(rt; writes(&mut machine, opening, script, fails, output, answer));
     Ok(())
 }
 

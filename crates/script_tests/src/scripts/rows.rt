@@ -1,6 +1,6 @@
 //! Worked scripts, each on a machine of its own.
 use cc_machine::Machine;
-use cc_script::{ScriptFault, SliceSink, SliceSource, Summary, run_script};
+use cc_script::{ScriptFault, SliceSink, SliceSource, run_script};
 use std::process::Abort;
 use std::test::Fail;
 
@@ -61,15 +61,18 @@ const ROWS: [Row; 27] = [
         "slot 1 ffff0000000000000000000000010000 0x0 0x10000000000000000\nslot 2 ffff0000000190000000000000010000 0x10000 0x20000\nerror 1 syntax\nerror 1 syntax\nerror 1 syntax\npool 2 0x10000 0x20000 align 16\nobject 1 slot 3 ffff0000041d80040000000000010000 0x10000 0x10070 held 112\nobject 2 slot 4 ffff0000010180740000000000010070 0x10070 0x11400 held 5120\nobject 3 slot 5 ffff0000050594040000000000011400 0x11400 0x11410 held 5136\nobject 4 slot 6 ffff000002838a0d0000000000011410 0x11410 0x13410 held 13328\nobject 5 slot 7 ffff00000105b4140000000000013410 0x13410 0x14410 held 17424\nerror 1 syntax\nerror 18 poolset\nround 0x1ff8 0x8 0xfffffffffffffff8\n"),
 ];
 
-fn run(rt: &impl Abort, machine: &mut Machine, row: &Row, sizes: (usize, usize)) {
-    let (name, _, script, output) = *row;
+/// The row's script writes what it has to, and no device fails.
+fn writes(machine: &mut Machine, row: &Row, sizes: (usize, usize)) -> bool {
+    let (_, _, script, output) = *row;
     let mut room = [0u8; 2048];
     let mut source = SliceSource::new(script.as_bytes(), sizes.0.max(1), None);
     let mut sink = SliceSink::new(&mut room, sizes.1.max(1), None);
-    let answer = run_script(machine, &mut source, &mut sink);
-    assert!(rt; answer.is_ok(), "{name}");
-    assert!(rt; sink.taken() == output.len(), "{name}");
-    assert!(rt; room.starts_with(output.as_bytes()), "{name}");
+    let ended = run_script(machine, &mut source, &mut sink);
+    ended.is_ok() && sink.taken() == output.len() && room.starts_with(output.as_bytes())
+}
+
+fn run(rt: &impl Abort, machine: &mut Machine, row: &Row, sizes: (usize, usize)) {
+    assert!(rt; writes(machine, row, sizes), "{}", row.0);
 }
 
 #[test]
@@ -93,43 +96,44 @@ fn no_memory_after_opening(rt: HostRuntime) -> Result<(), Fail> {
     Ok(())
 }
 
+const SHOWN: &[u8] =
+    b"cap ffff0000000000000000000000000000 0x0 0x10000000000000000 ffff 0 3ffff -\n";
+
+/// A script whose eleventh read fails ends so, and its reply fills this room, as far as it goes.
+fn fails(machine: &mut Machine, room: &mut [u8], fault: ScriptFault) -> bool {
+    let mut source = SliceSource::new(b"show 0\nsho", 1, Some(11));
+    let mut sink = SliceSink::new(room, 256, None);
+    let ended = run_script(machine, &mut source, &mut sink);
+    let taken = sink.taken();
+    ended == Err(fault)
+        && taken == room.len().min(SHOWN.len())
+        && room.get(..taken) == SHOWN.get(..taken)
+}
+
 #[test]
 fn device_failures(rt: HostRuntime) -> Result<(), Fail> {
-    let script = b"show 0\nsho";
-    let reply = b"cap ffff0000000000000000000000000000 0x0 0x10000000000000000 ffff 0 3ffff -\n";
-    let mut room = [0u8; 256];
     let mut machine = Machine::with_limit(rt.alloc(), 16)?;
-    let mut source = SliceSource::new(script, 1, Some(11));
-    let mut sink = SliceSink::new(&mut room, 256, None);
-    assert!(rt; run_script(&mut machine, &mut source, &mut sink) == Err(ScriptFault::Read));
-    assert!(rt; sink.taken() == reply.len());
-    assert!(rt; room.starts_with(reply));
-    let mut room = [0u8; 7];
-    let mut source = SliceSource::new(script, 1, Some(11));
-    let mut sink = SliceSink::new(&mut room, 256, None);
-    assert!(rt; run_script(&mut machine, &mut source, &mut sink) == Err(ScriptFault::Write));
-    assert!(rt; room == *b"cap fff");
+    assert!(rt; fails(&mut machine, &mut [0u8; 256], ScriptFault::Read));
+    assert!(rt; fails(&mut machine, &mut [0u8; 7], ScriptFault::Write));
     Ok(())
+}
+
+const FIRST: &[u8] = b"slot 1 ffff0000000000000000000000000001 0x0 0x10000000000000000\n";
+
+/// A script of two replies fills room for one, and the machine has then so many slots.
+fn fills(machine: &mut Machine, room: &mut [u8], slots: u32) -> bool {
+    let mut source = SliceSource::new(b"addr 0 1\naddr 0 2\n", 5, None);
+    let mut sink = SliceSink::new(room, 5, None);
+    let ended = run_script(machine, &mut source, &mut sink);
+    ended == Err(ScriptFault::Write) && machine.slots() == slots && FIRST.starts_with(room)
 }
 
 #[test]
 fn room_for_one_reply(rt: HostRuntime) -> Result<(), Fail> {
-    let script = b"addr 0 1\naddr 0 2\n";
-    let reply = b"slot 1 ffff0000000000000000000000000001 0x0 0x10000000000000000\n";
-    let mut room = [0u8; 64];
     let mut machine = Machine::with_limit(rt.alloc(), 16)?;
-    let mut source = SliceSource::new(script, 5, None);
-    let mut sink = SliceSink::new(&mut room, 5, None);
-    assert!(rt; run_script(&mut machine, &mut source, &mut sink) == Err(ScriptFault::Write));
-    assert!(rt; machine.slots() == 3);
-    assert!(rt; room == *reply);
-    let mut room = [0u8; 63];
+    assert!(rt; fills(&mut machine, &mut [0u8; 64], 3));
     let mut machine = Machine::with_limit(rt.alloc(), 16)?;
-    let mut source = SliceSource::new(script, 5, None);
-    let mut sink = SliceSink::new(&mut room, 5, None);
-    assert!(rt; run_script(&mut machine, &mut source, &mut sink) == Err(ScriptFault::Write));
-    assert!(rt; machine.slots() == 2);
-    assert!(rt; room.as_slice() == &reply[..63]);
+    assert!(rt; fills(&mut machine, &mut [0u8; 63], 2));
     Ok(())
 }
 

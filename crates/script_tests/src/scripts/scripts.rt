@@ -13,6 +13,22 @@ const SCRIPT: &[u8] = b"round 4095\nshow 1\n\nround 0x10000000000000001\nround 1
 const OUTPUT: &[u8] =
     b"round 0xfff 0x1 0xffffffffffffffff\nerror 5 slot\nerror 1 syntax\nerror 4 range\nround 0x1 0x1 0xffffffffffffffff\nerror 2 unfinished\n";
 
+/// The run of a script ends so, and writes this.
+fn writes(
+    machine: &mut Machine,
+    script: &[u8],
+    pieces: (usize, usize),
+    fails: (Option<u32>, Option<u32>),
+    output: &[u8],
+    answer: Result<Summary, ScriptFault>,
+) -> bool {
+    let mut room = [0u8; 256];
+    let mut source = SliceSource::new(script, pieces.0.max(1), fails.0);
+    let mut sink = SliceSink::new(&mut room, pieces.1.max(1), fails.1);
+    let ended = run_script(machine, &mut source, &mut sink);
+    ended == answer && sink.taken() == output.len() && room.starts_with(output)
+}
+
 fn run(
     rt: &impl Abort,
     alloc: Global,
@@ -22,13 +38,8 @@ fn run(
     output: &[u8],
     answer: Result<Summary, ScriptFault>,
 ) -> Result<(), Fail> {
-    let mut room = [0u8; 256];
     let mut machine = Machine::with_limit(alloc, 16)?;
-    let mut source = SliceSource::new(script, pieces.0.max(1), fails.0);
-    let mut sink = SliceSink::new(&mut room, pieces.1.max(1), fails.1);
-    assert!(rt; run_script(&mut machine, &mut source, &mut sink) == answer);
-    assert!(rt; sink.taken() == output.len());
-    assert!(rt; room.starts_with(output));
+    assert!(rt; writes(&mut machine, script, pieces, fails, output, answer));
     Ok(())
 }
 

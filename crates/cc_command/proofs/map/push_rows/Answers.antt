@@ -1,4 +1,4 @@
-use Rattle.std.proofs.Common.{◌≡◌, ◌<◌, ◌+◌, ◌-◌, ◌*◌, ◌++◌, ◌∙◌, ℕ, List, [], ap, append-nil, append_assoc, arith, min, refl, subst, sym, take}
+use Rattle.std.proofs.Common.{◌≡◌, ◌+◌, ◌-◌, ◌*◌, ◌++◌, ◌∙◌, ℕ, List, [], ap, append-nil, append_assoc, arith, min, refl, subst, sym, take}
 use Rattle.cc_command.specs.Map.{AreMapRows, map_row_text}
 use Rattle.cc_command.proofs.MapLemmas.{few_rows, no_rows, one_more_row}
 use Rattle.cc_command.proofs.map.push_rows.Goals as goal

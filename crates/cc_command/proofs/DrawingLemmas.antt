@@ -1,0 +1,172 @@
+-- The cells of a drawing that hold a byte of a span, and the rows and rectangles of a drawing.
+use Rattle.std.proofs.Common.{◌≡◌, ◌≤◌, ◌<◌, ◌+◌, ◌-◌, ◌*◌, ◌/◌, ◌^◌, ◌++◌, ℕ, zero, suc, List, [], ◌∷◌, true, false, arith, inl, inr, max, min, refl}
+use Rattle.std.specs.Int.{div_ceil}
+use Rattle.std.proofs.Math.Nat.{div-mul-le_self, lt-div-mul-add, mul-le-mul_right}
+use Rattle.std.proofs.lemmas.Bool.{cases_lt, le-ltb, lt-ltb}
+use Rattle.cc_bounds.specs.declared.span.Span.{Span}
+use Rattle.cc_bounds.specs.Span.{SharesByte}
+use Rattle.cc_bounds.proofs.GranuleLemmas.{div_ceil-le, div_ceil-lt, le-div_ceil}
+use Rattle.cc_plan.specs.declared.object.ObjectState.{ObjectState}
+use Rattle.cc_plan.specs.declared.object.ObjectState.TheVariants.{Live, Freed}
+use Rattle.cc_plan.specs.declared.object.PlannedObject.{PlannedObject}
+use Rattle.cc_command.specs.Drawing.{AreCellsOf, end_cell, end_text, first_cell, is_in, layer_text, live_text, mark_text, marks_text, object_text, parts_text, quarantined_text, rectangle_text, row_text, rows_text, scale_text}
+use Rattle.cc_command.specs.Picture.{cell_of}
+use Rattle.cc_command.specs.declared.layout.Layout.{Layout}
+
+-- ---- the cells of a span
+
+-- a cell from the first to the last holds a byte: the first of the cell, or of the span
+cell-holds : (start size : ℕ) (span : Span) → 0 < size → start ≤ span.base → span.base < span.top → (index : ℕ)
+    → first_cell start size span ≤ index → index < end_cell start size span → SharesByte (cell_of start size index) span
+cell-holds start size span some low held index from below =
+    let above = lt-div-mul-add {a = span.base - start} some in
+    let near = div_ceil-lt (span.top - start) size some in
+    let first = mul-le-mul_right size from in
+    let next : index + 1 ≤ end_cell start size span = omega (arith, below) in
+    let last = mul-le-mul_right size next in
+    record {
+      byte = max span.base (start + index * size);
+      in_one = record { from_base = omega arith; below_top = omega (arith, above, first, low, some) };
+      in_other = record { from_base = omega arith; below_top = omega (arith, near, last, low, held) };
+    }
+
+-- no cell before the first does
+from-first : (start size : ℕ) (span : Span) → 0 < size → start ≤ span.base → (index : ℕ) → SharesByte (cell_of start size index) span → first_cell start size span ≤ index
+from-first start size span some low index shares = elim (cases_lt index (first_cell start size span)) [
+  | inl less ↦
+      let next : index + 1 ≤ first_cell start size span = omega (arith, less) in
+      let up = mul-le-mul_right size next in
+      let down = div-mul-le_self (span.base - start) size in
+      absurd (omega (arith, up, down, low, shares.in_one.below_top, shares.in_other.from_base))
+  | inr most ↦ most
+]
+
+-- and none from the end on
+below-end : (start size : ℕ) (span : Span) → 0 < size → (index : ℕ) → SharesByte (cell_of start size index) span → index < end_cell start size span
+below-end start size span some index shares = elim (cases_lt index (end_cell start size span)) [
+  | inl less ↦ less
+  | inr most ↦
+      let up = mul-le-mul_right size most in
+      let covered = le-div_ceil (span.top - start) size some in
+      absurd (omega (arith, up, covered, shares.in_one.from_base, shares.in_other.below_top))
+]
+
+pub cells-are : (start size : ℕ) (span : Span) → 0 < size → start ≤ span.base → span.base < span.top
+    → AreCellsOf start size span (first_cell start size span) (end_cell start size span)
+cells-are start size span some low held = record {
+  hold = cell-holds start size span some low held;
+  from_first = from-first start size span some low;
+  below_end = below-end start size span some;
+}
+
+-- ---- sizes
+
+-- a pool of at most 2^64 bytes
+pub size_fits : (bytes : ℕ) → bytes ≤ 2 ^ 64 → div_ceil bytes 16384 ≤ 2 ^ 50
+size_fits bytes fits = div_ceil-le bytes 16384 (2 ^ 50) (omega arith) (omega (arith, fits))
+
+-- has at most 16,384 cells
+pub cells_fit : (bytes size : ℕ) → 0 < size → div_ceil bytes 16384 ≤ size → div_ceil bytes size ≤ 16384
+cells_fit bytes size above least =
+    let covered = le-div_ceil bytes 16384 (omega arith) in
+    div_ceil-le bytes size 16384 above (omega (arith, covered, least))
+
+-- and 16 rows
+pub rows_fit : (cells : ℕ) → cells ≤ 16384 → div_ceil cells 1024 ≤ 16
+rows_fit cells few = div_ceil-le cells 1024 16 (omega arith) (omega (arith, few))
+
+-- ---- the next piece
+
+-- an object that is drawn
+pub layer_drawn : (layout : Layout) (state : ObjectState) (number : ℕ) (object : PlannedObject) (rest after : List PlannedObject)
+    → rest ≡ object ∷ after → is_in state object.state ≡ true
+    → layer_text layout state number rest ≡ object_text layout number object.span ++ layer_text layout state (number + 1) after
+layer_drawn layout state number object rest after is drawn = rw (is, drawn) refl
+
+-- one that is not
+pub layer_left_out : (layout : Layout) (state : ObjectState) (number : ℕ) (object : PlannedObject) (rest after : List PlannedObject)
+    → rest ≡ object ∷ after → is_in state object.state ≡ false
+    → layer_text layout state number rest ≡ layer_text layout state (number + 1) after
+layer_left_out layout state number object rest after is other = rw (is, other) refl
+
+-- no object is left
+pub layer_none : (layout : Layout) (state : ObjectState) (number : ℕ) (rest : List PlannedObject) → rest ≡ [] → layer_text layout state number rest ≡ []
+layer_none layout state number rest is = rw is refl
+
+not-less : (a b : ℕ) → (a < b → ⊥) → b ≤ a
+not-less a b no_less = elim (cases_lt a b) [
+  | inl less ↦ absurd (no_less less)
+  | inr most ↦ most
+]
+
+-- a row that has a rectangle
+pub parts_drawn : (width first end number : ℕ) (span : Span) (rows row : ℕ) → 0 < rows
+    → max first (1024 * row) < min end (1024 * row + 1024)
+    → parts_text width first end number span rows row
+    ≡ rectangle_text width row (max first (1024 * row)) (min end (1024 * row + 1024)) number span ++ parts_text width first end number span (rows - 1) (row + 1)
+parts_drawn width first end number span zero row some has = absurd (omega (arith, some))
+parts_drawn width first end number span (suc rows) row some has =
+    let less : suc rows - 1 ≡ rows = omega arith in
+    let is = lt-ltb (max first (1024 * row)) (min end (1024 * row + 1024)) has in
+    rw (is, less) refl
+
+-- one that has none
+pub parts_left_out : (width first end number : ℕ) (span : Span) (rows row : ℕ) → 0 < rows
+    → (max first (1024 * row) < min end (1024 * row + 1024) → ⊥)
+    → parts_text width first end number span rows row ≡ parts_text width first end number span (rows - 1) (row + 1)
+parts_left_out width first end number span zero row some has = absurd (omega (arith, some))
+parts_left_out width first end number span (suc rows) row some has =
+    let less : suc rows - 1 ≡ rows = omega arith in
+    let is = le-ltb (max first (1024 * row)) (min end (1024 * row + 1024)) (not-less _ _ has) in
+    rw (is, less) refl
+
+-- ---- the scale
+
+-- a mark, and those behind it
+pub marks_more : (layout : Layout) (marks index : ℕ) → 0 < marks
+    → marks_text layout marks index ≡ mark_text layout (min layout.cells 1024 * index / 4) ++ marks_text layout (marks - 1) (index + 1)
+marks_more layout zero index some = absurd (omega (arith, some))
+marks_more layout (suc marks) index some = let less : suc marks - 1 ≡ marks = omega arith in rw less refl
+
+-- no mark is left
+pub marks_none : (layout : Layout) (marks index : ℕ) → marks ≡ 0 → marks_text layout marks index ≡ []
+marks_none layout zero index none = refl
+marks_none layout (suc marks) index none = absurd (omega (arith, none))
+
+-- a row, and those behind it
+pub rows_more : (size width rows y cells address : ℕ) → 0 < rows
+    → rows_text size width rows y cells address ≡ row_text width y (min cells 1024) address ++ rows_text size width (rows - 1) (y + 32) (cells - 1024) (address + 1024 * size)
+rows_more size width zero y cells address some = absurd (omega (arith, some))
+rows_more size width (suc rows) y cells address some = let less : suc rows - 1 ≡ rows = omega arith in rw less refl
+
+-- no row is left
+pub rows_none : (size width rows y cells address : ℕ) → rows ≡ 0 → rows_text size width rows y cells address ≡ []
+rows_none size width zero y cells address none = refl
+rows_none size width (suc rows) y cells address none = absurd (omega (arith, none))
+
+-- no row has a rectangle any more
+pub parts_none : (width first end number : ℕ) (span : Span) (rows row : ℕ) → rows ≡ 0 → parts_text width first end number span rows row ≡ []
+parts_none width first end number span zero row none = refl
+parts_none width first end number span (suc rows) row none = absurd (omega (arith, none))
+
+-- ---- what is left of a drawing
+
+-- from the quarantined on
+abbrev pub from_quarantined : Layout → List PlannedObject → List ℕ
+from_quarantined layout objects = layer_text layout Freed 1 objects ++ end_text
+
+-- behind the live ones
+abbrev pub behind_live : Layout → List PlannedObject → List ℕ
+behind_live layout objects = quarantined_text ++ from_quarantined layout objects
+
+-- from the live ones on
+abbrev pub from_live : Layout → List PlannedObject → List ℕ
+from_live layout objects = layer_text layout Live 1 objects ++ behind_live layout objects
+
+-- behind the scale
+abbrev pub behind_scale : Layout → List PlannedObject → List ℕ
+behind_scale layout objects = live_text ++ from_live layout objects
+
+-- behind the head
+abbrev pub behind_head : Layout → List PlannedObject → List ℕ
+behind_head layout objects = scale_text layout ++ behind_scale layout objects

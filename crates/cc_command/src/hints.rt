@@ -1,0 +1,95 @@
+//! Hints after a run, a line for each.
+ghost use Rattle.std.specs.Prelude.{◌≡◌, ◌+◌, ◌≤◌, ◌++◌, ◌↔◌, [], Err, IsErr, OnErr, OnOk, codes, false, length, option_map, true};
+ghost use Rattle.std.specs.Io.KnownBytes.{Appends};
+ghost use Rattle.cc_script.specs.Devices.{TakesBeginning};
+ghost use Rattle.cc_command.specs.Hints.{hints_text, line_hint, pool_hint};
+
+use crate::answers::write_answer;
+use crate::numbered::{end_with_decimal, end_with_hexadecimal, push_hexadecimal};
+use crate::text::{ROOM, Text};
+use cc_bounds::{granule, round_length};
+use cc_machine::Len;
+use cc_script::{ScriptFault, Sink};
+
+/// What is worth a hint after a run. Lines of the script are numbered from 1, and 0 stands for none.
+#[derive(Clone, Copy, Debug, PartialEq, Eq)]
+pub struct Hints {
+    /// The length of the pool, where no capability has exactly its bounds.
+    pub inexact: Option<Len>,
+    /// The first line that ends in a carriage return.
+    pub carriage_return: u64,
+    /// The first line that would rebuild a word which is written with `0x` or a colon.
+    pub marked_word: u64,
+    /// The first line that is refused as full.
+    pub full: u64,
+}
+
+/// Writes the hints, and flushes the sink once after them. Where the sink fails, a beginning of them was written.
+pub fn show_hints<W: Sink>(hints: &Hints, sink: &mut W) -> Result<(), ScriptFault>
+    requires { W.has_failed sink.old ≡ false }
+    ensures ok { OnOk result (Appends (W.taken_bytes sink.old) (W.taken_bytes sink.new) (hints_text hints.now)) }
+    ensures err { OnErr result (TakesBeginning (W.taken_bytes sink.old) (W.taken_bytes sink.new) (hints_text hints.now)) }
+    ensures fails { IsErr result ↔ (W.has_failed sink.new ≡ true) }
+    ensures write { OnErr result (result ≡ Err ScriptFault.Write) }
+{
+    let mut text = Text::new();
+    push_hints(&mut text, hints);
+    write_answer(&text, sink)
+}
+
+/// Makes the text the hints.
+fn push_hints(text: &mut Text, hints: &Hints)
+    requires { text.old ≡ [] }
+    ensures { text.new ≡ hints_text hints.now }
+{
+    push_pool_hint(text, hints.inexact);
+    push_line_hint(
+        text,
+        hints.carriage_return,
+        b" ends in CR: end lines in LF alone, as dos2unix does",
+    );
+    push_line_hint(
+        text,
+        hints.marked_word,
+        b" has a word with 0x or a colon: a word is 32 digits alone",
+    );
+    push_line_hint(
+        text,
+        hints.full,
+        b" is refused as full: --slots N gives more, up to 65536",
+    );
+}
+
+/// Appends the hint at the length that is exact, where that of the pool is not.
+fn push_pool_hint(text: &mut Text, inexact: Option<Len>)
+    requires { length text.old + 240 ≤ ROOM }
+    ensures value { text.new ≡ text.old ++ pool_hint inexact }
+    ensures fits { length text.new ≤ length text.old + 240 }
+{
+    if let Some(length) = inexact {
+        let bytes = length.get();
+        push_hexadecimal(
+            text,
+            b"hint: the pool's bounds are not exact: ",
+            round_length(bytes),
+        );
+        end_with_hexadecimal(
+            text,
+            b" bytes from a multiple of ",
+            u128::from(granule(bytes)),
+            b" are",
+        );
+    }
+}
+
+/// Appends a hint at a line, where there is one.
+fn push_line_hint(text: &mut Text, line: u64, after: &[u8])
+    requires after { length after.now ≤ 70 }
+    requires room { length text.old + 140 ≤ ROOM }
+    ensures value { text.new ≡ text.old ++ line_hint line after.now }
+    ensures fits { length text.new ≤ length text.old + 140 }
+{
+    if line != 0 {
+        end_with_decimal(text, b"hint: line ", u128::from(line), after);
+    }
+}

@@ -1,0 +1,259 @@
+//! The reply to one line, before it is written.
+ghost use Rattle.std.specs.Prelude.{◌≡◌, Result, Ok, Err};
+ghost use Rattle.cc_word.specs.declared.refusal.Refusal.{Refusal as RefusalSpec};
+ghost use Rattle.cc_word.specs.declared.refusal.Refusal.TheVariants.{OutOfRange};
+ghost use Rattle.cc_machine.specs.declared.op.Op.{Op as OpSpec};
+ghost use Rattle.cc_machine.specs.Step.{Step};
+ghost use Rattle.cc_script.specs.Commands.{command_in, command_of, operation_of, two_values, words_of};
+ghost use Rattle.cc_script.specs.Engine.{IsAnswered};
+
+use crate::keyword::Keyword;
+use crate::line::Line;
+use crate::numbers::split_number;
+use crate::parsing::{MOST_BYTES, parse_spaced, parse_two, parse_words, short_one, short_second};
+use crate::printing::{push_any_reply, push_reply};
+use cc_machine::{Machine, Op, Reply};
+use cc_word::Refusal;
+
+/// Does what a line spells, and makes the text that of the reply. Where the line or its operation is refused, the
+/// refusal is the answer, and nothing is said of the text.
+///
+/// Each operation that is spelled in short numbers has an arm of its own, in which the compiler knows which one it is.
+#[inline(never)]
+#[tactic(auto, unfolding(crate::specs::Commands::operation_of))]
+pub(crate) fn answer(machine: &mut Machine, text: &mut Line, line: &[u8]) -> Result<(), Refusal>
+    ensures { IsAnswered machine.old (operation_of line.now) result text.new machine.new }
+{
+    if line.len() > MOST_BYTES {
+        return Err(Refusal::TooLong);
+    }
+    answer_short(machine, text, line)
+}
+
+/// Answers a line of no more than 128 bytes.
+#[inline(always)]
+fn answer_short(machine: &mut Machine, text: &mut Line, line: &[u8]) -> Result<(), Refusal>
+    ensures { (command : Result OpSpec RefusalSpec) → command ≡ command_in (words_of line.now)
+        → IsAnswered machine.old command result text.new machine.new }
+{
+    match Keyword::split(line) {
+        Some((keyword, values)) => answer_values(machine, text, keyword, values),
+        None => answer_words(machine, text, line),
+    }
+}
+
+/// Answers a keyword and what stands after its space.
+#[inline(always)]
+fn answer_values(
+    machine: &mut Machine,
+    text: &mut Line,
+    keyword: Keyword,
+    values: &[u8],
+) -> Result<(), Refusal>
+    ensures { (command : Result OpSpec RefusalSpec) → command ≡ command_of keyword (words_of values.now)
+        → IsAnswered machine.old command result text.new machine.new }
+{
+    match keyword {
+        Keyword::Show => answer_one(machine, text, Keyword::Show, values),
+        Keyword::Round => answer_one(machine, text, Keyword::Round, values),
+        Keyword::Alloc => answer_one(machine, text, Keyword::Alloc, values),
+        Keyword::Free => answer_one(machine, text, Keyword::Free, values),
+        _ => answer_two(machine, text, keyword, values),
+    }
+}
+
+/// Answers a keyword that the compiler knows, and one value.
+#[inline(always)]
+fn answer_one(
+    machine: &mut Machine,
+    text: &mut Line,
+    keyword: Keyword,
+    value: &[u8],
+) -> Result<(), Refusal>
+    ensures { (command : Result OpSpec RefusalSpec) → command ≡ command_of keyword (words_of value.now)
+        → IsAnswered machine.old command result text.new machine.new }
+{
+    match short_one(keyword, value) {
+        Some(op) => answer_op(machine, text, &op),
+        None => answer_spaced(machine, text, keyword, value),
+    }
+}
+
+/// Answers a keyword and two values.
+#[inline(always)]
+fn answer_two(
+    machine: &mut Machine,
+    text: &mut Line,
+    keyword: Keyword,
+    values: &[u8],
+) -> Result<(), Refusal>
+    ensures { (command : Result OpSpec RefusalSpec) → command ≡ command_of keyword (words_of values.now)
+        → IsAnswered machine.old command result text.new machine.new }
+{
+    match split_number(values) {
+        Some((number, second)) => {
+            if number <= u64::from(u32::MAX) {
+                answer_second(machine, text, keyword, number as u32, second)
+            } else {
+                answer_over(machine, text, keyword, second)
+            }
+        }
+        None => answer_spaced(machine, text, keyword, values),
+    }
+}
+
+/// Answers a keyword, a slot and a second value.
+#[inline(always)]
+fn answer_second(
+    machine: &mut Machine,
+    text: &mut Line,
+    keyword: Keyword,
+    slot: u32,
+    second: &[u8],
+) -> Result<(), Refusal>
+    ensures { (command : Result OpSpec RefusalSpec) → command ≡ two_values keyword (Ok slot) second.now
+        → IsAnswered machine.old command result text.new machine.new }
+{
+    match keyword {
+        Keyword::Bounds => answer_known(machine, text, Keyword::Bounds, slot, second),
+        Keyword::Exact => answer_known(machine, text, Keyword::Exact, slot, second),
+        Keyword::Addr => answer_known(machine, text, Keyword::Addr, slot, second),
+        Keyword::Inc => answer_known(machine, text, Keyword::Inc, slot, second),
+        Keyword::Perms => answer_known(machine, text, Keyword::Perms, slot, second),
+        Keyword::Flag => answer_known(machine, text, Keyword::Flag, slot, second),
+        Keyword::Seal => answer_known(machine, text, Keyword::Seal, slot, second),
+        Keyword::Unseal => answer_known(machine, text, Keyword::Unseal, slot, second),
+        _ => answer_any_second(machine, text, keyword, slot, second),
+    }
+}
+
+/// Answers a keyword that the compiler knows, a slot and a second value.
+#[inline(always)]
+fn answer_known(
+    machine: &mut Machine,
+    text: &mut Line,
+    keyword: Keyword,
+    slot: u32,
+    second: &[u8],
+) -> Result<(), Refusal>
+    ensures { (command : Result OpSpec RefusalSpec) → command ≡ two_values keyword (Ok slot) second.now
+        → IsAnswered machine.old command result text.new machine.new }
+{
+    match short_second(keyword, slot, second) {
+        Some(op) => answer_op(machine, text, &op),
+        None => answer_any_second(machine, text, keyword, slot, second),
+    }
+}
+
+/// Answers a keyword, a slot and a second value, whatever that is.
+#[inline(never)]
+fn answer_any_second(
+    machine: &mut Machine,
+    text: &mut Line,
+    keyword: Keyword,
+    slot: u32,
+    second: &[u8],
+) -> Result<(), Refusal>
+    ensures { (command : Result OpSpec RefusalSpec) → command ≡ two_values keyword (Ok slot) second.now
+        → IsAnswered machine.old command result text.new machine.new }
+{
+    answer_parsed(machine, text, parse_two(keyword, Ok(slot), second))
+}
+
+/// Answers a keyword, a slot over its limit and a second value.
+#[inline(never)]
+fn answer_over(
+    machine: &mut Machine,
+    text: &mut Line,
+    keyword: Keyword,
+    second: &[u8],
+) -> Result<(), Refusal>
+    ensures { (command : Result OpSpec RefusalSpec) → command ≡ two_values keyword (Err OutOfRange) second.now
+        → IsAnswered machine.old command result text.new machine.new }
+{
+    answer_parsed(
+        machine,
+        text,
+        parse_two(keyword, Err(Refusal::OutOfRange), second),
+    )
+}
+
+/// Answers a keyword and what stands after its space, whatever that is.
+#[inline(never)]
+fn answer_spaced(
+    machine: &mut Machine,
+    text: &mut Line,
+    keyword: Keyword,
+    values: &[u8],
+) -> Result<(), Refusal>
+    ensures { (command : Result OpSpec RefusalSpec) → command ≡ command_of keyword (words_of values.now)
+        → IsAnswered machine.old command result text.new machine.new }
+{
+    answer_parsed(machine, text, parse_spaced(keyword, values))
+}
+
+/// Answers a line, word by word.
+#[inline(never)]
+fn answer_words(machine: &mut Machine, text: &mut Line, line: &[u8]) -> Result<(), Refusal>
+    ensures { (command : Result OpSpec RefusalSpec) → command ≡ command_in (words_of line.now)
+        → IsAnswered machine.old command result text.new machine.new }
+{
+    answer_parsed(machine, text, parse_words(line))
+}
+
+/// Answers an operation, or the fault of a line.
+fn answer_parsed(
+    machine: &mut Machine,
+    text: &mut Line,
+    parsed: Result<Op, Refusal>,
+) -> Result<(), Refusal>
+    ensures { (command : Result OpSpec RefusalSpec) → command ≡ parsed
+        → IsAnswered machine.old command result text.new machine.new }
+{
+    match parsed {
+        Ok(op) => answer_any_op(machine, text, &op),
+        Err(refusal) => Err(refusal),
+    }
+}
+
+/// Does an operation, and makes the text that of the reply. A refusal is the answer, and nothing is said of the text.
+#[inline(always)]
+fn answer_op(machine: &mut Machine, text: &mut Line, op: &Op) -> Result<(), Refusal>
+    ensures { (command : Result OpSpec RefusalSpec) → command ≡ Ok op.now
+        → IsAnswered machine.old command result text.new machine.new }
+{
+    let reply = machine.step(op);
+    match reply {
+        Reply::Refused(refusal) => Err(refusal),
+        _ => {
+            text.clear();
+            push_reply(text, &reply);
+            Ok(())
+        }
+    }
+}
+
+/// The same of an operation that the compiler does not know, in one place.
+#[inline(never)]
+fn answer_any_op(machine: &mut Machine, text: &mut Line, op: &Op) -> Result<(), Refusal>
+    ensures { (command : Result OpSpec RefusalSpec) → command ≡ Ok op.now
+        → IsAnswered machine.old command result text.new machine.new }
+{
+    let reply = step(machine, op);
+    match reply {
+        Reply::Refused(refusal) => Err(refusal),
+        _ => {
+            text.clear();
+            push_any_reply(text, &reply);
+            Ok(())
+        }
+    }
+}
+
+/// Does an operation that the compiler does not know, in one place.
+#[inline(never)]
+pub(crate) fn step(machine: &mut Machine, op: &Op) -> Reply
+    ensures step { Step machine.old op.now result machine.new }
+{
+    machine.step(op)
+}

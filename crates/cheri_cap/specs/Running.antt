@@ -1,0 +1,36 @@
+-- What is left where a script was run to its end: the machine and the summary, and what `map` writes of them.
+use Rattle.std.specs.Prelude.{ℕ, List, ◌++◌, Option, Ok}
+use Rattle.std.specs.Io.KnownBytes.{Appends}
+use Rattle.cc_machine.specs.declared.op.Op.{Op}
+use Rattle.cc_machine.specs.State.{State}
+use Rattle.cc_machine.specs.Planned.{plan_of}
+use Rattle.cc_script.specs.Correct.{AnswersScript}
+use Rattle.cc_script.specs.declared.summary.Summary.{Summary}
+use Rattle.cc_command.specs.Drawing.{IsDrawing}
+use Rattle.cc_command.specs.Map.{IsMap}
+use Rattle.cc_command.specs.Statistics.{statistics_text}
+use Rattle.cc_command.specs.Usage.{IsUsage}
+use Rattle.cc_command.specs.declared.tally.Tally.{Tally}
+use Rattle.cc_command.specs.declared.usage.Usage.{Usage}
+
+-- The script was run to its end that begins with the operations of `opening` and goes on as the source gives. The
+-- replies went to a sink that had taken these bytes before, where it tells them.
+pub record RanToEnd (old : State) (opening : List Op) (to_come left taken : Option (List ℕ)) (summary : Summary) (new : State) : Type 0 where
+  pub taken_now : Option (List ℕ)
+  pub answers : AnswersScript old opening to_come left (Appends taken taken_now) (Ok summary) new
+
+-- The sink took the map of a machine's pool, and then the summary of what the machine uses, and of a tally of replies
+-- of which the first are to an opening of so many operations.
+pub record DrawsMap (state : State) (opening : ℕ) (taken taken_now : Option (List ℕ)) : Type 0 where
+  pub map : List ℕ
+  pub usage : Usage
+  pub tally : Tally
+  pub is_map : IsMap (plan_of state) map
+  pub is_usage : IsUsage state usage
+  pub written : Appends taken taken_now (map ++ statistics_text usage tally opening)
+
+-- The sink took the drawing of a machine's pool.
+pub record DrawsPage (state : State) (taken taken_now : Option (List ℕ)) : Type 0 where
+  pub page : List ℕ
+  pub is_drawing : IsDrawing (plan_of state) page
+  pub written : Appends taken taken_now page
