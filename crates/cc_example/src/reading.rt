@@ -1,6 +1,11 @@
-ghost use Rattle.std.specs.Prelude.{◌≤◌, ◌^◌, ◌↔◌, IfOk, IsSome};
+ghost use Rattle.std.specs.Prelude.{◌≤◌, ◌^◌, ◌↔◌, IfOk, IfSome, IsSome};
+ghost use Rattle.std.specs.Str.Parse.{digits_value};
 ghost use Rattle.cc_word.specs.WordText.{IsWordText};
+ghost use Rattle.cc_bounds.specs.Granule.{IsGranted};
+ghost use Rattle.cc_bounds.specs.Span.{span_from};
 ghost use Rattle.cc_cap.specs.Capability.{GrantsNoMore};
+ghost use Rattle.cc_cap.specs.Many.{IsSpanOf};
+ghost use Rattle.cc_cap.specs.Permissions.{HasAll};
 
 use cc_bounds::{Span, decode};
 use cc_cap::{Cap, Perms};
@@ -8,7 +13,8 @@ use cc_word::{Refusal, read_word, unpack};
 
 /// The bounds that a text's word decodes to. Every 32 hexadecimal digits are a word.
 pub fn bounds_of(text: &[u8]) -> Option<Span>
-    ensures { IsSome result ↔ IsWordText text.now }
+    ensures found { IsSome result ↔ IsWordText text.now }
+    ensures bounds { IfSome result (IsSpanOf (digits_value 16 text.now)) }
 {
     let word = read_word(text)?;
     Some(decode(&unpack(word)))
@@ -18,7 +24,9 @@ pub fn bounds_of(text: &[u8]) -> Option<Span>
 /// be read only.
 pub fn read_only(cap: &Cap, len: u128) -> Result<Cap, Refusal>
     requires { len ≤ 2 ^ 64 }
-    ensures { IfOk result (λ narrower. GrantsNoMore narrower cap.now) }
+    ensures monotonic { IfOk result (λ narrower. GrantsNoMore narrower cap.now) }
+    ensures bytes { IfOk result (λ narrower. IsGranted (span_from cap.now.span.base len) narrower.span) }
+    ensures load { IfOk result (λ narrower. HasAll (2 ^ 2) narrower.permissions) }
 {
     cap.set_address(cap.span().base)?
         .set_bounds(len)?
