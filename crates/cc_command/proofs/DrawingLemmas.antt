@@ -1,5 +1,5 @@
 -- The cells of a drawing that hold a byte of a span, and the rows and rectangles of a drawing.
-use Rattle.std.proofs.Common.{◌≡◌, ◌≤◌, ◌<◌, ◌+◌, ◌-◌, ◌*◌, ◌/◌, ◌^◌, ◌++◌, ℕ, zero, suc, List, [], ◌∷◌, true, false, arith, inl, inr, max, min, refl}
+use Rattle.std.proofs.Common.{◌≡◌, ◌≤◌, ◌<◌, ◌+◌, ◌-◌, ◌*◌, ◌^◌, ◌++◌, ℕ, zero, suc, List, [], ◌∷◌, true, false, arith, inl, inr, max, min, refl}
 use Rattle.std.specs.Int.{div_ceil}
 use Rattle.std.proofs.Math.Nat.{div-mul-le_self, lt-div-mul-add, mul-le-mul_right}
 use Rattle.std.proofs.lemmas.Bool.{cases_lt, le-ltb, lt-ltb}
@@ -9,7 +9,7 @@ use Rattle.cc_bounds.proofs.GranuleLemmas.{div_ceil-le, div_ceil-lt, le-div_ceil
 use Rattle.cc_plan.specs.declared.object.ObjectState.{ObjectState}
 use Rattle.cc_plan.specs.declared.object.ObjectState.TheVariants.{Live, Freed}
 use Rattle.cc_plan.specs.declared.object.PlannedObject.{PlannedObject}
-use Rattle.cc_command.specs.Drawing.{AreCellsOf, end_cell, end_text, first_cell, is_in, layer_text, live_text, mark_text, marks_text, object_text, parts_text, quarantined_text, rectangle_text, row_text, rows_text, scale_text}
+use Rattle.cc_command.specs.Drawing.{AreCellsOf, end_cell, end_text, first_cell, is_in, layer_text, live_text, object_text, parts_text, quarantined_text, rectangle_text, scale_text}
 use Rattle.cc_command.specs.Picture.{cell_of}
 use Rattle.cc_command.specs.declared.layout.Layout.{Layout}
 
@@ -119,30 +119,6 @@ parts_left_out width first end number span (suc rows) row some has =
     let less : suc rows - 1 ≡ rows = omega arith in
     let is = le-ltb (max first (1024 * row)) (min end (1024 * row + 1024)) (not-less _ _ has) in
     rw (is, less) refl
-
--- ---- the scale
-
--- a mark, and those behind it
-pub marks_more : (layout : Layout) (marks index : ℕ) → 0 < marks
-    → marks_text layout marks index ≡ mark_text layout (min layout.cells 1024 * index / 4) ++ marks_text layout (marks - 1) (index + 1)
-marks_more layout zero index some = absurd (omega (arith, some))
-marks_more layout (suc marks) index some = let less : suc marks - 1 ≡ marks = omega arith in rw less refl
-
--- no mark is left
-pub marks_none : (layout : Layout) (marks index : ℕ) → marks ≡ 0 → marks_text layout marks index ≡ []
-marks_none layout zero index none = refl
-marks_none layout (suc marks) index none = absurd (omega (arith, none))
-
--- a row, and those behind it
-pub rows_more : (size width rows y cells address : ℕ) → 0 < rows
-    → rows_text size width rows y cells address ≡ row_text width y (min cells 1024) address ++ rows_text size width (rows - 1) (y + 32) (cells - 1024) (address + 1024 * size)
-rows_more size width zero y cells address some = absurd (omega (arith, some))
-rows_more size width (suc rows) y cells address some = let less : suc rows - 1 ≡ rows = omega arith in rw less refl
-
--- no row is left
-pub rows_none : (size width rows y cells address : ℕ) → rows ≡ 0 → rows_text size width rows y cells address ≡ []
-rows_none size width zero y cells address none = refl
-rows_none size width (suc rows) y cells address none = absurd (omega (arith, none))
 
 -- no row has a rectangle any more
 pub parts_none : (width first end number : ℕ) (span : Span) (rows row : ℕ) → rows ≡ 0 → parts_text width first end number span rows row ≡ []

@@ -25,7 +25,7 @@ drawn_cell bytes = max (div_ceil bytes 16384) 1
 abbrev pub drawn_cells : (bytes : ℕ) → ℕ
 drawn_cells bytes = div_ceil bytes (drawn_cell bytes)
 
--- how wide a cell is drawn: a row has 1,024 cells at most, and is as wide as that many allow
+-- how wide a cell is drawn: 1,024 divided by the number of cells, rounded down, and at least 1
 abbrev pub cell_width : (cells : ℕ) → ℕ
 cell_width cells = max (1024 / max cells 1) 1
 
@@ -49,11 +49,11 @@ pub record AreCellsOf (start size : ℕ) (span : Span) (first end : ℕ) : Type 
   pub from_first : (index : ℕ) → SharesByte (cell_of start size index) span → first ≤ index
   pub below_end : (index : ℕ) → SharesByte (cell_of start size index) span → index < end
 
--- the cell of the span's first byte
+-- the number of the cell with the span's first byte, where the span does not begin below `start`
 abbrev pub first_cell : (start size : ℕ) → Span → ℕ
 first_cell start size span = (span.base - start) / size
 
--- the cell behind that of its last
+-- the number of the cell behind the one with the span's last byte
 abbrev pub end_cell : (start size : ℕ) → Span → ℕ
 end_cell start size span = div_ceil (span.top - start) size
 
@@ -67,14 +67,14 @@ rectangle_text width row from to number span =
     ++ codes "' width='" ++ decimal ((to - from) * width) ++ codes "' height='24'><title>object " ++ decimal number
     ++ codes ": " ++ hexadecimal span.base ++ codes "-" ++ hexadecimal span.top ++ codes "</title></rect>")
 
--- the same of those cells that stand in the row, if there are any
+-- the rectangle of an object's cells in one row, and nothing where it has none there
 abbrev pub part_text : (width row first end number : ℕ) → Span → List ℕ
 part_text width row first end number span =
     if nat_lt (max first (1024 * row)) (min end (1024 * row + 1024))
     then rectangle_text width row (max first (1024 * row)) (min end (1024 * row + 1024)) number span
     else []
 
--- the same in each of so many rows, the first of which is `row`
+-- those in each of so many rows, the first of which is `row`
 abbrev pub parts_text : (width first end number : ℕ) → Span → (rows row : ℕ) → List ℕ
 parts_text width first end number span zero row = []
 parts_text width first end number span (suc rows) row =
@@ -85,7 +85,7 @@ abbrev pub object_text : Layout → (number : ℕ) → Span → List ℕ
 object_text layout number span =
     parts_text layout.width (first_cell layout.start layout.size span) (end_cell layout.start layout.size span) number span (row_count layout) 0
 
--- the second state is the first
+-- an object of the second state stands in the layer of the first
 abbrev pub is_in : ObjectState → ObjectState → Bool
 is_in Live state = is_live state
 is_in Freed state = is_freed state
@@ -113,12 +113,12 @@ stripes_text =
 unfoldable pub key_text : List ℕ
 key_text = codes "<g stroke='#000' stroke-width='.5'>\n<rect x='152' y='44' width='24' height='16' fill='#0072b2'/>\n"
 
--- those of what is quarantined and of what is free
+-- the fills of what is quarantined and of what is free, for the key
 unfoldable pub fills_text : List ℕ
 fills_text =
     codes "<rect x='272' y='44' width='24' height='16' fill='url(#stripes)'/>\n<rect x='432' y='44' width='24' height='16' fill='#fff'/>\n</g>\n"
 
--- and what the fills mean
+-- the names of the fills, for the key
 unfoldable pub names_text : List ℕ
 names_text = codes "<text y='56'><tspan x='182'>live</tspan><tspan x='302'>quarantined</tspan><tspan x='462'>free</tspan></text>\n"
 
@@ -143,12 +143,16 @@ mark_text layout cell =
     (codes "<g transform='translate(" ++ decimal (cell * layout.width) ++ codes ")'><path d='M0,-14V0' stroke='#000'/><text x='3' y='-5'>+"
     ++ hexadecimal (cell * layout.size) ++ codes "</text></g>")
 
--- so many marks, at quarters of the first row, the first of which is `index` quarters from its start
-abbrev pub marks_text : Layout → (marks index : ℕ) → List ℕ
-marks_text layout zero index = []
-marks_text layout (suc marks) index = mark_text layout (min layout.cells 1024 * index / 4) ++ marks_text layout marks (index + 1)
+-- how many marks there are: four, and one for each cell where there are fewer
+abbrev pub mark_count : Layout → ℕ
+mark_count layout = min layout.cells 4
 
--- the free cells of a row, so many, at a height, behind the address of the first
+-- the first so many marks: they part the first row into as many pieces
+abbrev pub marks_text : Layout → (marks : ℕ) → List ℕ
+marks_text layout zero = []
+marks_text layout (suc mark) = marks_text layout mark ++ mark_text layout (min layout.cells 1024 * mark / mark_count layout)
+
+-- the ground of a row, under all its cells, so many, at a height, behind the address of the first
 unfoldable pub row_text : (width y cells address : ℕ) → List ℕ
 row_text width y cells address =
     with_line_feed
@@ -156,16 +160,17 @@ row_text width y cells address =
     ++ codes "' height='24' fill='#fff' stroke='#000'/><text x='-8' y='" ++ decimal (y + 16) ++ codes "' text-anchor='end'>"
     ++ hexadecimal address ++ codes "</text>")
 
--- so many rows, 1,024 cells to a row, and in the last one those that are left
-abbrev pub rows_text : (size width rows y cells address : ℕ) → List ℕ
-rows_text size width zero y cells address = []
-rows_text size width (suc rows) y cells address =
-    row_text width y (min cells 1024) address ++ rows_text size width rows (y + 32) (cells - 1024) (address + 1024 * size)
+-- the first so many rows: each has the 1,024 cells behind those of the rows above it, or those that are left
+abbrev pub rows_text : Layout → (rows : ℕ) → List ℕ
+rows_text layout zero = []
+rows_text layout (suc row) =
+    rows_text layout row
+    ++ row_text layout.width (32 * row) (min (layout.cells - 1024 * row) 1024) (layout.start + 1024 * row * layout.size)
 
 -- the scale: the marks, and the rows
 abbrev pub scale_text : Layout → List ℕ
 scale_text layout =
-    marks_text layout (min layout.cells 4) 0 ++ rows_text layout.size layout.width (row_count layout) 0 layout.cells layout.start
+    marks_text layout (mark_count layout) ++ rows_text layout (row_count layout)
 
 -- what stands before the live objects
 unfoldable pub live_text : List ℕ

@@ -1,5 +1,5 @@
 -- Hints after a run: what the writer of a script may not see in its replies.
-use Rattle.std.specs.Prelude.{ℕ, zero, suc, Bool, true, false, ◌≡◌, ◌==◌, ◌&&◌, ◌||◌, ◌-◌, List, [], ◌∷◌, ◌++◌, Option, Some, None, codes, drop, length, nat_lt, if◌then◌else◌, take}
+use Rattle.std.specs.Prelude.{ℕ, zero, suc, Bool, true, false, ◌≡◌, ◌==◌, ◌&&◌, ◌||◌, ◌-◌, List, [], ◌∷◌, ◌++◌, Option, Some, None, codes, drop, length, nat_le, take}
 use Rattle.std.specs.List.{ends_with, list_any, starts_with}
 use Rattle.cc_bounds.specs.Granule.{granule_of, padded_size}
 use Rattle.cc_bounds.specs.Span.{from_zero}
@@ -11,25 +11,27 @@ use Rattle.cc_command.specs.declared.watch.Watch.{Watch}
 
 -- ---- what is seen in the lines of a script
 
--- the line ends in a carriage return
+-- the line has at most 128 bytes, as every command has, and ends in a carriage return
 abbrev pub ends_in_return : (line : List ℕ) → Bool
-ends_in_return line = ends_with (λ one other. one == other) line (13 ∷ [])
+ends_in_return line = nat_le (length line) 128 && ends_with (λ one other. one == other) line (13 ∷ [])
 
--- the line would rebuild a word, and has a colon, or ends in `0x` and 32 bytes more
+-- the line has at most 128 bytes, begins with `rebuild `, and has a colon, or its last 34 bytes begin with `0x`
 abbrev pub has_marked_word : (line : List ℕ) → Bool
 has_marked_word line =
-    starts_with (λ one other. one == other) line (codes "rebuild ")
+    nat_le (length line) 128 && starts_with (λ one other. one == other) line (codes "rebuild ")
     && (list_any (λ byte. byte == 58) line || starts_with (λ one other. one == other) (drop (length line - 34) line) (codes "0x"))
 
--- The watch is that of the text of a script: the numbers of its first lines of these kinds, from 1 up, and 0 where there
--- is none. Of a line its first 129 bytes are looked at, which are more than a command has.
+-- The watch is that of the text of a script: how many lines it has, what has begun of the next, and the numbers of its
+-- first lines of these kinds, from 1 up, and 0 where there is none. Of a line its first 129 bytes are kept, which tell
+-- whether it has at most 128.
 pub record IsWatch (text : List ℕ) (watch : Watch) : Type 0 where
   pub lines : watch.lines ≡ counted (length (lines_of text))
   pub begun : watch.begun ≡ take 129 (rest_of text)
   pub carriage_return : watch.carriage_return ≡ counted (first_from (λ line. ends_in_return (take 129 line)) 1 (lines_of text))
   pub marked_word : watch.marked_word ≡ counted (first_from (λ line. has_marked_word (take 129 line)) 1 (lines_of text))
 
--- the first line that passes, where one line more was read
+-- The first line that passes, where one line more was read: that of before, or else the new one, if it passes. No public
+-- clause cites it.
 abbrev pub first_after : (first : ℕ) (passes : Bool) (number : ℕ) → ℕ
 first_after zero true number = number
 first_after zero false number = 0
@@ -47,7 +49,8 @@ abbrev pub line_hint : (line : ℕ) (after : List ℕ) → List ℕ
 line_hint zero after = []
 line_hint (suc before) after = line_with_decimal (codes "hint: line ") (suc before) after
 
--- a hint at the least length from this one up that bounds can have exactly, and where
+-- where bounds of this length are asked for and are not exact: the padded size, which is, and what the base has to be a
+-- multiple of
 abbrev pub pool_hint : (inexact : Option ℕ) → List ℕ
 pool_hint None = []
 pool_hint (Some size) =

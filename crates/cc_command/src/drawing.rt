@@ -5,7 +5,7 @@ ghost use Rattle.cc_machine.specs.Planned.{plan_of};
 ghost use Rattle.cc_script.specs.Devices.{TakesBeginning};
 ghost use Rattle.cc_script.specs.Output.{with_line_feed};
 ghost use Rattle.cc_command.specs.Answer.{WritesAnswer};
-ghost use Rattle.cc_command.specs.Drawing.{IsDrawing, bounds_line, drawing_text, end_text, fills_text, head_text, is_in, key_text, laid_out_text, layer_text, layout_of, live_text, mark_text, marks_text, moved_text, names_text, object_text, part_text, parts_text, quarantined_text, rectangle_text, row_count, row_text, rows_text, scale_text, stripes_text};
+ghost use Rattle.cc_command.specs.Drawing.{IsDrawing, bounds_line, drawing_text, end_text, fills_text, head_text, is_in, key_text, laid_out_text, layer_text, layout_of, live_text, mark_count, mark_text, marks_text, moved_text, names_text, object_text, part_text, parts_text, quarantined_text, rectangle_text, row_count, row_text, rows_text, scale_text, stripes_text};
 
 use crate::layout::{Layout, ROW, cells_of};
 use crate::numbered::{end_with_decimal, end_with_hexadecimal, push_hexadecimal};
@@ -220,15 +220,12 @@ fn push_marks(text: &mut Text, layout: &Layout)
     requires empty { text.old ≡ [] }
     requires size { layout.now.size ≤ 2 ^ 50 }
     requires width { layout.now.width ≤ 1024 }
-    ensures value { text.new ≡ marks_text layout.now (min layout.now.cells 4) 0 }
+    ensures value { text.new ≡ marks_text layout.now (mark_count layout.now) }
     ensures fits { length text.new ≤ 800 }
 {
-    let mut index = 0;
-    let mut left = layout.cells.min(4);
-    'marks: while left > 0 {
-        push_mark(text, layout, layout.cells.min(ROW) * index / 4);
-        index += 1;
-        left -= 1;
+    let marks = layout.cells.min(4);
+    for mark in 0..marks {
+        push_mark(text, layout, layout.cells.min(ROW) * mark / marks);
     }
 }
 
@@ -258,18 +255,12 @@ fn push_rows(text: &mut Text, layout: &Layout)
     requires size { layout.now.size ≤ 2 ^ 50 }
     requires cells { layout.now.cells ≤ 16384 }
     requires width { layout.now.width ≤ 1024 }
-    ensures { text.new ≡ text.old ++ rows_text layout.now.size layout.now.width (row_count layout.now) 0 layout.now.cells layout.now.start }
+    ensures { text.new ≡ text.old ++ rows_text layout.now (row_count layout.now) }
 {
-    let mut y = 0;
-    let mut address = layout.start;
-    let mut cells = layout.cells;
-    let mut rows_left = layout.rows();
-    'rows: while rows_left > 0 {
-        push_row(text, layout.width, y, cells.min(ROW), address);
-        y += 32;
-        address += 1024 * layout.size;
-        cells = cells.saturating_sub(ROW);
-        rows_left -= 1;
+    for row in 0..layout.rows() {
+        let cells = layout.cells.saturating_sub(1024 * row).min(ROW);
+        let address = layout.start + u128::from(1024 * row) * layout.size;
+        push_row(text, layout.width, 32 * row, cells, address);
     }
 }
 

@@ -8,6 +8,9 @@ use cc_script::{LineStart, split_at_line_feed};
 /// How many bytes a word has that is written with `0x`.
 const MARKED: usize = 34;
 
+/// The most bytes of a command.
+const MOST_BYTES: usize = 128;
+
 /// The first lines of a script that are worth a hint. Lines are numbered from 1, and 0 stands for none.
 #[derive(Drop)]
 pub struct Watch {
@@ -15,9 +18,9 @@ pub struct Watch {
     pub lines: u64,
     /// The beginning of a line that has not ended yet.
     pub begun: LineStart,
-    /// The first line that ends in a carriage return.
+    /// The first line of at most 128 bytes that ends in a carriage return.
     pub carriage_return: u64,
-    /// The first line that would rebuild a word which is written with `0x` or a colon.
+    /// The first line of at most 128 bytes that would rebuild a word which is written with `0x` or a colon.
     pub marked_word: u64,
 }
 
@@ -68,17 +71,19 @@ fn first_after(first: u64, passes: bool, number: u64) -> u64
     if first == 0 && passes { number } else { first }
 }
 
-/// Whether a line ends in a carriage return.
+/// Whether a line that may be a command ends in a carriage return.
 fn ends_in_return(line: &[u8]) -> bool
     ensures { result ≡ ends_in_return line.now }
 {
-    line.ends_with(b"\r")
+    line.len() <= MOST_BYTES && line.ends_with(b"\r")
 }
 
-/// Whether a line would rebuild a word which is written with `0x` or a colon.
+/// Whether a line that may be a command would rebuild a word which is written with `0x` or a colon.
 fn has_marked_word(line: &[u8]) -> bool
     ensures { result ≡ has_marked_word line.now }
 {
     let word = &line[line.len().saturating_sub(MARKED)..];
-    line.starts_with(b"rebuild ") && (line.contains(&b':') || word.starts_with(b"0x"))
+    line.len() <= MOST_BYTES
+        && line.starts_with(b"rebuild ")
+        && (line.contains(&b':') || word.starts_with(b"0x"))
 }

@@ -1,4 +1,4 @@
-use Rattle.std.proofs.Common.{rules, ◌≡◌, Option, Some, append_assoc}
+use Rattle.std.proofs.Common.{rules, ◌≡◌, Some, append_assoc}
 use Rattle.cc_command.proofs.hints.push_pool_hint.Goals as goal
 
 pub returns-in-Some-clause-value : goal.returns-in-Some-clause-value
