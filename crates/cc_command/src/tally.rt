@@ -1,7 +1,7 @@
 //! What is counted of the replies to a script.
 ghost use Rattle.std.specs.Prelude.{◌≡◌, ℕ, ◌+◌, List, [], ◌∷◌, ◌++◌, length};
 ghost use Rattle.cc_script.specs.Lines.{IsLine};
-ghost use Rattle.cc_command.specs.Tally.{IsTally, count_in, counted};
+ghost use Rattle.cc_command.specs.Tally.{IsTally, count_in, counted, is_refusal};
 
 use cc_script::{LineStart, refusal_line, split_at_line_feed};
 use cc_word::Refusal;
@@ -71,7 +71,7 @@ impl Count {
         ensures { (lines : List (List ℕ)) → self ≡ count_in lines self.refusal → number ≡ counted (length lines + 1)
             → result ≡ count_in (lines ++ line.now ∷ []) self.refusal }
     {
-        if refusal_line(self.refusal).bytes() != line {
+        if !is_refusal(self.refusal, line) {
             return self;
         }
         Count {
@@ -80,6 +80,13 @@ impl Count {
             first: if self.first == 0 { number } else { self.first },
         }
     }
+}
+
+/// Whether a line is this refusal. A reply that is none is told by its first byte.
+fn is_refusal(refusal: Refusal, line: &[u8]) -> bool
+    ensures { result ≡ is_refusal refusal line.now }
+{
+    matches!(line, [b'e', ..]) && refusal_line(refusal).bytes() == line
 }
 
 impl Tally {

@@ -3,8 +3,8 @@ use Rattle.cc_command.specs.Tally.{is_refusal}
 use Rattle.cc_command.proofs.TallyLemmas.{count_in-later, count_in-new, count_in-other}
 use Rattle.cc_command.proofs.tally.Count.with_line.Goals as goal
 
-pub returns-then-ne : goal.returns-then-ne
-returns-then-ne c lines is number =
+pub returns-then-not-is_refusal : goal.returns-then-not-is_refusal
+returns-then-not-is_refusal c lines is number =
     let other : is_refusal c.args.self.refusal c.args.line.now ≡ false = search rules in
     is ∙ count_in-other c.args.self.refusal lines c.args.line.now other
 
