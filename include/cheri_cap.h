@@ -80,7 +80,7 @@ extern "C" {
  */
 #define CHERI_CAP_REFUSAL_SEALED 7u           /* a capability is sealed that has to be unsealed */
 #define CHERI_CAP_REFUSAL_UNSEALED 8u         /* a capability is unsealed that has to be sealed */
-#define CHERI_CAP_REFUSAL_BOUNDS 9u           /* a request or an address is not within the bounds that it needs */
+#define CHERI_CAP_REFUSAL_BOUNDS 9u           /* a request leaves the bounds, or the authority's address its own */
 #define CHERI_CAP_REFUSAL_INEXACT 10u         /* the bounds can't be stored without rounding */
 #define CHERI_CAP_REFUSAL_UNREPRESENTABLE 11u /* at this address the word would decode to other bounds */
 #define CHERI_CAP_REFUSAL_PERMISSION 12u      /* the authority lacks SEAL or UNSEAL */
@@ -191,10 +191,10 @@ bool cheri_cap_represents(uint64_t high, uint64_t low, uint64_t address);
 /*
  * Many words at once: each call writes for each word, at the word's place, what cheri_cap_decode,
  * cheri_cap_is_canonical or cheri_cap_represents answers for it, the last for the address at that place; a yes is
- * a byte of 1, a no a byte of 0. It answers of how many words it did so. Each array has a count of its own: where
- * they differ, the least of them counts, and what lies behind so many answers stays as it was. None of the
- * pointers may be null, not even for a count of 0, and the answers may not overlap what is read. What the room
- * for the answers holds before does not matter.
+ * a byte of 1, a no a byte of 0. It answers for how many words it did so. Each array has a count of its own: where
+ * they differ, the least of them counts, and answers past that stay as they were. None of the pointers may be
+ * null, not even for a count of 0, and the answers may not overlap what is read. What the room for the answers
+ * holds before does not matter.
  */
 size_t cheri_cap_decode_many(const cheri_cap_u128 *words, size_t word_count, cheri_cap_bounds *bounds, size_t bounds_count);
 size_t cheri_cap_is_canonical_many(const cheri_cap_u128 *words, size_t word_count, uint8_t *answers, size_t answer_count);
@@ -213,8 +213,8 @@ uint64_t cheri_cap_granule(uint64_t length_high, uint64_t length_low);
 cheri_cap_u128 cheri_cap_round_length(uint64_t length_high, uint64_t length_low);
 
 /*
- * The representable alignment mask (CRAM): an address "and" the mask is a multiple of the granule. 0 for
- * a length above 2^64.
+ * The representable alignment mask (CRAM): an address "and" the mask is the address rounded down to a multiple
+ * of the granule. 0 for a length above 2^64.
  */
 uint64_t cheri_cap_alignment_mask(uint64_t length_high, uint64_t length_low);
 
@@ -325,9 +325,9 @@ cheri_cap_made cheri_cap_unseal(uint64_t high, uint64_t low, uint64_t authority_
 cheri_cap_made cheri_cap_rebuild(uint64_t authority_high, uint64_t authority_low, uint64_t high, uint64_t low);
 
 /*
- * CTestSubset: whether all bytes and permissions of the word are within those of the other: its base is at or
- * above the other's, its top at or below, and the other has its permissions. For any two words, by the bounds
- * that they decode to; types, flags and reserved bits are not looked at. Standard: and their tags are equal.
+ * CTestSubset: whether the word grants no more than the other: its base is at or above the other's, its top at
+ * or below, and the other has all its permissions. For any two words, by the bounds that they decode to; types,
+ * flags and reserved bits are not looked at. Standard: and their tags are equal.
  */
 bool cheri_cap_is_subset(uint64_t high, uint64_t low, uint64_t outer_high, uint64_t outer_low);
 
@@ -368,7 +368,7 @@ static inline bool cheri_cap_is_sentry(uint64_t high)
     return cheri_cap_otype_of(high) == CHERI_CAP_OTYPE_SENTRY;
 }
 
-/* Numbers of 65 bits and more, in halves: negative, 0 or positive, as the one is below, equal to or above the other. */
+/* Compares numbers in halves, as tops: negative, 0 or positive, as the one is below, equal to or above the other. */
 static inline int cheri_cap_compare(cheri_cap_u128 one, cheri_cap_u128 other)
 {
     if (one.high != other.high)

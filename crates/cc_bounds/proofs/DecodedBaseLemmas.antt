@@ -17,7 +17,7 @@ sections_above address mantissa = (address + (2 ^ 64 - (mantissa / 2 ^ 11 + (2 ^
 abbrev pub base_section : (address mantissa : ℕ) → ℕ
 base_section address mantissa = ((address + (2 ^ 64 - sections_above address mantissa)) % 2 ^ 64 + 1) % 2 ^ 64
 
--- B in units of 2 ^ exponent, of which 64 bits are kept
+-- the place of B in units of 2 ^ exponent, its sections counted in 64 bits
 abbrev pub base_units : (address mantissa : ℕ) → ℕ
 base_units address mantissa = base_section address mantissa * 2 ^ 11 % 2 ^ 64 + mantissa % 2 ^ 11
 
@@ -32,7 +32,7 @@ units_kept : (address raised above mantissa laps : ℕ) → raised ≡ address +
     ≡ ((raised - above + 1) * 2 ^ 11 + mantissa % 2 ^ 11) % 2 ^ 64
 units_kept address raised above mantissa laps is_raised few high = omega arith
 
--- multiples of equal rests have equal rests
+-- numbers that are equal modulo a size are so when multiplied by one unit
 scaled_same : (one other unit size : ℕ) → one % size ≡ other % size → one * unit % size ≡ other * unit % size
 scaled_same one other unit size same =
     sym (mul-mod_first one unit size) ∙ ap (λ (n : ℕ). n * unit % size) same ∙ mul-mod_first other unit size

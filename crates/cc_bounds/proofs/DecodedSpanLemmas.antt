@@ -55,7 +55,7 @@ in_granules units exponent eight =
     let scaled = ap (λ (n : ℕ). n * 2 ^ exponent) split in
     omega (arith, power, scaled)
 
--- a number of granules, of which so many bits are kept, is a number of granules
+-- the low bits of a number of whole granules are whole granules too
 kept_granules : (exponent bits number granules : ℕ) → exponent + 3 ≤ bits → number ≡ granules * 2 ^ (exponent + 3)
     → number % 2 ^ bits ≡ granules % 2 ^ (bits - (exponent + 3)) * 2 ^ (exponent + 3)
 kept_granules exponent bits number granules fits is_number =

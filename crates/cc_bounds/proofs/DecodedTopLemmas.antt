@@ -68,7 +68,7 @@ small_top_shifted fields base length scale wide narrow shifted is_base fits is_m
     let kept : length * 2 ^ stored_exponent fields % 2 ^ 64 ≡ length * 2 ^ stored_exponent fields = mod-eq_of_lt (omega (arith, bytes_fit)) in
     rw (is_wide, is_shifted, is_narrow, is_scale, kept) (small_top fields base length is_base fits is_mantissa small_exponent)
 
--- and of 128 bits of a sum the mask keeps 65
+-- the same from exponent 51 up: the mask keeps 65 bits of the shifted sum
 pub large_top_masked : (fields : Fields) (base length scale sum : ℕ) → IsDecodedBase fields base → length < 2 ^ 13
     → IsTopMantissa fields ((base_mantissa fields + length) % 2 ^ 14) → scale ≡ stored_exponent fields → 51 ≤ scale
     → sum ≡ base_mantissa fields + length

@@ -138,7 +138,7 @@ encoded request granted power e t b is_span is_rounded is_granule small large is
           | inr long ↦ let z = large long in let s = grant.as_long long in grind (arith, z, s)
         ]
 
--- of a number of 64 bits and more, so shifted, the low twelve bits are those of its low 64
+-- up to exponent 52 the twelve bits of a number from bit `exponent` up are bits of its low 64
 low_bits_shifted : (n exponent : ℕ) → exponent ≤ 52 → n % 2 ^ 64 / 2 ^ exponent % 2 ^ 12 ≡ n / 2 ^ exponent % 2 ^ 12
 low_bits_shifted n exponent fits =
     let upper : ℕ = n / 2 ^ 64 * 2 ^ (52 - exponent) in

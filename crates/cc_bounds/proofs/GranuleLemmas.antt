@@ -36,7 +36,7 @@ div_ceil-multiple m g pos =
     let least = le_of_mul-le-mul_right up pos in
     omega (arith, most, least)
 
--- adding all but one before a division rounds it up
+-- a division rounds up where the divisor less one was added before it
 pub div_ceil_by_sum : (n g rest : ℕ) → 0 < g → rest ≡ g - 1 → (n + rest) / g ≡ div_ceil n g
 div_ceil_by_sum n g rest pos is =
     let down = div-mul-le_self (n + rest) g in
@@ -64,14 +64,14 @@ first_granule_within base top power some =
     let down = div-mul-le_self base (2 ^ power) in
     le-div (base / 2 ^ power) (top - 1) (2 ^ power) (pow_pos power) (omega (arith, down, some))
 
--- granules of eight bytes and more are so few that one more fits
+-- counted in granules of eight bytes or more, the last one's number and one more is below 2 ^ 64
 pub last_granule_fits : (top power : ℕ) → top ≤ 2 ^ 64 → 3 ≤ power → (top - 1) / 2 ^ power + 1 < 2 ^ 64
 last_granule_fits top power fits coarse =
     let eight = mul-le-mul_left ((top - 1) / 2 ^ power) (pow_mono coarse) in
     let down = div-mul-le_self (top - 1) (2 ^ power) in
     omega (arith, eight, down, fits)
 
--- and so does clearing the low bits of that sum
+-- adding the low bits and then clearing them rounds up to a multiple of the power of two
 pub rounded_up_masked : (n power rest : ℕ) → n ≤ 2 ^ 64 → power ≤ 55 → rest ≡ 2 ^ power - 1
     → bit_and (n + rest) (2 ^ 128 - 1 - rest) ≡ div_ceil n (2 ^ power) * 2 ^ power
 rounded_up_masked n power rest fits power_fits is =
@@ -297,7 +297,7 @@ granule_count-many request g n pos order long =
     let k = le_of_mul-le-mul_right products pos in
     omega (arith, k)
 
--- of no smaller granule does a request touch few enough
+-- a request of 512 granules or more touches more than 1,023 of any smaller granule
 length-before : (request : Span) (power : ℕ) → request.base ≤ request.top → 512 * 2 ^ power ≤ length_of request
     → (k : ℕ) → 3 ≤ k → k < power → 1023 < granule_count request (2 ^ k)
 length-before request power order least k three less =
@@ -313,7 +313,7 @@ length_granule request size power least is long three few =
     let least' : 512 * 2 ^ power ≤ length_of request = omega (arith, least, is) in
     first_granule request power long three few (length-before request power (omega arith) least')
 
--- and else the next power is
+-- where the request touches more, the next power is that of the granule
 pub grown_granule : (request : Span) (size power : ℕ) → 512 * 2 ^ power ≤ size → size < 1024 * 2 ^ power
     → size ≡ length_of request → 4096 ≤ length_of request → 3 ≤ power → 1023 < granule_count request (2 ^ power)
     → IsGranule request (2 ^ (power + 1))
@@ -328,7 +328,7 @@ grown_granule request size power least below is long three many =
       | inr larger ↦ let same : k ≡ power = omega (arith, less, larger) in rw same many
     ])
 
--- it grows to the largest granule at most, of which every request touches few enough
+-- the next power is at most 55: of the largest granule every request touches few enough
 pub grown_fits : (request : Span) (power : ℕ) → request.top ≤ 2 ^ 64 → power ≤ 55 → 1023 < granule_count request (2 ^ power) → power + 1 ≤ 55
 grown_fits request power fits most many =
     elim (cases_lt power 55) [

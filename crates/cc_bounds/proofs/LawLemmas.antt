@@ -60,7 +60,7 @@ pub record IsPadded (size : ℕ) : Type 0 where
   pub little : padded_size size ≤ size + size / 512
   pub fits : padded_size size ≤ 2 ^ 64
 
--- the padding of a length of which half a granule is too fine
+-- a length of more than 1,023 half granules, rounded up to granules, is at most a 512th longer
 little_padding : (size half m : ℕ) → 1023 * half < size → ((c : ℕ) → size ≤ c * (2 * half) → m ≤ c)
     → m * (2 * half) < size + 2 * half → m * (2 * half) ≤ size + size / 512
 little_padding size half m above least near =

@@ -7,7 +7,8 @@ use Rattle.cc_word.specs.declared.fields.Fields.{Fields}
 use Rattle.cc_bounds.specs.Window.{section_of}
 use Rattle.cc_bounds.specs.Decoding.{stored_exponent, raised, first_section, IsPlaced}
 
--- so many units, in order, and so many with a rest below one unit
+-- numbers of units are in the order of their bytes, also with a rest: any above the greater, or one below a unit
+-- above the less
 pub units_le : (few many unit rest : ℕ) → few ≤ many → few * unit ≤ many * unit + rest
 units_le few many unit rest in_order = let scaled = mul-le-mul_right unit in_order in omega (arith, scaled)
 

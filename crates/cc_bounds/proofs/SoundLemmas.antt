@@ -34,7 +34,8 @@ coarse-exponent request granule h =
 
 -- ---- what a request of 4,096 bytes or more is granted
 
--- the granted span is that from one granule to another, of the exponent of the request
+-- The granted span goes from granule `first` to granule `last` of the request's exponent: 512 to 1,023 of them,
+-- and less than one beyond the request at each end.
 pub record IsLongGranted (request granted : Span) : Type 0 where
   pub exponent : ℕ
   pub first : ℕ

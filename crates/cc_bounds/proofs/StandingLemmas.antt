@@ -9,7 +9,7 @@ use Rattle.cc_bounds.specs.Decoding.{stored_exponent, base_mantissa, IsTopMantis
 use Rattle.cc_bounds.proofs.PlaceLemmas.{section_is}
 use Rattle.cc_bounds.proofs.DecodingLemmas.{without_exponent-le, IsWindow-same}
 
--- a number whose rest by a multiple of the unit is a multiple of the unit, in units
+-- where the rest of a number, by `many` units, is whole units, the number is whole units
 pub in_units : (number unit many rest : ℕ) → number % (many * unit) ≡ rest * unit → number ≡ (number / (many * unit) * many + rest) * unit
 in_units number unit many rest is_rest = let split = div-add-mod' number (many * unit) in omega (arith, split, is_rest)
 

@@ -29,8 +29,8 @@ pub record IsTopMantissa (fields : Fields) (mantissa : ℕ) : Type 0 where
   pub stored : mantissa % 2 ^ 12 ≡ without_exponent fields.ie fields.t
   pub implied : (mantissa + 2 ^ 14 - base_mantissa fields) % 2 ^ 14 / 2 ^ 12 ≡ bit_of fields.ie
 
--- An address four laps of the address space up: 2 ^ 66 is a multiple of each window's size and of 2 ^ 65,
--- so that windows, bases and tops stay what they are, and no window begins below zero.
+-- An address four laps of the address space up, so that no window begins below zero. 2 ^ 66 is a multiple of
+-- each window's size and of 2 ^ 65, so bases and tops stay what they are.
 abbrev pub raised : ℕ → ℕ
 raised address = address + 2 ^ 66
 
@@ -47,7 +47,7 @@ pub record IsInWindow (fields : Fields) (start number : ℕ) : Type 0 where
   pub from_start : start ≤ number
   pub below_end : number < start + window_size fields
 
--- the window of a word: it begins with its first section, and the address stands in it
+-- the window of a word, by its start: it begins with its first section, and the raised address stands in it
 pub record IsWindow (fields : Fields) (start : ℕ) : Type 0 where
   pub begins : start % window_size fields ≡ first_section fields * section_of (stored_exponent fields)
   pub holds_address : IsInWindow fields start (raised fields.address)
@@ -60,21 +60,21 @@ pub record IsPlaced (fields : Fields) (mantissa place : ℕ) : Type 0 where
   pub in_window : IsInWindow fields start place
   pub scaled : place % window_size fields ≡ mantissa * 2 ^ stored_exponent fields
 
--- the base: where B stands, of which 64 bits are kept
+-- the base: the low 64 bits of the place where B stands
 pub record IsDecodedBase (fields : Fields) (base : ℕ) : Type 0 where
   pub place : ℕ
   pub is_place : IsPlaced fields (base_mantissa fields) place
   pub kept : base ≡ place % 2 ^ 64
 
--- The top from where T stands: from exponent 51 up 65 bits are kept. Below, 64 are kept, and bit 64 is
--- the one for which bits 64 and 63 are those of the base, or one more, modulo 4.
+-- The top, from the place where T stands: from exponent 51 up it is the low 65 bits of that. Below, it has the
+-- low 64 bits, and bit 64 makes the number of bits 64 and 63 that of the base, or one more, modulo 4.
 pub record IsTopBeside (exponent base place top : ℕ) : Type 0 where
   pub fits : top < 2 ^ 65
   pub large : 51 ≤ exponent → top ≡ place % 2 ^ 65
   pub small : exponent < 51 → top % 2 ^ 64 ≡ place % 2 ^ 64
   pub near : exponent < 51 → (top / 2 ^ 63 + 4 - base / 2 ^ 63) % 4 ≤ 1
 
--- the top beside a base
+-- the top that these fields have beside this base, from the place of their top mantissa
 pub record IsDecodedTop (fields : Fields) (base top : ℕ) : Type 0 where
   pub mantissa : ℕ
   pub place : ℕ
@@ -87,8 +87,8 @@ pub record DecodesTo (fields : Fields) (span : Span) : Type 0 where
   pub is_base : IsDecodedBase fields span.base
   pub is_top : IsDecodedTop fields span.base span.top
 
--- Every bit of the bounds fields counts in what they decode to: the exponent's digits are at most 52, and B
--- has no bit that stands above bit 63, where none is kept of the base. Up to exponent 50 B has none.
+-- Every bit of the bounds fields counts in what they decode to: with IE the exponent's digits say at most 52, and
+-- no bit of B stands above bit 63, where the base keeps none. Up to exponent 50 none can.
 pub record EveryBitCounts (fields : Fields) : Type 0 where
   pub digits : IsTrue fields.ie → exponent_digits fields ≤ 52
   pub base : base_mantissa fields * 2 ^ stored_exponent fields < 2 ^ 64

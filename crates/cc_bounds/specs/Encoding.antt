@@ -11,10 +11,9 @@ pub record Encoding : Type 0 where
   pub granted : Span
   pub exact : Bool
 
--- The bounds fields of a sound span of this exponent. The exponent is internal from 4,096 bytes up. T and B are
--- the top and the base in units of 2 ^ exponent, as far as their fields reach; their low three bits, which
--- are then zero, hold the exponent's digits to base 8. Where it is not internal the exponent is 0, and T
--- and B are the low bits of the ends.
+-- The bounds fields of a sound span. T has the low 12 bits of the top, and B the low 14 of the base, in units of
+-- 2 ^ exponent. IE is set from 4,096 bytes up: then the low three bits of both are zero, and hold the exponent's
+-- digits to base 8, the high one in T. For a shorter span the exponent is 0.
 pub record HasBoundsFields (span : Span) (ie : Bool) (t b : ℕ) : Type 0 where
   pub exponent : ℕ
   pub is_exponent : IsExponent span exponent
@@ -45,8 +44,8 @@ t_of span = span.top / 2 ^ exponent_of span % 2 ^ 12 + exponent_of span / 8
 abbrev pub b_of : Span → ℕ
 b_of span = span.base / 2 ^ exponent_of span % 2 ^ 14 + exponent_of span % 8
 
--- What a `Set` stores, for its model alone: a sound span, with its exponent and fields, which the span
--- determines and which fit where they are stored.
+-- What a `Set` stores, for its model alone: a sound span, and the exponent and the bounds fields that the span
+-- determines, each within its width.
 pub record IsEncoding (span : Span) (e : ℕ) (ie : Bool) (t b : ℕ) : Type 0 where
   pub is_span : IsSpan span
   pub sound : IsSound span

@@ -8,7 +8,7 @@ use Rattle.cc_bounds.specs.Span.{length_of, from_zero}
 abbrev pub granule_count : Span → ℕ → ℕ
 granule_count request granule = div_ceil request.top granule - request.base / granule
 
--- a power of two, from 8 up, of which the request touches few enough to count in ten bits
+-- a coarse enough granule: a power of two, from 8 up, of which the request touches at most 1,023
 pub record IsCoarseEnough (request : Span) (granule : ℕ) : Type 0 where
   pub power : IsPowerOfTwo granule
   pub from_eight : 8 ≤ granule
@@ -39,7 +39,7 @@ pub record IsGranted (request granted : Span) : Type 0 where
   pub is_granule : IsGranule request granule
   pub is_rounded : granted ≡ rounded_to granule request
 
--- a sound span, of a pair that is a span of the address space: setting bounds to it gives it back
+-- a sound span: setting bounds to it gives it back. It is said of spans of the address space (`IsSpan`).
 abbrev pub IsSound : Span → Type 0
 IsSound span = IsGranted span span
 
@@ -47,11 +47,11 @@ IsSound span = IsGranted span span
 abbrev pub IsExact : Span → Type 0
 IsExact request = IsGranted request request
 
--- ---- Computing forms, for what is built of granules. The law `every_request_is_encoded_once` says that
--- each is the one number, or the one span, that its definition above is met by.
+-- ---- Computing forms, for what is built of granules. By the law `every_request_is_encoded_once` each is the
+-- one number, or the one span, that meets its definition above.
 
--- the first exponent, of `tries` and one more from this one on, whose granule the request touches at most
--- 1,023 times, or the last of them
+-- the first exponent, of `tries + 1` from this one up, at which the request touches at most 1,023 granules of
+-- 2 ^ (exponent + 3) bytes; where there is none, the last of them
 unfoldable pub first_exponent : (tries exponent : ℕ) → Span → ℕ
 first_exponent zero exponent request = exponent
 first_exponent (suc tries) exponent request =
@@ -70,6 +70,6 @@ granule_of request = if nat_lt (length_of request) 4096 then 1 else 2 ^ (exponen
 abbrev pub granted_span : Span → Span
 granted_span request = rounded_to (granule_of request) request
 
--- the padded size: what that many bytes from address 0 up are rounded up to
+-- the padded size, or representable length: the size rounded up to the granule of that many bytes from address 0
 abbrev pub padded_size : ℕ → ℕ
 padded_size size = div_ceil size (granule_of (from_zero size)) * granule_of (from_zero size)

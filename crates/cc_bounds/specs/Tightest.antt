@@ -18,8 +18,8 @@ DecodesBack span =
 abbrev pub IsDecoded : Span → Type 0
 IsDecoded span = (fields : Fields) × DecodesTo fields span
 
--- The granted span covers the request. It is the request below 4,096 bytes; else it exceeds it by less than
--- a granule at each end, and 511 granules are shorter than the request.
+-- The granted span covers the request, and exceeds it by less than a granule at each end. A request below 4,096
+-- bytes is granted as it is; any other is longer than 511 granules.
 pub record IsTight (request granted : Span) : Type 0 where
   pub granule : ℕ
   pub is_granule : IsGranule request granule

@@ -10,10 +10,10 @@ use cc_word::Fields;
 /// The largest exponent that bounds decode with. A larger exponent field counts as this.
 const MAX_EXPONENT: u8 = 52;
 
-/// From this exponent up the window has all addresses, and all bits that are kept of the top are bits of T.
+/// From this exponent up T reaches bit 64, so that T alone gives all 65 bits of the top.
 pub(crate) const FIRST_LARGE_EXPONENT: u8 = 51;
 
-/// The bits of a mantissa.
+/// The 14 bits of a mantissa, which counts units of 2^exponent bytes.
 const MANTISSA_BITS: u64 = 0x3fff;
 
 /// The bits of a mantissa that tell its section of the window.
@@ -39,14 +39,14 @@ fn exponent_bits(ie: bool) -> u16
     if ie { 0x7 } else { 0 }
 }
 
-/// What a stored field has of the exponent: with IE the number of its low three bits, else nothing.
+/// The exponent's digit in a stored field: with IE its low three bits, else 0.
 fn exponent_digit(ie: bool, field: u16) -> u16
     ensures { result ≡ (if ie then field % 8 else 0) }
 {
     field & exponent_bits(ie)
 }
 
-/// A stored field without the exponent's bits.
+/// A stored field without the exponent's bits: with IE its low three bits are cleared.
 fn without_exponent(ie: bool, field: u16) -> u16
     ensures { result ≡ without_exponent ie field }
 {
@@ -65,8 +65,8 @@ pub fn exponent(fields: &Fields) -> u8
     (((high << 3) | low) as u8).min(MAX_EXPONENT)
 }
 
-/// Whether every bit of the bounds fields counts in what they decode to: the exponent is not cut, and no bit
-/// of B stands past the end of the address space.
+/// Whether every bit of the bounds fields counts in what they decode to: the exponent's digits say at most 52,
+/// and no bit of B stands above bit 63 of the base.
 #[inline(always)]
 #[tactic(auto, using(crate::proofs::StoredLemmas::base_dropped))]
 pub(crate) fn every_bit_counts(fields: &Fields) -> bool
@@ -76,7 +76,7 @@ pub(crate) fn every_bit_counts(fields: &Fields) -> bool
     dropped == 0 && !(fields.ie && exponent_digits(fields) > MAX_EXPONENT)
 }
 
-/// The B field without the exponent's bits.
+/// The mantissa B, of 14 bits: the B field without the exponent's bits.
 fn base_mantissa(fields: &Fields) -> u16
     ensures { result ≡ base_mantissa fields.now }
 {
@@ -85,8 +85,8 @@ fn base_mantissa(fields: &Fields) -> u16
 
 /// How far the mantissa T stands above the mantissa B, going round at 2^14.
 ///
-/// The T field stores the low twelve bits of T. Of the two upper bits, which no word stores, only so much
-/// is asked: that this length is below 2^12 without IE, and from 2^12 to 2^13 - 1 with IE.
+/// The T field stores the low twelve bits of T. No word stores the two upper bits: they are those that make
+/// this length less than 2^12 without IE, and from 2^12 to 2^13 - 1 with IE.
 fn mantissa_length(fields: &Fields) -> u16
     ensures top { IsTopMantissa fields.now ((base_mantissa fields.now + result) % 2 ^ 14) }
     ensures fits { result < 2 ^ 13 }
@@ -96,10 +96,10 @@ fn mantissa_length(fields: &Fields) -> u16
     (u16::from(fields.ie) << 12) | low
 }
 
-/// Where B stands, of which 64 bits are kept.
+/// The base: the low 64 bits of the place where B stands.
 ///
-/// In units of 2^exponent the window has 2^14 numbers, and the lowest one begins one section below that of
-/// B. The address stands some whole windows above that, and B as many above what its 14 bits say.
+/// A window has 2^14 units of 2^exponent bytes, and begins one section below B's own. The address stands some
+/// whole windows and a rest above `start`; B stands as many whole windows above what its 14 bits say.
 #[tactic(auto, using(crate::proofs::DecodedBaseLemmas::decoded_base_masked))]
 fn decoded_base(fields: &Fields) -> u64
     ensures { IsDecodedBase fields.now result }
@@ -129,14 +129,14 @@ fn top_above(fields: &Fields, base: u64) -> u128
 
 /// The bounds of a word.
 ///
-/// Every word has them. Those of a word that belongs to no capability may have a top below the base, or
-/// past 2^64. The standard: UCAM-CL-TR-987, the decoding of the bounds; Woodruff et al. 2019.
+/// Every word has them. Those of a word that belongs to no capability may have a top below the base, or one
+/// above 2^64, but below 2^65. The standard: UCAM-CL-TR-987, the decoding of the bounds; Woodruff et al. 2019.
 #[inline(always)]
 pub fn decode(fields: &Fields) -> Span
     ensures decodes { DecodesTo fields.now result }
     ensures only { (span : SpanSpec) → DecodesTo fields.now span → span ≡ result }
 
-    // The address that a word has is one at which its bounds stay what they are.
+    // The word's own address is representable for its bounds.
     ensures representable { IsRepresentable result.base (stored_exponent fields.now) fields.now.address }
 {
     let base = decoded_base(fields);

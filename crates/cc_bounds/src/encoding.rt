@@ -20,7 +20,7 @@ use std::marker::Model;
 /// capability encoding; Woodruff et al. 2019.
 #[derive(Clone, Copy, PartialEq, Eq, Debug)]
 pub struct Set {
-    // the granted span, and the rest in one word: no byte of a set stands between its fields
+    // the granted span, and behind it the rest in eight bytes: no padding stands between the fields
     top: u128,
     base: u64,
     t: u16,
@@ -63,8 +63,8 @@ impl Model for Set {
 }
 
 impl Set {
-    /// The encoding whose bounds fields these fields have: `Some` exactly if they store a sound span, for
-    /// which their address is representable. That span is granted, and exact.
+    /// The encoding that these fields store: `Some` exactly if their bounds fields are those of a sound span
+    /// for which their address is representable. It grants that span, and is exact.
     ///
     /// The permissions, the reserved bits, the flag and the type are not looked at.
     #[inline(always)]
@@ -134,7 +134,7 @@ impl Set {
         self.exact
     }
 
-    /// The same bounds as those of an exact request: what setting bounds to the granted span gives.
+    /// The same bounds with [`Set::exact`] true: what setting bounds to the granted span gives.
     pub fn as_exact(self) -> Set
         ensures { result ≡ record self { exact = true } }
     {
@@ -154,7 +154,8 @@ fn is_span(span: &Span) -> bool
 
 /// Whether the fields store the span that they decode to.
 ///
-/// Below exponent 51 the top is not below the base, and every bit of the fields counts.
+/// Below exponent 51 only the top has to be tested: it is never below the base, and every bit of the bounds
+/// fields counts.
 #[inline(always)]
 fn is_stored(fields: &Fields, span: &Span) -> bool
     requires { DecodesTo fields.now span.now }

@@ -19,7 +19,7 @@ pub fn every_word_decodes_once()
 {}
 
 /// Every request has exactly one granule, one exponent and one granted span, and every span has one set of
-/// bounds fields. The computing forms are these.
+/// bounds fields: those that the computing forms give.
 pub fn every_request_is_encoded_once()
     ensures granule { (request : SpanSpec) (granule : ℕ) → IsSpan request
         → (IsGranule request granule ↔ (granule ≡ granule_of request)) }
@@ -52,7 +52,7 @@ pub fn words_store_what_they_decode_to()
 {}
 
 /// A span that begins at a multiple of the granule of a length, and has its representable length, is
-/// sound. That length is at most a 512th longer.
+/// sound. The representable length is no less than the length, at most a 512th more, and at most 2^64.
 pub fn padded_spans_are_sound()
     ensures sound { (start size : ℕ) → size ≤ 2 ^ 64 → start % granule_of (from_zero size) ≡ 0
         → IsSpan (span_from start (padded_size size)) → IsSound (span_from start (padded_size size)) }

@@ -36,8 +36,8 @@ fn granules_touched(request: &Span, power: u32) -> u64
     (last_byte >> power) + 1 - (request.base >> power)
 }
 
-/// The power of two of the granules of which a length of 4,096 bytes or more has at least 512, and less
-/// than 1,024: 3, and one more for each bit of the length from bit 13 up.
+/// The power of two of the granule of which a length of 4,096 bytes or more has at least 512 and less than
+/// 1,024. It is 3, and one more for each bit from bit 13 to the highest that is set in the length.
 #[tactic(auto, using(crate::proofs::GranuleLemmas::leading_power))]
 fn power_of_length(len: u128) -> u32
     requires coarse { 4096 ≤ len }
@@ -52,8 +52,7 @@ fn power_of_length(len: u128) -> u32
 
 /// The granule of a request as a power of two: 0 below 4,096 bytes, else from 3 to 55.
 ///
-/// It is the power of the length, or one more where the ends, rounded to that, are more granules apart
-/// than ten bits count.
+/// It is the power of the length, or one more where the request touches more than 1,023 granules of that.
 #[tactic(auto, using(crate::proofs::GranuleLemmas::length_granule, crate::proofs::GranuleLemmas::grown_granule, crate::proofs::GranuleLemmas::grown_fits))]
 pub(crate) fn granule_power(request: &Span) -> u32
     requires { IsSpan request.now }
@@ -133,8 +132,8 @@ pub fn round_length(len: u128) -> u128
     round_up(len, length_power(len))
 }
 
-/// The representable alignment mask: all ones, but for zeros below the granule of the length. An address
-/// "and" the mask is a multiple of the granule.
+/// The representable alignment mask: all ones, but for the bits below the granule of the length. An address
+/// "and" the mask is the address rounded down to a multiple of the granule.
 ///
 /// The caller has `len <= 2^64`. The standard: UCAM-CL-TR-987, `CRAM` (CRepresentableAlignmentMask).
 pub fn alignment_mask(len: u128) -> u64

@@ -18,7 +18,7 @@ pub struct Span {
 }
 
 impl Span {
-    /// How many bytes the span has. The caller has that its top is not below its base.
+    /// How many bytes the span has. The caller has `base <= top`.
     #[inline(always)]
     pub fn len(&self) -> u128
         requires { self.now.base ≤ self.now.top }

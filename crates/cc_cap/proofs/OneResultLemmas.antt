@@ -11,7 +11,7 @@ use Rattle.cc_cap.specs.Capability.{Capability, IsUnsealed, GrantsNoMore, with_s
 use Rattle.cc_cap.specs.Derivation.{request_of, SetsAddress, Increments, SetsBounds, SetsExactBounds, MasksPermissions, SetsFlag, Seals, Unseals, Rebuilds}
 use Rattle.cc_cap.proofs.CanonicalLemmas.{IsWordOf-same}
 
--- one check has one result, where the rest has
+-- a check has one result where what follows it has one
 one_result : {condition rest rest' : Type 0} {refusal : Refusal} {result result' : Result Capability Refusal}
     → RefusedUnless condition (result ≡ Err refusal) rest → RefusedUnless condition (result' ≡ Err refusal) rest'
     → (rest → rest' → result ≡ result') → result ≡ result'
@@ -50,7 +50,7 @@ IsGranule-same request one other is is' = elim (cases_lt (length_of request) 409
   | inr long ↦ omega (arith, is.least other long (is'.large long), is'.least one long (is.large long))
 ]
 
--- and one granted span
+-- a request has one granted span
 IsGranted-same : (request one other : Span) → IsGranted request one → IsGranted request other → one ≡ other
 IsGranted-same request one other is is' =
     let same = IsGranule-same request is.granule is'.granule is.is_granule is'.is_granule in

@@ -97,7 +97,7 @@ dec-AreOfCapability fields =
     map_dec (λ h. record { reserved = h.0; is_type = h.1.0; stores = h.1.1 }) (λ h. (h.reserved, (h.is_type, h.stores)))
     (dec_both (ℕ_discrete fields.reserved 0) (dec_both (dec-IsObjType fields.otype) (dec-StoreSome fields)))
 
--- the fields of a canonical word are
+-- the fields of a canonical word are those of some capability
 canonical-are : (cap : Capability) (word : ℕ) (is : IsWordOf cap word) → AreOfCapability is.fields
 canonical-are cap word is = record {
   reserved = is.is_fields.reserved;
@@ -143,7 +143,7 @@ pub record HasResult (Rule : Result Capability Refusal → Type 0) : Type 0 wher
   pub holds : Rule result
   pub exists : (cap : Capability) → result ≡ Ok cap → IsCapability cap
 
--- one that makes a capability that can exist
+-- a rule without checks, which makes a capability that can exist
 made : (cap : Capability) → IsCapability cap → HasResult (λ result. result ≡ Ok cap)
 made cap is = record {
   result = Ok cap;
@@ -151,7 +151,7 @@ made cap is = record {
   exists = λ other e. let same : cap ≡ other = (let f = e in cc) in subst IsCapability same is;
 }
 
--- one of which the first condition is decided
+-- a rule with one more check before it, whose condition is decided
 unless : (condition : Type 0) (refusal : Refusal) (Rest : Result Capability Refusal → Type 0) → Dec condition
     → (condition → HasResult Rest) → HasResult (λ result. RefusedUnless condition (result ≡ Err refusal) (Rest result))
 unless condition refusal Rest (yes holds) rest =
@@ -199,7 +199,7 @@ module _ (cap : Capability) (is : IsCapability cap) where
   request-IsSpan size within =
       record { in_order = omega arith; base_fits = is.address_fits; top_fits = omega (arith, within.to_top, is.is_span.top_fits) }
 
-  -- with what such a request is granted, it can exist
+  -- the capability with the span that such a request is granted can exist
   granted-IsCapability : (size : ℕ) (granted : Span) → IsWithin (request_of cap size) cap.span
       → IsGranted (request_of cap size) granted → IsCapability (with_span cap granted)
   granted-IsCapability size granted within is_granted =

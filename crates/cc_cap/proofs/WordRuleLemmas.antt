@@ -28,13 +28,13 @@ pub word_made : (rule : Capability → Result Capability Refusal → Type 0) (wo
 word_made rule word cap made result has is in_words =
     inl ((cap, has), (cap, has, record { made = made; is_made = is; in_words = in_words }))
 
--- and of two
+-- the same of two words, each with its capability
 pub words_made : (rule : Capability → Capability → Result Capability Refusal → Type 0) (word authority : ℕ) (cap by : Capability) (made : Result Capability Refusal) (result : Result ℕ Refusal)
     → IsWordOf cap word → IsWordOf by authority → rule cap by made → InWords made result → OnWords rule word authority result
 words_made rule word authority cap by made result has has' is in_words =
     inl ((cap, has), (cap, has, word_made (rule cap) authority by made result has' is in_words))
 
--- the authority's word is none
+-- a rule on two words refuses where no capability has the authority's word
 pub words_refused : (rule : Capability → Capability → Result Capability Refusal → Type 0) (word authority : ℕ) (cap : Capability) (result : Result ℕ Refusal)
     → IsWordOf cap word → (¬ IsCanonical authority) → result ≡ Err NotCanonical → OnWords rule word authority result
 words_refused rule word authority cap result has not e = inl ((cap, has), (cap, has, inr (not, e)))
@@ -89,7 +89,7 @@ Rebuilds-word authority word (Ok cap) (inl (unsealed, inl (canonical, (own, has,
 
 -- ---- subsets
 
--- by the spans that the fields decode to
+-- a subset, told of any spans that the fields decode to
 pub IsSubset-spans : (inner outer : Fields) (one other : Span) → DecodesTo inner one → DecodesTo outer other
     → IsSubset inner outer → IsWithin one other × HasAll outer.perms inner.perms
 IsSubset-spans inner outer one other decodes decodes' is =
@@ -101,7 +101,7 @@ fields-decode : (cap : Capability) (fields : Fields) → IsCapability cap → Is
 fields-decode cap fields is own =
     sound-decodes cap.span is.is_span is.sound fields own.bounds (subst (Represents cap.span) (sym own.address) is.representable)
 
--- of words of capabilities
+-- for words of capabilities a subset is what grants no more
 pub IsSubset-capabilities : (one other : Capability) (inner outer : ℕ) (first second : Fields) → IsWordOf one inner → IsWordOf other outer
     → word_of first ≡ inner → word_of second ≡ outer
     → (IsSubset first second → GrantsNoMore one other) × (GrantsNoMore one other → IsSubset first second)

@@ -15,7 +15,7 @@ use Rattle.cc_cap.specs.Capability.{Capability, IsCapability, IsUnsealed, Grants
 use Rattle.cc_cap.specs.Canonical.{IsWordOf, IsCanonical}
 use Rattle.cc_cap.specs.Derivation.{request_of}
 
--- the capability that is kept
+-- the capability that a `Cap` stands for
 abbrev pub value_of : Inside → Capability
 value_of inside = record {
   span = inside.set.granted;
@@ -25,12 +25,12 @@ value_of inside = record {
   otype = inside.otype;
 }
 
--- the capability can exist, and its encoding is that of an exact request, whatever it was made by
+-- the capability can exist, and its encoding is marked exact, also where its bounds were rounded
 pub record IsWellFormed (inside : Inside) : Type 0 where
   pub exact : inside.set.exact ≡ true
   pub is_capability : IsCapability (value_of inside)
 
--- what keeps the capability
+-- the one inside of a `Cap` that stands for this capability
 abbrev pub inside_of : Capability → Inside
 inside_of cap = record {
   set = encoding_of cap.span;
@@ -40,12 +40,12 @@ inside_of cap = record {
   otype = cap.otype;
 }
 
--- it keeps what it was made of
+-- the inside made of what a well-formed inside stands for is that inside
 pub inside_of-value_of : (inside : Inside) → IsWellFormed inside → inside_of (value_of inside) ≡ inside
 inside_of-value_of inside formed =
     λ i. record inside { set = record { granted = inside.set.granted; exact = sym formed.exact i } }
 
--- the encoding of the bounds of a length, which may be asked for
+-- the encoding of bounds of this length, where the capability is unsealed and the request lies within its span
 pub record IsEncodingFor (cap : Capability) (length : ℕ) (set : Encoding) : Type 0 where
   pub unsealed : IsUnsealed cap
   pub inside : IsWithin (request_of cap length) cap.span
@@ -57,20 +57,20 @@ pub record IsEncodingFor (cap : Capability) (length : ℕ) (set : Encoding) : Ty
   pub within : IsWithin set.granted cap.span
   pub holds_address : Represents set.granted cap.address
 
--- the bounds of a length may not be asked for
+-- why bounds of this length are refused: the capability is sealed, or else the request leaves its span
 abbrev pub IsRefusedBounds : Capability → ℕ → Refusal → Type 0
 IsRefusedBounds cap length refusal =
     ((¬ IsUnsealed cap) × (refusal ≡ Sealed))
     ⊎ (IsUnsealed cap × (¬ IsWithin (request_of cap length) cap.span) × (refusal ≡ OutOfBounds))
 
--- whether an authority has a permission and grants its own address
+-- the two checks of an authority in order: it has the permission, and it grants its own address
 abbrev pub ChecksAuthority : Capability → ℕ → Result Unit Refusal → Type 0
 ChecksAuthority authority permission result =
     RefusedUnless (HasAll authority.permissions permission) (result ≡ Err MissingPermission) (
     RefusedUnless (Grants authority authority.address) (result ≡ Err OutOfBounds) (
     IsOk result))
 
--- the capability of a word is read, or the word has none
+-- reading a word gives its capability, or `NotCanonical` where no capability has the word
 abbrev pub IsReadFrom : ℕ → Result Capability Refusal → Type 0
 IsReadFrom word result =
     MatchResult result (λ cap. IsWordOf cap word) (λ refusal. (¬ IsCanonical word) × (refusal ≡ NotCanonical))

@@ -8,7 +8,7 @@ use Rattle.cc_bounds.specs.declared.span.Span.{Span}
 use Rattle.cc_bounds.specs.Decoding.{DecodesTo}
 use Rattle.cc_cap.specs.ObjType.{sentry_type, unsealed_type}
 
--- a letter, where the set has the permission that it stands for
+-- the letter of a permission where the set has it, else nothing
 abbrev pub letter_of : (letter : List ℕ) (permissions permission : ℕ) → List ℕ
 letter_of letter permissions permission = if bit_and permissions permission == permission then letter else []
 

@@ -4,8 +4,8 @@ use Rattle.cc_bounds.specs.Span.{length_of}
 use Rattle.cc_cap.specs.Capability.{Capability}
 use Rattle.cc_cap.specs.Derivation.{SetsAddress, SetsExactBounds, MasksPermissions, SetsFlag}
 
--- Five calls, none refused, each on what the last one made, make the second capability from the first: to
--- its base, to exactly its length, to its address, then its permissions and its flag.
+-- Five calls in a row, none refused, lead from the first capability to the second: they set the address to the
+-- base of the second, exact bounds of its length, its address, its permissions as the mask, and its flag.
 pub record IsReachable (from to : Capability) : Type 0 where
   pub at_base : Capability
   pub in_bounds : Capability

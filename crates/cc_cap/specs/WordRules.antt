@@ -18,19 +18,19 @@ InWords (Err refusal) (Err told) = told ≡ refusal
 InWords (Ok cap) (Err told) = ⊥
 InWords (Err refusal) (Ok word) = ⊥
 
--- the rule makes this of the capability, and the result tells it in words
+-- the rule makes something, or refuses, and the result is that in words
 pub record MakesWord (rule : Result Capability Refusal → Type 0) (result : Result ℕ Refusal) : Type 0 where
   pub made : Result Capability Refusal
   pub is_made : rule made
   pub in_words : InWords made result
 
--- A rule on a word. A word that is none of a capability is refused, before the rule is asked.
+-- A rule on a word: `NotCanonical` where no capability has the word, else what the rule makes of its capability.
 abbrev pub OnWord : (rule : Capability → Result Capability Refusal → Type 0) (word : ℕ) (result : Result ℕ Refusal) → Type 0
 OnWord rule word result =
     RefusedUnless (IsCanonical word) (result ≡ Err NotCanonical) (
     (cap : Capability) × IsWordOf cap word × MakesWord (rule cap) result)
 
--- a rule on a word and the word of an authority
+-- a rule on a word and the word of an authority: `NotCanonical` of the one, then of the other, then the rule
 abbrev pub OnWords : (rule : Capability → Capability → Result Capability Refusal → Type 0) (word authority : ℕ) (result : Result ℕ Refusal) → Type 0
 OnWords rule word authority result =
     RefusedUnless (IsCanonical word) (result ≡ Err NotCanonical) (
@@ -48,8 +48,8 @@ AreLikeCalls rule word authority =
     (result : Result ℕ Refusal) → OnWords rule word authority result
     → (cap by : Capability) → IsWordOf cap word → IsWordOf by authority → (made : Result Capability Refusal) → rule cap by made → InWords made result
 
--- what words with these fields say that they grant: all bytes of the one as it decodes are within the
--- other, and its permissions are the other's
+-- the span that the inner fields decode to begins and ends within that of the outer, and the outer have each
+-- permission of the inner
 pub record IsSubset (inner outer : Fields) : Type 0 where
   pub inner_span : Span
   pub outer_span : Span

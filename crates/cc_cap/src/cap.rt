@@ -84,8 +84,8 @@ impl Cap {
 
     /// This capability at another address, with the same bounds.
     ///
-    /// The address may leave the bounds, and then grants nothing there. It may not go so far that the word
-    /// would decode to other bounds. Refusals in order: `Sealed`, `Unrepresentable`. The instruction
+    /// The address may leave the bounds; nothing is granted there. Refusals in order: `Sealed`;
+    /// `Unrepresentable`, where at that address the word would decode to other bounds. The instruction
     /// CSetAddr.
     #[inline(always)]
     pub fn set_address(&self, address: u64) -> Result<Cap, Refusal>
@@ -101,7 +101,7 @@ impl Cap {
         Ok(Cap { address, ..*self })
     }
 
-    /// This capability with its address moved up, round the end of the address space.
+    /// This capability with its address moved up by `amount` bytes, modulo 2^64.
     ///
     /// Refusals in order: `Sealed`, `Unrepresentable`. The instruction CIncOffset.
     #[inline(always)]
@@ -163,7 +163,7 @@ impl Cap {
         Ok(Cap { perms, ..*self })
     }
 
-    /// This capability with this flag.
+    /// This capability with its flag set to `flag`.
     ///
     /// Refusals: `Sealed`. The instruction CSetFlags.
     #[inline(always)]
@@ -328,7 +328,8 @@ impl Cap {
         }
     }
 
-    // The encoding of the bounds of `len` bytes from the address on, where they may be asked for.
+    // The encoding of the bounds of `len` bytes from the address on; or `Sealed`, or `OutOfBounds` where
+    // these bytes leave the bounds.
     fn encode(&self, len: u128) -> Result<Set, Refusal>
         requires { len ≤ 2 ^ 64 }
         ensures { MatchResult result (IsEncodingFor self.now len) (IsRefusedBounds self.now len) }
@@ -343,7 +344,7 @@ impl Cap {
         Ok(cc_bounds::set_bounds(self.address, len))
     }
 
-    // Whether the capability has the permission, and grants the address that it has.
+    // Checks the permission, and then that the address is in the bounds: `MissingPermission`, `OutOfBounds`.
     fn check_authority(&self, permission: Perms) -> Result<(), Refusal>
         ensures { ChecksAuthority self.now (bits_of permission) result }
     {

@@ -5,8 +5,9 @@ ghost use Rattle.cc_cap.specs.Reach.{IsReachable};
 ghost use Rattle.cc_cap.specs.Derivation.{SetsAddress, Increments, SetsBounds, SetsExactBounds, MasksPermissions, SetsFlag, Seals, Unseals, Rebuilds};
 ghost use Rattle.cc_cap.specs.WordRules.{IsLikeCalls, AreLikeCalls};
 
-/// Each capability grants no more than itself, and no more than what one grants no more than grants no
-/// more than. So what is derived in any number of steps grants no more than what it began with.
+/// Each capability grants no more than itself. If one grants no more than two, and two no more than three,
+/// then one grants no more than three. So what is derived in any number of steps grants no more than what it
+/// began with.
 pub fn granting_no_more_is_an_order()
     ensures itself { (cap : Capability) → GrantsNoMore cap cap }
     ensures chain { (one two three : Capability) → GrantsNoMore one two → GrantsNoMore two three → GrantsNoMore one three }
@@ -18,8 +19,8 @@ pub fn all_that_grants_no_more_is_reached()
         → GrantsNoMore to from → IsReachable from to }
 {}
 
-/// What a rule on words answers, is what the call of `Cap` answers on the capability that has the word,
-/// in words. `InWords made result` says that `result` is the word of what was made, or the same refusal.
+/// A rule on words answers what the call of `Cap` answers for the capability that has the word, in words.
+/// `InWords made result` says that `result` is the word of what was made, or the same refusal.
 pub fn rules_on_words_are_those_of_capabilities()
     ensures set_address { (address word : ℕ) → IsLikeCalls (λ cap. SetsAddress cap address) word }
     ensures increment { (amount word : ℕ) → IsLikeCalls (λ cap. Increments cap amount) word }

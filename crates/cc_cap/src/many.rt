@@ -29,7 +29,7 @@ pub fn is_canonical(words: &[u128], answers: &mut [bool])
     }
 }
 
-/// Writes of each word and the address at its place whether the word stores a sound span for which the
+/// Writes, for each word and the address at its place, whether the word stores a sound span for which the
 /// address is representable, as [`Set::of_fields`] and [`cc_bounds::represents`] tell it.
 pub fn represents(words: &[u128], addresses: &[u64], answers: &mut [bool])
     requires addresses { length words.now ≡ length addresses.now }

@@ -50,7 +50,7 @@ impl ObjType {
         }
     }
 
-    /// The type of these 18 bits, and `None` for a reserved type or more bits.
+    /// The type of these 18 bits, and `None` for a reserved type, 0x3fff0 to 0x3fffe, or a number above 0x3ffff.
     pub fn from_bits(bits: u32) -> Option<ObjType>
         ensures found { IsSome result ↔ IsObjType bits }
         ensures value { IfSome result (λ otype. otype ≡ bits) }

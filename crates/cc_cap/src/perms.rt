@@ -8,8 +8,8 @@ use bitflags::{Flag, Flags, bitflag_items};
 
 /// A set of permissions: what a capability lets its holder do.
 ///
-/// Each permission is one bit, the number of its bit in the upper 16 bits of the word. The operations of
-/// the trait `Flags` apply too. The standard: UCAM-CL-TR-987, the architectural permissions.
+/// Each permission is one bit: bit n of the set is bit 112 + n of the word. The operations of the trait
+/// `Flags` apply too. The standard: UCAM-CL-TR-987, the architectural permissions.
 #[derive(Clone, Copy, PartialEq, Eq, Debug)]
 pub struct Perms(u16);
 

@@ -38,8 +38,8 @@ impl Model for WordLine {
 
 impl WordLine {
     /// The line of a word, for every word, in the form that `%#p` has in CheriBSD: its address, and in
-    /// brackets the letters of its permissions, its base and its top as the word decodes; then, of the type
-    /// and of the tag that is handed in, `(sealed)`, `(sentry)` or `(invalid)`, or two of them.
+    /// brackets the letters of its permissions, its base and its top as the word decodes; then ` (sealed)` or
+    /// ` (sentry)` by its type, ` (invalid)` where `tagged` is false, or both as ` (invalid,sealed)`.
     ///
     /// LOAD is `r`, STORE `w`, EXECUTE `x`, LOAD_CAP `R`, STORE_CAP `W`; the others have no letter. A type
     /// but unsealed and sentry is sealed, reserved ones too. As `0x10070 [rwxRW,0x10070-0x12070]`.
@@ -71,7 +71,7 @@ impl WordLine {
         }
     }
 
-    // Makes an empty line that of fields and bounds.
+    // Writes the line of these fields and bounds into an empty one.
     fn push_line(&mut self, fields: &Fields, bounds: &Span, tagged: bool)
         requires empty { self.old ≡ [] }
         requires top { bounds.now.top < 2 ^ 65 }
@@ -123,7 +123,7 @@ impl WordLine {
     }
 }
 
-// The letter of a permission, where the set has it.
+// The letter of a permission where the set has it, else nothing.
 fn letter<'a>(letter: &'a [u8], perms: Perms, permission: Perms) -> &'a [u8]
     ensures value { result.now ≡ letter_of letter.now (bits_of perms) (bits_of permission) }
     ensures fits { length result.now ≤ length letter.now }
@@ -135,7 +135,7 @@ fn letter<'a>(letter: &'a [u8], perms: Perms, permission: Perms) -> &'a [u8]
     }
 }
 
-// What is said of a type and a tag.
+// The mark of a type and a tag, with the space before it: none for a tagged word that is unsealed.
 fn marks(otype: u32, tagged: bool) -> &'static [u8]
     ensures value { result.now ≡ marks_of otype tagged }
     ensures fits { length result.now ≤ 17 }

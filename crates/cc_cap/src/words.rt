@@ -1,9 +1,9 @@
 //! The rules of derivation on words, for callers that keep words and tags and have no use for a [`Cap`].
 //!
-//! Each call takes any word, and answers the word that the call of the same name of [`Cap`] makes of its
-//! capability, or a refusal: `NotCanonical`, before anything else is looked at, for a word that no
-//! capability has, and then what that call refuses. Tags are the caller's: a word goes in as if it were
-//! tagged, and no [`Cap`] comes out.
+//! Each rule takes any words, and answers the word that the call of the same name of [`Cap`] makes of their
+//! capabilities, or a refusal: first `NotCanonical`, for a word that no capability has, and then what that
+//! call refuses. [`rebuild`] looks at its authority before its word; [`is_subset`] refuses nothing. Tags are
+//! the caller's: a word goes in as if it were tagged, and no [`Cap`] comes out.
 ghost use Rattle.std.specs.Prelude.{◌≡◌, ◌↔◌, ◌<◌, ◌^◌, IsTrue, IfOk};
 ghost use Rattle.cc_word.specs.Word.{word_of};
 ghost use Rattle.cc_word.specs.declared.fields.Fields.{Fields as FieldsSpec};
@@ -29,7 +29,7 @@ pub fn set_address(word: u128, address: u64) -> Result<u128, Refusal>
     in_words(cap.set_address(address))
 }
 
-/// The word with its address moved up, round the end of the address space.
+/// The word with its address moved up by `amount` bytes, modulo 2^64.
 ///
 /// Refusals in order: `NotCanonical`, `Sealed`, `Unrepresentable`. The instruction CIncOffset.
 pub fn increment(word: u128, amount: u64) -> Result<u128, Refusal>
@@ -77,7 +77,7 @@ pub fn and_perms(word: u128, mask: Perms) -> Result<u128, Refusal>
     in_words(cap.and_perms(mask))
 }
 
-/// The word with this flag.
+/// The word with its flag set to `flag`.
 ///
 /// Refusals in order: `NotCanonical`, `Sealed`. The instruction CSetFlags.
 pub fn set_flag(word: u128, flag: bool) -> Result<u128, Refusal>
@@ -122,8 +122,8 @@ pub fn rebuild(authority: u128, word: u128) -> Result<u128, Refusal>
     own_word(Cap::rebuild(&authority, word), word)
 }
 
-/// Whether all bytes and permissions of the inner word are within those of the outer, for any two words,
-/// by the bounds that they decode to. Their types, flags and reserved bits are not looked at. The
+/// Whether the inner word begins and ends within the outer, and the outer has all its permissions, for any two
+/// words, by the bounds that they decode to. Their types, flags and reserved bits are not looked at. The
 /// instruction CTestSubset, for words of equal tags.
 pub fn is_subset(inner: u128, outer: u128) -> bool
     ensures words { (one other : FieldsSpec) → word_of one ≡ inner → word_of other ≡ outer → (IsTrue result ↔ IsSubset one other) }
@@ -140,7 +140,7 @@ fn is_subset_of(inner: &Fields, outer: &Fields) -> bool
     bytes && outer.perms & inner.perms == inner.perms
 }
 
-// The capability of a word.
+// The capability of a word, or `NotCanonical` where no capability has it.
 #[inline(always)]
 fn read(word: u128) -> Result<Cap, Refusal>
     ensures { IsReadFrom word result }
@@ -151,7 +151,7 @@ fn read(word: u128) -> Result<Cap, Refusal>
     }
 }
 
-// The word of what was made.
+// The word of what was made, or the same refusal.
 fn in_words(made: Result<Cap, Refusal>) -> Result<u128, Refusal>
     ensures { InWords made result }
 {
@@ -161,7 +161,7 @@ fn in_words(made: Result<Cap, Refusal>) -> Result<u128, Refusal>
     }
 }
 
-// The word again, where its capability was made.
+// The word again where its capability was made, without packing it anew; or the same refusal.
 fn own_word(made: Result<Cap, Refusal>, word: u128) -> Result<u128, Refusal>
     requires { IfOk made (λ cap. IsWordOf cap word) }
     ensures { InWords made result }
@@ -172,7 +172,7 @@ fn own_word(made: Result<Cap, Refusal>, word: u128) -> Result<u128, Refusal>
     }
 }
 
-// Why bounds of more than 2^64 bytes are refused.
+// Why bounds of more than 2^64 bytes are refused: `Sealed` for a sealed capability, else `OutOfBounds`.
 fn too_long(cap: &Cap, len: u128) -> Refusal
     requires capability { IsCapability cap.now }
     requires long { 2 ^ 64 < len }

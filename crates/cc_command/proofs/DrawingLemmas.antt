@@ -15,7 +15,7 @@ use Rattle.cc_command.specs.declared.layout.Layout.{Layout}
 
 -- ---- the cells of a span
 
--- a cell from the first to the last holds a byte: the first of the cell, or of the span
+-- each cell from the first up to the end holds a byte of the span: its own first byte, or the span's
 cell-holds : (start size : ℕ) (span : Span) → 0 < size → start ≤ span.base → span.base < span.top → (index : ℕ)
     → first_cell start size span ≤ index → index < end_cell start size span → SharesByte (cell_of start size index) span
 cell-holds start size span some low held index from below =
@@ -30,7 +30,7 @@ cell-holds start size span some low held index from below =
       in_other = record { from_base = omega arith; below_top = omega (arith, near, last, low, held) };
     }
 
--- no cell before the first does
+-- no cell before the first holds a byte of the span
 from-first : (start size : ℕ) (span : Span) → 0 < size → start ≤ span.base → (index : ℕ) → SharesByte (cell_of start size index) span → first_cell start size span ≤ index
 from-first start size span some low index shares = elim (cases_lt index (first_cell start size span)) [
   | inl less ↦
@@ -41,7 +41,7 @@ from-first start size span some low index shares = elim (cases_lt index (first_c
   | inr most ↦ most
 ]
 
--- and none from the end on
+-- no cell from the end on holds a byte of the span
 below-end : (start size : ℕ) (span : Span) → 0 < size → (index : ℕ) → SharesByte (cell_of start size index) span → index < end_cell start size span
 below-end start size span some index shares = elim (cases_lt index (end_cell start size span)) [
   | inl less ↦ less
@@ -61,35 +61,35 @@ cells-are start size span some low held = record {
 
 -- ---- sizes
 
--- a pool of at most 2^64 bytes
+-- in a pool of at most 2^64 bytes a cell has at most 2^50
 pub size_fits : (bytes : ℕ) → bytes ≤ 2 ^ 64 → div_ceil bytes 16384 ≤ 2 ^ 50
 size_fits bytes fits = div_ceil-le bytes 16384 (2 ^ 50) (omega arith) (omega (arith, fits))
 
--- has at most 16,384 cells
+-- cells of at least that size are at most 16,384
 pub cells_fit : (bytes size : ℕ) → 0 < size → div_ceil bytes 16384 ≤ size → div_ceil bytes size ≤ 16384
 cells_fit bytes size above least =
     let covered = le-div_ceil bytes 16384 (omega arith) in
     div_ceil-le bytes size 16384 above (omega (arith, covered, least))
 
--- and 16 rows
+-- so many cells stand in at most 16 rows
 pub rows_fit : (cells : ℕ) → cells ≤ 16384 → div_ceil cells 1024 ≤ 16
 rows_fit cells few = div_ceil-le cells 1024 16 (omega arith) (omega (arith, few))
 
--- ---- the next piece
+-- ---- what the loops write next
 
--- an object that is drawn
+-- the next object is in the layer: its rectangles come first
 pub layer_drawn : (layout : Layout) (state : ObjectState) (number : ℕ) (object : PlannedObject) (rest after : List PlannedObject)
     → rest ≡ object ∷ after → is_in state object.state ≡ true
     → layer_text layout state number rest ≡ object_text layout number object.span ++ layer_text layout state (number + 1) after
 layer_drawn layout state number object rest after is drawn = rw (is, drawn) refl
 
--- one that is not
+-- the next object is not in the layer: it has no text
 pub layer_left_out : (layout : Layout) (state : ObjectState) (number : ℕ) (object : PlannedObject) (rest after : List PlannedObject)
     → rest ≡ object ∷ after → is_in state object.state ≡ false
     → layer_text layout state number rest ≡ layer_text layout state (number + 1) after
 layer_left_out layout state number object rest after is other = rw (is, other) refl
 
--- no object is left
+-- no object is left: no text is
 pub layer_none : (layout : Layout) (state : ObjectState) (number : ℕ) (rest : List PlannedObject) → rest ≡ [] → layer_text layout state number rest ≡ []
 layer_none layout state number rest is = rw is refl
 
@@ -99,7 +99,7 @@ not-less a b no_less = elim (cases_lt a b) [
   | inr most ↦ most
 ]
 
--- a row that has a rectangle
+-- the object has cells in the next row: their rectangle comes first
 pub parts_drawn : (width first end number : ℕ) (span : Span) (rows row : ℕ) → 0 < rows
     → max first (1024 * row) < min end (1024 * row + 1024)
     → parts_text width first end number span rows row
@@ -110,7 +110,7 @@ parts_drawn width first end number span (suc rows) row some has =
     let is = lt-ltb (max first (1024 * row)) (min end (1024 * row + 1024)) has in
     rw (is, less) refl
 
--- one that has none
+-- the object has no cell in the next row: it has no text
 pub parts_left_out : (width first end number : ℕ) (span : Span) (rows row : ℕ) → 0 < rows
     → (max first (1024 * row) < min end (1024 * row + 1024) → ⊥)
     → parts_text width first end number span rows row ≡ parts_text width first end number span (rows - 1) (row + 1)
@@ -120,22 +120,22 @@ parts_left_out width first end number span (suc rows) row some has =
     let is = le-ltb (max first (1024 * row)) (min end (1024 * row + 1024)) (not-less _ _ has) in
     rw (is, less) refl
 
--- no row has a rectangle any more
+-- no row is left: no text is
 pub parts_none : (width first end number : ℕ) (span : Span) (rows row : ℕ) → rows ≡ 0 → parts_text width first end number span rows row ≡ []
 parts_none width first end number span zero row none = refl
 parts_none width first end number span (suc rows) row none = absurd (omega (arith, none))
 
--- ---- what is left of a drawing
+-- ---- what is still to be written of a drawing
 
--- from the quarantined on
+-- from the quarantined objects on
 abbrev pub from_quarantined : Layout → List PlannedObject → List ℕ
 from_quarantined layout objects = layer_text layout Freed 1 objects ++ end_text
 
--- behind the live ones
+-- behind the live objects
 abbrev pub behind_live : Layout → List PlannedObject → List ℕ
 behind_live layout objects = quarantined_text ++ from_quarantined layout objects
 
--- from the live ones on
+-- from the live objects on
 abbrev pub from_live : Layout → List PlannedObject → List ℕ
 from_live layout objects = layer_text layout Live 1 objects ++ behind_live layout objects
 

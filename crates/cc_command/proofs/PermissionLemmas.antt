@@ -10,7 +10,7 @@ use Rattle.cc_cap.specs.Permissions.{bits_of}
 use Rattle.cc_cap.specs.declared.perms.Perms.{Perms}
 use Rattle.cc_command.specs.Permissions.{names_of_set, room_of, rows_of}
 
--- the names one after another, the first behind a separator of its own and each other behind a `+`
+-- the names one after another: the first behind this separator, and each other behind a `+`
 abbrev pub separated : List ℕ → List (List ℕ) → List ℕ
 separated separator [] = []
 separated separator (name ∷ names) = separator ++ name ++ separated (43 ∷ []) names
@@ -27,18 +27,18 @@ separated-none (name ∷ names) = joined name names
 abbrev pub row_of : Flag Perms → Row
 row_of flag = (flag.name.now, bits_of flag.value)
 
--- a flag, where no flag is looked at
+-- the flag that a look-up past the end gives: without name and bits
 abbrev pub nothing : Flag Perms
 nothing = record { name = record { ref_ptr = (0, 0); now = [] }; value = record { 0 = 0 } }
 
--- the row at an index, and those after it
+-- the rows from an index on are the row at it and those after it
 pub next_row : (flags : List (Flag Perms)) (i : ℕ) → i < length flags
     → drop i (rows_of flags) ≡ row_of (get_or flags i nothing) ∷ drop (i + 1) (rows_of flags)
 next_row flags i h =
     drop-map row_of i flags ∙ ap (λ (l : List (Flag Perms)). rows_of l) (drop_more flags i nothing h)
     ∙ ap (λ (l : List Row). row_of (get_or flags i nothing) ∷ l) (sym (drop-map row_of (i + 1) flags))
 
--- and the room that their names take
+-- and so is the room that their names take
 pub next_room : (flags : List (Flag Perms)) (i : ℕ) → i < length flags
     → room_of (drop i (rows_of flags)) ≡ length (get_or flags i nothing).name.now + 1 + room_of (drop (i + 1) (rows_of flags))
 next_room flags i h =

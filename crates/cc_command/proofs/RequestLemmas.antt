@@ -16,7 +16,7 @@ use Rattle.cc_cap.specs.Derivation.{SetsAddress, SetsBounds}
 use Rattle.cc_cap.proofs.BoundsLemmas.{root-IsCapability}
 use Rattle.cc_command.specs.Request.{granted_capability}
 
--- a span is that of its length from its base on
+-- a request is the span of its length from its base on
 pub span_from-is : (request : Span) (size : ℕ) → IsSpan request → size ≡ length_of request → span_from request.base size ≡ request
 span_from-is request size is_span is_size =
     let order = is_span.in_order in
@@ -41,7 +41,7 @@ root_moves base result fits (inl (unsealed, inr (outside, is))) =
     absurd (outside (inside-Represents (from_zero (2 ^ 64)) base root-IsCapability.is_span root-IsCapability.sound (omega arith) (omega (arith, fits))))
 root_moves base result fits (inr (sealed, is)) = absurd (sealed refl)
 
--- each request of the address space is granted to it
+-- of the root each request within the address space is granted
 pub root_grants : (request : Span) (size : ℕ) (result : Result Capability Refusal) → IsSpan request → size ≡ length_of request
     → SetsBounds (at_address root_capability request.base) size result
     → (granted : Span) × IsGranted request granted × (result ≡ Ok (granted_capability request granted))

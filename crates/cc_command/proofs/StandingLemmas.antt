@@ -19,11 +19,11 @@ use Rattle.cc_cap.specs.ObjType.{IsObjType}
 use Rattle.cc_cap.proofs.CanonicalLemmas.{IsWordOf-read}
 use Rattle.cc_command.specs.Standing.{Have}
 
--- a test that failed was of what does not hold
+-- what a test that failed asks does not hold
 pub fails : {P : Type 0} (answer : Bool) → IsTrue answer ↔ P → answer ≡ false → P → ⊥
 fails answer tests is_false holds = let is_true : answer ≡ true = tests.1 holds in cc (is_true, is_false)
 
--- what is granted for the bounds of a word is just those bounds
+-- a request for the bounds that a word decodes to is granted exactly those bounds
 pub granted-decoded : (bounds granted : Span) (size : ℕ) → IsSpan bounds → IsDecoded bounds → size ≡ bounds.top - bounds.base
     → IsGranted (span_from bounds.base size) granted → granted ≡ bounds
 granted-decoded bounds granted size is_span decoded is_size grants =
@@ -32,7 +32,7 @@ granted-decoded bounds granted size is_span decoded is_size grants =
     let own = subst (λ (request : Span). IsGranted request granted) request grants in
     granted_same bounds granted bounds own (decoded-sound bounds is_span decoded)
 
--- a word with the fields that its bounds are stored as, no reserved bit and no reserved type is canonical
+-- a word without reserved bits and reserved type, whose fields are those that setting its bounds stores, is canonical
 pub stored-canonical : (word : ℕ) (fields : Fields) (bounds : Span) → word_of fields ≡ word → DecodesTo fields bounds
     → fields.reserved ≡ 0 → IsObjType fields.otype → IsSpan bounds → HasBoundsFields bounds fields.ie fields.t fields.b
     → IsCanonical word

@@ -10,18 +10,18 @@ use Rattle.cc_bounds.proofs.StandingLemmas.{base_mantissa-fits}
 use Rattle.cc_command.specs.Steps.{AreSteps}
 use Rattle.cc_command.specs.declared.steps.Steps.{Steps}
 
--- so many whole sizes and a rest below one
+-- the remainder of whole sizes and a rest below one size is that rest
 rest_of : (many size rest : ℕ) → rest < size → (many * size + rest) % size ≡ rest
 rest_of many size rest fits = mul-add-mod_self_right many size rest ∙ mod-eq_of_lt fits
 
--- the last number up to this one that has the rest, modulo a size
+-- the last number up to `number` with the remainder `rest`, found by a division, has that remainder
 last_with_rest : (size rest number : ℕ) → rest < size → rest ≤ number → (number - (number - rest) % size) % size ≡ rest
 last_with_rest size rest number fits high =
     let split = div-add-mod' (number - rest) size in
     let is : number - (number - rest) % size ≡ (number - rest) / size * size + rest = omega (arith, split) in
     rw is (rest_of ((number - rest) / size) size rest fits)
 
--- the first number from this one on that has the rest, modulo a size
+-- the number is the first from `from` on with the remainder `rest`, modulo a size
 pub record Follows (size rest from number : ℕ) : Type 0 where
   pub at_least : from ≤ number
   pub below : number < from + size
@@ -87,7 +87,7 @@ module _ (fields : Fields) (section : ℕ) (is_section : section ≡ section_of 
       }
       )
 
--- the sizes of steps
+-- how large the numbers of steps can be
 pub record Fit (steps : Steps) : Type 0 where
   pub exponent : steps.exponent ≤ 52
   pub base_mantissa : steps.b < 2 ^ 14
@@ -97,7 +97,7 @@ pub record Fit (steps : Steps) : Type 0 where
   pub base : steps.base < 2 ^ 68
   pub top : steps.top < 2 ^ 68
 
--- what is placed stands below two windows
+-- where a mantissa stands is below 2^68, since it is less than a window above the raised address
 placed-fits : (fields : Fields) (mantissa place : ℕ) → IsPlaced fields mantissa place → place < 2 ^ 68
 placed-fits fields mantissa place is_place =
     let facts = section_is fields in

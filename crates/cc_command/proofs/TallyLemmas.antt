@@ -1,4 +1,4 @@
--- How a tally grows with the text that it is of.
+-- How a tally changes as its text grows.
 use Rattle.std.proofs.Common.{◌≡◌, ◌≢◌, ◌∙◌, ◌+◌, ◌<◌, ◌≤◌, ◌-◌, ◌/◌, ◌%◌, ◌^◌, ℕ, zero, suc, Bool, true, false, cond, List, [], ◌∷◌, ◌++◌, ap, append-nil, arith, codes, decimal, get_or, get_or-set_other, get_or-set_same, set, if◌then◌else◌, length, length-append, length-take, min, refl, inl, inr, subst, sym, take, count_by}
 use Rattle.std.proofs.lemmas.List.{get_or_default, take_all}
 use Rattle.std.proofs.lemmas.List.Sums.{sum_by_push}
@@ -22,7 +22,7 @@ abbrev kept_or : (found other : ℕ) → ℕ
 kept_or zero other = other
 kept_or (suc found) other = suc found
 
--- the first of one line more
+-- the number of the first line that passes, after one line more
 first-more : (passes : List ℕ → Bool) (number : ℕ) (lines : List (List ℕ)) (line : List ℕ)
     → first_from passes (suc number) (lines ++ line ∷ [])
     ≡ kept_or (first_from passes (suc number) lines) (if passes line then suc number + length lines else 0)
@@ -76,13 +76,13 @@ same_count : (refusal : Refusal) (times first times' first' : ℕ) → times ≡
     → ◌≡◌ {A = Count} (record { refusal = refusal; times = times; first = first }) (record { refusal = refusal; times = times'; first = first' })
 same_count refusal times first times' first' p q = λ i. record { refusal = refusal; times = p i; first = q i }
 
--- a line that is not the refusal
+-- one line more, which is not the refusal
 pub count_in-other : (refusal : Refusal) (lines : List (List ℕ)) (line : List ℕ) → is_refusal refusal line ≡ false → count_in lines refusal ≡ count_in (lines ++ line ∷ []) refusal
 count_in-other refusal lines line is =
     let more = count_by-more (is_refusal refusal) lines line false is in
     same_count refusal _ _ _ _ (omega (arith, more)) (ap counted (sym (first-other (is_refusal refusal) lines line is)))
 
--- the first line that is
+-- one line more, which is the refusal as the first
 pub count_in-new : (refusal : Refusal) (lines : List (List ℕ)) (line : List ℕ) (count : Count) (times number : ℕ) → is_refusal refusal line ≡ true → count ≡ count_in lines refusal
     → times ≡ min (count.times + 1) (2 ^ 64 - 1) → number ≡ counted (length lines + 1) → count.first ≡ 0
     → ◌≡◌ {A = Count} (record { refusal = refusal; times = times; first = number }) (count_in (lines ++ line ∷ []) refusal)
@@ -93,7 +93,7 @@ count_in-new refusal lines line count times number is old times_is number_is non
     let no_first : first_from (is_refusal refusal) 1 lines ≡ 0 = omega (arith, none, first_is) in
     same_count refusal _ _ _ _ (omega (arith, more, had, times_is)) (number_is ∙ ap counted (sym (first-new (is_refusal refusal) lines line is no_first)))
 
--- a later one
+-- one line more, which is the refusal, and not as the first
 pub count_in-later : (refusal : Refusal) (lines : List (List ℕ)) (line : List ℕ) (count : Count) (times : ℕ) → is_refusal refusal line ≡ true → count ≡ count_in lines refusal
     → times ≡ min (count.times + 1) (2 ^ 64 - 1) → (count.first ≡ 0 → ⊥)
     → ◌≡◌ {A = Count} (record { refusal = refusal; times = times; first = count.first }) (count_in (lines ++ line ∷ []) refusal)
@@ -112,7 +112,7 @@ short_code number small = elim (cases_lt number 10) [
   | inr two ↦ let is : decimal number ≡ (48 + number / 10 % 10) ∷ (48 + number % 10) ∷ [] = two_digits number two small in rw is (omega arith)
 ]
 
--- a code has two digits, and a name 15 letters, at most
+-- a code has at most two digits, and a name at most 15 letters
 short_parts : (refusal : Refusal) → (code_of refusal < 100) × (length (name_of refusal) ≤ 15)
 short_parts Syntax = (omega arith, omega arith)
 short_parts Unfinished = (omega arith, omega arith)
@@ -137,7 +137,7 @@ short_parts NoRoom = (omega arith, omega arith)
 short_parts NoObject = (omega arith, omega arith)
 short_parts Full = (omega arith, omega arith)
 
--- no refusal is as long
+-- a refusal has fewer than 129 bytes
 small : (refusal : Refusal) → length (refusal_text refusal) < 129
 small refusal =
     let parts = short_parts refusal in
@@ -180,7 +180,7 @@ count_in-cut refusal lines line =
 
 -- ---- more of the text
 
--- the bytes up to the end of a line, where each count was made that of one line more
+-- the text grows by bytes up to and with a line feed, and each count by that line
 pub tally_line : (text end : List ℕ) (old new : Tally) → IsLine end → IsTally text old → new.lines ≡ min (old.lines + 1) (2 ^ 64 - 1) → new.begun ≡ []
     → ((index : ℕ) (none : Count) → index < 22 → (lines : List (List ℕ)) → get_or old.counts index none ≡ count_in lines (get_or NONE index none).refusal
     → new.lines ≡ counted (length lines + 1)
@@ -203,7 +203,7 @@ tally_line text end old new line was lines_are begun_is counts_are =
           ∙ ap (λ (l : List (List ℕ)). count_in l refusal) (sym all);
     }
 
--- bytes without a line feed
+-- the text grows by bytes without a line feed
 pub tally_rest : (text rest : List ℕ) (old new : Tally) → IsLine rest → IsTally text old → new.lines ≡ old.lines → new.begun ≡ take 129 (old.begun ++ rest) → new.counts ≡ old.counts
     → IsTally (text ++ rest) new
 tally_rest text rest old new line was lines_are begun_is counts_are =
@@ -220,7 +220,7 @@ tally_rest text rest old new line was lines_are begun_is counts_are =
 
 -- ---- the counts, one after another
 
--- the count at an index was made that of one line more, and those before it were
+-- where the counts before an index have taken one line more, and that at it is set so, those up to it have
 pub count_set : (at : ℕ) (old now : List Count) (count : Count) (number : ℕ) (line : List ℕ) → at < 22 → length now ≡ 22
     → ((index : ℕ) (none : Count) → index < at → (lines : List (List ℕ)) → get_or old index none ≡ count_in lines (get_or NONE index none).refusal
     → number ≡ counted (length lines + 1) → get_or now index none ≡ count_in (lines ++ line ∷ []) (get_or NONE index none).refusal)

@@ -1,4 +1,4 @@
--- How a watch grows with the text that it is of.
+-- How a watch changes as its text grows.
 use Rattle.std.proofs.Common.{◌≡◌, ◌∙◌, ◌+◌, ◌^◌, ◌-◌, ℕ, zero, suc, Bool, true, false, List, [], ◌∷◌, ◌++◌, ap, append-nil, arith, length, length-append, min, refl, sym, take}
 use Rattle.cc_script.specs.Lines.{IsLine, lines_of, rest_of}
 use Rattle.cc_script.proofs.LineLemmas.{all_rest, lines_further, no_lines, rest_further, start_longer}
@@ -8,7 +8,7 @@ use Rattle.cc_command.specs.Hints.{IsWatch, ends_in_return, first_after, has_mar
 use Rattle.cc_command.specs.Tally.{counted, first_from}
 use Rattle.cc_command.proofs.TallyLemmas.{first-kept, first-new, first-other}
 
--- the first line that passes, of one line more
+-- `first_after` gives the number of the first line that passes, after one line more
 first-grows : (passes : List ℕ → Bool) (lines : List (List ℕ)) (line : List ℕ) (first number : ℕ) (b : Bool) → passes line ≡ b
     → first ≡ counted (first_from passes 1 lines) → number ≡ counted (length lines + 1) → first_after first b number ≡ counted (first_from passes 1 (lines ++ line ∷ []))
 first-grows passes lines line zero number true is was number_is =
@@ -19,7 +19,7 @@ first-grows passes lines line zero number false is was number_is =
 first-grows passes lines line (suc before) number b is was number_is =
     was ∙ ap counted (sym (first-kept passes lines line (λ none. omega (arith, was, none))))
 
--- the bytes up to the end of a line
+-- the text grows by bytes up to and with a line feed
 pub watch_line : (text end : List ℕ) (old new : Watch) → IsLine end → IsWatch text old → new.lines ≡ min (old.lines + 1) (2 ^ 64 - 1) → new.begun ≡ []
     → new.carriage_return ≡ first_after old.carriage_return (ends_in_return (take 129 (old.begun ++ end))) new.lines
     → new.marked_word ≡ first_after old.marked_word (has_marked_word (take 129 (old.begun ++ end))) new.lines
@@ -45,7 +45,7 @@ watch_line text end old new line was lines_are begun_is return_is word_is =
           ∙ ap (λ (l : List (List ℕ)). counted (first_from (λ (line : List ℕ). has_marked_word (take 129 line)) 1 l)) (sym all);
     }
 
--- bytes without a line feed
+-- the text grows by bytes without a line feed
 pub watch_rest : (text rest : List ℕ) (old new : Watch) → IsLine rest → IsWatch text old → new.lines ≡ old.lines → new.begun ≡ take 129 (old.begun ++ rest)
     → new.carriage_return ≡ old.carriage_return → new.marked_word ≡ old.marked_word → IsWatch (text ++ rest) new
 watch_rest text rest old new line was lines_are begun_is return_is word_is =

@@ -13,7 +13,7 @@ use Rattle.cc_script.specs.declared.summary.Summary.{Summary}
 abbrev pub IsRefusalLine : Refusal → (answer : List ℕ) → Type 0
 IsRefusalLine refusal answer = answer ≡ with_line_feed (reply_text (Refused refusal))
 
--- an answer of this kind is written, whole where the call succeeds and else a beginning of it
+-- an answer of this kind was written: the whole of it where the call succeeds, and else a beginning
 pub record WritesAnswer (IsAnswer : List ℕ → Type 0) (old new : Option (List ℕ)) (result : Result Summary ScriptFault) : Type 0 where
   pub answer : List ℕ
   pub is_answer : IsAnswer answer

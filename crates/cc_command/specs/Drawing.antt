@@ -1,5 +1,5 @@
--- A drawing of a pool for a page, as an SVG document: rows of cells, each of which stands for as many bytes, and over the
--- cells of each held object a rectangle. The document has only fixed words and digits, so no character of it needs an escape.
+-- A drawing of a pool for a page, as an SVG document: rows of cells, which all stand for the same number of bytes, and
+-- rectangles over the cells of each held object. It has only fixed words and digits, so no character needs an escape.
 use Rattle.std.specs.Prelude.{ℕ, zero, suc, Bool, ◌≡◌, ◌<◌, ◌≤◌, ◌+◌, ◌-◌, ◌*◌, ◌/◌, List, [], ◌∷◌, ◌++◌, codes, decimal, if◌then◌else◌, max, min, nat_lt}
 use Rattle.std.specs.Int.{div_ceil}
 use Rattle.cc_word.specs.WordText.{hexadecimal}
@@ -17,11 +17,11 @@ use Rattle.cc_command.specs.declared.layout.Layout.{Layout}
 
 -- ---- the layout
 
--- how many bytes a cell stands for: as many as let 16,384 cells cover the pool, and at least one
+-- how many bytes a cell stands for: the least number, from 1 up, with which 16,384 cells cover a pool of so many bytes
 abbrev pub drawn_cell : (bytes : ℕ) → ℕ
 drawn_cell bytes = max (div_ceil bytes 16384) 1
 
--- how many cells cover the pool, of which the last may reach past its top
+-- how many cells cover a pool of so many bytes; the last may reach past its top
 abbrev pub drawn_cells : (bytes : ℕ) → ℕ
 drawn_cells bytes = div_ceil bytes (drawn_cell bytes)
 
@@ -59,7 +59,7 @@ end_cell start size span = div_ceil (span.top - start) size
 
 -- ---- the rectangles of objects
 
--- the rectangle of the cells of a row from `from` up to, and without, `to`, with the object's number and bounds as its title
+-- the rectangle over a row's cells from `from` up to, and without, `to`; its title is the object's number and bounds
 unfoldable pub rectangle_text : (width row from to number : ℕ) → Span → List ℕ
 rectangle_text width row from to number span =
     with_line_feed
@@ -74,24 +74,24 @@ part_text width row first end number span =
     then rectangle_text width row (max first (1024 * row)) (min end (1024 * row + 1024)) number span
     else []
 
--- those in each of so many rows, the first of which is `row`
+-- the rectangles of an object's cells in so many rows, the first of which is `row`
 abbrev pub parts_text : (width first end number : ℕ) → Span → (rows row : ℕ) → List ℕ
 parts_text width first end number span zero row = []
 parts_text width first end number span (suc rows) row =
     part_text width row first end number span ++ parts_text width first end number span rows (row + 1)
 
--- the rectangles of an object: over exactly the cells that hold a byte of it, one in each row where there are such
+-- the rectangles of an object, over exactly the cells that hold a byte of it: one in each row that has such cells
 abbrev pub object_text : Layout → (number : ℕ) → Span → List ℕ
 object_text layout number span =
     parts_text layout.width (first_cell layout.start layout.size span) (end_cell layout.start layout.size span) number span (row_count layout) 0
 
--- an object of the second state stands in the layer of the first
+-- the two states are the same: an object of the second is drawn in the layer of the first
 abbrev pub is_in : ObjectState → ObjectState → Bool
 is_in Live state = is_live state
 is_in Freed state = is_freed state
 is_in Swept state = is_swept state
 
--- the rectangles of those objects that are in this state, where the first of all has this number
+-- the rectangles of those objects that are in this state; the first object of the list has this number
 abbrev pub layer_text : Layout → ObjectState → (number : ℕ) → List PlannedObject → List ℕ
 layer_text layout state number [] = []
 layer_text layout state number (object ∷ objects) =
@@ -99,26 +99,26 @@ layer_text layout state number (object ∷ objects) =
 
 -- ---- what stands round them
 
--- the pool's bounds
+-- a line with the pool's base and top between two texts
 abbrev pub bounds_line : (before : List ℕ) (pool : Span) (after : List ℕ) → List ℕ
 bounds_line before pool after = with_hexadecimal before pool.base ++ line_with_hexadecimal (codes " to ") pool.top after
 
--- the stripes of what is quarantined, between which what lies below is seen
+-- the pattern of quarantined objects: stripes, between which one sees what lies below
 unfoldable pub stripes_text : List ℕ
 stripes_text =
     codes "<defs><pattern id='stripes' width='8' height='6' patternUnits='userSpaceOnUse'>\n"
     ++ codes "<rect width='8' height='3' fill='#e69f00'/></pattern></defs>\n"
 
--- the fill of what is live
+-- the key's sample of a live object
 unfoldable pub key_text : List ℕ
 key_text = codes "<g stroke='#000' stroke-width='.5'>\n<rect x='152' y='44' width='24' height='16' fill='#0072b2'/>\n"
 
--- the fills of what is quarantined and of what is free, for the key
+-- the key's samples of a quarantined object and of free bytes
 unfoldable pub fills_text : List ℕ
 fills_text =
     codes "<rect x='272' y='44' width='24' height='16' fill='url(#stripes)'/>\n<rect x='432' y='44' width='24' height='16' fill='#fff'/>\n</g>\n"
 
--- the names of the fills, for the key
+-- the names beside the key's samples
 unfoldable pub names_text : List ℕ
 names_text = codes "<text y='56'><tspan x='182'>live</tspan><tspan x='302'>quarantined</tspan><tspan x='462'>free</tspan></text>\n"
 
@@ -136,7 +136,7 @@ head_text layout pool =
     ++ bounds_line (codes "<text x='152' y='28' font-size='18'>Pool from ") pool (codes "</text>")
     ++ key_text ++ fills_text ++ names_text ++ moved_text
 
--- a mark above a cell of the first row, with the bytes before it in the row
+-- a mark above a cell of the first row, with how many bytes of the row stand before it
 unfoldable pub mark_text : Layout → (cell : ℕ) → List ℕ
 mark_text layout cell =
     with_line_feed
@@ -147,12 +147,12 @@ mark_text layout cell =
 abbrev pub mark_count : Layout → ℕ
 mark_count layout = min layout.cells 4
 
--- the first so many marks: they part the first row into as many pieces
+-- the first so many marks: all of them together part the first row into as many pieces
 abbrev pub marks_text : Layout → (marks : ℕ) → List ℕ
 marks_text layout zero = []
 marks_text layout (suc mark) = marks_text layout mark ++ mark_text layout (min layout.cells 1024 * mark / mark_count layout)
 
--- the ground of a row, under all its cells, so many, at a height, behind the address of the first
+-- the ground of a row of so many cells: a rectangle under them at the height `y`, beside the address of the first
 unfoldable pub row_text : (width y cells address : ℕ) → List ℕ
 row_text width y cells address =
     with_line_feed
@@ -176,23 +176,23 @@ scale_text layout =
 unfoldable pub live_text : List ℕ
 live_text = codes "<g fill='#0072b2' stroke='#fff' stroke-width='.4'>\n"
 
--- what stands between them and the quarantined
+-- what stands between the live objects and the quarantined ones
 unfoldable pub quarantined_text : List ℕ
 quarantined_text = codes "</g>\n<g fill='url(#stripes)' stroke='#e69f00' stroke-width='.4'>\n"
 
--- the end
+-- the end of the document
 unfoldable pub end_text : List ℕ
 end_text = codes "</g>\n</g>\n</svg>\n"
 
 -- ---- the document
 
--- the drawing of these objects in this pool, laid out so: the live ones below, and the quarantined above them
+-- the drawing of these objects in this pool, by this layout: the live ones below, and the quarantined ones above them
 abbrev pub laid_out_text : Layout → List PlannedObject → (pool : Span) → List ℕ
 laid_out_text layout objects pool =
     head_text layout pool ++ (scale_text layout ++ (live_text ++ (layer_text layout Live 1 objects
     ++ (quarantined_text ++ (layer_text layout Freed 1 objects ++ end_text)))))
 
--- the same, laid out as the pool is
+-- the same, by the pool's own layout
 abbrev pub drawing_text : List PlannedObject → (pool : Span) → List ℕ
 drawing_text objects pool = laid_out_text (layout_of pool) objects pool
 

@@ -21,7 +21,7 @@ use Rattle.cc_command.specs.declared.steps.Steps.{Steps}
 
 -- ---- the fields
 
--- what IE and the T and B fields are
+-- a text, and then the values of IE and of the T and B fields
 abbrev pub bounds_fields_text : (before : List ℕ) (ie t b : ℕ) → List ℕ
 bounds_fields_text before ie t b =
     with_decimal before ie ++ with_digits (codes ", T field 0x") 3 t ++ with_digits (codes ", B field 0x") 4 b
@@ -30,7 +30,7 @@ bounds_fields_text before ie t b =
 abbrev pub word_text : ℕ → List ℕ
 word_text word = with_digits (codes "word      ") 32 word ++ line_feed
 
--- the line of the fields that say nothing of bounds
+-- the line of the fields that the bounds do not depend on
 abbrev pub rights_text : Fields → List ℕ
 rights_text fields =
     with_digits (codes "fields    permissions ") 4 fields.perms ++ with_decimal (codes ", reserved ") fields.reserved
@@ -48,7 +48,7 @@ fields_text word fields = word_text word ++ rights_text fields ++ bounds_line_te
 
 -- ---- the exponent and the mantissas
 
--- the exponent, and the two digits that hold it
+-- the exponent, and with IE the two digits to base 8 that store it
 abbrev pub exponent_text : Fields → Steps → List ℕ
 exponent_text fields steps =
     if fields.ie then
@@ -62,22 +62,22 @@ granule_text fields steps =
     if fields.ie then line_with_hexadecimal (codes "granule   ") (8 * 2 ^ steps.exponent) (codes " bytes, 2^(E+3)")
     else line_of (codes "granule   1 byte")
 
--- how a field of a mantissa counts
+-- how the T or the B field counts as part of its mantissa
 abbrev pub stored_text : Fields → List ℕ
 stored_text fields = if fields.ie then codes " field with its low 3 bits as 0" else codes " field"
 
--- B
+-- the base mantissa B
 abbrev pub base_mantissa_text : Fields → Steps → List ℕ
 base_mantissa_text fields steps =
     with_hexadecimal (codes "B         ") steps.b ++ codes ", the B" ++ stored_text fields ++ line_feed
 
--- T, and its two bits that no field has
+-- the top mantissa T, and its two implied bits, which no field stores
 abbrev pub top_mantissa_text : Fields → Steps → List ℕ
 top_mantissa_text fields steps =
     with_hexadecimal (codes "T         ") steps.t ++ codes ", the T" ++ stored_text fields
     ++ line_with_decimal (codes ", and above it ") (steps.t / 2 ^ 12) (codes " as the 2 implied bits")
 
--- how far T is above B, modulo 2 ^ 14, and what the implied bits are chosen for
+-- T - B modulo 2 ^ 14, and the range that the implied bits put it in
 abbrev pub length_text : Fields → Steps → List ℕ
 length_text fields steps =
     with_hexadecimal (codes "T - B     ") ((steps.t + 2 ^ 14 - steps.b) % 2 ^ 14)
@@ -104,20 +104,20 @@ sections_text fields steps =
     with_decimal (codes "sections  ") (steps.b / 2 ^ 11) ++ with_decimal (codes " of B, ") (steps.t / 2 ^ 11)
     ++ line_with_decimal (codes " of T, ") (fields.address / section_of steps.exponent % 8) (codes " of the address")
 
--- the first and the last address of the window, which are all addresses from exponent 50 up
+-- the first and the last address of the window, which has every address from exponent 50 up
 abbrev pub window_addresses_text : Steps → List ℕ
 window_addresses_text steps =
     if nat_le 50 steps.exponent then codes "window    every address"
     else with_hexadecimal (codes "window    ") (steps.start % 2 ^ 64)
     ++ with_hexadecimal (codes " to ") ((steps.start + (8 * section_of steps.exponent - 1)) % 2 ^ 64)
 
--- the window
+-- the window, and the section with which it begins
 abbrev pub window_text : Steps → List ℕ
 window_text steps =
     window_addresses_text steps
     ++ line_with_decimal (codes ": eight sections from ") steps.first_section (codes " on, one below that of B")
 
--- the bounds
+-- the lines of the base and of the top
 abbrev pub bounds_text : Span → List ℕ
 bounds_text bounds =
     line_with_hexadecimal (codes "base      ") bounds.base (codes ", where B * 2^E stands in the window")
@@ -133,18 +133,18 @@ standing_text TopPastEnd = line_of (codes "canonical no: the top is above 2^64")
 standing_text (StoredAs ie t b) =
     bounds_fields_text (codes "canonical no: setting these bounds stores IE ") (bit_of ie) t b ++ line_feed
 
--- the lines of the window and of the bounds
+-- the lines of the window, of the bounds and of whether the word is canonical
 abbrev pub window_lines_text : Fields → Steps → Span → Standing → List ℕ
 window_lines_text fields steps bounds standing =
     section_text steps ++ sections_text fields steps ++ window_text steps ++ bounds_text bounds ++ standing_text standing
 
 -- ---- the picture
 
--- the size of a cell: eight cells are a section
+-- the size of a cell in bytes: an eighth of a section
 abbrev pub cell_size : Steps → ℕ
 cell_size steps = section_of steps.exponent / 8
 
--- what the rows show: the bytes of the bounds, and the bytes at the base, at the top and at the address
+-- what the rows show: `#` for the bytes of the bounds, `B`, `T` and `A` for the byte at the base, top and address
 pub record AreRows (fields : Fields) (steps : Steps) (rows : Rows) : Type 0 where
   pub bytes : IsRow steps.start (cell_size steps) (record { base = steps.base; top = steps.top }) 35 rows.bytes
   pub base : IsRow steps.start (cell_size steps) (span_from steps.base 1) 66 rows.base
@@ -176,15 +176,15 @@ picture_text steps rows =
 
 -- ---- all of it
 
--- all lines
+-- all lines of an explanation
 abbrev pub explanation_of : (word : ℕ) → Fields → Steps → Span → Standing → Rows → List ℕ
 explanation_of word fields steps bounds standing rows =
     fields_text word fields ++ mantissas_text fields steps ++ window_lines_text fields steps bounds standing
     ++ picture_text steps rows
 
--- The explanation of a word: its lines, with the fields whose word it is, the steps of decoding them, the span that
--- they decode to, and whether it is the word of a capability. There are no other such fields, and there is no
--- other such span.
+-- The explanation of a word: its lines, made of the word's fields, the steps of decoding them, the span that they decode
+-- to, whether the word is canonical, and the picture's rows. There are no other such fields, and there is no other such
+-- span.
 pub record IsWordExplanation (word : ℕ) (explanation : List ℕ) : Type 0 where
   pub fields : Fields
   pub steps : Steps

@@ -21,17 +21,17 @@ has_marked_word line =
     nat_le (length line) 128 && starts_with (λ one other. one == other) line (codes "rebuild ")
     && (list_any (λ byte. byte == 58) line || starts_with (λ one other. one == other) (drop (length line - 34) line) (codes "0x"))
 
--- The watch is that of the text of a script: how many lines it has, what has begun of the next, and the numbers of its
--- first lines of these kinds, from 1 up, and 0 where there is none. Of a line its first 129 bytes are kept, which tell
--- whether it has at most 128.
+-- The watch is that of the text of a script: how many lines it has, what has begun of the next, and for each of the two
+-- kinds the number of its first line, from 1 up, or 0 where there is none. The first 129 bytes of a line are looked at:
+-- they tell whether it has at most 128.
 pub record IsWatch (text : List ℕ) (watch : Watch) : Type 0 where
   pub lines : watch.lines ≡ counted (length (lines_of text))
   pub begun : watch.begun ≡ take 129 (rest_of text)
   pub carriage_return : watch.carriage_return ≡ counted (first_from (λ line. ends_in_return (take 129 line)) 1 (lines_of text))
   pub marked_word : watch.marked_word ≡ counted (first_from (λ line. has_marked_word (take 129 line)) 1 (lines_of text))
 
--- The first line that passes, where one line more was read: that of before, or else the new one, if it passes. No public
--- clause cites it.
+-- The number of the first line that passes, after one line more: `first`, or where that is 0 the new one's, if it passes.
+-- No public clause cites it.
 abbrev pub first_after : (first : ℕ) (passes : Bool) (number : ℕ) → ℕ
 first_after zero true number = number
 first_after zero false number = 0
@@ -44,13 +44,13 @@ pub record WatchedState (R : Type 0) : Type 0 where
 
 -- ---- the hints
 
--- a hint at a line, where there is one
+-- the hint at the line of this number, and nothing for 0
 abbrev pub line_hint : (line : ℕ) (after : List ℕ) → List ℕ
 line_hint zero after = []
 line_hint (suc before) after = line_with_decimal (codes "hint: line ") (suc before) after
 
--- where bounds of this length are asked for and are not exact: the padded size, which is, and what the base has to be a
--- multiple of
+-- the hint that a pool of this length is not exact: its padded size is, at a base that is a multiple of the granule of
+-- that length; nothing where there is no such pool
 abbrev pub pool_hint : (inexact : Option ℕ) → List ℕ
 pool_hint None = []
 pool_hint (Some size) =

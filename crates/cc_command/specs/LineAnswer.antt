@@ -7,11 +7,11 @@ use Rattle.cc_script.specs.Output.{with_line_feed}
 use Rattle.cc_command.specs.Answer.{IsRefusalLine}
 use Rattle.cc_command.specs.Listing.{IsWordText}
 
--- the line of a word as it is where the word has its tag, with its line feed
+-- the line of a word whose tag is set, with its line feed
 abbrev pub IsTaggedLine : (word : ℕ) (answer : List ℕ) → Type 0
 IsTaggedLine word answer = (line : List ℕ) × IsLine word true line × (answer ≡ with_line_feed line)
 
--- the answer to a text: of a word its line, and of any other text the line of a refusal
+-- the answer to a text: to a word its line, and to any other text the refusal `error 1 syntax`
 abbrev pub IsLineAnswer : (text answer : List ℕ) → Type 0
 IsLineAnswer text answer =
     (IsWordText text × IsTaggedLine (digits_value 16 text) answer)

@@ -30,7 +30,7 @@ field_lines_of word fields =
     ++ line_of (codes "b") (digits_of 4 fields.b)
     ++ line_of (codes "address") (hexadecimal fields.address)
 
--- the lines of what they decode to, and of whether the word is canonical
+-- the lines of what the fields decode to, and of whether the word is canonical
 abbrev pub bounds_lines_of : (fields : Fields) (bounds : Span) (canonical : Bool) → List ℕ
 bounds_lines_of fields bounds canonical =
     line_of (codes "exponent") (decimal (stored_exponent fields))
@@ -38,12 +38,12 @@ bounds_lines_of fields bounds canonical =
     ++ line_of (codes "top") (hexadecimal bounds.top)
     ++ line_of (codes "canonical") (if canonical then codes "yes" else codes "no")
 
--- all thirteen lines
+-- all thirteen lines of a listing
 abbrev pub listing_of : (word : ℕ) (fields : Fields) (bounds : Span) (canonical : Bool) → List ℕ
 listing_of word fields bounds canonical = field_lines_of word fields ++ bounds_lines_of fields bounds canonical
 
--- The listing of a word: its lines, with the fields whose word it is, the span that they decode to, and
--- whether it is the word of a capability. There are no other such fields, and there is no other such span.
+-- The listing of a word: its lines, made of the word's fields, of the span that they decode to, and of whether
+-- the word is canonical. There are no other such fields, and there is no other such span.
 pub record IsWordListing (word : ℕ) (listing : List ℕ) : Type 0 where
   pub fields : Fields
   pub bounds : Span
@@ -55,7 +55,7 @@ pub record IsWordListing (word : ℕ) (listing : List ℕ) : Type 0 where
   pub is_canonical : IsTrue canonical ↔ IsCanonical word
   pub lines : listing ≡ listing_of word fields bounds canonical
 
--- the listing of a text: of a word that of the word, and of any other text the line of a refusal
+-- the answer to a text: to a word its listing, and to any other text the refusal `error 1 syntax`
 abbrev pub IsListing : (text listing : List ℕ) → Type 0
 IsListing text listing =
     (IsWordText text × IsWordListing (digits_value 16 text) listing)

@@ -1,4 +1,4 @@
--- A map of a pool: rows of cells, each of which stands for as many bytes, and says what holds them.
+-- A map of a pool: rows of cells, which all stand for the same number of bytes, and say what holds them.
 use Rattle.std.specs.Prelude.{ℕ, zero, suc, ◌≡◌, ◌<◌, ◌+◌, ◌-◌, ◌*◌, List, [], ◌++◌, Contains, codes, max, min, slice_index, take}
 use Rattle.std.specs.Int.{div_ceil}
 use Rattle.cc_word.specs.WordText.{hexadecimal}
@@ -28,15 +28,15 @@ pub record TellsCell (objects : List PlannedObject) (cell : Span) (mark : ℕ) :
   pub mixed : HoldsByte objects Live cell → HoldsByte objects Freed cell → mark ≡ 42
   pub free : (¬ HoldsByte objects Live cell) → (¬ HoldsByte objects Freed cell) → mark ≡ 46
 
--- a row of 64 cells of this size, from an address on
+-- the marks of 64 cells of this size, which follow one another from an address on
 pub record IsMapRow (objects : List PlannedObject) (start size : ℕ) (row : List ℕ) : Type 0 where
   pub tells : (index : ℕ) → index < 64 → TellsCell objects (cell_of start size index) (slice_index row index)
 
--- how many bytes a cell stands for: as many as let 1,024 cells cover the pool, and at least one
+-- how many bytes a cell stands for: the least number, from 1 up, with which 1,024 cells cover a pool of so many bytes
 abbrev pub map_cell : (bytes : ℕ) → ℕ
 map_cell bytes = max (div_ceil bytes 1024) 1
 
--- how many cells cover the pool, of which the last may reach past its top
+-- how many cells cover a pool of so many bytes; the last may reach past its top
 abbrev pub map_cells : (bytes : ℕ) → ℕ
 map_cells bytes = div_ceil bytes (map_cell bytes)
 
@@ -44,8 +44,8 @@ map_cells bytes = div_ceil bytes (map_cell bytes)
 abbrev pub map_row_text : (start : ℕ) (cells : List ℕ) → List ℕ
 map_row_text start cells = with_line_feed (hexadecimal start ++ codes " " ++ cells)
 
--- so many rows of cells of this size that follow one another from an address on: 64 cells to a row, and in the last
--- one those that are left
+-- the text is so many rows of cells of this size, which follow one another from an address on: 64 cells to a row, and
+-- those that are left in the last one
 abbrev pub AreMapRows : (objects : List PlannedObject) (size rows start cells : ℕ) (text : List ℕ) → Type 0
 AreMapRows objects size zero start cells text = text ≡ []
 AreMapRows objects size (suc rows) start cells text =
@@ -62,6 +62,6 @@ pub record IsMapOf (objects : List PlannedObject) (pool : Span) (text : List ℕ
   pub are_rows : AreMapRows objects (map_cell (length_of pool)) (div_ceil (map_cells (length_of pool)) 64) pool.base (map_cells (length_of pool)) rows
   pub lines : text ≡ legend_text (map_cell (length_of pool)) ++ rows
 
--- the map of a plan's pool, which has no row where there is none
+-- the map of a plan's pool; without a pool it has no row
 abbrev pub IsMap : Plan → (text : List ℕ) → Type 0
 IsMap plan text = IsMapOf plan.objects (pool_span plan) text

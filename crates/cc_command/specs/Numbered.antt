@@ -1,5 +1,5 @@
--- Pieces of text with a number in them. They are not unfolded by themselves, so that a proof on many of them does not
--- look at each byte.
+-- Pieces of text with a number in them. The prover does not unfold them by itself, so that a proof on many of them does
+-- not look at each byte.
 use Rattle.std.specs.Prelude.{ℕ, List, [], ◌∷◌, ◌++◌, decimal}
 use Rattle.cc_word.specs.WordText.{digits_of, hexadecimal}
 
@@ -11,7 +11,7 @@ line_feed = 10 ∷ []
 abbrev pub line_of : List ℕ → List ℕ
 line_of text = text ++ line_feed
 
--- a text, and then the last digits of a number to base 16
+-- a text, and then the last `count` digits of a number to base 16
 unfoldable pub with_digits : (before : List ℕ) (count number : ℕ) → List ℕ
 with_digits before count number = before ++ digits_of count number
 
@@ -19,14 +19,14 @@ with_digits before count number = before ++ digits_of count number
 unfoldable pub with_decimal : (before : List ℕ) (number : ℕ) → List ℕ
 with_decimal before number = before ++ decimal number
 
--- a text, and then a number to base 16
+-- a text, and then a number to base 16, with `0x` and without leading zeros
 unfoldable pub with_hexadecimal : (before : List ℕ) (number : ℕ) → List ℕ
 with_hexadecimal before number = before ++ hexadecimal number
 
--- the end of a line with a number in decimal in it
+-- a text, a number in decimal, another text and the line feed
 unfoldable pub line_with_decimal : (before : List ℕ) (number : ℕ) (after : List ℕ) → List ℕ
 line_with_decimal before number after = line_of (before ++ decimal number ++ after)
 
--- the end of a line with a number to base 16 in it
+-- a text, a number to base 16 as above, another text and the line feed
 unfoldable pub line_with_hexadecimal : (before : List ℕ) (number : ℕ) (after : List ℕ) → List ℕ
 line_with_hexadecimal before number after = line_of (before ++ hexadecimal number ++ after)

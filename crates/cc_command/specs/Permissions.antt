@@ -7,7 +7,7 @@ use Rattle.bitflags.specs.declared.traits.Flag.{Flag}
 use Rattle.cc_cap.specs.Permissions.{bits_of, permission_table}
 use Rattle.cc_cap.specs.declared.perms.Perms.{Perms}
 
--- of the rows of a table of permissions, the names of those whose bits are set
+-- the names in those rows of a table of permissions whose bits are all set
 abbrev pub names_of_set : (bits : ℕ) (table : List Row) → List (List ℕ)
 names_of_set bits table = map (λ row. row.0) (filter (λ row. bit_and bits row.1 == row.1) table)
 
@@ -21,6 +21,6 @@ permissions_text bits = if bits == 0 then codes "-" else join_with_byte 43 (name
 abbrev pub rows_of : List (Flag Perms) → List Row
 rows_of flags = map (λ flag. (flag.name.now, bits_of flag.value)) flags
 
--- the bytes that names take where each has a separator
+-- how many bytes the names in the rows take, each with one separator
 abbrev pub room_of : List Row → ℕ
 room_of table = sum_by (λ row. length row.0 + 1) table

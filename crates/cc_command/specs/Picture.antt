@@ -1,4 +1,4 @@
--- A picture of a window: rows of cells, each of which stands for as many bytes.
+-- A picture of a window: rows of cells, which all stand for the same number of bytes.
 use Rattle.std.specs.Prelude.{ℕ, ◌≡◌, ◌+◌, ◌*◌, ◌<◌, List, length, slice_index}
 use Rattle.cc_bounds.specs.declared.span.Span.{Span}
 use Rattle.cc_bounds.specs.Span.{SharesByte, span_from}
@@ -7,7 +7,7 @@ use Rattle.cc_bounds.specs.Span.{SharesByte, span_from}
 abbrev pub blank : ℕ
 blank = 46
 
--- the bytes of a cell: cells of this size follow one another from the window's start
+-- the bytes of the cell with this index, from 0 up: cells of this size follow one another from `start` on
 abbrev pub cell_of : (start size index : ℕ) → Span
 cell_of start size index = span_from (start + index * size) size
 

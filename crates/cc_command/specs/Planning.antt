@@ -1,4 +1,4 @@
--- What `plan` makes of its texts.
+-- The pool that the texts of `plan` spell, and the operations that make it.
 use Rattle.std.specs.Prelude.{ℕ, List, [], ◌∷◌, Result}
 use Rattle.cc_word.specs.declared.refusal.Refusal.{Refusal}
 use Rattle.cc_plan.specs.declared.align.Align.{Align}
@@ -6,8 +6,8 @@ use Rattle.cc_machine.specs.declared.op.Op.{Op}
 use Rattle.cc_machine.specs.declared.op.Op.TheVariants.{Addr, Exact, Pool}
 use Rattle.cc_script.specs.Commands.{address_in, both, length_in}
 
--- the base and the length that two texts spell, or the fault: a text that spells no number comes before one
--- that is too large
+-- the base and the length that two texts spell, or the fault: that a text spells no number comes before that one is
+-- too large
 abbrev pub pool_of : (base size : List ℕ) → Result (ℕ × ℕ) Refusal
 pool_of base size = both (address_in base) (length_in size)
 

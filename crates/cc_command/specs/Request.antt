@@ -15,13 +15,13 @@ use Rattle.cc_command.specs.declared.request.Grant.{Grant}
 
 -- ---- the request
 
--- the request of so many bytes from a base on, which may not end past the address space
+-- the request for a base and a length, which may not end past 2^64; a fault that came before stays
 abbrev pub request_from : Result (ℕ × ℕ) Refusal → Result Span Refusal
 request_from (Ok pair) = if nat_le (pair.0 + pair.1) (2 ^ 64) then Ok (span_from pair.0 pair.1) else Err OutOfBounds
 request_from (Err refusal) = Err refusal
 
--- the request that two texts spell, or the fault: a text that spells no number comes before one that is too large, and
--- that before a request that ends past the address space
+-- the request that two texts spell, or the first fault of these: a text spells no number, a number is too large, the
+-- request ends past 2^64
 abbrev pub request_in : (base size : List ℕ) → Result Span Refusal
 request_in base size = request_from (pool_of base size)
 
@@ -32,7 +32,7 @@ abbrev pub granted_capability : (request granted : Span) → Capability
 granted_capability request granted = with_span (at_address root_capability request.base) granted
 
 -- What is told of a request: its granule, the span that it is granted, and the word of the root capability with
--- these bounds, at the request's base. There are no others.
+-- the granted bounds, at the request's base. A request has one of each.
 pub record IsGrant (request : Span) (grant : Grant) : Type 0 where
   pub is_granule : IsGranule request grant.granule
   pub is_granted : IsGranted request grant.granted
@@ -40,7 +40,7 @@ pub record IsGrant (request : Span) (grant : Grant) : Type 0 where
 
 -- ---- the lines
 
--- how many bytes a span has, and from where to where
+-- a line: a text, and then the length, the base and the top of a span
 abbrev pub span_text : (before : List ℕ) → Span → List ℕ
 span_text before span =
     with_hexadecimal before (length_of span) ++ with_hexadecimal (codes " bytes, from ") span.base
@@ -65,25 +65,25 @@ unit_text request granule =
     if nat_lt (length_of request) 4096 then line_of (codes "granule   1 byte: the request has less than 4096")
     else touched_text request granule ++ half_text request granule
 
--- how many bytes beside the request are granted, at each end
+-- how many bytes are granted before the request, and how many behind it
 abbrev pub lost_text : (request granted : Span) → List ℕ
 lost_text request granted =
     with_hexadecimal (codes "lost      ") (request.base - granted.base)
     ++ line_with_hexadecimal (codes " bytes before the request, and ") (granted.top - request.top) (codes " behind it")
 
--- how many bytes, from that many on, have exact bounds, and at which bases
+-- the padded size of a length, which has exact bounds at every multiple of the granule of that length
 abbrev pub exact_text : (size : ℕ) → List ℕ
 exact_text size =
     with_hexadecimal (codes "exact     ") (padded_size size)
     ++ line_with_hexadecimal (codes " bytes, at a base that is a multiple of ") (granule_of (from_zero size)) (codes "")
 
--- all lines
+-- all lines of an explained request
 abbrev pub grant_text : Span → Grant → List ℕ
 grant_text request grant =
     span_text (codes "request   ") request ++ unit_text request grant.granule ++ span_text (codes "granted   ") grant.granted
     ++ lost_text request grant.granted ++ exact_text (length_of request) ++ word_text grant.word
 
--- the explanation of a request: its lines, with what it is granted
+-- the explanation of a request: its lines, made of what it is granted
 pub record IsRequestExplanation (request : Span) (explanation : List ℕ) : Type 0 where
   pub grant : Grant
   pub is_grant : IsGrant request grant

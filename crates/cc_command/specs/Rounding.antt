@@ -8,7 +8,7 @@ use Rattle.cc_script.specs.Output.{with_line_feed}
 use Rattle.cc_script.specs.Replies.{reply_text}
 use Rattle.cc_command.specs.Answer.{IsRefusalLine}
 
--- the answer to a length, which a machine replies too, or to a text that spells none
+-- the answer to a length, which is the machine's reply to `round`, or the refusal of a text that spells none
 abbrev pub IsRoundingOf : Result ℕ Refusal → (answer : List ℕ) → Type 0
 IsRoundingOf (Ok size) answer = (reply : Reply) × RoundsLength size reply × (answer ≡ with_line_feed (reply_text reply))
 IsRoundingOf (Err refusal) answer = IsRefusalLine refusal answer

@@ -13,7 +13,7 @@ use Rattle.cc_command.specs.declared.standing.Standing.TheVariants.{Canonical, R
 abbrev pub Have : Fields → (ie : Bool) → (t b : ℕ) → Type 0
 Have fields ie t b = (fields.ie ≡ ie) × (fields.t ≡ t) × (fields.b ≡ b)
 
--- the fault of a word that is not canonical: the first of these that it has
+-- the word has this fault, and none of those above it
 abbrev pub HasFault : Fields → Span → Standing → Type 0
 HasFault fields bounds Canonical = ⊥
 HasFault fields bounds ReservedBits = fields.reserved ≢ 0
@@ -24,7 +24,7 @@ HasFault fields bounds TopPastEnd =
 HasFault fields bounds (StoredAs ie t b) =
     (fields.reserved ≡ 0) × IsObjType fields.otype × IsSpan bounds × HasBoundsFields bounds ie t b × (¬ Have fields ie t b)
 
--- where a word stands that has these fields and bounds: it is canonical, or has the fault
+-- a word with these fields and bounds is canonical, or it is not and this is its first fault
 abbrev pub IsStanding : (word : ℕ) → Fields → Span → Standing → Type 0
 IsStanding word fields bounds Canonical = IsCanonical word
 IsStanding word fields bounds fault = (¬ IsCanonical word) × HasFault fields bounds fault

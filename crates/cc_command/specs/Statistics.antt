@@ -7,52 +7,52 @@ use Rattle.cc_command.specs.declared.tally.Count.{Count}
 use Rattle.cc_command.specs.declared.tally.Tally.{Tally}
 use Rattle.cc_command.specs.declared.usage.Usage.{Usage}
 
--- how many replies are a refusal, and the line of the script that got the first; its number does not count the
--- replies to the opening, which have the line 0
+-- how many replies are this refusal, and the number of the script's line that got the first; it is 0 where the first
+-- was a reply to the opening
 abbrev pub count_lines : (opening : ℕ) → Count → List ℕ
 count_lines opening count =
     with_line_feed (codes "refused." ++ name_of count.refusal ++ codes " " ++ decimal count.times)
     ++ with_line_feed (codes "first." ++ name_of count.refusal ++ codes " " ++ decimal (count.first - opening))
 
--- the same, where there are such replies
+-- the text, unless the number of times is 0
 abbrev pub lines_if : (times : ℕ) → List ℕ → List ℕ
 lines_if zero text = []
 lines_if (suc times) text = text
 
--- of each refusal that was a reply, in the order of their codes
+-- the lines of those counts that are not 0, in the order of the list
 abbrev pub counts_text : (opening : ℕ) → List Count → List ℕ
 counts_text opening [] = []
 counts_text opening (count ∷ counts) = lines_if count.times (count_lines opening count) ++ counts_text opening counts
 
--- slots and objects
+-- the lines of the slots, of the limit, and of the objects by their states
 abbrev pub objects_text : Usage → List ℕ
 objects_text usage =
     line_with_decimal (codes "slots ") usage.slots [] ++ line_with_decimal (codes "limit ") usage.limit []
     ++ line_with_decimal (codes "made ") usage.made [] ++ line_with_decimal (codes "live ") usage.live []
     ++ line_with_decimal (codes "quarantined ") usage.quarantined [] ++ line_with_decimal (codes "swept ") usage.swept []
 
--- hundredths of a percent, with a point before the last two digits
+-- the line of the padding in percent, from hundredths of a percent: a point stands before the last two digits
 unfoldable pub percent_text : ℕ → List ℕ
 percent_text hundredths =
     with_line_feed (codes "padding.percent " ++ decimal (hundredths / 100) ++ codes "." ++ decimal (hundredths / 10 % 10) ++ decimal (hundredths % 10))
 
--- how many hundredths of a percent a part is of a whole, rounded down, and 0 of nothing
+-- how many hundredths of a percent of the whole the part is, rounded down, and 0 where the whole is 0
 abbrev pub hundredths_of : (part whole : ℕ) → ℕ
 hundredths_of part zero = 0
 hundredths_of part (suc less) = part * 10000 / suc less
 
--- bytes asked for, held, and of the held ones those that nobody asked for
+-- the lines of the bytes asked for, of the held ones, and of the padding: held bytes that nobody asked for
 abbrev pub bytes_text : Usage → List ℕ
 bytes_text usage =
     line_with_decimal (codes "asked ") usage.asked [] ++ line_with_decimal (codes "held ") usage.held []
     ++ line_with_decimal (codes "padding ") (usage.held - usage.asked) [] ++ percent_text (hundredths_of (usage.held - usage.asked) usage.held)
 
--- the last byte below an end, and `none` where that is 0
+-- the line of the last byte below an end, or of `none` where the end is 0
 abbrev pub end_text : (end : ℕ) → List ℕ
 end_text zero = codes "highest none\n"
 end_text (suc last) = line_with_hexadecimal (codes "highest ") last []
 
--- the pool, and what is left of it
+-- the lines of the pool, of its free bytes, of its holes, and of the highest byte that an object had
 abbrev pub holes_text : Usage → List ℕ
 holes_text usage =
     line_with_decimal (codes "pool ") usage.pool [] ++ line_with_decimal (codes "free ") (usage.pool - usage.held) []

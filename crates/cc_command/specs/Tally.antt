@@ -1,4 +1,5 @@
--- What is counted of the replies to a script: how many there are, and of each refusal how many, and where first.
+-- What is counted of the replies to a script: how many there are, and of each refusal how many are it, and which is the
+-- first.
 use Rattle.std.specs.Prelude.{ℕ, suc, Bool, ◌≡◌, ◌-◌, ◌^◌, ◌<◌, List, [], ◌∷◌, count_by, get_or, if◌then◌else◌, length, min, take}
 use Rattle.std.specs.Str.{bytes_eq}
 use Rattle.cc_word.specs.declared.refusal.Refusal.{Refusal}
@@ -8,7 +9,7 @@ use Rattle.cc_command.specs.declared.tally.TheConstants.{NONE}
 use Rattle.cc_command.specs.declared.tally.Count.{Count}
 use Rattle.cc_command.specs.declared.tally.Tally.{Tally}
 
--- what a counter of 64 bits shows of a number: it stays at the highest that it has
+-- what a counter of 64 bits shows of a number: it stops at 2^64 - 1
 abbrev pub counted : ℕ → ℕ
 counted number = min number (2 ^ 64 - 1)
 
@@ -16,12 +17,12 @@ counted number = min number (2 ^ 64 - 1)
 abbrev pub is_refusal : Refusal → (line : List ℕ) → Bool
 is_refusal refusal line = bytes_eq (refusal_text refusal) line
 
--- the number of the first line that passes, where the first of the lines has this number, and 0 where none does
+-- the number of the first line that passes, and 0 where none does; the first line of the list has the number `number`
 abbrev pub first_from : (passes : List ℕ → Bool) (number : ℕ) → (lines : List (List ℕ)) → ℕ
 first_from passes number [] = 0
 first_from passes number (line ∷ lines) = if passes line then number else first_from passes (suc number) lines
 
--- of the lines that are this refusal how many there are, and the number of the first, where lines are numbered from 1
+-- how many of the lines are this refusal, and the number of the first of them: lines are numbered from 1, and 0 is none
 abbrev pub count_in : (lines : List (List ℕ)) → Refusal → Count
 count_in lines refusal = record {
   refusal = refusal;
@@ -29,8 +30,8 @@ count_in lines refusal = record {
   first = counted (first_from (is_refusal refusal) 1 lines);
 }
 
--- The tally is that of the text of replies: of its lines how many there are, and of each refusal those that are it.
--- Of a line that has not ended its first 129 bytes are kept, which is more than a refusal has.
+-- The tally is that of the text of replies: how many lines it has, and for each refusal the count of the lines that are
+-- it. The first 129 bytes are kept of a line that has not ended: no refusal has as many.
 pub record IsTally (text : List ℕ) (tally : Tally) : Type 0 where
   pub lines : tally.lines ≡ counted (length (lines_of text))
   pub begun : tally.begun ≡ take 129 (rest_of text)

@@ -11,13 +11,13 @@ use Rattle.cc_machine.specs.State.{State}
 use Rattle.cc_machine.specs.Planned.{plan_of}
 use Rattle.cc_command.specs.declared.usage.Usage.{Usage}
 
--- an object is live until it is freed
+-- the object is live: it was not freed
 abbrev pub is_live : ObjectState → Bool
 is_live Live = true
 is_live Freed = false
 is_live Swept = false
 
--- an object is swept from the sweep on that gave its bytes back
+-- the object is swept: a sweep gave its bytes back
 abbrev pub is_swept : ObjectState → Bool
 is_swept Live = false
 is_swept Freed = false
@@ -27,22 +27,22 @@ is_swept Swept = true
 abbrev pub asked_bytes_of : List PlannedObject → ℕ
 asked_bytes_of objects = sum_by (λ object. object.size) (filter (λ object. is_held object.state) objects)
 
--- where the object ends that ends highest, and 0 without an object
+-- the highest top of all the objects, and 0 where there is none
 abbrev pub highest_top : List PlannedObject → ℕ
 highest_top [] = 0
 highest_top (object ∷ objects) = max object.span.top (highest_top objects)
 
--- the greatest of some numbers, and 0 without one
+-- the greatest of some numbers, and 0 where there is none
 abbrev pub greatest : List ℕ → ℕ
 greatest [] = 0
 greatest (number ∷ numbers) = max number (greatest numbers)
 
--- the lengths of the hole that so many bytes in a row are: none for no byte
+-- the lengths of the holes in a gap of so many bytes: one hole of that length, and none where the gap has no byte
 abbrev pub hole : ℕ → List ℕ
 hole bytes = filter (λ number. nat_lt 0 number) (bytes ∷ [])
 
--- The lengths of the holes from one address up to another, beside spans that stand in the order of their addresses:
--- before the first of them, between each and the next, and behind the last.
+-- The lengths of the holes that spans leave from one address up to another, before the first span, between each and the
+-- next, and behind the last. The spans stand in the order of their addresses.
 abbrev pub holes : (from to : ℕ) → List Span → List ℕ
 holes from to [] = hole (to - from)
 holes from to (span ∷ spans) = hole (span.base - from) ++ holes span.top to spans
@@ -51,7 +51,7 @@ holes from to (span ∷ spans) = hole (span.base - from) ++ holes span.top to sp
 abbrev pub pool_span : Plan → Span
 pool_span plan = unwrap_or (option_map (λ pool. pool.span) plan.pool) (from_zero 0)
 
--- the number of holes and the length of the largest beside these held spans, which are brought into order
+-- the usage has the number of holes that these held spans leave in the pool, and the length of the largest
 pub record HasHoles (pool : Span) (held : List Span) (usage : Usage) : Type 0 where
   pub order : List Span
   pub same : IsPermutation held order

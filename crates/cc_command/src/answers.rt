@@ -1,4 +1,4 @@
-//! The whole answer of a command, written at once, and the answer that is a refusal.
+//! Writes the answer of a command at once, and an answer that is a refusal.
 ghost use Rattle.std.specs.Prelude.{◌≡◌, ◌↔◌, [], false, true, IfOk, IsErr, OnOk, OnErr};
 ghost use Rattle.std.specs.Io.KnownBytes.{Appends};
 ghost use Rattle.cc_script.specs.Devices.{TakesBeginning};
@@ -9,12 +9,15 @@ use cc_machine::Reply;
 use cc_script::{ScriptFault, Sink, Summary, reply_line, write_all};
 use cc_word::Refusal;
 
-/// Writes the line of a refusal, and flushes the sink.
+/// Writes the line of a refusal, `error CODE NAME`, and flushes the sink once after it. The summary tells an error.
+///
+/// Where the sink fails, a beginning of the line was written.
 pub fn write_refusal<W: Sink>(refusal: Refusal, sink: &mut W) -> Result<Summary, ScriptFault>
     requires { W.has_failed sink.old ≡ false }
     ensures shown { WritesAnswer (IsRefusalLine refusal) (W.taken_bytes sink.old) (W.taken_bytes sink.new) result }
     ensures any_error { IfOk result (λ summary. summary.any_error ≡ true) }
     ensures passed { OnOk result (W.waiting_bytes sink.new ≡ []) }
+    ensures flushed { OnOk result (W.is_flushed sink.new ≡ true) }
     ensures fails { IsErr result ↔ (W.has_failed sink.new ≡ true) }
     ensures write { OnErr result (result ≡ Err ScriptFault.Write) }
 {
@@ -24,7 +27,7 @@ pub fn write_refusal<W: Sink>(refusal: Refusal, sink: &mut W) -> Result<Summary,
     Ok(Summary { any_error: true })
 }
 
-/// Makes the text the line of a refusal.
+/// Puts the line of a refusal into the empty text.
 pub(crate) fn push_refusal(text: &mut Text, refusal: Refusal)
     requires { text.old ≡ [] }
     ensures { IsRefusalLine refusal text.new }
@@ -38,6 +41,7 @@ pub(crate) fn write_answer<W: Sink>(answer: &Text, sink: &mut W) -> Result<(), S
     ensures ok { OnOk result (Appends (W.taken_bytes sink.old) (W.taken_bytes sink.new) answer.now) }
     ensures err { OnErr result (TakesBeginning (W.taken_bytes sink.old) (W.taken_bytes sink.new) answer.now) }
     ensures passed { OnOk result (W.waiting_bytes sink.new ≡ []) }
+    ensures flushed { OnOk result (W.is_flushed sink.new ≡ true) }
     ensures fails { IsErr result ↔ (W.has_failed sink.new ≡ true) }
     ensures write { OnErr result (result ≡ Err ScriptFault.Write) }
 {

@@ -8,7 +8,7 @@ use crate::tally::Tally;
 use cc_script::{Failed, Sink};
 use std::marker::Model;
 
-/// Passes on each byte to another sink, and counts the replies that passed.
+/// Passes each byte on to another sink, and counts the replies among the bytes that this sink took.
 #[derive(Drop)]
 pub struct Counted<W: Sink> {
     inner: W,
@@ -24,7 +24,7 @@ impl<W: Sink> Model for Counted<W> {
 }
 
 impl<W: Sink> Counted<W> {
-    /// A sink before this one. No reply is counted.
+    /// Counts what goes to `inner` from now on. No reply is counted yet.
     pub fn new(inner: W) -> Self
         ensures inner { result.inner ≡ inner }
         ensures tally { IsTally [] result.tally }
@@ -35,7 +35,7 @@ impl<W: Sink> Counted<W> {
         }
     }
 
-    /// What was counted of the replies that passed.
+    /// The tally of all bytes that the inner sink took.
     pub fn tally(&self) -> &Tally
         ensures { result.now ≡ self.now.tally }
     {
@@ -47,6 +47,8 @@ impl<W: Sink> Sink for Counted<W> {
     ghost taken_bytes = { λ s. W.taken_bytes s.inner };
 
     ghost waiting_bytes = { λ s. W.waiting_bytes s.inner };
+
+    ghost is_flushed = { λ s. W.is_flushed s.inner };
 
     ghost has_failed = { λ s. W.has_failed s.inner };
 
@@ -81,6 +83,7 @@ impl<W: Sink> Sink for Counted<W> {
     fn flush(&mut self) -> Result<(), Failed>
         ensures keeps { Keeps (W.taken_bytes self.old.inner) (W.taken_bytes self.new.inner) }
         ensures passed { OnOk result (W.waiting_bytes self.new.inner ≡ []) }
+        ensures flushed { OnOk result (W.is_flushed self.new.inner ≡ true) }
         ensures fails { IsErr result ↔ (W.has_failed self.new.inner ≡ true) }
         ensures stays { W.has_failed self.old.inner ≡ true → W.has_failed self.new.inner ≡ true }
         ensures counts_none { self.new.tally ≡ self.old.tally }

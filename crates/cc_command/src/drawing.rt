@@ -15,20 +15,21 @@ use cc_bounds::Span;
 use cc_machine::{Machine, ObjectState, PlannedObject};
 use cc_script::{Failed, Line, ScriptFault, Sink, Summary, write_all};
 
-/// Writes a drawing of the machine's pool, and flushes the sink once after it: an SVG document in which each object that is
-/// held is a rectangle over exactly the cells that hold a byte of it ([`cells_of`]), filled where it is live and striped
-/// where it is quarantined.
+/// Writes a drawing of the machine's pool, and flushes the sink once after it: an SVG document in which a rectangle
+/// stands for each object that is held. It covers exactly the cells that hold a byte of the object ([`cells_of`]), and is
+/// filled where the object is live, striped where it is quarantined.
 ///
-/// The cells cover the pool, are as small as 16,384 of them allow, and stand in at most 16 rows. A rectangle that goes
-/// on in the next row is drawn in parts. Where objects share a cell, the stripes lie above, and what is below is seen
-/// between them. Without a pool there is no row. Where the sink fails, a beginning of the drawing was written. Takes no
-/// memory of its own.
+/// The cells cover the pool, at most 16,384 of them, as small as that allows, in at most 16 rows. An object with cells in
+/// several rows has a rectangle in each. Where a live and a quarantined object share a cell, the stripes lie above, and
+/// the live one is seen between them. Without a pool there is no row. Where the sink fails, a beginning of the drawing was
+/// written. Takes no memory from an allocator.
 #[tactic(auto, using(crate::proofs::WritingLemmas::whole_begins))]
 pub fn show_drawing<W: Sink>(machine: &Machine, sink: &mut W) -> Result<Summary, ScriptFault>
     requires { W.has_failed sink.old ≡ false }
     ensures shown { WritesAnswer (IsDrawing (plan_of machine.now)) (W.taken_bytes sink.old) (W.taken_bytes sink.new) result }
     ensures any_error { IfOk result (λ summary. summary.any_error ≡ false) }
     ensures passed { OnOk result (W.waiting_bytes sink.new ≡ []) }
+    ensures flushed { OnOk result (W.is_flushed sink.new ≡ true) }
     ensures fails { IsErr result ↔ (W.has_failed sink.new ≡ true) }
     ensures write { OnErr result (result ≡ Err ScriptFault.Write) }
 {
@@ -57,7 +58,7 @@ fn write_drawing<W: Sink>(
     write_laid_out(&Layout::new(pool), objects, pool, sink)
 }
 
-/// Writes the drawing of these objects in this pool, which is laid out so.
+/// Writes the drawing of these objects in this pool, by this layout.
 fn write_laid_out<W: Sink>(
     layout: &Layout,
     objects: &[PlannedObject],
@@ -84,7 +85,7 @@ fn write_laid_out<W: Sink>(
     write_end(sink)
 }
 
-/// Writes what stands before the scale.
+/// Writes the head: what stands before the scale.
 fn write_head<W: Sink>(layout: &Layout, pool: &Span, sink: &mut W) -> Result<(), Failed>
     requires sink { W.has_failed sink.old ≡ false }
     requires cells { layout.now.cells ≤ 16384 }
@@ -97,7 +98,7 @@ fn write_head<W: Sink>(layout: &Layout, pool: &Span, sink: &mut W) -> Result<(),
     write_all(sink, text.bytes())
 }
 
-/// Makes the text the head.
+/// Puts the head into the empty text: the document's size, its title, and a key of the fills.
 fn push_head(text: &mut Text, layout: &Layout, pool: &Span)
     requires empty { text.old ≡ [] }
     requires cells { layout.now.cells ≤ 16384 }
@@ -129,7 +130,7 @@ fn push_head(text: &mut Text, layout: &Layout, pool: &Span)
     push_moved(text);
 }
 
-/// Appends a line with the pool's bounds.
+/// Appends a line that has the pool's base and top between the two texts.
 fn push_bounds(text: &mut Text, before: &[u8], pool: &Span, after: &[u8])
     requires before { length before.now ≤ 60 }
     requires after { length after.now ≤ 60 }
@@ -141,7 +142,7 @@ fn push_bounds(text: &mut Text, before: &[u8], pool: &Span, after: &[u8])
     end_with_hexadecimal(text, b" to ", pool.top, after);
 }
 
-/// Appends the stripes of what is quarantined.
+/// Appends the pattern that quarantined objects are filled with.
 #[tactic(auto, unfolding(crate::specs::Drawing::stripes_text))]
 fn push_stripes(text: &mut Text)
     requires { length text.old + 240 ≤ ROOM }
@@ -152,7 +153,7 @@ fn push_stripes(text: &mut Text)
     text.push(b"<rect width='8' height='3' fill='#e69f00'/></pattern></defs>\n");
 }
 
-/// Appends the fill of what is live.
+/// Appends the key's sample of a live object.
 #[tactic(auto, unfolding(crate::specs::Drawing::key_text))]
 fn push_key(text: &mut Text)
     requires { length text.old + 100 ≤ ROOM }
@@ -164,7 +165,7 @@ fn push_key(text: &mut Text)
     );
 }
 
-/// Appends the fills of what is quarantined and of what is free.
+/// Appends the key's samples of a quarantined object and of free bytes.
 #[tactic(auto, unfolding(crate::specs::Drawing::fills_text))]
 fn push_fills(text: &mut Text)
     requires { length text.old + 140 ≤ ROOM }
@@ -176,7 +177,7 @@ fn push_fills(text: &mut Text)
     );
 }
 
-/// Appends what the fills mean.
+/// Appends the names beside the key's three samples.
 #[tactic(auto, unfolding(crate::specs::Drawing::names_text))]
 fn push_names(text: &mut Text)
     requires { length text.old + 120 ≤ ROOM }
@@ -188,7 +189,7 @@ fn push_names(text: &mut Text)
     );
 }
 
-/// Appends the move to the pool's first cell.
+/// Appends the translation that puts the pool's first cell at the point 0, 0.
 #[tactic(auto, unfolding(crate::specs::Drawing::moved_text))]
 fn push_moved(text: &mut Text)
     requires { length text.old + 60 ≤ ROOM }
@@ -215,7 +216,7 @@ fn write_scale<W: Sink>(layout: &Layout, sink: &mut W) -> Result<(), Failed>
     write_all(sink, text.bytes())
 }
 
-/// Appends the marks.
+/// Appends the marks above the first row: four, or one for each cell where there are fewer.
 fn push_marks(text: &mut Text, layout: &Layout)
     requires empty { text.old ≡ [] }
     requires size { layout.now.size ≤ 2 ^ 50 }
@@ -229,7 +230,7 @@ fn push_marks(text: &mut Text, layout: &Layout)
     }
 }
 
-/// Appends a mark.
+/// Appends the mark above a cell of the first row, with how many bytes of the row stand before it.
 #[tactic(auto, unfolding(crate::specs::Drawing::mark_text))]
 fn push_mark(text: &mut Text, layout: &Layout, cell: u32)
     requires room { length text.old + 193 ≤ ROOM }
@@ -248,7 +249,7 @@ fn push_mark(text: &mut Text, layout: &Layout, cell: u32)
     text.push_line(&line);
 }
 
-/// Appends the rows.
+/// Appends the grounds of all rows, each beside its first address.
 fn push_rows(text: &mut Text, layout: &Layout)
     requires room { length text.old ≤ 800 }
     requires start { layout.now.start < 2 ^ 64 }
@@ -264,7 +265,7 @@ fn push_rows(text: &mut Text, layout: &Layout)
     }
 }
 
-/// Appends a row.
+/// Appends the ground of one row: `y` is its height on the page, `address` that of its first cell.
 #[tactic(auto, unfolding(crate::specs::Drawing::row_text))]
 fn push_row(text: &mut Text, width: u32, y: u32, cells: u32, address: u128)
     requires room { length text.old + 193 ≤ ROOM }
@@ -301,7 +302,7 @@ fn write_live<W: Sink>(sink: &mut W) -> Result<(), Failed>
     )
 }
 
-/// Writes what stands between the live objects and the quarantined.
+/// Ends the layer of live objects, and begins that of quarantined ones.
 #[tactic(auto, unfolding(crate::specs::Drawing::quarantined_text))]
 fn write_quarantined<W: Sink>(sink: &mut W) -> Result<(), Failed>
     requires { W.has_failed sink.old ≡ false }
@@ -315,7 +316,7 @@ fn write_quarantined<W: Sink>(sink: &mut W) -> Result<(), Failed>
     )
 }
 
-/// Writes the end.
+/// Writes the end of the document.
 #[tactic(auto, unfolding(crate::specs::Drawing::end_text))]
 fn write_end<W: Sink>(sink: &mut W) -> Result<(), Failed>
     requires { W.has_failed sink.old ≡ false }
@@ -354,7 +355,7 @@ fn write_layer<W: Sink>(
     Ok(())
 }
 
-/// Whether the second state is the first.
+/// Whether an object of the state `other` is drawn in the layer of `state`: where the two are the same.
 fn is_in(state: ObjectState, other: ObjectState) -> bool
     ensures { result ≡ is_in state other }
 {
@@ -365,7 +366,7 @@ fn is_in(state: ObjectState, other: ObjectState) -> bool
     }
 }
 
-/// Writes the rectangles of an object.
+/// Writes the rectangles of an object: one in each row where it has a cell.
 fn write_object<W: Sink>(
     layout: &Layout,
     number: u32,
@@ -396,7 +397,7 @@ fn write_object<W: Sink>(
     Ok(())
 }
 
-/// Writes the rectangle of some cells of a row.
+/// Writes the rectangle over the cells of one row from `from` up to, and without, `to`.
 fn write_rectangle<W: Sink>(
     width: u32,
     row: u32,
@@ -420,7 +421,7 @@ fn write_rectangle<W: Sink>(
     line.write(sink)
 }
 
-/// The rectangle of some cells of a row, without its line feed.
+/// The rectangle over the cells of one row from `from` up to, and without, `to`, without its line feed.
 #[tactic(auto, unfolding(crate::specs::Drawing::rectangle_text))]
 fn rectangle_line(width: u32, row: u32, from: u128, to: u128, number: u32, span: &Span) -> Line
     requires width { width ≤ 1024 }

@@ -10,7 +10,7 @@ use crate::request::{Grant, granule_count, length_of};
 use crate::text::{ROOM, Text};
 use cc_bounds::{Span, granule, round_length};
 
-/// Appends the lines of a request and of what it is granted.
+/// Appends all lines of an explained request, down to the word of what it is granted.
 pub(crate) fn push_grant(text: &mut Text, request: &Span, grant: &Grant)
     requires is_span { IsSpan request.now }
     requires is_grant { IsGrant request.now grant.now }
@@ -27,7 +27,7 @@ pub(crate) fn push_grant(text: &mut Text, request: &Span, grant: &Grant)
     push_word(text, grant.word);
 }
 
-/// Appends bytes, and then how many bytes a span has, and from where to where.
+/// Appends a line: these bytes, and then the span's length, base and top.
 fn push_span(text: &mut Text, before: &[u8], span: &Span)
     requires is_span { IsSpan span.now }
     requires before { length before.now ≤ 60 }
@@ -40,7 +40,7 @@ fn push_span(text: &mut Text, before: &[u8], span: &Span)
     end_with_hexadecimal(text, b" to ", span.top, b"");
 }
 
-/// Appends the lines of the granule of a request, and of why half of it is not enough.
+/// Appends the line of a request's granule, and from 4,096 bytes up a line that says why half of it is not enough.
 fn push_unit(text: &mut Text, request: &Span, granule: u64)
     requires is_span { IsSpan request.now }
     requires is_granule { IsGranule request.now granule }
@@ -73,7 +73,7 @@ fn push_touched(text: &mut Text, request: &Span, granule: u64)
     );
 }
 
-/// Appends the line of half a granule.
+/// Appends the line that says why half of the granule is not enough.
 fn push_half(text: &mut Text, request: &Span, granule: u64)
     requires is_span { IsSpan request.now }
     requires some { 8 ≤ granule }
@@ -94,7 +94,7 @@ fn push_half(text: &mut Text, request: &Span, granule: u64)
     }
 }
 
-/// Appends the line of the bytes that are granted beside a request.
+/// Appends the line that says how many bytes are granted before the request, and how many behind it.
 fn push_lost(text: &mut Text, request: &Span, granted: &Span)
     requires covers { IsWithin request.now granted.now }
     requires room { length text.old + 160 ≤ ROOM }
@@ -111,7 +111,7 @@ fn push_lost(text: &mut Text, request: &Span, granted: &Span)
     );
 }
 
-/// Appends the line of the bytes that have exact bounds.
+/// Appends the line of the length that the request's is rounded up to, and of the bases at which it has exact bounds.
 fn push_exact(text: &mut Text, request: &Span)
     requires is_span { IsSpan request.now }
     requires room { length text.old + 160 ≤ ROOM }

@@ -33,7 +33,7 @@ pub(crate) fn push_word(text: &mut Text, word: u128)
     text.push(b"\n");
 }
 
-/// Appends the line of the fields that say nothing of bounds.
+/// Appends the line of the fields that the bounds do not depend on: permissions, reserved bits, flag and type.
 fn push_rights(text: &mut Text, fields: &Fields)
     requires room { length text.old + 145 ≤ ROOM }
     ensures value { text.new ≡ text.old ++ rights_text fields.now }
@@ -46,7 +46,7 @@ fn push_rights(text: &mut Text, fields: &Fields)
     text.push(b"\n");
 }
 
-/// Appends the line of the fields that the bounds are decoded from.
+/// Appends the line of the fields that the bounds are decoded from: IE, T, B and the address.
 fn push_bounds_line(text: &mut Text, fields: &Fields)
     requires room { length text.old + 170 ≤ ROOM }
     ensures value { text.new ≡ text.old ++ bounds_line_text fields.now }
@@ -57,7 +57,7 @@ fn push_bounds_line(text: &mut Text, fields: &Fields)
     text.push(b"\n");
 }
 
-/// Appends bytes, and then what IE and the T and B fields are.
+/// Appends bytes, and then the values of IE and of the T and B fields.
 fn push_bounds_fields(text: &mut Text, before: &[u8], ie: bool, t: u16, b: u16)
     requires before { length before.now ≤ 60 }
     requires room { length text.old + length before.now + 75 ≤ ROOM }
@@ -69,7 +69,7 @@ fn push_bounds_fields(text: &mut Text, before: &[u8], ie: bool, t: u16, b: u16)
     push_digits(text, b", B field 0x", u128::from(b), 4);
 }
 
-/// 1 for a bit that is set, else 0.
+/// The bit as a number: 1 or 0.
 fn bit(is_set: bool) -> u128
     ensures { result ≡ bit_of is_set }
 {
@@ -92,7 +92,7 @@ pub(crate) fn push_mantissas(text: &mut Text, fields: &Fields, steps: &Steps)
     push_length(text, fields, steps);
 }
 
-/// Appends the line of the exponent.
+/// Appends the line of the exponent, with the two octal digits that store it where IE is set.
 fn push_exponent(text: &mut Text, fields: &Fields, steps: &Steps)
     requires room { length text.old + 220 ≤ ROOM }
     ensures value { text.new ≡ text.old ++ exponent_text fields.now steps.now }
@@ -112,7 +112,7 @@ fn push_exponent(text: &mut Text, fields: &Fields, steps: &Steps)
     }
 }
 
-/// Appends the line of the granule.
+/// Appends the line of the granule: 2^(E+3) bytes with IE, one byte without.
 fn push_granule(text: &mut Text, fields: &Fields, steps: &Steps)
     requires exponent { steps.now.exponent ≤ 52 }
     requires room { length text.old + 70 ≤ ROOM }
@@ -131,7 +131,7 @@ fn push_granule(text: &mut Text, fields: &Fields, steps: &Steps)
     }
 }
 
-/// Appends the line of B.
+/// Appends the line of the base mantissa B.
 fn push_base_mantissa(text: &mut Text, fields: &Fields, steps: &Steps)
     requires room { length text.old + 100 ≤ ROOM }
     ensures value { text.new ≡ text.old ++ base_mantissa_text fields.now steps.now }
@@ -143,7 +143,7 @@ fn push_base_mantissa(text: &mut Text, fields: &Fields, steps: &Steps)
     text.push(b"\n");
 }
 
-/// Appends the line of T.
+/// Appends the line of the top mantissa T, with its two implied bits.
 fn push_top_mantissa(text: &mut Text, fields: &Fields, steps: &Steps)
     requires room { length text.old + 170 ≤ ROOM }
     ensures value { text.new ≡ text.old ++ top_mantissa_text fields.now steps.now }
@@ -156,7 +156,7 @@ fn push_top_mantissa(text: &mut Text, fields: &Fields, steps: &Steps)
     end_with_decimal(text, b", and above it ", implied, b" as the 2 implied bits");
 }
 
-/// How a field of a mantissa counts.
+/// How the T or the B field counts as part of its mantissa: with IE its low three bits count as 0.
 fn stored(fields: &Fields) -> &'static [u8]
     ensures value { result.now ≡ stored_text fields.now }
     ensures fits { length result.now ≤ 35 }
@@ -168,7 +168,7 @@ fn stored(fields: &Fields) -> &'static [u8]
     }
 }
 
-/// Appends the line of how far T is above B.
+/// Appends the line of T - B modulo 2^14, and of the range that the implied bits put it in.
 fn push_length(text: &mut Text, fields: &Fields, steps: &Steps)
     requires base_mantissa { steps.now.b < 2 ^ 14 }
     requires top_mantissa { steps.now.t < 2 ^ 14 }
@@ -188,7 +188,7 @@ fn push_length(text: &mut Text, fields: &Fields, steps: &Steps)
     });
 }
 
-/// Appends the lines of the window and of the bounds.
+/// Appends the lines of the window, of the bounds and of whether the word is canonical.
 pub(crate) fn push_window_lines(
     text: &mut Text,
     fields: &Fields,
@@ -224,7 +224,7 @@ fn push_section(text: &mut Text, steps: &Steps)
     );
 }
 
-/// Appends the line of the sections.
+/// Appends the line of the sections, from 0 to 7, that B, T and the address lie in.
 fn push_sections(text: &mut Text, fields: &Fields, steps: &Steps)
     requires exponent { steps.now.exponent ≤ 52 }
     requires room { length text.old + 180 ≤ ROOM }
@@ -255,7 +255,7 @@ fn push_window(text: &mut Text, steps: &Steps)
     );
 }
 
-/// Appends the first and the last address of the window.
+/// Appends the first and the last address of the window, which is every address from exponent 50 up.
 fn push_window_addresses(text: &mut Text, steps: &Steps)
     requires exponent { steps.now.exponent ≤ 52 }
     requires start { steps.now.start < 2 ^ 67 }
@@ -272,7 +272,7 @@ fn push_window_addresses(text: &mut Text, steps: &Steps)
     }
 }
 
-/// Appends the lines of the bounds.
+/// Appends the lines of the base and of the top.
 fn push_bounds(text: &mut Text, bounds: &Span)
     requires room { length text.old + 180 ≤ ROOM }
     ensures value { text.new ≡ text.old ++ bounds_text bounds.now }

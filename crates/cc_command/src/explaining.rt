@@ -15,16 +15,17 @@ use cc_script::{ScriptFault, Sink, Summary};
 use cc_word::{Refusal, read_word, unpack};
 
 /// Writes how the word that a text spells is decoded: its fields, each step with its numbers, the bounds,
-/// whether the word is canonical and if not why, and a picture of its window; or the line `error 1 syntax`
-/// for a text that is no word. Flushes the sink once after the last line.
+/// whether the word is canonical and if not why, and a picture of its window. For a text that is no word it
+/// writes the line `error 1 syntax`. Flushes the sink once after the last line.
 ///
 /// A word is 32 hexadecimal digits of either case. No line has more than 100 bytes. Where the sink fails, a
-/// beginning of the text was written.
+/// beginning of the answer was written.
 pub fn explain_word<W: Sink>(text: &[u8], sink: &mut W) -> Result<Summary, ScriptFault>
     requires { W.has_failed sink.old ≡ false }
     ensures shown { WritesAnswer (IsExplanation text.now) (W.taken_bytes sink.old) (W.taken_bytes sink.new) result }
     ensures any_error { IfOk result (λ summary. IsTrue summary.any_error ↔ (¬ IsWordText text.now)) }
     ensures passed { OnOk result (W.waiting_bytes sink.new ≡ []) }
+    ensures flushed { OnOk result (W.is_flushed sink.new ≡ true) }
     ensures fails { IsErr result ↔ (W.has_failed sink.new ≡ true) }
     ensures write { OnErr result (result ≡ Err ScriptFault.Write) }
 {
@@ -34,7 +35,8 @@ pub fn explain_word<W: Sink>(text: &[u8], sink: &mut W) -> Result<Summary, Scrip
     Ok(summary)
 }
 
-/// Appends the explanation of a text.
+/// Appends the explanation of the word that a text spells, or the refusal of a text that is no word. The summary tells
+/// an error exactly for the latter.
 fn push_explanation(answer: &mut Text, text: &[u8]) -> Summary
     requires { answer.old ≡ [] }
     ensures explanation { IsExplanation text.now answer.new }

@@ -1,4 +1,4 @@
-//! The explanation of a length: what setting bounds of it grants, and why.
+//! The explanation of a length: what bounds of that length are granted, and why.
 ghost use Rattle.std.specs.Prelude.{◌≡◌, ◌↔◌, [], false, true, IfOk, IsErr, IsTrue, OnErr, OnOk};
 ghost use Rattle.cc_command.specs.Answer.{WritesAnswer};
 ghost use Rattle.cc_command.specs.Request.{IsLengthExplanation, request_in};
@@ -9,14 +9,14 @@ use crate::request::{grant_of, read_request};
 use crate::text::Text;
 use cc_script::{ScriptFault, Sink, Summary};
 
-/// Writes what setting bounds grants to a request for the bytes whose first address and length two texts spell: the
-/// granule and why half of it is not enough, the bounds, the bytes beside the request, which length has exact bounds
-/// and at which bases, and the word of the root capability with these bounds. Flushes the sink once after the last
-/// line.
+/// Writes what setting bounds grants to a request, whose base and length two texts spell: the granule, and why half
+/// of it is not enough; the granted bounds, and how many bytes of them lie beside the request; which length has exact
+/// bounds, and at which bases; and the word of the root capability with the granted bounds. Flushes the sink once after
+/// the last line.
 ///
-/// Where a text spells no number the answer is the line `error 1 syntax`, else where the base is above 2^64 - 1 or
-/// the length above 2^64 `error 4 range`, and else where the request ends past 2^64 `error 9 bounds`. No line has more
-/// than 100 bytes. Where the sink fails, a beginning of the text was written.
+/// The answer is `error 1 syntax` where a text spells no number; else `error 4 range` where the base is above 2^64 - 1
+/// or the length above 2^64; and else `error 9 bounds` where the request ends past 2^64. No line has more than 100
+/// bytes. Where the sink fails, a beginning of the answer was written.
 pub fn explain_length<W: Sink>(
     base: &str,
     length: &str,
@@ -26,6 +26,7 @@ pub fn explain_length<W: Sink>(
     ensures shown { WritesAnswer (IsLengthExplanation base.now length.now) (W.taken_bytes sink.old) (W.taken_bytes sink.new) result }
     ensures any_error { IfOk result (λ summary. IsTrue summary.any_error ↔ IsErr (request_in base.now length.now)) }
     ensures passed { OnOk result (W.waiting_bytes sink.new ≡ []) }
+    ensures flushed { OnOk result (W.is_flushed sink.new ≡ true) }
     ensures fails { IsErr result ↔ (W.has_failed sink.new ≡ true) }
     ensures write { OnErr result (result ≡ Err ScriptFault.Write) }
 {

@@ -1,4 +1,4 @@
-//! Hints after a run, a line for each.
+//! Hints after a run, one on each line: what the writer of a script may not see in its replies.
 ghost use Rattle.std.specs.Prelude.{◌≡◌, ◌+◌, ◌≤◌, ◌++◌, ◌↔◌, [], Err, IsErr, OnErr, OnOk, codes, false, length, option_map, true};
 ghost use Rattle.std.specs.Io.KnownBytes.{Appends};
 ghost use Rattle.cc_script.specs.Devices.{TakesBeginning};
@@ -11,14 +11,14 @@ use cc_bounds::{granule, round_length};
 use cc_machine::Len;
 use cc_script::{ScriptFault, Sink};
 
-/// What is worth a hint after a run. Lines of the script are numbered from 1, and 0 stands for none.
+/// What is worth a hint after a run. Lines of the script are numbered from 1; 0 says that there is no such line.
 #[derive(Clone, Copy, Debug, PartialEq, Eq)]
 pub struct Hints {
-    /// The length of the pool, where no capability has exactly its bounds.
+    /// The length that was asked for the pool, where its bounds cannot be stored exactly.
     pub inexact: Option<Len>,
     /// The first line that ends in a carriage return.
     pub carriage_return: u64,
-    /// The first line that would rebuild a word which is written with `0x` or a colon.
+    /// The first `rebuild` line whose word is written with `0x` or a colon.
     pub marked_word: u64,
     /// The first line that is refused as full.
     pub full: u64,
@@ -29,6 +29,8 @@ pub fn show_hints<W: Sink>(hints: &Hints, sink: &mut W) -> Result<(), ScriptFaul
     requires { W.has_failed sink.old ≡ false }
     ensures ok { OnOk result (Appends (W.taken_bytes sink.old) (W.taken_bytes sink.new) (hints_text hints.now)) }
     ensures err { OnErr result (TakesBeginning (W.taken_bytes sink.old) (W.taken_bytes sink.new) (hints_text hints.now)) }
+    ensures passed { OnOk result (W.waiting_bytes sink.new ≡ []) }
+    ensures flushed { OnOk result (W.is_flushed sink.new ≡ true) }
     ensures fails { IsErr result ↔ (W.has_failed sink.new ≡ true) }
     ensures write { OnErr result (result ≡ Err ScriptFault.Write) }
 {
@@ -37,7 +39,7 @@ pub fn show_hints<W: Sink>(hints: &Hints, sink: &mut W) -> Result<(), ScriptFaul
     write_answer(&text, sink)
 }
 
-/// Makes the text the hints.
+/// Puts the hints into the empty text.
 fn push_hints(text: &mut Text, hints: &Hints)
     requires { text.old ≡ [] }
     ensures { text.new ≡ hints_text hints.now }
@@ -60,7 +62,7 @@ fn push_hints(text: &mut Text, hints: &Hints)
     );
 }
 
-/// Appends the hint at the length that is exact, where that of the pool is not.
+/// Appends the hint that a pool of this length is not exact, and which length and bases are; nothing for `None`.
 fn push_pool_hint(text: &mut Text, inexact: Option<Len>)
     requires { length text.old + 240 ≤ ROOM }
     ensures value { text.new ≡ text.old ++ pool_hint inexact }
@@ -82,7 +84,7 @@ fn push_pool_hint(text: &mut Text, inexact: Option<Len>)
     }
 }
 
-/// Appends a hint at a line, where there is one.
+/// Appends the hint at the line of this number; nothing for 0.
 fn push_line_hint(text: &mut Text, line: u64, after: &[u8])
     requires after { length after.now ≤ 70 }
     requires room { length text.old + 140 ≤ ROOM }

@@ -12,7 +12,7 @@ const MOST_CELLS: u128 = 16_384;
 /// How many cells a row has.
 pub(crate) const ROW: u32 = 1024;
 
-/// How a pool is laid out on a page.
+/// How a pool is laid out on a page: rows of 1,024 cells of the same size.
 #[derive(Clone, Copy, Debug)]
 pub(crate) struct Layout {
     /// The pool's first address.
@@ -21,7 +21,7 @@ pub(crate) struct Layout {
     pub(crate) size: u128,
     /// How many cells cover the pool.
     pub(crate) cells: u32,
-    /// How wide a cell is drawn.
+    /// How wide a cell is drawn, in units of the drawing, from 1 to 1,024.
     pub(crate) width: u32,
 }
 
@@ -58,7 +58,7 @@ impl Layout {
     }
 }
 
-/// How many bytes a cell stands for.
+/// How many bytes a cell stands for: the least, from 1 up, with which 16,384 cells cover so many bytes.
 fn drawn_cell(bytes: u128) -> u128
     requires { bytes ≤ 2 ^ 64 }
     ensures value { result ≡ drawn_cell bytes }
@@ -67,7 +67,7 @@ fn drawn_cell(bytes: u128) -> u128
     bytes.div_ceil(MOST_CELLS).max(1)
 }
 
-/// How many cells of this size cover so many bytes.
+/// How many cells of this size cover so many bytes. The last may reach past their end.
 fn drawn_cells(bytes: u128, size: u128) -> u32
     requires { size ≡ drawn_cell bytes }
     ensures value { result ≡ drawn_cells bytes }
@@ -76,7 +76,7 @@ fn drawn_cells(bytes: u128, size: u128) -> u32
     bytes.div_ceil(size) as u32
 }
 
-/// How wide each of so many cells is drawn.
+/// How wide each of so many cells is drawn: the fewer there are, the wider, so that a row has at most 1,024 units.
 fn cell_width(cells: u32) -> u32
     ensures value { result ≡ cell_width cells }
     ensures fits { result ≤ 1024 }
@@ -84,11 +84,11 @@ fn cell_width(cells: u32) -> u32
     (ROW / cells.max(1)).max(1)
 }
 
-/// Which cells hold a byte of a span, where cells of `size` bytes follow one another from `start` on: the first of
-/// them, and the one behind the last.
+/// Which cells hold a byte of a span, where cells of `size` bytes follow one another from `start` on and are numbered
+/// from 0: the number of the first, and the one behind the last.
 ///
-/// A byte below `start` counts as the one at `start`. So of a span that has bytes, none of them below `start`, they are
-/// exactly the cells that hold a byte of it: its drawing leaves out none, and shows none besides.
+/// For a span with bytes, none of them below `start`, these are exactly the cells that hold a byte of it: its drawing
+/// leaves out none, and shows none besides. A base or a top below `start` counts as `start`.
 pub fn cells_of(start: u128, size: u128, span: &Span) -> (u128, u128)
     requires { 0 < size }
     ensures first { result.0 ≡ first_cell start size span.now }

@@ -1,6 +1,8 @@
-//! What the commands write to a sink: the listing of a word, its line, how it is decoded, a length rounded, what a
-//! request for bounds is granted, the replies to a script after a pool.
-//! No command line and no device is here; the program has those.
+//! What the commands write to a sink: of a word its listing, its line and how it is decoded; a length rounded, and what
+//! a request for bounds is granted; the replies to a script after a pool, and a map, a drawing, a summary and hints after
+//! it. [`Counted`] and [`Watched`] stand before a sink and a source, and look at what passes.
+//!
+//! The program has the command line, the files and the standard streams.
 #![tactic(auto)]
 
 mod answers;

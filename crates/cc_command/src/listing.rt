@@ -1,4 +1,4 @@
-//! The listing of a word: one line for each of its fields.
+//! The listing of a word: thirteen lines, of its fields and of what they decode to.
 ghost use Rattle.std.specs.Prelude.{◌≡◌, ◌+◌, ◌≤◌, ◌++◌, ◌↔◌, [], codes, decimal, false, true, length, IfOk, IsErr, IsTrue, OnErr, OnOk, if◌then◌else◌};
 ghost use Rattle.cc_word.specs.Word.{bit_of, word_of};
 ghost use Rattle.cc_word.specs.WordText.{digits_of};
@@ -19,13 +19,15 @@ use cc_word::{Fields, Refusal, read_word, unpack};
 /// Writes the listing of the word that a text spells, or the line `error 1 syntax` for a text that is
 /// no word, and flushes the sink once after the last line.
 ///
-/// A word is 32 hexadecimal digits of either case. Where the sink fails, a beginning of the listing was
-/// written.
+/// The listing has thirteen lines: the word, its eight fields, the exponent, base and top that they decode to, and
+/// whether the word is canonical. A word is 32 hexadecimal digits of either case. Where the sink fails, a beginning of
+/// the answer was written.
 pub fn show_word<W: Sink>(text: &[u8], sink: &mut W) -> Result<Summary, ScriptFault>
     requires { W.has_failed sink.old ≡ false }
     ensures shown { WritesAnswer (IsListing text.now) (W.taken_bytes sink.old) (W.taken_bytes sink.new) result }
     ensures any_error { IfOk result (λ summary. IsTrue summary.any_error ↔ (¬ IsWordText text.now)) }
     ensures passed { OnOk result (W.waiting_bytes sink.new ≡ []) }
+    ensures flushed { OnOk result (W.is_flushed sink.new ≡ true) }
     ensures fails { IsErr result ↔ (W.has_failed sink.new ≡ true) }
     ensures write { OnErr result (result ≡ Err ScriptFault.Write) }
 {
@@ -35,7 +37,8 @@ pub fn show_word<W: Sink>(text: &[u8], sink: &mut W) -> Result<Summary, ScriptFa
     Ok(summary)
 }
 
-/// Appends the listing of a text.
+/// Appends the listing of the word that a text spells, or the refusal of a text that is no word. The summary tells an
+/// error exactly for the latter.
 fn push_answer(answer: &mut Text, text: &[u8]) -> Summary
     requires { answer.old ≡ [] }
     ensures listing { IsListing text.now answer.new }
@@ -54,7 +57,7 @@ fn push_answer(answer: &mut Text, text: &[u8]) -> Summary
     }
 }
 
-/// Appends the lines of a word with these fields and bounds.
+/// Appends all thirteen lines of a word with these fields and bounds.
 fn push_listing(text: &mut Text, word: u128, fields: &Fields, bounds: &Span, canonical: bool)
     requires { text.old ≡ [] }
     ensures { text.new ≡ listing_of word fields.now bounds.now canonical }
@@ -80,7 +83,7 @@ fn push_field_lines(text: &mut Text, word: u128, fields: &Fields)
     push_hexadecimal_line(text, b"address", u128::from(fields.address));
 }
 
-/// Appends the lines of what the fields decode to.
+/// Appends the lines of what the fields decode to, and of whether the word is canonical.
 fn push_bounds_lines(text: &mut Text, fields: &Fields, bounds: &Span, canonical: bool)
     requires { length text.old + 143 ≤ ROOM }
     ensures { text.new ≡ text.old ++ bounds_lines_of fields.now bounds.now canonical }
@@ -127,7 +130,7 @@ fn push_decimal_line(text: &mut Text, name: &[u8], number: u128)
     text.push_line(&line);
 }
 
-/// Appends a line whose value is a number in hexadecimal, without leading zeros.
+/// Appends a line whose value is a number in hexadecimal, with `0x` and without leading zeros.
 fn push_hexadecimal_line(text: &mut Text, name: &[u8], number: u128)
     requires name { length name.now ≤ 9 }
     requires room { length text.old + length name.now + 36 ≤ ROOM }

@@ -1,4 +1,4 @@
-//! A map of a pool: what holds the bytes of each cell.
+//! A map of a pool: a mark for each cell, which says what holds its bytes.
 ghost use Rattle.std.specs.Prelude.{◌≡◌, ◌<◌, ◌≤◌, ◌+◌, ◌^◌, ◌++◌, ◌↔◌, ℕ, List, [], false, true, IfOk, IsErr, IsTrue, OnErr, OnOk, length};
 ghost use Rattle.std.specs.Int.{div_ceil};
 ghost use Rattle.cc_machine.specs.Planned.{plan_of};
@@ -18,15 +18,17 @@ use cc_script::{Line, ScriptFault, Sink, Summary};
 const MOST_CELLS: u128 = 1024;
 
 /// Writes a map of the machine's pool, and flushes the sink once after it: a line with the size of a cell, and then
-/// at most 16 rows of 64 cells, each behind the address of its first.
+/// at most 16 rows of up to 64 cells. Each row begins with the address of its first cell.
 ///
-/// The cells cover the pool, and are as small as 1,024 of them allow; they say what [`map_row`] says. The last one may
-/// reach past the pool's top. Without a pool there is no row. Where the sink fails, a beginning of the map was written.
+/// The cells cover the pool, at most 1,024 of them, as small as that allows; their marks are those of [`map_row`]. The
+/// last cell may reach past the pool's top. Without a pool there is no row. Where the sink fails, a beginning of the map
+/// was written.
 pub fn show_map<W: Sink>(machine: &Machine, sink: &mut W) -> Result<Summary, ScriptFault>
     requires { W.has_failed sink.old ≡ false }
     ensures shown { WritesAnswer (IsMap (plan_of machine.now)) (W.taken_bytes sink.old) (W.taken_bytes sink.new) result }
     ensures any_error { IfOk result (λ summary. summary.any_error ≡ false) }
     ensures passed { OnOk result (W.waiting_bytes sink.new ≡ []) }
+    ensures flushed { OnOk result (W.is_flushed sink.new ≡ true) }
     ensures fails { IsErr result ↔ (W.has_failed sink.new ≡ true) }
     ensures write { OnErr result (result ≡ Err ScriptFault.Write) }
 {
@@ -36,7 +38,7 @@ pub fn show_map<W: Sink>(machine: &Machine, sink: &mut W) -> Result<Summary, Scr
     Ok(Summary { any_error: false })
 }
 
-/// Makes the text the map of a machine's pool.
+/// Puts the map of a machine's pool into the empty text.
 fn push_map_of_machine(text: &mut Text, machine: &Machine)
     requires { text.old ≡ [] }
     ensures { IsMap (plan_of machine.now) text.new }
@@ -45,7 +47,7 @@ fn push_map_of_machine(text: &mut Text, machine: &Machine)
     push_map(text, planner.objects(), &pool_span(planner.pool()));
 }
 
-/// Makes the text the map of these objects in this pool.
+/// Puts the map of these objects in this pool into the empty text.
 fn push_map(text: &mut Text, objects: &[PlannedObject], pool: &Span)
     requires empty { text.old ≡ [] }
     requires in_order { pool.now.base ≤ pool.now.top }
@@ -64,7 +66,7 @@ fn push_map(text: &mut Text, objects: &[PlannedObject], pool: &Span)
     push_rows(text, objects, u128::from(pool.base), size, cells);
 }
 
-/// How many bytes a cell stands for.
+/// How many bytes a cell stands for: the least, from 1 up, with which 1,024 cells cover so many bytes.
 fn cell_size(bytes: u128) -> u128
     requires { bytes ≤ 2 ^ 64 }
     ensures value { result ≡ map_cell bytes }
@@ -73,7 +75,7 @@ fn cell_size(bytes: u128) -> u128
     bytes.div_ceil(MOST_CELLS).max(1)
 }
 
-/// How many cells of this size cover so many bytes.
+/// How many cells of this size cover so many bytes. The last may reach past their end.
 fn cell_count(bytes: u128, size: u128) -> usize
     requires { size ≡ map_cell bytes }
     ensures value { result ≡ div_ceil bytes size }
@@ -82,7 +84,7 @@ fn cell_count(bytes: u128, size: u128) -> usize
     bytes.div_ceil(size) as usize
 }
 
-/// Appends the rows of so many cells.
+/// Appends the rows of so many cells, which follow one another from `start` on.
 fn push_rows(text: &mut Text, objects: &[PlannedObject], start: u128, size: u128, cells: usize)
     requires start { start ≤ 2 ^ 64 }
     requires size { size ≤ 2 ^ 54 }
@@ -102,7 +104,7 @@ fn push_rows(text: &mut Text, objects: &[PlannedObject], start: u128, size: u128
     }
 }
 
-/// Appends a row.
+/// Appends a row: the address of its first cell, and the marks of its cells.
 fn push_row(text: &mut Text, start: u128, cells: &[u8])
     requires cells { length cells.now ≤ 64 }
     requires room { length text.old + 120 ≤ ROOM }
@@ -116,10 +118,10 @@ fn push_row(text: &mut Text, start: u128, cells: &[u8])
     text.push_line(&line);
 }
 
-/// What the 64 cells of this size say that follow one another from an address on.
+/// The marks of 64 cells of `size` bytes, which follow one another from the address `start` on.
 ///
-/// A cell says `#` where some of its bytes are live and none quarantined, `~` where some are quarantined and none
-/// live, `*` where there are both, and a point where no object holds one.
+/// A cell has the mark `#` where some of its bytes are live and none quarantined, `~` where some are quarantined and
+/// none live, `*` where there are both, and a point where no object holds a byte of it.
 pub fn map_row(objects: &[PlannedObject], start: u128, size: u128) -> [u8; 64]
     requires start { start < 2 ^ 66 }
     requires size { size < 2 ^ 66 }
@@ -137,7 +139,7 @@ pub fn map_row(objects: &[PlannedObject], start: u128, size: u128) -> [u8; 64]
     row
 }
 
-/// What a cell says.
+/// The mark of a cell, as [`map_row`] says it.
 fn mark_of(objects: &[PlannedObject], cell: &Stretch) -> u8
     ensures { TellsCell objects.now (record { base = cell.now.first; top = cell.now.end }) result }
 {
@@ -151,7 +153,7 @@ fn mark_of(objects: &[PlannedObject], cell: &Stretch) -> u8
     }
 }
 
-/// Whether a byte of the cell is one of an object in this state.
+/// Whether the cell has a byte of an object in this state.
 fn holds_byte(objects: &[PlannedObject], state: ObjectState, cell: &Stretch) -> bool
     ensures { IsTrue result ↔ HoldsByte objects.now state (record { base = cell.now.first; top = cell.now.end }) }
 {

@@ -34,7 +34,7 @@ pub(crate) fn push_decimal(text: &mut Text, before: &[u8], number: u128)
     text.push(piece.bytes());
 }
 
-/// Appends bytes, and then a number in hexadecimal, without leading zeros.
+/// Appends bytes, and then a number in hexadecimal, with `0x` and without leading zeros.
 #[tactic(auto, unfolding(crate::specs::Numbered::with_hexadecimal))]
 pub(crate) fn push_hexadecimal(text: &mut Text, before: &[u8], number: u128)
     requires before { length before.now ≤ 60 }
@@ -48,7 +48,7 @@ pub(crate) fn push_hexadecimal(text: &mut Text, before: &[u8], number: u128)
     text.push(piece.bytes());
 }
 
-/// Appends the end of a line, with a number in decimal in it.
+/// Appends the end of a line: bytes, a number in decimal, bytes and the line feed.
 #[tactic(auto, unfolding(crate::specs::Numbered::line_with_decimal))]
 pub(crate) fn end_with_decimal(text: &mut Text, before: &[u8], number: u128, after: &[u8])
     requires before { length before.now ≤ 60 }
@@ -64,7 +64,7 @@ pub(crate) fn end_with_decimal(text: &mut Text, before: &[u8], number: u128, aft
     text.push_line(&piece);
 }
 
-/// Appends the end of a line, with a number in hexadecimal in it.
+/// Appends the end of a line: bytes, a number in hexadecimal with `0x`, bytes and the line feed.
 #[tactic(auto, unfolding(crate::specs::Numbered::line_with_hexadecimal))]
 pub(crate) fn end_with_hexadecimal(text: &mut Text, before: &[u8], number: u128, after: &[u8])
     requires before { length before.now ≤ 60 }

@@ -8,7 +8,8 @@ use bitflags::{Flag, Flags};
 use cc_cap::Perms;
 use cc_script::Line;
 
-/// Appends the names of the permissions from bit 0 up, joined by `+`, or `-` for none.
+/// Appends the names of the permissions from bit 0 up, joined by `+`, or `-` for none: at most 125 bytes. The line needs
+/// room for as many.
 #[tactic(auto, unfolding(crate::specs::Permissions::permissions_text))]
 pub fn push_permissions(line: &mut Line, perms: Perms)
     requires { length line.old + 125 ≤ 192 }
@@ -22,7 +23,7 @@ pub fn push_permissions(line: &mut Line, perms: Perms)
     }
 }
 
-/// Appends the names of those of the flags that the permissions have, joined by `+`.
+/// Appends, of these flags, the names of those that the set has, joined by `+`.
 fn push_names(line: &mut Line, perms: Perms, flags: &[Flag<Perms>])
     requires { length line.old + room_of (rows_of flags.now) ≤ 192 }
     ensures value { line.new ≡ line.old ++ join_with_byte 43 (names_of_set (bits_of perms) (rows_of flags.now)) }

@@ -21,16 +21,16 @@ pub(crate) struct Stretch {
     pub(crate) end: u128,
 }
 
-/// The rows of a picture.
+/// The rows of a picture. A cell that nothing marks is a point.
 #[derive(Clone, Copy, Debug)]
 pub(crate) struct Rows {
-    /// The cells that hold a byte of the bounds.
+    /// The cells that hold a byte of the bounds, marked `#`.
     pub(crate) bytes: [u8; CELLS],
-    /// The cell of the base.
+    /// The cell of the base, marked `B`.
     pub(crate) base: [u8; CELLS],
-    /// The cell of the top.
+    /// The cell of the byte at the top, marked `T`.
     pub(crate) top: [u8; CELLS],
-    /// The cell of the address.
+    /// The cell of the address, marked `A`.
     pub(crate) address: [u8; CELLS],
 }
 
@@ -58,7 +58,7 @@ pub(crate) fn rows_of(fields: &Fields, steps: &Steps) -> Rows
     }
 }
 
-/// The size of a cell: eight cells are a section.
+/// The size of a cell in bytes: an eighth of a section.
 fn cell_size(steps: &Steps) -> u128
     requires { steps.now.exponent ≤ 52 }
     ensures value { result ≡ cell_size steps.now }
@@ -67,7 +67,7 @@ fn cell_size(steps: &Steps) -> u128
     section(steps.exponent) / 8
 }
 
-/// One byte.
+/// The one byte at an address.
 fn byte_at(address: u128) -> Stretch
     requires { address < 2 ^ 68 }
     ensures { result ≡ record { first = address; end = address + 1 } }
@@ -78,7 +78,7 @@ fn byte_at(address: u128) -> Stretch
     }
 }
 
-/// The row of the window's cells in which those have the mark that hold a byte of a stretch.
+/// The row of the window's 64 cells: a cell has the mark where it holds a byte of the stretch, and else is a point.
 fn row_of(steps: &Steps, stretch: &Stretch, mark: u8) -> [u8; CELLS]
     requires exponent { steps.now.exponent ≤ 52 }
     requires start { steps.now.start < 2 ^ 67 }

@@ -22,10 +22,10 @@ pub(crate) struct Grant {
     pub(crate) word: u128,
 }
 
-/// The request that two texts spell.
+/// The request whose base and length two texts spell.
 ///
-/// Refused with `Syntax` where one of them spells no number, else with `OutOfRange` where one is too large, and
-/// else with `OutOfBounds` where the request ends past the address space.
+/// Refused with `Syntax` where a text spells no number; else with `OutOfRange` where the base is above 2^64 - 1 or the
+/// length above 2^64; and else with `OutOfBounds` where the request ends past 2^64.
 pub(crate) fn read_request(base: &str, length: &str) -> Result<Span, Refusal>
     ensures request { result ≡ request_in base.now length.now }
     ensures is_span { IfOk result IsSpan }
@@ -36,7 +36,7 @@ pub(crate) fn read_request(base: &str, length: &str) -> Result<Span, Refusal>
     }
 }
 
-/// The request of so many bytes from a base on, where it ends within the address space.
+/// The request of so many bytes from a base on, or `OutOfBounds` where it ends past 2^64.
 fn request_from(base: u64, length: u128) -> Result<Span, Refusal>
     requires { length ≤ 2 ^ 64 }
     ensures request { result ≡ request_from (Ok (base, length)) }
@@ -75,7 +75,7 @@ pub(crate) fn length_of(request: &Span) -> u128
     request.top - u128::from(request.base)
 }
 
-/// How many granules of a size a request touches.
+/// How many granules of this size a request touches, where they begin at multiples of it.
 pub(crate) fn granule_count(request: &Span, granule: u64) -> u128
     requires is_span { IsSpan request.now }
     requires some { 0 < granule }
@@ -85,7 +85,7 @@ pub(crate) fn granule_count(request: &Span, granule: u64) -> u128
     request.top.div_ceil(granule) - u128::from(request.base) / granule
 }
 
-/// The granule of a request that is granted the bounds of a set.
+/// The granule of a request, in bytes; `set` is what setting its bounds made.
 fn granule_of(request: &Span, set: &Set) -> u64
     requires is_span { IsSpan request.now }
     requires granted { IsGranted request.now set.now.granted }
@@ -110,7 +110,7 @@ fn word_of(request: &Span, granted: &Span) -> u128
     }
 }
 
-/// The root capability with the bounds of a request, at the request's base.
+/// The root capability with the bounds of a request, at the request's base. It is never refused.
 fn derived(request: &Span) -> Result<Cap, Refusal>
     requires { IsSpan request.now }
     ensures { (granted : SpanSpec) × IsGranted request.now granted × (result ≡ Ok (granted_capability request.now granted)) }

@@ -1,4 +1,4 @@
-//! Lengths as setting bounds rounds them.
+//! The answer of `round`: how setting bounds rounds a length.
 ghost use Rattle.std.specs.Prelude.{◌≡◌, ◌↔◌, [], false, true, IfOk, IsErr, IsTrue, OnErr, OnOk};
 ghost use Rattle.cc_script.specs.Commands.{length_in};
 ghost use Rattle.cc_command.specs.Answer.{WritesAnswer};
@@ -10,8 +10,8 @@ use cc_machine::Reply;
 use cc_script::{ScriptFault, Sink, Summary, read_length, reply_line};
 
 /// Writes the line `round LENGTH GRANULE MASK` for the length that a text spells, and flushes the sink
-/// once after it: the bytes that bounds of that length take, the alignment that they need, and the mask
-/// that rounds an address down to it.
+/// once after it. LENGTH is how many bytes such bounds take, GRANULE is of what their base has to be a
+/// multiple, and MASK rounds an address down to such a multiple.
 ///
 /// The line is `error 1 syntax` for a text that spells no number, and else `error 4 range` for a number
 /// above 2^64. Where the sink fails, a beginning of the line was written.
@@ -20,6 +20,7 @@ pub fn show_round<W: Sink>(text: &[u8], sink: &mut W) -> Result<Summary, ScriptF
     ensures shown { WritesAnswer (IsRounding text.now) (W.taken_bytes sink.old) (W.taken_bytes sink.new) result }
     ensures any_error { IfOk result (λ summary. IsTrue summary.any_error ↔ IsErr (length_in text.now)) }
     ensures passed { OnOk result (W.waiting_bytes sink.new ≡ []) }
+    ensures flushed { OnOk result (W.is_flushed sink.new ≡ true) }
     ensures fails { IsErr result ↔ (W.has_failed sink.new ≡ true) }
     ensures write { OnErr result (result ≡ Err ScriptFault.Write) }
 {
@@ -29,7 +30,7 @@ pub fn show_round<W: Sink>(text: &[u8], sink: &mut W) -> Result<Summary, ScriptF
     Ok(summary)
 }
 
-/// Makes the text the line of what the length that a text spells is rounded to, or why it spells none.
+/// Puts the line for the length that a text spells, or the refusal of a text that spells none, into the empty answer.
 fn push_rounding(answer: &mut Text, text: &[u8]) -> Summary
     requires { answer.old ≡ [] }
     ensures rounding { IsRounding text.now answer.new }

@@ -13,24 +13,24 @@ use cc_bounds::{ADDRESS_SPACE, Span, set_bounds};
 use cc_cap::{ObjType, is_canonical};
 use cc_word::Fields;
 
-/// Whether a word is canonical, and if not, the first reason why it is the word of no capability.
+/// Whether a word is canonical, and if not, the first of these reasons that it has.
 #[derive(Clone, Copy, Debug)]
 pub(crate) enum Standing {
     /// It is canonical.
     Canonical,
     /// A reserved bit is set.
     ReservedBits,
-    /// The type is reserved.
+    /// The type is reserved: from 0x3fff0 to 0x3fffe.
     ReservedType,
     /// The top is below the base.
     TopBelowBase,
     /// The top is above 2^64.
     TopPastEnd,
-    /// Setting the bounds that it decodes to stores other fields than its own: these.
+    /// Setting the bounds that it decodes to stores these fields, and its own are others.
     StoredAs { ie: bool, t: u16, b: u16 },
 }
 
-/// Where a word stands that has these fields and bounds.
+/// Whether the word is canonical, and if not why. `fields` are its fields, and `bounds` is what they decode to.
 pub(crate) fn standing_of(word: u128, fields: &Fields, bounds: &Span) -> Standing
     requires word { word_of fields.now ≡ word }
     requires decoded { DecodesTo fields.now bounds.now }
@@ -58,7 +58,7 @@ fn is_type(otype: u32) -> bool
     ObjType::from_bits(otype).is_some()
 }
 
-/// What setting these bounds stores.
+/// The fields that setting these bounds stores, as the reason why a word with other fields is not canonical.
 fn stored_as(bounds: &Span) -> Standing
     requires is_span { IsSpan bounds.now }
     requires decoded { IsDecoded bounds.now }

@@ -13,11 +13,11 @@ use crate::usage::Usage;
 use cc_script::{Line, ScriptFault, Sink};
 
 /// Writes the summary of a run, a line for each number, and flushes the sink once after the last: how many lines
-/// were answered, of each refusal how many and where first, and what the machine uses.
+/// were answered; of each refusal how many replies are it, and the line of the first; and what the machine uses.
 ///
-/// The first `opening` replies are those of operations before the script, and are not counted among its lines; a
-/// refusal among them has the line 0. The caller has that at most 2^80 bytes are held, as
-/// [`usage_of`](crate::usage_of) tells. Where the sink fails, a beginning of the summary was written.
+/// The first `opening` replies are those of operations before the script. They are not counted among its lines, and a
+/// refusal that came first among them has the line 0. At most 2^80 bytes may be held, which
+/// [`usage_of`](crate::usage_of) ensures. Where the sink fails, a beginning of the summary was written.
 pub fn show_statistics<W: Sink>(
     usage: &Usage,
     tally: &Tally,
@@ -29,6 +29,7 @@ pub fn show_statistics<W: Sink>(
     ensures ok { OnOk result (Appends (W.taken_bytes sink.old) (W.taken_bytes sink.new) (statistics_text usage.now tally.now opening)) }
     ensures err { OnErr result (TakesBeginning (W.taken_bytes sink.old) (W.taken_bytes sink.new) (statistics_text usage.now tally.now opening)) }
     ensures passed { OnOk result (W.waiting_bytes sink.new ≡ []) }
+    ensures flushed { OnOk result (W.is_flushed sink.new ≡ true) }
     ensures fails { IsErr result ↔ (W.has_failed sink.new ≡ true) }
     ensures write { OnErr result (result ≡ Err ScriptFault.Write) }
 {
@@ -37,7 +38,7 @@ pub fn show_statistics<W: Sink>(
     write_answer(&text, sink)
 }
 
-/// Makes the text the summary of a run.
+/// Puts the summary of a run into the empty text.
 fn push_statistics(text: &mut Text, usage: &Usage, tally: &Tally, opening: u64)
     requires empty { text.old ≡ [] }
     requires fits { usage.now.held ≤ 2 ^ 80 }
@@ -54,7 +55,7 @@ fn push_statistics(text: &mut Text, usage: &Usage, tally: &Tally, opening: u64)
     push_holes(text, usage);
 }
 
-/// Appends a name, which ends with a space, and a number.
+/// Appends the line of a number behind its name, which ends with a space.
 fn push_number(text: &mut Text, name: &[u8], number: u128)
     requires name { length name.now ≤ 60 }
     requires room { length text.old + length name.now + 41 ≤ ROOM }
@@ -64,7 +65,7 @@ fn push_number(text: &mut Text, name: &[u8], number: u128)
     end_with_decimal(text, name, number, b"");
 }
 
-/// Appends the counts of the refusals that were replies.
+/// Appends the counts of those refusals that were replies, in the order of their codes.
 fn push_counts(text: &mut Text, counts: &[Count], opening: u64)
     requires few { length counts.now ≤ 22 }
     requires room { length text.old ≤ 100 }
@@ -80,7 +81,7 @@ fn push_counts(text: &mut Text, counts: &[Count], opening: u64)
     }
 }
 
-/// Appends the count of a refusal, and the line of the first.
+/// Appends two lines of a refusal: how many replies are it, and which line of the script got the first.
 fn push_count(text: &mut Text, count: &Count, opening: u64)
     requires { length text.old + 140 ≤ ROOM }
     ensures value { text.new ≡ text.old ++ count_lines opening count.now }
@@ -101,7 +102,7 @@ fn push_count(text: &mut Text, count: &Count, opening: u64)
     text.push_line(&line);
 }
 
-/// Appends how many slots and objects there are.
+/// Appends the lines of the slots, of the limit, and of the objects by their states.
 fn push_objects(text: &mut Text, usage: &Usage)
     requires { length text.old ≤ 3180 }
     ensures value { text.new ≡ text.old ++ objects_text usage.now }
@@ -115,7 +116,7 @@ fn push_objects(text: &mut Text, usage: &Usage)
     push_number(text, b"swept ", usage.swept as u128);
 }
 
-/// Appends how many bytes were asked for, and how many are held.
+/// Appends how many bytes were asked for, how many are held, and the padding: held bytes that nobody asked for.
 fn push_bytes(text: &mut Text, usage: &Usage)
     requires fits { usage.now.held ≤ 2 ^ 80 }
     requires room { length text.old ≤ 3480 }
@@ -129,7 +130,7 @@ fn push_bytes(text: &mut Text, usage: &Usage)
     push_percent(text, hundredths_of(padding, usage.held));
 }
 
-/// How many hundredths of a percent a part is of a whole, rounded down, and 0 of nothing.
+/// How many hundredths of a percent of the whole the part is, rounded down, and 0 where the whole is 0.
 fn hundredths_of(part: u128, whole: u128) -> u128
     requires { part ≤ 2 ^ 80 }
     ensures { result ≡ hundredths_of part whole }
@@ -137,7 +138,7 @@ fn hundredths_of(part: u128, whole: u128) -> u128
     if whole == 0 { 0 } else { part * 10_000 / whole }
 }
 
-/// Appends how many hundredths of a percent the padding is.
+/// Appends the line of the padding in percent of the held bytes, with two digits behind the point.
 #[tactic(auto, unfolding(crate::specs::Statistics::percent_text))]
 fn push_percent(text: &mut Text, hundredths: u128)
     requires { length text.old + 140 ≤ ROOM }
@@ -153,7 +154,7 @@ fn push_percent(text: &mut Text, hundredths: u128)
     text.push_line(&line);
 }
 
-/// Appends what is left of the pool, and how far it was used.
+/// Appends the lines of the pool, of its free bytes, of its holes and of the highest byte that an object had.
 fn push_holes(text: &mut Text, usage: &Usage)
     requires { length text.old ≤ 3780 }
     ensures { text.new ≡ text.old ++ holes_text usage.now }
@@ -165,7 +166,7 @@ fn push_holes(text: &mut Text, usage: &Usage)
     push_end(text, usage.end);
 }
 
-/// Appends the highest address that an object had.
+/// Appends the line of the last byte below `end`, or of `none` where that is 0.
 fn push_end(text: &mut Text, end: u128)
     requires { length text.old + 60 ≤ ROOM }
     ensures { text.new ≡ text.old ++ end_text end }

@@ -8,10 +8,10 @@ ghost use Rattle.cc_command.specs.declared.steps.TheConstants.{LAPS};
 use cc_bounds::exponent;
 use cc_word::Fields;
 
-/// Four laps of the address space. By as much a number is moved up that may else be below zero.
+/// Four laps of the address space: 2^66. Numbers that could be below zero are raised by it.
 pub(crate) const LAPS: u128 = 1 << 66;
 
-/// What decoding finds on its way.
+/// What decoding finds on its way: the exponent, the mantissas, and where they stand in the window.
 #[derive(Clone, Copy, Debug)]
 pub(crate) struct Steps {
     /// The exponent E, from 0 to 52.
@@ -22,11 +22,11 @@ pub(crate) struct Steps {
     pub(crate) t: u16,
     /// The section with which the window begins, from 0 to 7.
     pub(crate) first_section: u16,
-    /// Where the window begins, [`LAPS`] up.
+    /// Where the window begins, raised by [`LAPS`].
     pub(crate) start: u128,
-    /// Where B stands in the window, [`LAPS`] up.
+    /// Where B stands in the window, raised by [`LAPS`].
     pub(crate) base: u128,
-    /// Where T stands in the window, [`LAPS`] up.
+    /// Where T stands in the window, raised by [`LAPS`].
     pub(crate) top: u128,
 }
 
@@ -48,7 +48,7 @@ pub(crate) fn decoding_steps(fields: &Fields) -> Steps
     }
 }
 
-/// The size of a section of the window.
+/// The size of a section, an eighth of the window: 2^(E+11) bytes.
 pub(crate) fn section(exponent: u8) -> u128
     requires { exponent ≤ 52 }
     ensures value { result ≡ section_of exponent }
@@ -58,7 +58,7 @@ pub(crate) fn section(exponent: u8) -> u128
     1 << (u32::from(exponent) + 11)
 }
 
-/// The B field without the exponent's bits.
+/// The base mantissa: the B field, whose low three bits count as 0 with IE.
 fn base_mantissa(fields: &Fields) -> u16
     ensures value { result ≡ base_mantissa fields.now }
     ensures fits { result < 2 ^ 14 }
@@ -66,7 +66,7 @@ fn base_mantissa(fields: &Fields) -> u16
     if fields.ie { fields.b & !0x7 } else { fields.b }
 }
 
-/// The T field without the exponent's bits, below the two bits that are implied.
+/// The top mantissa: the T field, whose low three bits count as 0 with IE, and above it the two implied bits.
 fn top_mantissa(fields: &Fields) -> u16
     ensures value { IsTopMantissa fields.now result }
     ensures fits { result < 2 ^ 14 }
@@ -77,14 +77,14 @@ fn top_mantissa(fields: &Fields) -> u16
     (base + length) & 0x3fff
 }
 
-/// The section below that of B, with which the window begins.
+/// The section with which the window begins, from 0 to 7: the one below that of B.
 fn first_section(fields: &Fields) -> u16
     ensures { result ≡ first_section fields.now }
 {
     (base_mantissa(fields) / 2048 + 7) % 8
 }
 
-/// Where the window begins that has the address in it.
+/// Where the window begins that has the address in it, raised by [`LAPS`].
 fn window_start(fields: &Fields) -> u128
     ensures { IsWindow fields.now result }
 {
@@ -106,7 +106,7 @@ fn place(fields: &Fields, start: u128, mantissa: u16) -> u128
     start + (scaled + size - start % size) % size
 }
 
-/// What a mantissa counts in.
+/// The unit of a mantissa: 2^E bytes.
 pub(crate) fn unit(exponent: u8) -> u128
     requires { exponent ≤ 52 }
     ensures value { result ≡ 2 ^ exponent }

@@ -6,7 +6,7 @@ ghost use Rattle.cc_command.specs.Tally.{IsTally, count_in, counted, is_refusal}
 use cc_script::{LineStart, refusal_line, split_at_line_feed};
 use cc_word::Refusal;
 
-/// How often one refusal was the reply, and where first.
+/// How many replies are one refusal, and which of all replies is the first of them.
 #[derive(Clone, Copy, Debug, PartialEq, Eq)]
 pub struct Count {
     /// The refusal.
@@ -17,18 +17,18 @@ pub struct Count {
     pub first: u64,
 }
 
-/// What is counted of replies: how many there are, and of each refusal how many, and where first.
+/// The counts of some replies: how many there are, and of each refusal how many replies are it, and which is the first.
 #[derive(Drop)]
 pub struct Tally {
     /// How many replies there are, at most 2^64 - 1.
     pub lines: u64,
-    /// The beginning of a reply that has not ended yet.
+    /// The first bytes, at most 129, of a reply that has not ended yet.
     pub begun: LineStart,
     /// The counts of the refusals, in the order of their codes.
     pub counts: [Count; 22],
 }
 
-/// No reply is this refusal.
+/// The count of a refusal that no reply is.
 macro_rules! none {
     ($refusal:ident) => {
         Count {
@@ -66,7 +66,7 @@ const NONE: [Count; 22] = [
 ];
 
 impl Count {
-    /// The count with one reply more, whose number this is.
+    /// The count after one reply more: this line, with this number among all replies.
     fn with_line(self, line: &[u8], number: u64) -> Count
         ensures { (lines : List (List ℕ)) → self ≡ count_in lines self.refusal → number ≡ counted (length lines + 1)
             → result ≡ count_in (lines ++ line.now ∷ []) self.refusal }
@@ -82,7 +82,7 @@ impl Count {
     }
 }
 
-/// Whether a line is this refusal. A reply that is none is told by its first byte.
+/// Whether a line is this refusal. All refusals begin with `e`, so most other replies are told by their first byte.
 fn is_refusal(refusal: Refusal, line: &[u8]) -> bool
     ensures { result ≡ is_refusal refusal line.now }
 {
@@ -101,7 +101,7 @@ impl Tally {
         }
     }
 
-    /// Counts what stands in the next bytes of the replies. They may begin and end within a reply.
+    /// Counts the replies that end in the next bytes. These may begin and end within a reply.
     pub fn take(&mut self, bytes: &[u8])
         ensures { (text : List ℕ) → IsTally text self.old → IsTally (text ++ bytes.now) self.new }
     {

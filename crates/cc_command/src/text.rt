@@ -5,10 +5,10 @@ ghost use Rattle.cc_script.specs.Output.{with_line_feed};
 use cc_script::Line;
 use std::marker::Model;
 
-/// The most bytes of a text: more than any answer of the program has.
+/// The most bytes of a text. No answer, and no part of a drawing, that is written at once has more.
 pub(crate) const ROOM: usize = 4096;
 
-/// Text of at most [`ROOM`] bytes, which is grown at its end and never allocates.
+/// Text of at most [`ROOM`] bytes, which grows at its end and never allocates.
 #[derive(Drop)]
 pub(crate) struct Text {
     room: [u8; ROOM],

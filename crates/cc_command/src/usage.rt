@@ -13,7 +13,7 @@ use std::alloc::{AllocError, Global};
 /// What the objects of a machine take of its pool, and what is left. Bytes are at most 2^64.
 #[derive(Clone, Copy, Debug, PartialEq, Eq)]
 pub struct Usage {
-    /// How many slots were made, revoked ones counted, from 1 up.
+    /// How many slots there are, slot 0 and revoked ones counted: from 1 up.
     pub slots: u32,
     /// The most slots, and the most objects, that the machine can have.
     pub limit: u32,
@@ -25,18 +25,18 @@ pub struct Usage {
     pub quarantined: usize,
     /// How many were swept.
     pub swept: usize,
-    /// How many bytes were asked for by the objects that are held: live, or quarantined.
+    /// How many bytes were asked for, of all objects that are held: live or quarantined.
     pub asked: u128,
-    /// How many bytes they hold, padding counted.
+    /// How many bytes these objects hold, padding counted.
     pub held: u128,
     /// How many bytes the pool has, and 0 where there is none.
     pub pool: u128,
-    /// How many holes the pool has: a hole is all the bytes between two objects, or an object and an end of the pool, that
-    /// no object holds.
+    /// How many holes the pool has. A hole is the bytes between a held object and the next, or between one and an end of
+    /// the pool, where there are any; a pool with bytes and no held object is one hole.
     pub holes: usize,
     /// How many bytes the largest hole has, and 0 where there is none.
     pub largest: u128,
-    /// Where the object ends that ends highest of all that were made, swept ones counted, and 0 where none was made.
+    /// The highest top of all objects that were made, swept ones counted, and 0 where none was made.
     pub end: u128,
 }
 
@@ -48,7 +48,7 @@ struct Holes {
 }
 
 impl Holes {
-    /// Adds the bytes between two objects, which are a hole if there are any.
+    /// Adds a gap of so many bytes, which is a hole unless it has none.
     fn add(&mut self, gap: u128)
         requires { self.old.count ≤ 65536 }
         ensures count { self.new.count ≡ self.old.count + length (hole gap) }
@@ -61,9 +61,9 @@ impl Holes {
     }
 }
 
-/// What a machine uses.
+/// What a machine uses of its slots, of its objects and of its pool.
 ///
-/// Takes memory for the spans that are held, and gives it back; `AllocError` where it is refused.
+/// Takes memory for the held spans, which it brings into order, and gives it back; `AllocError` where it is refused.
 pub fn usage_of(alloc: Global, machine: &Machine) -> Result<Usage, AllocError>
     ensures usage { IfOk result (IsUsage machine.now) }
     ensures fits { IfOk result (λ usage. usage.held ≤ 2 ^ 80) }
@@ -89,7 +89,7 @@ pub fn usage_of(alloc: Global, machine: &Machine) -> Result<Usage, AllocError>
     })
 }
 
-/// The bounds of a pool, and no bytes where there is none.
+/// The bounds of a pool, and base and top 0 where there is none.
 pub(crate) fn pool_span(pool: Option<Cap>) -> Span
     ensures value { result ≡ unwrap_or (option_map (λ pool. pool.span) pool) (from_zero 0) }
     ensures in_order { result.base ≤ result.top }
@@ -131,14 +131,14 @@ fn swept_count(objects: &[PlannedObject]) -> usize
         .count()
 }
 
-/// Whether an object holds its bytes.
+/// Whether an object holds its bytes: until it is swept.
 fn is_held(object: &PlannedObject) -> bool
     ensures { result ≡ is_held object.now.state }
 {
     !matches!(object.state, ObjectState::Swept)
 }
 
-/// How many bytes the held objects were made for.
+/// The bytes that were asked for, of all held objects: without padding.
 fn asked_bytes(objects: &[PlannedObject]) -> u128
     requires { asked_bytes_of objects.now < 2 ^ 128 }
     ensures { result ≡ asked_bytes_of objects.now }
@@ -154,7 +154,7 @@ fn asked_bytes(objects: &[PlannedObject]) -> u128
     asked
 }
 
-/// Where the object ends that ends highest, and 0 without one.
+/// The highest top of the objects, and 0 where there is none.
 fn highest_top(objects: &[PlannedObject]) -> u128
     ensures { result ≡ highest_top objects.now }
 {
@@ -188,7 +188,7 @@ fn spans_in_order(alloc: Global, objects: &[PlannedObject]) -> Result<Vec<Span>,
     Ok(spans)
 }
 
-/// The holes of a pool beside spans that stand in the order of their addresses.
+/// The holes that these spans, which stand in the order of their addresses, leave in a pool.
 fn holes_beside(pool: &Span, order: &[Span]) -> Holes
     requires { length order.now ≤ 65536 }
     ensures count { result.count ≡ length (holes pool.now.base pool.now.top order.now) }

@@ -1,26 +1,26 @@
-//! What is seen in the lines of a script as they are read.
+//! What is looked for in the lines of a script as they are read.
 ghost use Rattle.std.specs.Prelude.{◌≡◌, ℕ, ◌+◌, List, [], ◌∷◌, ◌++◌, length};
 ghost use Rattle.cc_script.specs.Lines.{IsLine};
 ghost use Rattle.cc_command.specs.Hints.{IsWatch, ends_in_return, first_after, has_marked_word};
 
 use cc_script::{LineStart, split_at_line_feed};
 
-/// How many bytes a word has that is written with `0x`.
+/// The bytes of a word that is written with `0x`: that and 32 digits.
 const MARKED: usize = 34;
 
 /// The most bytes of a command.
 const MOST_BYTES: usize = 128;
 
-/// The first lines of a script that are worth a hint. Lines are numbered from 1, and 0 stands for none.
+/// The first lines of a script that are worth a hint. Lines are numbered from 1; 0 says that there is no such line.
 #[derive(Drop)]
 pub struct Watch {
     /// How many lines there are, at most 2^64 - 1.
     pub lines: u64,
-    /// The beginning of a line that has not ended yet.
+    /// The first bytes, at most 129, of a line that has not ended yet.
     pub begun: LineStart,
     /// The first line of at most 128 bytes that ends in a carriage return.
     pub carriage_return: u64,
-    /// The first line of at most 128 bytes that would rebuild a word which is written with `0x` or a colon.
+    /// The first `rebuild` line of at most 128 bytes whose word is written with `0x` or a colon.
     pub marked_word: u64,
 }
 
@@ -64,21 +64,21 @@ impl Watch {
     }
 }
 
-/// The first line that passes, where this line was read too.
+/// The number of the first line that passes, after one line more: `first`, or where that is 0 the new one's, if it passes.
 fn first_after(first: u64, passes: bool, number: u64) -> u64
     ensures { result ≡ first_after first passes number }
 {
     if first == 0 && passes { number } else { first }
 }
 
-/// Whether a line that may be a command ends in a carriage return.
+/// Whether a line that may be a command, of at most 128 bytes, ends in a carriage return.
 fn ends_in_return(line: &[u8]) -> bool
     ensures { result ≡ ends_in_return line.now }
 {
     line.len() <= MOST_BYTES && line.ends_with(b"\r")
 }
 
-/// Whether a line that may be a command would rebuild a word which is written with `0x` or a colon.
+/// Whether a line of at most 128 bytes is a `rebuild` whose word is written with `0x` or a colon.
 fn has_marked_word(line: &[u8]) -> bool
     ensures { result ≡ has_marked_word line.now }
 {

@@ -24,7 +24,7 @@ impl<R: Source> Model for Watched<R> {
 }
 
 impl<R: Source> Watched<R> {
-    /// A source before this one. No line is read.
+    /// Watches what `inner` gives from now on. No line is read yet.
     pub fn new(inner: R) -> Self
         ensures inner { result.inner ≡ inner }
         ensures watch { IsWatch [] result.watch }

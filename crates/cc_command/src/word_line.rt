@@ -1,4 +1,4 @@
-//! A word on one line.
+//! The answer of `show --line`: a word on one line.
 ghost use Rattle.std.specs.Prelude.{◌≡◌, ◌↔◌, [], false, true, IfOk, IsErr, IsTrue, OnErr, OnOk};
 ghost use Rattle.cc_command.specs.Answer.{WritesAnswer};
 ghost use Rattle.cc_command.specs.LineAnswer.{IsLineAnswer};
@@ -10,15 +10,17 @@ use cc_cap::WordLine;
 use cc_script::{ScriptFault, Sink, Summary};
 use cc_word::{Refusal, read_word};
 
-/// Writes the line of the word that a text spells, as of a word with its tag, or the line `error 1 syntax`
-/// for a text that is no word, and flushes the sink once after it.
+/// Writes the line of the word that a text spells, such as `0x10070 [rwxRW,0x10070-0x12070]`, or the line
+/// `error 1 syntax` for a text that is no word, and flushes the sink once after it.
 ///
-/// A word is 32 hexadecimal digits of either case. Where the sink fails, a beginning of the line was written.
+/// The line is that of a word whose tag is set. A word is 32 hexadecimal digits of either case. Where the sink fails, a
+/// beginning of the line was written.
 pub fn show_line<W: Sink>(text: &[u8], sink: &mut W) -> Result<Summary, ScriptFault>
     requires { W.has_failed sink.old ≡ false }
     ensures shown { WritesAnswer (IsLineAnswer text.now) (W.taken_bytes sink.old) (W.taken_bytes sink.new) result }
     ensures any_error { IfOk result (λ summary. IsTrue summary.any_error ↔ (¬ IsWordText text.now)) }
     ensures passed { OnOk result (W.waiting_bytes sink.new ≡ []) }
+    ensures flushed { OnOk result (W.is_flushed sink.new ≡ true) }
     ensures fails { IsErr result ↔ (W.has_failed sink.new ≡ true) }
     ensures write { OnErr result (result ≡ Err ScriptFault.Write) }
 {
@@ -28,7 +30,8 @@ pub fn show_line<W: Sink>(text: &[u8], sink: &mut W) -> Result<Summary, ScriptFa
     Ok(summary)
 }
 
-/// Appends the line of a text.
+/// Appends the line of the word that a text spells, or the refusal of a text that is no word. The summary tells an
+/// error exactly for the latter.
 fn push_line_answer(answer: &mut Text, text: &[u8]) -> Summary
     requires { answer.old ≡ [] }
     ensures line { IsLineAnswer text.now answer.new }

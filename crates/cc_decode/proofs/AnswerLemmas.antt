@@ -29,7 +29,7 @@ word_short : (input : InputForm) (entry : List ℕ) → IsWordEntry input entry 
 word_short Lines entry word = omega (arith, word.0)
 word_short (Bytes order) entry word = omega (arith, word)
 
--- the first 129 bytes of an entry are enough
+-- the first 129 bytes of an entry have the answer of the whole entry
 pub start_enough : (options : Options) (entry : List ℕ) (answer : Answer) → IsAnswer options (take 129 entry) answer → IsAnswer options entry answer
 start_enough options entry answer is = elim (cases_lt (length entry) 129) [
   | inl short ↦ subst (λ (l : List ℕ). IsAnswer options l answer) (take_all 129 entry (omega arith)) is
@@ -41,7 +41,7 @@ start_enough options entry answer is = elim (cases_lt (length entry) 129) [
       ]
 ]
 
--- the entry in the buffer, of which at most the first 129 bytes are there
+-- the entry is answered from the buffer, which has at most its first 129 bytes
 pub same_start : (options : Options) (begun end start entry old new : List ℕ) (error : Bool) → start ≡ take 129 begun → entry ≡ take 129 (start ++ end)
     → AnswersEntry options entry old new error → AnswersEntry options (begun ++ end) old new error
 same_start options begun end start entry old new error start_is entry_is a =
@@ -54,7 +54,7 @@ same_start options begun end start entry old new error start_is entry_is a =
       error_is = a.error_is;
     }
 
--- the entry in the piece, where none had begun
+-- the entry is answered from the piece, where nothing of it came before
 pub same_piece : (options : Options) (begun end start old new : List ℕ) (error : Bool) → start ≡ take 129 begun → start ≡ []
     → AnswersEntry options end old new error → AnswersEntry options (begun ++ end) old new error
 same_piece options [] end start old new error start_is none a = a

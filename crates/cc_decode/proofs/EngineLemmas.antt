@@ -24,7 +24,7 @@ use Rattle.cc_decode.proofs.EntryLemmas.{entries_further, left_further, no_entry
 
 -- ---- beginnings
 
--- a beginning of a text, behind another text
+-- one text and a beginning of another are a beginning of both
 begins_behind : (t u v : Option (List ℕ)) (xs ys : List ℕ) → Appends t u xs → TakesBeginning u v ys → TakesBeginning t v (xs ++ ys)
 begins_behind t u v xs ys p q = record {
   count = length xs + q.count;
@@ -32,7 +32,7 @@ begins_behind t u v xs ys p q = record {
   taken = subst (λ (l : List ℕ). Appends t v l) (sym (take-append-add xs ys q.count)) (appends_twice t u v xs (take q.count ys) p q.taken);
 }
 
--- all of it is one
+-- the whole of a text is a beginning of it
 pub begins_whole : (t u : Option (List ℕ)) (xs : List ℕ) → Appends t u xs → TakesBeginning t u xs
 begins_whole t u xs p = record {
   count = length xs;
@@ -42,7 +42,7 @@ begins_whole t u xs p = record {
 
 -- ---- entries in a row
 
--- the sink failed in an answer behind others
+-- some answers were written, and the sink failed in those behind them: it failed in the answers to all the entries
 stops_behind : (options : Options) (t u v : Option (List ℕ)) (xs ys : List (List ℕ)) → WritesAnswers options [] xs t u
     → StopsInAnswers options [] ys u v → StopsInAnswers options [] (xs ++ ys) t v
 stops_behind options t u v xs ys p q = record {
@@ -55,7 +55,7 @@ stops_behind options t u v xs ys p q = record {
       (begins_behind t u v (answers_text p.answers) (answers_text q.answers) p.written q.written);
 }
 
--- and before others
+-- where the sink failed in the answers to some entries, it failed in those to these and more
 stops_before : (options : Options) (t u : Option (List ℕ)) (header : List ℕ) (xs ys : List (List ℕ)) → StopsInAnswers options header xs t u
     → StopsInAnswers options header (xs ++ ys) t u
 stops_before options t u header xs ys q = record {
@@ -67,7 +67,7 @@ stops_before options t u header xs ys q = record {
   written = q.written;
 }
 
--- and after the header
+-- a header was written, and the sink failed in the answers behind it: it failed in the header and the answers
 stops_opened : (options : Options) (t u v : Option (List ℕ)) (header : List ℕ) (xs : List (List ℕ)) → Appends t u header
     → StopsInAnswers options [] xs u v → StopsInAnswers options header xs t v
 stops_opened options t u v header xs written q = record {
@@ -115,7 +115,7 @@ stops_earlier options t u header begun xs ys q =
 
 -- ---- a piece, of which the first entries were answered
 
--- nothing yet
+-- no entry is answered yet
 pub first_begins : (options : Options) (t : Option (List ℕ)) (begun piece start : List ℕ) → start ≡ take 129 begun
     → AnswersFirst options begun piece piece start t t [] false
 first_begins options t begun piece start is = record {
@@ -132,7 +132,7 @@ first_begins options t begun piece start is = record {
   error_is = refl;
 }
 
--- what waits was written, or a part of it
+-- the first of the waiting bytes were written
 pub first_passes : (options : Options) (t u v : Option (List ℕ)) (begun piece rest start waiting waiting_now : List ℕ) (e : Bool)
     → AnswersFirst options begun piece rest start t u waiting e → PassesSome u v waiting waiting_now
     → AnswersFirst options begun piece rest start t v waiting_now e
@@ -150,7 +150,7 @@ first_passes options t u v begun piece rest start waiting waiting_now e p q = re
   error_is = p.error_is;
 }
 
--- one entry more
+-- one entry more was answered
 pub first_more : (options : Options) (t u : Option (List ℕ)) (begun piece rest start waiting waiting_now end after : List ℕ) (e f : Bool)
     → (p : AnswersFirst options begun piece rest start t u waiting e) → EndsEntry options.input p.begun_now rest end after
     → AnswersEntry options (p.begun_now ++ end) waiting waiting_now f
@@ -182,7 +182,7 @@ first_more options t u begun piece rest start waiting waiting_now end after e f 
     error : (e || f) ≡ list_any (λ (answer : Answer). answer.is_error) (p.answers ++ a.answer ∷ [])
     error = rw (list_any-append (λ (answer : Answer). answer.is_error) p.answers (a.answer ∷ []), ← p.error_is, a.error_is) (ap (λ (b : Bool). e || b) (or_false a.answer.is_error))
 
--- no entry more, and what waits was written
+-- no further entry ends in the piece, and all waiting bytes were written
 pub first_ends : (options : Options) (t u v : Option (List ℕ)) (begun piece rest start end waiting : List ℕ) (e : Bool)
     → (p : AnswersFirst options begun piece rest start t u waiting e) → EndsNone options.input p.begun_now rest
     → end ≡ take 129 (start ++ rest) → Appends u v waiting → Answers options begun piece end t v e
@@ -199,7 +199,7 @@ first_ends options t u v begun piece rest start end waiting e p none end_is w = 
       ∙ ap (take 129) (sym (p.left_is ∙ none.left));
 }
 
--- the sink failed as what waits was written
+-- the sink failed as the waiting bytes were written
 pub first_stops : (options : Options) (t u v : Option (List ℕ)) (begun piece rest start waiting : List ℕ) (e : Bool)
     → AnswersFirst options begun piece rest start t u waiting e → TakesBeginning u v waiting
     → StopsInAnswers options [] (entries_from options.input begun piece) t v
@@ -230,7 +230,7 @@ reads_begins options c t u start is header = record {
   };
 }
 
--- or the sink failed in it
+-- the sink failed in the header
 pub stops_header : (options : Options) (c t u : Option (List ℕ)) → TakesBeginning t u (header_text options.format) → Lists options c c t u (Err Write)
 stops_header options c t u q = record {
   text = [];
@@ -284,7 +284,7 @@ stops_reading options c l j t u v start piece e r given s = record {
       (stops_further options r.opened u v [] r.text piece start e r.answers s));
 }
 
--- the beginning of the rest tells what the rest gets
+-- the first 129 bytes of a rest are answered as the whole rest: both are empty, or neither is
 rest_start : (rest : List ℕ) → rest_text (take 129 rest) ≡ rest_text rest
 rest_start [] = refl
 rest_start (byte ∷ rest) = refl

@@ -41,7 +41,7 @@ block_rest_further begun (x ∷ xs) ys = go (length begun == 15) (block_rest_fur
   go true p q = p
   go false p q = q
 
--- too few bytes for the end of a block
+-- with too few bytes no block ends
 no_blocks : (begun text : List ℕ) → length begun + length text < 16 → blocks_from begun text ≡ []
 no_blocks begun [] few = refl
 no_blocks begun (x ∷ text) few =
@@ -61,7 +61,7 @@ all_block_rest begun (x ∷ text) few =
       go true is p = absurd (omega (arith, eqb-true (length begun) 15 is, few))
       go false is p = p (omega (arith, longer begun x, few)) ∙ append_assoc begun (x ∷ []) text
 
--- the bytes up to the end of a block
+-- with the bytes up to its end a block is whole
 blocks_block : (begun end after : List ℕ) → length begun < 16 → length begun + length end ≡ 16
     → blocks_from begun (end ++ after) ≡ (begun ++ end) ∷ blocks_from [] after
 blocks_block begun [] after short whole = absurd (omega (arith, short, whole))
@@ -162,7 +162,7 @@ pub all_left : (input : InputForm) (begun : List ℕ) → left_from input begun 
 all_left Lines begun = refl
 all_left (Bytes order) begun = refl
 
--- a start of fewer bytes than sixteen is all that has begun
+-- where fewer than sixteen bytes are kept of what has begun, they are all of it
 start_whole : (start begun : List ℕ) → start ≡ take 129 begun → length start < 16 → start ≡ begun
 start_whole start begun is short =
     let cut = ap length is in
@@ -195,7 +195,7 @@ block_ends_not order start begun text is short few =
     let fewer : length begun + length text < 16 = omega (arith, ap length same, few) in
     record { entries = no_blocks begun text fewer; left = all_block_rest begun text fewer }
 
--- the same of what a split answers
+-- what a split answers: the two parts, or nothing
 abbrev Parts : Type 0
 Parts = Option (Bor (List ℕ) × Bor (List ℕ))
 

@@ -17,14 +17,14 @@ use Rattle.cc_decode.specs.declared.format.Format.{Format}
 use Rattle.cc_decode.specs.declared.format.Format.TheVariants.{Columns, Csv, Text}
 use Rattle.cc_decode.specs.declared.options.Options.{Options}
 
--- two tests of one fact
+-- two tests of one fact have the same answer
 same_test : {P : Type 0} (a b : Bool) → (IsTrue a ↔ P) → (IsTrue b ↔ P) → a ≡ b
 same_test true true p q = refl
 same_test false false p q = refl
 same_test true false p q = cc (q.1 (p.0 refl))
 same_test false true p q = cc (p.1 (q.0 refl))
 
--- a text of a word that is made of its fields and bounds is the only one
+-- a word has one row of each kind
 one_row : (text_of : ℕ → Fields → Span → Bool → List ℕ) (word : ℕ) (one other : List ℕ) → IsRow text_of word one → IsRow text_of word other → one ≡ other
 one_row text_of word one other p q =
     let fields : q.fields ≡ p.fields = p.only_fields q.fields q.of_word in

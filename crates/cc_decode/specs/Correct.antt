@@ -1,4 +1,4 @@
--- What decoding a text leaves: the source, the sink, and what it answers.
+-- The theorem of decoding a text: what the sink took, and what is left in the source, by what is answered.
 use Rattle.std.specs.Prelude.{◌≡◌, ℕ, Bool, not, ◌||◌, ◌==◌, List, [], ◌++◌, length, Option, Some, Result, Ok, Err, ◌⊎◌}
 use Rattle.std.specs.Io.KnownBytes.{Appends, Consumes, IsAtEnd}
 use Rattle.std.specs.List.{list_any}
@@ -12,8 +12,8 @@ use Rattle.cc_decode.specs.Output.{Answer, AreAnswers, answers_text}
 use Rattle.cc_decode.specs.Row.{header_text}
 use Rattle.cc_decode.specs.declared.options.Options.{Options}
 
--- The sink took the whole listing of the text: the header of the format, the answer to each entry, and the last to an
--- unfinished rest.
+-- The sink took the whole listing of the text: the header of the format, the answer to each entry, and the refusal of a
+-- rest that is not empty. `any_error` tells whether an answer is an error, or there is such a rest.
 pub record WritesListing (options : Options) (text : List ℕ) (taken taken_now : Option (List ℕ)) (any_error : Bool) : Type 0 where
   pub answers : List Answer
   pub are_answers : AreAnswers options (entries_of options.input text) answers
@@ -26,7 +26,8 @@ pub record WritesAnswers (options : Options) (header : List ℕ) (entries : List
   pub are_answers : AreAnswers options entries answers
   pub written : Appends taken taken_now (header ++ answers_text answers)
 
--- The sink failed when it had taken a beginning of the header and of the answers to the first of these entries.
+-- The sink failed when it had taken a beginning of the header and of the answers to `earlier`, the first of these
+-- entries.
 pub record StopsInAnswers (options : Options) (header : List ℕ) (entries : List (List ℕ)) (taken taken_now : Option (List ℕ)) : Type 0 where
   pub earlier : List (List ℕ)
   pub later : List (List ℕ)
@@ -35,14 +36,14 @@ pub record StopsInAnswers (options : Options) (header : List ℕ) (entries : Lis
   pub are_answers : AreAnswers options earlier answers
   pub written : TakesBeginning taken taken_now (header ++ answers_text answers)
 
--- the sink failed after the answers to all entries, in the answer to the rest, or in the flush
+-- the sink failed when all entries were answered: it took a beginning of the whole listing
 pub record StopsAfterAnswers (options : Options) (text : List ℕ) (taken taken_now : Option (List ℕ)) : Type 0 where
   pub answers : List Answer
   pub are_answers : AreAnswers options (entries_of options.input text) answers
   pub written : TakesBeginning taken taken_now (header_text options.format ++ answers_text answers ++ rest_text (left_of options.input text))
 
--- what is left of a text that the source gave, by what is answered: all of it, or what came before the failure
--- of a device
+-- what was written of a text that the source gave, by what is answered: all of its listing, or what came before the
+-- failure of a device
 abbrev pub ListsText : Options → (text : List ℕ) (left taken taken_now : Option (List ℕ)) → Result Summary ScriptFault → Type 0
 ListsText options text left taken taken_now (Ok summary) =
     IsAtEnd left × WritesListing options text taken taken_now summary.any_error
@@ -52,13 +53,14 @@ ListsText options text left taken taken_now (Err Write) =
     StopsInAnswers options (header_text options.format) (entries_of options.input text) taken taken_now
     ⊎ (IsAtEnd left × StopsAfterAnswers options text taken taken_now)
 
--- What is left of the text that the source gave: where it tells what was to come, a beginning of that.
+-- What was written of some text that the source gave. Where the source tells its bytes, this text is a beginning of what
+-- was to come.
 pub record Lists (options : Options) (to_come left taken taken_now : Option (List ℕ)) (result : Result Summary ScriptFault) : Type 0 where
   pub text : List ℕ
   pub given : Consumes to_come left text
   pub lists : ListsText options text left taken taken_now result
 
--- the source failed when it had given a beginning of the text
+-- the source failed when it had given a beginning of the text, and the entries of that were answered
 pub record GivesBeginning (options : Options) (text : List ℕ) (left taken taken_now : Option (List ℕ)) : Type 0 where
   pub given : List ℕ
   pub rest : List ℕ
@@ -66,8 +68,8 @@ pub record GivesBeginning (options : Options) (text : List ℕ) (left taken take
   pub left_is : left ≡ Some rest
   pub writes : WritesAnswers options (header_text options.format) (entries_of options.input given) taken taken_now
 
--- What is left where the text is all that was to come: the whole listing at the end, and else what came before
--- the failure of a device.
+-- What was written where the text is all that was to come: its whole listing, or what came before the failure of a
+-- device.
 abbrev pub ListsWhole : Options → (text : List ℕ) (left taken taken_now : Option (List ℕ)) → Result Summary ScriptFault → Type 0
 ListsWhole options text left taken taken_now (Ok summary) =
     (left ≡ Some []) × WritesListing options text taken taken_now summary.any_error

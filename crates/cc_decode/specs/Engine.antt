@@ -12,7 +12,7 @@ use Rattle.cc_decode.specs.declared.input.InputForm.{InputForm}
 use Rattle.cc_decode.specs.declared.input.InputForm.TheVariants.{Lines, Bytes}
 use Rattle.cc_decode.specs.declared.options.Options.{Options}
 
--- an entry may have begun so: a block has fewer bytes than sixteen before its last
+-- an entry may have begun with these bytes: a line with any, a block with fewer than sixteen
 abbrev pub IsBegun : InputForm → (begun : List ℕ) → Type 0
 IsBegun Lines begun = ⊤
 IsBegun (Bytes order) begun = length begun < 16
@@ -27,34 +27,34 @@ pub record EndsNone (input : InputForm) (begun text : List ℕ) : Type 0 where
   pub entries : entries_from input begun text ≡ []
   pub left : left_from input begun text ≡ begun ++ text
 
--- the answer to a word was put behind the text
+-- the answer to a word was appended
 pub record AppendsRow (format : Format) (word : ℕ) (old new : List ℕ) : Type 0 where
   pub row : List ℕ
   pub is_row : IsWordRow format word row
   pub written : new ≡ old ++ row
 
--- an answer to the entry was put behind the text
+-- the answer to an entry and its line feed were appended
 pub record AnswersEntry (options : Options) (entry old new : List ℕ) (error : Bool) : Type 0 where
   pub answer : Answer
   pub is_answer : IsAnswer options entry answer
   pub written : new ≡ old ++ with_line_feed answer.text
   pub error_is : error ≡ answer.is_error
 
--- the entries that end in the text were answered, where the first of them had begun with `begun`; `start` is
--- the beginning of what follows the last
+-- the entries that end in the text were answered, where the first of them had begun with `begun`; `start` has the first
+-- 129 bytes of what follows the last
 pub record Answers (options : Options) (begun text start : List ℕ) (taken taken_now : Option (List ℕ)) (any_error : Bool) : Type 0 where
   pub writes : WritesAnswers options [] (entries_from options.input begun text) taken taken_now
   pub error_is : any_error ≡ list_any (λ answer. answer.is_error) writes.answers
   pub start_is : start ≡ take 129 (left_from options.input begun text)
 
--- the first bytes of what waited were written, and the others wait
+-- the first of the waiting bytes were written, and the others still wait
 pub record PassesSome (taken taken_now : Option (List ℕ)) (waiting waiting_now : List ℕ) : Type 0 where
   pub passed : List ℕ
   pub written : Appends taken taken_now passed
   pub waits : waiting ≡ passed ++ waiting_now
 
--- The first entries of the piece were answered, and the rest is to come; the next entry has begun with
--- `begun_now`. Of the answers the last bytes wait, and the sink took those before.
+-- The first entries of the piece were answered, and `rest` is still to come; the next entry has begun with
+-- `begun_now`. The sink took the first bytes of the answers, and the others wait.
 pub record AnswersFirst (options : Options) (begun piece rest start : List ℕ) (taken taken_now : Option (List ℕ)) (waiting : List ℕ) (any_error : Bool) : Type 0 where
   pub entries : List (List ℕ)
   pub begun_now : List ℕ
@@ -68,7 +68,7 @@ pub record AnswersFirst (options : Options) (begun piece rest start : List ℕ) 
   pub waits : answers_text answers ≡ passed ++ waiting
   pub error_is : any_error ≡ list_any (λ answer. answer.is_error) answers
 
--- what was done up to a read: the header, and then the answers to a text
+-- what was done up to a read: the header was written, and then the answers to the text that was given so far
 pub record Reads (options : Options) (to_come left : Option (List ℕ)) (start : List ℕ) (taken taken_now : Option (List ℕ)) (any_error : Bool) : Type 0 where
   pub text : List ℕ
   pub given : Consumes to_come left text

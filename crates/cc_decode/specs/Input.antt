@@ -10,13 +10,13 @@ use Rattle.cc_decode.specs.declared.input.ByteOrder.TheVariants.{Little, Big}
 use Rattle.cc_decode.specs.declared.input.InputForm.{InputForm}
 use Rattle.cc_decode.specs.declared.input.InputForm.TheVariants.{Lines, Bytes}
 
--- the blocks of sixteen bytes in bytes of which the first block has begun with `begun`
+-- the blocks of sixteen bytes that end in these bytes, where the first block has begun with `begun`
 abbrev pub blocks_from : (begun bytes : List ℕ) → List (List ℕ)
 blocks_from begun [] = []
 blocks_from begun (byte ∷ bytes) =
     if length begun == 15 then (begun ++ byte ∷ []) ∷ blocks_from [] bytes else blocks_from (begun ++ byte ∷ []) bytes
 
--- what stands after the last block of such bytes
+-- what follows the last block, where the first has begun with `begun`
 abbrev pub block_rest_from : (begun bytes : List ℕ) → List ℕ
 block_rest_from begun [] = begun
 block_rest_from begun (byte ∷ bytes) =
@@ -33,7 +33,7 @@ pub record Cuts (bytes : List ℕ) (blocks : List (List ℕ)) (rest : List ℕ) 
   pub each : AllByRecursion (λ block. length block ≡ 16) blocks
   pub last : length rest < 16
 
--- the blocks and the rest are the one way to cut the bytes
+-- `blocks_from` and `block_rest_from` are the one way to cut the bytes into such blocks and a rest
 pub record OneCut (bytes : List ℕ) : Type 0 where
   pub cuts : Cuts bytes (blocks_from [] bytes) (block_rest_from [] bytes)
   pub only : (blocks : List (List ℕ)) (rest : List ℕ) → Cuts bytes blocks rest
@@ -44,7 +44,7 @@ abbrev pub entries_from : InputForm → (begun text : List ℕ) → List (List �
 entries_from Lines = lines_from
 entries_from (Bytes order) = blocks_from
 
--- what stands after the last entry of such a text
+-- what follows the last entry of a text whose first entry has begun with `begun`
 abbrev pub left_from : InputForm → (begun text : List ℕ) → List ℕ
 left_from Lines = rest_from
 left_from (Bytes order) = block_rest_from
@@ -53,21 +53,21 @@ left_from (Bytes order) = block_rest_from
 abbrev pub entries_of : InputForm → List ℕ → List (List ℕ)
 entries_of input text = entries_from input [] text
 
--- what stands after the last entry
+-- what follows the last entry of a text
 abbrev pub left_of : InputForm → List ℕ → List ℕ
 left_of input text = left_from input [] text
 
--- the entry is a word: a line of 32 hexadecimal digits, or each block of sixteen bytes
+-- the entry is a word: a line of 32 hexadecimal digits, or any block of sixteen bytes
 abbrev pub IsWordEntry : InputForm → (entry : List ℕ) → Type 0
 IsWordEntry Lines line = IsWordText line
 IsWordEntry (Bytes order) block = length block ≡ 16
 
--- the number of sixteen bytes in an order
+-- the number that sixteen bytes are in an order of bytes
 abbrev pub block_value : ByteOrder → (block : List ℕ) → ℕ
 block_value Little block = from_le_bytes w128 block
 block_value Big block = from_be_bytes w128 block
 
--- the word of such an entry
+-- the word of an entry that is one
 abbrev pub word_in : InputForm → (entry : List ℕ) → ℕ
 word_in Lines line = digits_value 16 line
 word_in (Bytes order) block = block_value order block

@@ -12,7 +12,7 @@ pub record Answer : Type 0 where
   pub text : List ℕ
   pub is_error : Bool
 
--- the answer to an entry that is a word is that of the word, and to any other a refusal
+-- the answer to an entry: to a word its row in the format, and to any other entry `error 1 syntax`, which is an error
 abbrev pub IsAnswer : Options → (entry : List ℕ) → Answer → Type 0
 IsAnswer options entry answer =
     (IsWordEntry options.input entry × IsWordRow options.format (word_in options.input entry) answer.text × (answer.is_error ≡ false))

@@ -30,8 +30,8 @@ csv_text word fields bounds canonical =
     values_text (codes ",") word fields bounds canonical
     ++ codes "," ++ hexadecimal fields.address ++ codes "," ++ permissions_text fields.perms
 
--- The text of a word that is made of the fields whose word it is, of the span that they decode to, and of whether it
--- is the word of a capability. There are no other such fields, and there is no other such span.
+-- The row is the text of a word, made by `text_of` of the word's fields, of the span that they decode to, and of whether
+-- the word is canonical. There are no other such fields, and there is no other such span.
 pub record IsRow (text_of : ℕ → Fields → Span → Bool → List ℕ) (word : ℕ) (row : List ℕ) : Type 0 where
   pub fields : Fields
   pub bounds : Span
@@ -49,7 +49,7 @@ IsWordRow Columns word row = IsRow columns_text word row
 IsWordRow Text word row = IsLine word true row
 IsWordRow Csv word row = IsRow csv_text word row
 
--- what stands before the answers: of comma-separated values the names of the columns
+-- the header of a format: for comma-separated values the names of the columns, and else nothing
 abbrev pub header_text : Format → List ℕ
 header_text Columns = []
 header_text Text = []

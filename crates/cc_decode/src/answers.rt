@@ -1,4 +1,4 @@
-//! The answers to entries, and how they are written.
+//! The answers to entries, each with its line feed, and the one to what follows the last entry.
 ghost use Rattle.std.specs.Prelude.{◌≡◌, ◌≤◌, ◌+◌, ◌↔◌, ◌==◌, ◌++◌, ℕ, List, [], false, true, not, length, take, IfOk, IsErr, OnErr, OnOk};
 ghost use Rattle.std.specs.Io.KnownBytes.{Appends};
 ghost use Rattle.cc_script.specs.Devices.{TakesBeginning};
@@ -12,7 +12,8 @@ use crate::rows::push_row;
 use cc_script::{Failed, LineStart, Sink, refusal_line};
 use cc_word::Refusal;
 
-/// Appends the answer to the entry that ends with these bytes. Tells whether it is an error.
+/// Appends the answer to the entry that has begun with `start` and ends with `end`, and empties `start`. Tells whether
+/// the answer is an error.
 pub(crate) fn answer_entry(
     options: Options,
     start: &mut LineStart,
@@ -34,7 +35,7 @@ pub(crate) fn answer_entry(
     is_error
 }
 
-/// Appends the answer to an entry. Tells whether it is an error.
+/// Appends the answer to an entry: the row of its word, or `error 1 syntax`. Tells whether it is an error.
 fn push_answer(options: Options, batch: &mut Batch, entry: &[u8]) -> bool
     requires { length batch.old + 512 ≤ 32768 }
     ensures { AnswersEntry options entry.now batch.old batch.new result }
@@ -53,7 +54,7 @@ fn push_answer(options: Options, batch: &mut Batch, entry: &[u8]) -> bool
     }
 }
 
-/// Refuses a rest that is not empty. Tells whether it did.
+/// Writes `error 2 unfinished` for a rest that is not empty, and nothing for an empty one. Tells whether there was a rest.
 pub(crate) fn refuse_rest<W: Sink>(rest: &[u8], sink: &mut W) -> Result<bool, Failed>
     requires { W.has_failed sink.old ≡ false }
     ensures error { IfOk result (λ error. error ≡ not (length rest.now == 0)) }

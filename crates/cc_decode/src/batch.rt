@@ -11,10 +11,10 @@ use std::marker::Model;
 /// The most bytes that wait.
 const ROOM: usize = 32768;
 
-/// More bytes than an answer and its line feed have.
+/// The room kept for one answer. No answer has as many bytes, its line feed counted.
 const ANSWER_ROOM: usize = 512;
 
-/// Answers that wait to be written, each with its line feed: at most 32,768 bytes, which stand in the value itself.
+/// Answers that wait to be written, each with its line feed: at most 32,768 bytes, in a fixed array. It never allocates.
 #[derive(Drop)]
 pub(crate) struct Batch {
     room: [u8; ROOM],
@@ -50,14 +50,14 @@ impl Batch {
         &self.room[..self.len]
     }
 
-    /// Forgets all the bytes.
+    /// Removes all the bytes.
     pub(crate) fn clear(&mut self)
         ensures { self.new ≡ [] }
     {
         self.len = 0;
     }
 
-    /// Whether another answer has room.
+    /// Whether there is room for one answer more: 512 bytes.
     pub(crate) fn has_room(&self) -> bool
         ensures { IsTrue result ↔ (length self.now + 512 ≤ 32768) }
     {
@@ -86,7 +86,7 @@ impl Batch {
         self.push(&[byte]);
     }
 
-    /// Appends a byte where it is wanted. The byte is put there in any case, and counts or does not.
+    /// Appends a byte if it is wanted. The byte is stored either way, so that no branch is needed; only the length differs.
     #[inline(always)]
     pub(crate) fn push_byte_if(&mut self, byte: u8, wanted: bool)
         requires { length self.old + 1 ≤ 32768 }
@@ -107,7 +107,7 @@ impl Batch {
         self.push(&write_word(word));
     }
 
-    /// Appends the last hexadecimal digits of a number, at most 16.
+    /// Appends the last `count` hexadecimal digits of a number, at most 16.
     #[inline(always)]
     pub(crate) fn push_digits(&mut self, number: u64, count: usize)
         requires digits { count ≤ 16 }
@@ -150,7 +150,7 @@ impl Batch {
         }
     }
 
-    /// Appends a number's hexadecimal digits without leading zeros.
+    /// Appends a number's hexadecimal digits without `0x` and leading zeros.
     #[inline(always)]
     fn push_significant(&mut self, number: u64)
         requires { length self.old + 16 ≤ 32768 }
@@ -162,7 +162,7 @@ impl Batch {
         self.drop_last(16 - count);
     }
 
-    /// Forgets the last bytes.
+    /// Removes the last `count` bytes.
     fn drop_last(&mut self, count: usize)
         requires { count ≤ length self.old }
         ensures { self.new ≡ take (length self.old - count) self.old }
@@ -171,7 +171,7 @@ impl Batch {
     }
 }
 
-/// How many hexadecimal digits a number has, without leading zeros.
+/// How many hexadecimal digits a number has without leading zeros: from 1, for 0 too, to 16.
 fn digit_count(number: u64) -> usize
     ensures { HasDigits result number }
 {

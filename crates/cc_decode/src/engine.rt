@@ -1,4 +1,4 @@
-//! Decodes the words that a source gives.
+//! Answers all entries of the text that a source gives, piece by piece.
 ghost use Rattle.std.specs.Prelude.{◌≡◌, ◌≤◌, ℕ, true, false, List, [], take, length, not, ◌==◌, ◌↔◌, Err, IfSome, IfOk, OnOk, OnErr, IsErr};
 ghost use Rattle.std.specs.Io.KnownBytes.{Appends};
 ghost use Rattle.cc_script.specs.Devices.{TakesBeginning};
@@ -19,15 +19,17 @@ use cc_script::{Failed, LineStart, ScriptFault, Sink, Source, Summary};
 /// The most bytes that are read at once.
 const PIECE: usize = 32768;
 
-/// Writes the answer to each entry of the text that the source gives, which is a line, or sixteen bytes: to a word
-/// what the format says of it, and to a line that is not 32 hexadecimal digits `error 1 syntax`; and to what follows
-/// the last entry, if it is not empty, `error 2 unfinished`; before them the header of the format. What was answered is written before the source is read
-/// again, in large pieces, and the sink is told, and passes on what waits in it.
+/// Writes the header of the format, and then the answer to each entry of the text that the source gives. An entry is a
+/// line, or sixteen bytes.
 ///
-/// The caller has that neither device has failed before. The sink is flushed once, at the end. `Read` is answered
-/// exactly if the source failed: then the answers to the whole entries that came before were written, and none of
-/// them waits in the sink. `Write` is answered exactly if the sink failed: then a beginning of the answers was
-/// written. Takes no memory of its own.
+/// A word is answered by its row in the format, and a line that is not 32 hexadecimal digits by `error 1 syntax`. What
+/// follows the last entry is answered by `error 2 unfinished`, unless it is empty. The source is read in pieces of up to
+/// 32,768 bytes. Before each further read all answers so far are written, and the sink passes on what waits in it. It is
+/// flushed once, at the end.
+///
+/// Neither device may have failed before. `Read` is answered exactly if the source failed: then the answers to the
+/// whole entries that came before were written, and none of them waits in the sink. `Write` is answered exactly if the
+/// sink failed: then a beginning of the header and the answers was written. Takes no memory from an allocator.
 pub fn decode_words<R: Source, W: Sink>(
     options: Options,
     source: &mut R,
@@ -41,12 +43,13 @@ pub fn decode_words<R: Source, W: Sink>(
     ensures read { (result ≡ Err ScriptFault.Read) ↔ (R.has_failed source.new ≡ true) }
     ensures write { (result ≡ Err ScriptFault.Write) ↔ (W.has_failed sink.new ≡ true) }
     ensures passed { OnOk result (W.waiting_bytes sink.new ≡ []) }
+    ensures flushed { OnOk result (W.is_flushed sink.new ≡ true) }
     ensures passed_before_read { result ≡ Err ScriptFault.Read → W.waiting_bytes sink.old ≡ [] → W.waiting_bytes sink.new ≡ [] }
 {
     decode_pieces(options, source, sink)
 }
 
-/// Decodes the text, piece by piece.
+/// Reads the text piece by piece and answers it: the body of [`decode_words`].
 fn decode_pieces<R: Source, W: Sink>(
     options: Options,
     source: &mut R,
@@ -58,6 +61,7 @@ fn decode_pieces<R: Source, W: Sink>(
     ensures read { (result ≡ Err ScriptFault.Read) ↔ (R.has_failed source.new ≡ true) }
     ensures write { (result ≡ Err ScriptFault.Write) ↔ (W.has_failed sink.new ≡ true) }
     ensures passed { OnOk result (W.waiting_bytes sink.new ≡ []) }
+    ensures flushed { OnOk result (W.is_flushed sink.new ≡ true) }
     ensures passed_before_read { result ≡ Err ScriptFault.Read → W.waiting_bytes sink.old ≡ [] → W.waiting_bytes sink.new ≡ [] }
 {
     let mut start = LineStart::new();
@@ -89,7 +93,7 @@ fn decode_pieces<R: Source, W: Sink>(
     }
 }
 
-/// Writes what stands before the answers, and the sink passes it on.
+/// Writes the header of the format, which may be empty, and lets the sink pass it on.
 fn open_listing<W: Sink>(format: Format, batch: &mut Batch, sink: &mut W) -> Result<(), Failed>
     requires sink { W.has_failed sink.old ≡ false }
     requires batch { batch.old ≡ [] }
@@ -103,7 +107,7 @@ fn open_listing<W: Sink>(format: Format, batch: &mut Batch, sink: &mut W) -> Res
     pass_on(batch, sink)
 }
 
-/// What stands before the answers.
+/// The header of a format: for comma-separated values the names of the columns, and else nothing.
 fn header(format: Format) -> &'static [u8]
     ensures value { result.now ≡ header_text format }
     ensures fits { length result.now ≤ 100 }
@@ -114,8 +118,8 @@ fn header(format: Format) -> &'static [u8]
     }
 }
 
-/// Answers the entries that end in a piece of the text, and keeps the beginning of the next. The answers are
-/// written, and the sink passes on what waits in it. Tells whether an answer was an error.
+/// Answers the entries that end in a piece of the text, and keeps the beginning of the next entry in `start`. All the
+/// answers are written, and the sink passes on what waits in it. Tells whether an answer was an error.
 fn take_piece<W: Sink>(
     options: Options,
     start: &mut LineStart,
@@ -152,14 +156,15 @@ fn take_piece<W: Sink>(
     }
 }
 
-/// Ends the output: the last answer, where a rest has no line feed, and the flush. Tells whether there was such a
-/// rest.
+/// Ends the output: refuses what follows the last entry, if there is anything, and flushes the sink. Tells whether there
+/// was anything.
 fn finish<W: Sink>(rest: &[u8], sink: &mut W) -> Result<bool, Failed>
     requires { W.has_failed sink.old ≡ false }
     ensures error { IfOk result (λ error. error ≡ not (length rest.now == 0)) }
     ensures ok { OnOk result (Appends (W.taken_bytes sink.old) (W.taken_bytes sink.new) (rest_text rest.now)) }
     ensures err { OnErr result (TakesBeginning (W.taken_bytes sink.old) (W.taken_bytes sink.new) (rest_text rest.now)) }
     ensures passed { OnOk result (W.waiting_bytes sink.new ≡ []) }
+    ensures flushed { OnOk result (W.is_flushed sink.new ≡ true) }
     ensures fails { IsErr result ↔ (W.has_failed sink.new ≡ true) }
 {
     let is_error = match refuse_rest(rest, sink) {

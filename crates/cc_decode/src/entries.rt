@@ -7,11 +7,11 @@ use crate::input::{ByteOrder, InputForm};
 use cc_script::split_at_line_feed;
 use cc_word::read_word;
 
-/// The bytes of a word.
+/// How many bytes a word has.
 const BLOCK: usize = 16;
 
-/// What a text has of the entry that has begun with `start`, and what stands behind that entry. `None` where the
-/// entry does not end in the text.
+/// Splits the text at the end of the entry that has begun with `start`: the entry's last bytes, and what stands behind
+/// the entry. `None` where the entry does not end in the text.
 pub(crate) fn split_entry<'a>(
     input: InputForm,
     start: &[u8],
@@ -30,7 +30,7 @@ pub(crate) fn split_entry<'a>(
     }
 }
 
-/// What a text has of the block of which so many bytes came before, and what stands behind that block.
+/// Splits the text at the end of the block of which `begun` bytes came before. `None` where the text is too short.
 fn split_block(begun: usize, text: &[u8]) -> Option<(&[u8], &[u8])>
     requires { begun < 16 }
     ensures whole { IfSome result (λ parts. text.now ≡ parts.0.now ++ parts.1.now) }
@@ -44,7 +44,7 @@ fn split_block(begun: usize, text: &[u8]) -> Option<(&[u8], &[u8])>
     Some((&text[..count], &text[count..]))
 }
 
-/// The word of an entry, and `None` where it is none.
+/// The word that an entry spells, or `None` where it spells none: a line that is not 32 hexadecimal digits.
 pub(crate) fn read_entry(input: InputForm, entry: &[u8]) -> Option<u128>
     ensures found { IsSome result ↔ IsWordEntry input entry.now }
     ensures value { IfSome result (λ word. word ≡ word_in input entry.now) }
@@ -55,7 +55,7 @@ pub(crate) fn read_entry(input: InputForm, entry: &[u8]) -> Option<u128>
     }
 }
 
-/// The word of sixteen bytes, and `None` where there are more or fewer.
+/// The word of sixteen bytes in this order, or `None` where there are more or fewer.
 fn read_block(order: ByteOrder, block: &[u8]) -> Option<u128>
     ensures found { IsSome result ↔ (length block.now ≡ 16) }
     ensures value { IfSome result (λ word. word ≡ block_value order block.now) }

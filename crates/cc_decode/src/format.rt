@@ -1,6 +1,6 @@
 //! How words are written.
 
-/// How the answer to a word is written.
+/// How the answer to a word is written. Each answer is one line.
 #[derive(Clone, Copy, Debug, PartialEq, Eq)]
 pub enum Format {
     /// `WORD BASE TOP PERMS FLAG TYPE EXPONENT CANONICAL`, with one space between, in the spellings of `show`.

@@ -14,6 +14,6 @@ pub enum ByteOrder {
 pub enum InputForm {
     /// One on a line, as 32 hexadecimal digits of either case.
     Lines,
-    /// One behind the other, as sixteen bytes each.
+    /// One behind the other, as sixteen bytes each, with nothing between.
     Bytes(ByteOrder),
 }

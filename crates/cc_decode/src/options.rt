@@ -1,4 +1,4 @@
-//! What is read, and how the answers are written.
+//! The choices of a caller of [`decode_words`](crate::decode_words).
 use crate::format::Format;
 use crate::input::InputForm;
 

@@ -17,13 +17,13 @@ use cc_command::push_permissions;
 use cc_script::Line;
 use cc_word::{Fields, unpack};
 
-/// The type of an unsealed capability.
+/// The type of an unsealed capability, of which a line says nothing.
 const UNSEALED_TYPE: u32 = 0x3ffff;
 
-/// The type of a sealed entry.
+/// The type of a sealed entry, which a line calls `sentry`.
 const SENTRY_TYPE: u32 = 0x3fffe;
 
-/// Appends the answer to a word.
+/// Appends the answer to a word in this format, without a line feed: at most 500 bytes.
 pub(crate) fn push_row(batch: &mut Batch, format: Format, word: u128)
     requires { length batch.old + 500 ≤ 32768 }
     ensures row { AppendsRow format word batch.old batch.new }
@@ -80,7 +80,7 @@ fn push_address_and_letters(batch: &mut Batch, fields: &Fields)
     push_letters(batch, Perms::from_bits_retain(fields.perms));
 }
 
-/// Appends the letters of permissions.
+/// Appends the letters of those five permissions that have one, as far as the set has them.
 fn push_letters(batch: &mut Batch, perms: Perms)
     requires { length batch.old + 5 ≤ 32768 }
     ensures value { batch.new ≡ batch.old ++ letters_of (bits_of perms) }
@@ -93,7 +93,7 @@ fn push_letters(batch: &mut Batch, perms: Perms)
     push_letter(batch, b'W', perms, Perms::STORE_CAP);
 }
 
-/// Appends the letter of a permission, where the set has it.
+/// Appends the letter of a permission, if the set has the permission.
 #[inline(always)]
 fn push_letter(batch: &mut Batch, letter: u8, perms: Perms, permission: Perms)
     requires { length batch.old + 1 ≤ 32768 }
@@ -103,7 +103,7 @@ fn push_letter(batch: &mut Batch, letter: u8, perms: Perms, permission: Perms)
     batch.push_byte_if(letter, perms.contains(permission));
 }
 
-/// Appends the bounds behind a comma, the bracket and the mark of a tagged word's type.
+/// Appends a comma, the bounds, the closing bracket, and the mark of a tagged word's type.
 fn push_bounds_and_mark(batch: &mut Batch, fields: &Fields, bounds: &Span)
     requires { length batch.old + 90 ≤ 32768 }
     ensures value { batch.new ≡ batch.old ++ codes "," ++ hexadecimal bounds.now.base ++ codes "-" ++ hexadecimal bounds.now.top
@@ -116,7 +116,7 @@ fn push_bounds_and_mark(batch: &mut Batch, fields: &Fields, bounds: &Span)
     push_mark(batch, fields.otype);
 }
 
-/// Appends what is said of the type of a tagged word.
+/// Appends the mark of a tagged word's type: none if it is unsealed, ` (sentry)`, or ` (sealed)`.
 fn push_mark(batch: &mut Batch, otype: u32)
     requires { length batch.old + 10 ≤ 32768 }
     ensures value { batch.new ≡ batch.old ++ marks_of otype true }
@@ -163,7 +163,7 @@ fn push_address_and_names(batch: &mut Batch, address: u64, perms: u16)
     push_names(batch, perms);
 }
 
-/// Appends the names of permissions.
+/// Appends the names of the permissions from bit 0 up, joined by `+`, or `-` for none.
 fn push_names(batch: &mut Batch, perms: u16)
     requires { length batch.old + 125 ≤ 32768 }
     ensures value { batch.new ≡ batch.old ++ permissions_text perms }
@@ -174,7 +174,7 @@ fn push_names(batch: &mut Batch, perms: u16)
     batch.push(names.bytes());
 }
 
-/// Appends the values of a word with these fields and bounds, and a separator between each two.
+/// Appends the eight values of a word with these fields and bounds, and a separator between each two.
 fn push_values(
     batch: &mut Batch,
     separator: u8,
@@ -192,7 +192,7 @@ fn push_values(
     push_encoding(batch, separator, exponent(fields), canonical);
 }
 
-/// Appends a word and its bounds.
+/// Appends the word, its base and its top, the first three values.
 fn push_bounds(batch: &mut Batch, separator: u8, word: u128, bounds: &Span)
     requires { length batch.old + 102 ≤ 32768 }
     ensures value { batch.new ≡ batch.old ++ digits_of 32 word ++ (separator ∷ []) ++ hexadecimal bounds.now.base ++ (separator ∷ []) ++ hexadecimal bounds.now.top }
@@ -203,7 +203,7 @@ fn push_bounds(batch: &mut Batch, separator: u8, word: u128, bounds: &Span)
     push_span(batch, separator, bounds);
 }
 
-/// Appends base and top, and a separator between.
+/// Appends base and top, with a separator between them.
 #[inline(always)]
 fn push_span(batch: &mut Batch, separator: u8, bounds: &Span)
     requires { length batch.old + 69 ≤ 32768 }
@@ -215,7 +215,7 @@ fn push_span(batch: &mut Batch, separator: u8, bounds: &Span)
     batch.push_hexadecimal(bounds.top);
 }
 
-/// Appends permissions, flag and type.
+/// Appends permissions, flag and type, with a separator before each.
 fn push_rights(batch: &mut Batch, separator: u8, fields: &Fields)
     requires { length batch.old + 14 ≤ 32768 }
     ensures value { batch.new ≡ batch.old ++ (separator ∷ []) ++ digits_of 4 fields.now.perms ++ (separator ∷ []) ++ decimal (bit_of fields.now.flag) ++ (separator ∷ []) ++ digits_of 5 fields.now.otype }
@@ -229,7 +229,7 @@ fn push_rights(batch: &mut Batch, separator: u8, fields: &Fields)
     batch.push_digits(u64::from(fields.otype), 5);
 }
 
-/// Appends the exponent, and whether the word is canonical.
+/// Appends the exponent and whether the word is canonical, with a separator before each.
 fn push_encoding(batch: &mut Batch, separator: u8, exponent: u8, canonical: bool)
     requires small { exponent < 100 }
     requires room { length batch.old + 7 ≤ 32768 }

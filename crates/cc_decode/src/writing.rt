@@ -1,4 +1,4 @@
-//! How what waits is written.
+//! How the answers that wait are written to the sink.
 ghost use Rattle.std.specs.Prelude.{◌≡◌, ◌+◌, ◌≤◌, ◌↔◌, [], length, false, true, IsErr, OnErr, OnOk};
 ghost use Rattle.std.specs.Io.KnownBytes.{Appends};
 ghost use Rattle.cc_script.specs.Devices.{TakesBeginning};
@@ -7,7 +7,7 @@ ghost use Rattle.cc_decode.specs.Engine.{PassesSome};
 use crate::batch::Batch;
 use cc_script::{Failed, Sink, write_all};
 
-/// Makes room for another answer: where there is none, writes what waits.
+/// Makes room for one answer more: where there is none, writes all the answers that wait.
 pub(crate) fn make_room<W: Sink>(batch: &mut Batch, sink: &mut W) -> Result<(), Failed>
     requires { W.has_failed sink.old ≡ false }
     ensures ok { OnOk result (PassesSome (W.taken_bytes sink.old) (W.taken_bytes sink.new) batch.old batch.new) }
@@ -21,7 +21,7 @@ pub(crate) fn make_room<W: Sink>(batch: &mut Batch, sink: &mut W) -> Result<(), 
     write_batch(batch, sink)
 }
 
-/// Writes what waits.
+/// Writes all the answers that wait, and empties the batch.
 #[cold]
 #[inline(never)]
 fn write_batch<W: Sink>(batch: &mut Batch, sink: &mut W) -> Result<(), Failed>
@@ -40,7 +40,7 @@ fn write_batch<W: Sink>(batch: &mut Batch, sink: &mut W) -> Result<(), Failed>
     }
 }
 
-/// Writes what waits, and tells the sink that more will be read, so that nothing waits there either.
+/// Writes all the answers that wait, and tells the sink that a read comes next, so that nothing waits there either.
 pub(crate) fn pass_on<W: Sink>(batch: &mut Batch, sink: &mut W) -> Result<(), Failed>
     requires { W.has_failed sink.old ≡ false }
     ensures ok { OnOk result (Appends (W.taken_bytes sink.old) (W.taken_bytes sink.new) batch.old) }

@@ -19,7 +19,7 @@ pub record IsDecoded (fields : Fields) (bounds : Bounds) : Type 0 where
   pub decodes : DecodesTo fields (span_of bounds.base bounds.top_high bounds.top_low)
   pub exponent : bounds.exponent ≡ stored_exponent fields
 
--- the granted span of what C is told
+-- the granted span in what C is told
 abbrev pub granted_of : GrantedBounds → Span
 granted_of set = span_of set.base set.top_high set.top_low
 
@@ -33,7 +33,7 @@ pub record IsToldOf (set : Encoding) (told : GrantedBounds) : Type 0 where
   pub t : told.t ≡ t_of set.granted
   pub b : told.b ≡ b_of set.granted
 
--- C is told what the request is granted
+-- C is told an encoding that is what the request is granted, and the least that covers it
 pub record IsRequestGranted (request : Span) (told : GrantedBounds) : Type 0 where
   pub set : Encoding
   pub is_told : IsToldOf set told
@@ -43,7 +43,7 @@ pub record IsRequestGranted (request : Span) (told : GrantedBounds) : Type 0 whe
   pub tight : IsTight request set.granted
   pub tightest : IsTightest request set.granted
 
--- C is told that nothing is granted
+-- C is told that nothing is granted: `in_range` is false, and all else is zero or false
 pub record IsNothing (set : GrantedBounds) : Type 0 where
   pub in_range : set.in_range ≡ false
   pub base : set.base ≡ 0

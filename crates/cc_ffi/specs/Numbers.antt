@@ -6,6 +6,6 @@ use Rattle.cc_ffi.specs.declared.structs.Halves.{Halves}
 abbrev pub number_of : (high low : ℕ) → ℕ
 number_of high low = high * 2 ^ 64 + low
 
--- the number that halves tell
+-- the number of the halves in a struct
 abbrev pub value_of : Halves → ℕ
 value_of halves = number_of halves.high halves.low

@@ -5,7 +5,7 @@ use Rattle.cc_word.specs.Refusal.{code_of}
 use Rattle.cc_ffi.specs.declared.structs.MadeWord.{MadeWord}
 use Rattle.cc_ffi.specs.Numbers.{number_of}
 
--- C is told the word and 0, or no word and the code of the refusal
+-- C is told the word with refusal 0, or zero halves with the code of the refusal
 abbrev pub IsTold : (answer : Result ℕ Refusal) (told : MadeWord) → Type 0
 IsTold (Ok word) told = (number_of told.high told.low ≡ word) × (told.refusal ≡ 0)
 IsTold (Err refusal) told = (number_of told.high told.low ≡ 0) × (told.refusal ≡ code_of refusal)

@@ -38,7 +38,7 @@ pub extern "C" fn cheri_cap_exponent(high: u64, low: u64) -> u8
     exponent(&unpack(number(high, low)))
 }
 
-/// What a request is granted that ends at 2^64 or below.
+/// What C is told of a granted request, with `in_range` true.
 fn granted(set: &Set) -> GrantedBounds
     ensures { IsToldOf set.now result }
 {
@@ -57,7 +57,8 @@ fn granted(set: &Set) -> GrantedBounds
     }
 }
 
-/// What a request for bounds is granted: `length` bytes from `base` on. Where it ends above 2^64, nothing.
+/// What a request for `length` bytes from `base` on is granted. Where it ends above 2^64, `in_range` is false and
+/// all else is zero.
 #[unsafe(no_mangle)]
 pub extern "C" fn cheri_cap_set_bounds(
     base: u64,
@@ -86,7 +87,7 @@ pub extern "C" fn cheri_cap_set_bounds(
 }
 
 /// Whether a word stores its bounds as setting bounds stores them, and the address is representable for
-/// them. The reserved bits and the type are not looked at.
+/// them. The permissions, the reserved bits, the flag and the type are not looked at.
 #[inline(always)]
 #[unsafe(no_mangle)]
 pub extern "C" fn cheri_cap_represents(high: u64, low: u64, address: u64) -> bool

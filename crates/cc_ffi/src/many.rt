@@ -15,7 +15,7 @@ use crate::bounds::{cheri_cap_decode, cheri_cap_represents};
 use crate::structs::{Bounds, Halves};
 use crate::words::cheri_cap_is_canonical;
 
-/// Writes the base, the top and the exponent of each word, and answers of how many.
+/// Writes the base, the top and the exponent of each word, and answers for how many words it did.
 #[unsafe(no_mangle)]
 pub extern "C" fn cheri_cap_decode_many(words: &[Halves], bounds: &mut [Bounds]) -> usize
     ensures count { result ≡ min (length words.now) (length bounds.old) }
@@ -29,7 +29,7 @@ pub extern "C" fn cheri_cap_decode_many(words: &[Halves], bounds: &mut [Bounds])
     count
 }
 
-/// Writes 1 for each canonical word and 0 for each other, and answers of how many.
+/// Writes 1 for each canonical word and 0 for each other, and answers for how many words it did.
 #[unsafe(no_mangle)]
 pub extern "C" fn cheri_cap_is_canonical_many(words: &[Halves], answers: &mut [u8]) -> usize
     ensures count { result ≡ min (length words.now) (length answers.old) }
@@ -44,7 +44,7 @@ pub extern "C" fn cheri_cap_is_canonical_many(words: &[Halves], answers: &mut [u
 }
 
 /// Writes 1 for each word that stores its bounds as setting bounds stores them and for which the address
-/// at its place is representable, and 0 for each other, and answers of how many.
+/// at its place is representable, and 0 for each other. Answers for how many words it did.
 #[unsafe(no_mangle)]
 pub extern "C" fn cheri_cap_represents_many(
     words: &[Halves],

@@ -1,4 +1,5 @@
-//! The rules of derivation on words.
+//! The rules of derivation on words. Each passes on one call of `cc_cap::words`, and refuses what that refuses,
+//! in the same order.
 ghost use Rattle.std.specs.Prelude.{◌≡◌, ◌↔◌, IsTrue};
 ghost use Rattle.cc_word.specs.declared.fields.Fields.{Fields as FieldsSpec};
 ghost use Rattle.cc_cap.specs.Capability.{Capability, GrantsNoMore};
@@ -14,7 +15,7 @@ use crate::structs::MadeWord;
 use cc_cap::{Flags, Perms, words};
 use cc_word::Refusal;
 
-/// What C is told of an answer.
+/// What C is told of an answer: the word with refusal 0, or zero halves with the refusal's code.
 fn told(answer: Result<u128, Refusal>) -> MadeWord
     ensures { IsTold answer result }
 {
@@ -43,7 +44,7 @@ pub extern "C" fn cheri_cap_set_address(high: u64, low: u64, address: u64) -> Ma
     told(words::set_address(number(high, low), address))
 }
 
-/// The word with its address moved up, round the end of the address space.
+/// The word with its address moved up by `amount` bytes, modulo 2^64.
 #[unsafe(no_mangle)]
 pub extern "C" fn cheri_cap_increment(high: u64, low: u64, amount: u64) -> MadeWord
     ensures { IsAnswer (OnWord (λ cap. Increments cap amount) (number_of high low)) result }
@@ -86,7 +87,7 @@ pub extern "C" fn cheri_cap_and_perms(high: u64, low: u64, mask: u16) -> MadeWor
     told(words::and_perms(number(high, low), Perms::from_bits_retain(mask)))
 }
 
-/// The word with this flag.
+/// The word with its flag set to `flag`.
 #[unsafe(no_mangle)]
 pub extern "C" fn cheri_cap_set_flag(high: u64, low: u64, flag: bool) -> MadeWord
     ensures { IsAnswer (OnWord (λ cap. SetsFlag cap flag) (number_of high low)) result }
@@ -133,7 +134,8 @@ pub extern "C" fn cheri_cap_rebuild(
     told(words::rebuild(number(authority_high, authority_low), number(high, low)))
 }
 
-/// Whether all bytes and permissions of the word are within those of the other, for any two words.
+/// Whether the word begins and ends within the other, and the other has all its permissions, for any two words,
+/// by the bounds that they decode to.
 #[unsafe(no_mangle)]
 pub extern "C" fn cheri_cap_is_subset(high: u64, low: u64, outer_high: u64, outer_low: u64) -> bool
     ensures words { OfFields (number_of high low) (λ inner. OfFields (number_of outer_high outer_low) (λ outer.

@@ -18,15 +18,15 @@ pub struct WordFields {
     pub address: u64,
     /// The object type, of 18 bits.
     pub otype: u32,
-    /// The permissions.
+    /// The permissions, of 16 bits, GLOBAL the lowest.
     pub perms: u16,
     /// The T field as stored, of 12 bits.
     pub t: u16,
     /// The B field as stored, of 14 bits.
     pub b: u16,
-    /// The reserved bits, of which there are two.
+    /// The two reserved bits, zero in every capability.
     pub reserved: u8,
-    /// The flag.
+    /// The flag: whether code runs in capability mode.
     pub flag: bool,
     /// The internal exponent.
     pub ie: bool,
@@ -36,9 +36,9 @@ pub struct WordFields {
 #[derive(Clone, Copy)]
 #[repr(C)]
 pub struct Bounds {
-    /// The base.
+    /// The first byte's address.
     pub base: u64,
-    /// The top's bits from 64 up.
+    /// The top's bits from 64 up: 0 or 1.
     pub top_high: u64,
     /// The top's lower 64 bits.
     pub top_low: u64,
@@ -52,7 +52,7 @@ pub struct Bounds {
 pub struct GrantedBounds {
     /// The granted base.
     pub base: u64,
-    /// The granted top's bits from 64 up.
+    /// The granted top's bits from 64 up: 0 or 1.
     pub top_high: u64,
     /// The granted top's lower 64 bits.
     pub top_low: u64,

@@ -44,7 +44,7 @@ pub extern "C" fn cheri_cap_otype(high: u64, low: u64) -> u32
     unpack(number(high, low)).otype
 }
 
-/// The flag of a word.
+/// The flag of a word: whether code runs in capability mode.
 #[unsafe(no_mangle)]
 pub extern "C" fn cheri_cap_flag(high: u64, low: u64) -> bool
     ensures { OfFields (number_of high low) (λ fields. result ≡ fields.flag) }

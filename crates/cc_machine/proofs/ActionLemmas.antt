@@ -48,13 +48,13 @@ plan-passes : {A condition rest : Type 0} {refusal : Refusal} {old new : Plan} {
 plan-passes (inl holds) = holds
 plan-passes (inr fails) = let e = fails.1 in cc
 
--- a refused pool leaves the plan
+-- where the pool is refused, the plan stays
 pub give-refused : (old new : Plan) (pool : Capability) (align : Align) (refusal : Refusal) → GivesPool old pool align (Err refusal) new → new ≡ old
 give-refused old new pool align refusal (inr sealed) = sealed.1.1
 give-refused old new pool align refusal (inl (_, inr given)) = given.1.1
 give-refused old new pool align refusal (inl (_, inl (_, (answer, _)))) = let e = answer in cc
 
--- a refused object leaves the plan
+-- where an object is refused, the plan stays
 pub alloc-refused : (old new : Plan) (size : ℕ) (refusal : Refusal) → PlanAllocates old size (Err refusal) new → new ≡ old
 alloc-refused old new size refusal (inr none) = none.1.1
 alloc-refused old new size refusal (inl (_, inr nothing)) = nothing.1.1

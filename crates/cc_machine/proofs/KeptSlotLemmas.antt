@@ -28,7 +28,7 @@ at-push test [] more fails (suc place) = refl
 at-push test (first ∷ objects) more fails zero = refl
 at-push test (first ∷ objects) more fails (suc place) = at-push test objects more fails place
 
--- one more object, for which the test fails
+-- one more object, for which the test fails, changes no answer
 told-push : (test : PlannedObject → Bool) (objects : List PlannedObject) (more : PlannedObject) → test more ≡ false → (number : ℕ)
     → tells test (objects ++ more ∷ []) number ≡ tells test objects number
 told-push test objects more fails zero = refl
@@ -43,13 +43,13 @@ at-set test (first ∷ objects) zero was now found same (suc place) = refl
 at-set test (first ∷ objects) (suc k) was now found same zero = refl
 at-set test (first ∷ objects) (suc k) was now found same (suc place) = at-set test objects k was now found same place
 
--- one object is replaced by one that the test cannot tell from it
+-- where one object is replaced by another for which the test says the same, no answer changes
 told-set : (test : PlannedObject → Bool) (objects : List PlannedObject) (k : ℕ) (was now : PlannedObject) → slice_get objects k ≡ Some was
     → test now ≡ test was → (number : ℕ) → tells test (set objects k now) number ≡ tells test objects number
 told-set test objects k was now found same zero = refl
 told-set test objects k was now found same (suc place) = at-set test objects k was now found same place
 
--- each object is replaced by a function of it
+-- where each object is replaced by a function of it, the test is made of the function's value
 told-map : (test : PlannedObject → Bool) (f : PlannedObject → PlannedObject) (objects : List PlannedObject) (number : ℕ)
     → tells test (map f objects) number ≡ tells (λ object. test (f object)) objects number
 told-map test f objects zero = refl
@@ -165,7 +165,7 @@ swept-at objects number =
     by_found None = refl
     by_found (Some object) = refl
 
--- and none is freed
+-- after a sweep no object is freed
 pub freed-at-swept : (objects : List PlannedObject) (number : ℕ) → is_freed_at (map swept objects) number ≡ false
 freed-at-swept objects number =
     told-map (λ object. is_freed object.state) swept objects number
@@ -186,7 +186,7 @@ freed-at-swept objects number =
     by_found None = refl
     by_found (Some object) = refl
 
--- no object is both
+-- no object is both swept and freed
 pub not-both : (objects : List PlannedObject) (number : ℕ) → is_swept_at objects number ≡ true → is_freed_at objects number ≡ false
 not-both objects number is = by_found (object_numbered objects number) is
   where

@@ -61,7 +61,7 @@ is-swept object = by_state object.state refl
           to_swept = λ _. ap (λ (o : Object). o.state) same ∙ is;
         }
 
--- an object of this number, of which this is what a sweep leaves
+-- there was an object of this number, and this is what a sweep makes of it
 record IsBefore (objects : List Object) (number : ℕ) (object : Object) : Type 0 where
   before : Object
   found : object_at objects number ≡ Ok before
@@ -80,7 +80,7 @@ swept-at objects (suc k) object found =
       is = (let e : Some (swept before) ≡ Some object = at in cc);
     }
 
--- and what is there is swept
+-- where an object was, there is what a sweep makes of it
 swept-of : (objects : List Object) (number : ℕ) (before : Object) → object_at objects number ≡ Ok before → object_at (map swept objects) number ≡ Ok (swept before)
 swept-of objects zero before found = cc
 swept-of objects (suc k) before found =

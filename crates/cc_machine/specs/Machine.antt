@@ -14,7 +14,7 @@ objects_in (planned ∷ rest) (slot ∷ slots) =
     record { size = planned.size; slot = slot; state = planned.state } ∷ objects_in rest slots
 objects_in _ _ = []
 
--- the state that the fields are
+-- the state that a machine's fields stand for
 abbrev pub state_of : Inside → State
 state_of machine = record {
   limit = machine.limit;

@@ -9,7 +9,7 @@ use Rattle.cc_machine.specs.declared.op.Op.TheVariants.{Bounds, Exact, Addr, Inc
 use Rattle.cc_machine.specs.State.{SlotState}
 use Rattle.cc_machine.specs.Step.{OnSlot}
 
--- what an operation that derives makes of the slots, and the parent of what it makes
+-- on these slots the operation that derives has this result, whose parent is this slot; no other operation has one
 abbrev pub Makes : List SlotState → Op → ℕ → Result Capability Refusal → Type 0
 Makes slots (Bounds number size) parent result = (parent ≡ number) × OnSlot slots number result (λ cap. SetsBounds cap size result)
 Makes slots (Exact number size) parent result = (parent ≡ number) × OnSlot slots number result (λ cap. SetsExactBounds cap size result)

@@ -34,7 +34,7 @@ owned_count owner slots = count_by (λ slot. nat_eq slot.owner owner) slots
 abbrev pub freed_slot_count : List PlannedObject → List Slot → ℕ
 freed_slot_count objects slots = count_by (λ slot. is_freed_at objects slot.owner) slots
 
--- each slot's owner is the number of the object that it belongs to
+-- each slot's owner is the number of the object that it belongs to, or 0 where it belongs to none
 pub record TellsOwners (owners : List ℕ) (state : State) : Type 0 where
   pub as_many : length owners ≡ length state.slots
   pub fits : (slot : ℕ) → slice_index owners slot ≤ length state.objects
@@ -42,7 +42,8 @@ pub record TellsOwners (owners : List ℕ) (state : State) : Type 0 where
       (slot number : ℕ) (object : Object) → slot < length state.slots → IsObject state number object
       → (slice_index owners slot ≡ number) ↔ BelongsTo state object slot
 
--- the counts are those of the slots of each owner, 0 for those without an object, and of all freed ones
+-- `counts` has at each owner how many slots have it, the owner 0 being that of slots without an object; `freed` is
+-- how many slots belong to freed objects
 pub record CountsSlots (objects : List PlannedObject) (slots : List Slot) (counts : List ℕ) (freed : ℕ) : Type 0 where
   pub as_many : length counts ≡ suc (length objects)
   pub each : (owner : ℕ) → owner < length counts → slice_index counts owner ≡ owned_count owner slots

@@ -1,4 +1,4 @@
--- What a planner knows of a state: its pool, and its objects with their bounds.
+-- What a planner knows of a state: the limit, the pool with its alignment, and the objects with their bounds.
 use Rattle.std.specs.Prelude.{Option, List, map, option_and_then, option_map, slice_get}
 use Rattle.cc_cap.specs.Capability.{Capability}
 use Rattle.cc_plan.specs.declared.object.PlannedObject.{PlannedObject}
@@ -12,7 +12,7 @@ abbrev pub pool_capability : State → Option Capability
 pool_capability state =
     option_and_then (λ number. option_map (λ slot. slot.capability) (slice_get state.slots number)) state.pool
 
--- what a planner knows of an object, of which the bounds are its slot's
+-- what a planner knows of an object: its size, the bounds of its slot, and its state
 abbrev pub planned_object : List SlotState → Object → PlannedObject
 planned_object slots object = record {
   size = object.size;

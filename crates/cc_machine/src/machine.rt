@@ -18,9 +18,9 @@ use std::marker::Model;
 /// Slots of capabilities, numbered from 0.
 ///
 /// Slot 0 has the root capability. Every other slot has a capability that was derived from an earlier slot,
-/// its parent. One slot may be made the pool, in whose bounds objects are made: each object is a slot below
-/// the pool's. When the object is freed, it holds its bytes until the next sweep, which revokes that slot and
-/// all that was derived from it. All memory is taken when the machine is opened.
+/// its parent. One slot may be made the pool, in whose bounds objects are made: each object has a slot of its
+/// own, a child of the pool's. A freed object holds its bytes until the next sweep, which revokes its slot and
+/// all that was derived from that. All memory is taken when the machine is opened.
 ///
 /// A sweep touches no slot: each slot has the number of the object that it belongs to, and is revoked exactly if
 /// that object was swept.
@@ -32,7 +32,7 @@ pub struct Machine {
     planner: Planner<BlockPlacer>,
     /// The slot of each object, in the order of their numbers.
     object_slots: Vec<u32>,
-    /// How many slots belong to no object, and then how many to each, in the order of their numbers.
+    /// How many slots belong to each object, at the object's number; at 0, how many belong to none.
     slot_counts: Vec<u32>,
     /// How many slots belong to objects that were freed and not swept.
     freed_slots: u32,
@@ -146,7 +146,7 @@ impl Machine {
 
     /// The object of a number, live, freed or swept. The first has the number 1.
     ///
-    /// Refusals: `NoObject`, where the number was never given, as 0.
+    /// Refusals: `NoObject`, where the number was never given; 0 never is.
     pub fn object(&self, number: u32) -> Result<Object, Refusal>
         ensures { result ≡ object_at self.now.objects number }
     {
@@ -161,15 +161,15 @@ impl Machine {
         })
     }
 
-    /// How many bytes are held, at most 2^64: the sum of the lengths of the bounds of the held objects, padding
-    /// counted.
+    /// How many bytes the held objects take, padding counted: at most 2^64.
     pub fn held_bytes(&self) -> u128
         ensures { result ≡ held_bytes_of self.now }
     {
         self.planner.held_bytes()
     }
 
-    /// The planner, which has the pool, and all objects with their bounds, and holds the bounds of the held ones.
+    /// The planner: it has the pool and all objects with their bounds, and its placer holds the bounds of the held
+    /// ones.
     pub fn planner(&self) -> &Planner<BlockPlacer>
         ensures plan { result.now ≡ plan_of self.now }
         ensures held { HaveSameSpans (planned_spans result.now.objects) (held_spans self.now) }
@@ -180,8 +180,8 @@ impl Machine {
     /// Does one operation.
     ///
     /// A refused operation leaves the machine as it was; [`Op`] says when each refusal comes. What is made goes
-    /// into a new slot, the last, and is refused with `Full` where there are as many slots as the limit: after
-    /// every other check, save that a place for an object is looked for only then.
+    /// into a new slot, the last. Where there are as many slots as the limit, it is refused with `Full` instead,
+    /// after every other check but one: `NoRoom` for an object comes after `Full`.
     #[inline(always)]
     pub fn step(&mut self, op: &Op) -> Reply
         ensures step { Step self.old op.now result self.new }
@@ -236,8 +236,8 @@ impl Machine {
         }
     }
 
-    /// Puts what was made into a new slot, the last, where fewer slots than the limit were made. It belongs to
-    /// what its parent belongs to.
+    /// Puts what was made into a new slot, the last, or refuses it with `Full` where there are as many slots as the
+    /// limit. The new slot belongs to its parent's object, where the parent has one.
     #[inline(always)]
     fn add(&mut self, parent: u32, made: Result<Cap, Refusal>) -> Reply
         requires { IsMade self.old.slots parent made }

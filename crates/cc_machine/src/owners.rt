@@ -4,7 +4,7 @@ ghost use Rattle.cc_machine.specs.Owners.{is_freed_at, is_swept_at};
 
 use cc_plan::{ObjectId, ObjectState, Placer, Planner};
 
-/// Whether the object of this number was swept. No object has the number 0.
+/// Whether the object of this number was swept. Of 0, which is the owner of slots without an object, it is false.
 pub(crate) fn is_swept<P: Placer>(planner: &Planner<P>, owner: u32) -> bool
     ensures { result ≡ is_swept_at planner.now.objects owner }
 {
@@ -14,7 +14,8 @@ pub(crate) fn is_swept<P: Placer>(planner: &Planner<P>, owner: u32) -> bool
     }
 }
 
-/// Whether the object of this number was freed, and not swept yet. No object has the number 0.
+/// Whether the object of this number was freed, and not swept yet. Of 0, the owner of slots without an object, it
+/// is false.
 pub(crate) fn is_freed<P: Placer>(planner: &Planner<P>, owner: u32) -> bool
     ensures { result ≡ is_freed_at planner.now.objects owner }
 {

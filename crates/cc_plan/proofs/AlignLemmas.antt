@@ -15,7 +15,7 @@ use Rattle.cc_plan.specs.declared.align.Align.{Align}
 use Rattle.cc_plan.specs.declared.align.Align.TheVariants.{One, Sixteen}
 use Rattle.cc_plan.specs.Align.{align_bytes, padded_size_for, unit_of}
 
--- whole units are whole smaller units
+-- whole units of an exponent are whole units of each lower one
 whole_smaller : (n e k : ℕ) → e ≤ k → n * 2 ^ (k - e) * 2 ^ (e + 3) ≡ n * 2 ^ (k + 3)
 whole_smaller n e k le =
     let s : k - e + (e + 3) ≡ k + 3 = omega arith in
@@ -69,7 +69,7 @@ unit-one size = let some = granule-some size in omega arith
 pub padded-one : (size : ℕ) → padded_size_for One size ≡ padded_size size
 padded-one size = ap (λ (n : ℕ). div_ceil size n * n) (unit-one size)
 
--- with alignment 16 the unit is 16, of a size that is small, or it is the granule, which is a multiple of 16
+-- with alignment 16 the unit is 16 of a size of at most 8,184, or else the granule, which is a multiple of 16
 record IsFine (size : ℕ) : Type 0 where
   unit : unit_of Sixteen size ≡ 16
   small : size ≤ 8184
@@ -145,7 +145,7 @@ unit-some : (align : Align) (size : ℕ) → 0 < unit_of align size
 unit-some One size = omega arith
 unit-some Sixteen size = omega arith
 
--- no size is longer than it is padded to
+-- a padded size is no less than the size
 pub padded_for-enough : (align : Align) (size : ℕ) → size ≤ padded_size_for align size
 padded_for-enough align size = le-div_ceil size (unit_of align size) (unit-some align size)
 

@@ -293,7 +293,7 @@ widened end at blocks d block loose within is spans last =
     same_set end blocks at d block within loose.low is
     (rw last (loose_here at loose.from blocks d loose.high within).high) spans last
 
--- past all blocks there is none to widen
+-- where the position is past all blocks, none has to be widened
 pub not_loose : (end at : ℕ) (blocks : List BlockState) → AreLooseAt end at blocks → length blocks ≤ at
     → AreBlocks end blocks
 not_loose end at blocks loose past = subst (AreBlocks end) (take_all at blocks past) loose.low
@@ -472,7 +472,7 @@ joined end (x ∷ y ∷ ys) (suc at) d e block within spans last is are =
     let rest = joined (x.last + 1) (y ∷ ys) at d e block (omega (arith, within)) spans last is are.1 in
     record { are = (are.0, rest.are); ends = rest.ends; spans = ap (λ (zs : List Span). x.spans ++ zs) rest.spans }
 
--- neighbours with 49 spans or more together
+-- where each two neighbours have 49 spans or more together, there are 49 spans for every two blocks
 crowded_pairs : (blocks : List BlockState)
     → ((k : ℕ) (d : BlockState) → suc k < length blocks
     → 49 ≤ length (get_or blocks k d).spans + length (get_or blocks (suc k) d).spans)
@@ -501,7 +501,7 @@ joined_at end blocks at d e block within d_is e_is spans last is are =
     (subst (λ (b : BlockState). IsBlock (d.last + 1) b) (sym high)
     (subst (λ (b : BlockState). IsBlock (b.last + 1) (get_or blocks (suc at) e)) (sym low) second))) are)
 
--- where no two neighbours have few spans together, there are many
+-- the same, with the neighbours as the code counts them
 pub crowded : (blocks : List BlockState)
     → ((k : ℕ) (d : BlockState) → k + 1 < length blocks
     → 49 ≤ length (get_or blocks k d).spans + length (get_or blocks (k + 1) d).spans)

@@ -76,7 +76,7 @@ at_most one other size least below = elim (cases_lt other one) [
   | inr less ↦ less
 ]
 
--- a length and a longer one have one unit if the shorter has 512 of the longer one's
+-- two lengths have the same unit if the shorter has at least 512 units of the longer one
 pub unit_same : (size length : ℕ) → 4096 ≤ size → size ≤ length → length ≤ 2 ^ 64 → 512 * gap_unit length ≤ size
     → gap_unit length ≡ gap_unit size
 unit_same size length long less fits many =
@@ -94,13 +94,13 @@ pub multiple_of_unit : (start align unit : ℕ) → start % align ≡ 0 → alig
 multiple_of_unit start align unit of_align of_unit =
     mod-eq-zero_of_dvd unit (dvd_trans unit (dvd_of_mod-eq-zero unit of_unit) (dvd_of_mod-eq-zero align of_align))
 
--- the first multiple is no further than a start at one
+-- the first multiple of the unit is no higher than any start at a multiple
 first_multiple : (unit from start : ℕ) → 0 < unit → from ≤ start → start % unit ≡ 0 → div_ceil from unit * unit ≤ start
 first_multiple unit from start some from_start aligned =
     least_multiple unit from (div_ceil from unit * unit) start some (mul-mod_left (div_ceil from unit) unit) aligned from_start
     (div_ceil-lt from unit some)
 
--- where less than 512 units are asked for, or one at a multiple of the unit
+-- a gap has room for what lies in it, where that is less than 512 units long or begins at a multiple of the unit
 pub room_fine : (from to start size : ℕ) → from ≤ start → start + size ≤ to → size < 512 * gap_unit (to - from)
     → size ≤ room_of from to
 unfolding room_of
@@ -172,7 +172,7 @@ room_at_most from to in_order fits =
     let covers = le-div_ceil from (gap_unit (to - from)) (omega (arith, some)) in
     omega (arith, covers)
 
--- nor has one more room than a gap around it
+-- and no more room than a gap around it
 pub room_within : (from to lower higher : ℕ) → lower ≤ from → from ≤ to → to ≤ higher → higher ≤ 2 ^ 64
     → room_of from to ≤ room_of lower higher
 unfolding room_of

@@ -1,4 +1,4 @@
--- What a placer keeps that keeps its spans in blocks. No public clause cites this file.
+-- What a placer with its spans in blocks keeps. No public clause cites this file.
 use Rattle.std.specs.Prelude.{ℕ, ◌≡◌, ◌+◌, ◌/◌, ◌≤◌, List, [], Option, Some, None, IfSome, length}
 use Rattle.cc_bounds.specs.declared.span.Span.{Span}
 use Rattle.cc_plan.specs.BlockState.{BlockState}
@@ -6,7 +6,7 @@ use Rattle.cc_plan.specs.Blocks.{AreBlocks, blocks_end, spans_in}
 use Rattle.cc_plan.specs.Groups.{AreCovered}
 use Rattle.cc_plan.specs.PlacerState.{IsPool}
 
--- how many blocks are enough for so many spans
+-- how many blocks a placer of so many spans reserves, which is enough
 abbrev pub block_count : ℕ → ℕ
 block_count limit = limit / 24 + 2
 

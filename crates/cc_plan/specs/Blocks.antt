@@ -17,7 +17,7 @@ abbrev pub AreBlocks : ℕ → List BlockState → Type 0
 AreBlocks end [] = Unit {0}
 AreBlocks end (block ∷ blocks) = IsBlock end block × AreBlocks (block.last + 1) blocks
 
--- where the blocks end that follow an end
+-- where the blocks end: behind the last byte of the last one, and at the given end where there is none
 abbrev pub blocks_end : ℕ → List BlockState → ℕ
 blocks_end end [] = end
 blocks_end end (block ∷ blocks) = blocks_end (block.last + 1) blocks
@@ -32,7 +32,7 @@ abbrev pub with_upper : BlockState → Option BlockState → List BlockState
 with_upper block None = block ∷ []
 with_upper block (Some upper) = block ∷ upper ∷ []
 
--- the blocks from a position on follow an end where those before it end, or above
+-- the blocks before a position follow an end, and those from it on begin where the former end, or above
 pub record AreLooseAt (end at : ℕ) (blocks : List BlockState) : Type 0 where
   pub from : ℕ
   pub low : AreBlocks end (take at blocks)

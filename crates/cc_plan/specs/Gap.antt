@@ -19,7 +19,7 @@ room_at unit from to = max (min (to - from) (512 * unit - 1)) (to - div_ceil fro
 unfoldable pub room_of : (from to : ℕ) → ℕ
 room_of from to = room_at (gap_unit (to - from)) from to
 
--- a gap has at least this much room if it has so many bytes at a multiple of the alignment
+-- each gap that ends below 2^64 and has so many bytes at a multiple of the alignment has at least this much room
 abbrev pub IsNeeded : (size align needed : ℕ) → Type 0
 IsNeeded size align needed =
     (from to start : ℕ) → to < 2 ^ 64 → from ≤ start → start + size ≤ to → start % align ≡ 0 → needed ≤ room_of from to

@@ -13,7 +13,7 @@ AreCovered blocks bounds =
     (at : ℕ) (d : BlockState) (e : ℕ) → at < length blocks
     → (slice_index_or blocks at d).bound ≤ slice_index_or bounds (at / 32) e
 
--- the same, but for the blocks from one position up to another
+-- the same of all blocks but those from one position up to another
 abbrev pub AreCoveredBut : (from to : ℕ) → List BlockState → (bounds : List ℕ) → Type 0
 AreCoveredBut from to blocks bounds =
     (at : ℕ) (d : BlockState) (e : ℕ) → at < length blocks → (from ≤ at → to ≤ at)

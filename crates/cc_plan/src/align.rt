@@ -12,7 +12,7 @@ pub enum Align {
 }
 
 impl Align {
-    /// How many bytes it is.
+    /// The alignment in bytes: 1 or 16.
     pub(crate) fn bytes(self) -> u64
         ensures { result ≡ align_bytes self }
     {

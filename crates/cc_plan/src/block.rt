@@ -80,7 +80,7 @@ impl Block {
         self.last
     }
 
-    /// The bound of the room of the gap before each of its spans.
+    /// A bound: no gap before one of its spans has more room.
     #[inline(always)]
     pub(crate) fn bound(&self) -> u64
         ensures { result ≡ self.now.bound }
@@ -88,7 +88,8 @@ impl Block {
         self.bound
     }
 
-    /// Puts a span in below the last one.
+    /// Puts in a span that begins below the end of the last one. `end` is where the block's first gap
+    /// begins.
     pub(crate) fn insert(&mut self, end: u64, span: Span)
         requires block { IsBlock end self.old }
         requires fewer { length self.old.spans < 64 }
@@ -110,8 +111,7 @@ impl Block {
         }
     }
 
-    /// Puts a span in below the last one. A full block is split first: its upper half is handed out, in a spare
-    /// block.
+    /// As `insert`, but a full block is split first: its upper half goes into a spare block, which is handed out.
     pub(crate) fn insert_or_split(
         &mut self,
         end: u64,
@@ -146,7 +146,7 @@ impl Block {
         Some(upper)
     }
 
-    /// Takes a span away. The block may be left with none, and then what it keeps besides says nothing.
+    /// Takes a span away. Where it was the only one, the bound and the last byte say nothing afterwards.
     pub(crate) fn remove(&mut self, end: u64, span: Span)
         requires block { IsBlock end self.old }
         requires held { Contains self.old.spans span }
@@ -178,7 +178,7 @@ impl Block {
         self.last = (span.top - 1) as u64;
     }
 
-    /// Makes a span that follows an end its only one.
+    /// Makes a span its only one, whatever was there before. The gap before the span begins at `end`.
     pub(crate) fn start(&mut self, end: u64, span: Span)
         requires some { IsSomeBytes span }
         requires above { end ≤ span.base }
@@ -192,7 +192,7 @@ impl Block {
         self.last = (span.top - 1) as u64;
     }
 
-    /// Moves its upper half into another block, and all that was there is forgotten.
+    /// Moves the upper half of a full block into another block, whose old spans are dropped.
     pub(crate) fn split(&mut self, end: u64, upper: &mut Block)
         requires block { IsBlock end self.old }
         requires full { length self.old.spans ≡ 64 }
@@ -213,7 +213,7 @@ impl Block {
         self.last = middle - 1;
     }
 
-    /// Puts the spans of the block that follows behind its own.
+    /// Puts the spans of another block, which follows it, behind its own.
     pub(crate) fn take_in(&mut self, upper: &Block)
         requires few { length self.old.spans + length upper.now.spans ≤ 64 }
         ensures spans { self.new.spans ≡ self.old.spans ++ upper.now.spans }
@@ -225,7 +225,7 @@ impl Block {
         self.last = upper.last;
     }
 
-    /// Lets its first gap begin at an end that is lower than before.
+    /// Lets its first gap begin at `end`, which is no higher than where it began before.
     pub(crate) fn widen(&mut self, end: u64)
         requires some { 0 < length self.old.spans }
         requires chain { IsChain end (2 ^ 64) self.old.spans }
@@ -248,8 +248,8 @@ impl Block {
     }
 }
 
-/// The least start of `len` bytes, at a multiple of `align`, in the gaps before the spans, the first of which
-/// follows an end.
+/// The least start of `len` bytes, at a multiple of `align`, in the gaps before the spans. The first gap begins at
+/// `end`.
 fn place_between(spans: &[Span], end: u128, len: u128, align: u64) -> Option<u64>
     requires chain { IsChain end (2 ^ 64) spans.now }
     requires some { 0 < len }
@@ -266,7 +266,7 @@ fn place_between(spans: &[Span], end: u128, len: u128, align: u64) -> Option<u64
     None
 }
 
-/// Where the spans before a position end, the first of which follows an end.
+/// Where the spans before a position end: at the top of the last of them, and at `end` where there is none.
 fn end_before(spans: &[Span], at: usize, end: u64) -> u64
     requires within { at < length spans.now }
     requires chain { IsChain end (2 ^ 64) spans.now }
@@ -279,7 +279,7 @@ fn end_before(spans: &[Span], at: usize, end: u64) -> u64
     }
 }
 
-/// The most room of the gaps before the spans, the first of which follows an end.
+/// The most room of a gap before one of the spans. The first gap begins at `end`.
 fn widest(spans: &[Span], end: u64) -> u64
     requires { IsChain end (2 ^ 64) spans.now }
     ensures { result ≡ most_room end spans.now }
@@ -293,7 +293,7 @@ fn widest(spans: &[Span], end: u64) -> u64
     most
 }
 
-/// The greater of a room and that of the gap.
+/// The greater of `most` and the room of the gap from `from` up to `to`.
 #[inline(always)]
 fn wider(most: u64, from: u64, to: u64) -> u64
     requires { from ≤ to }

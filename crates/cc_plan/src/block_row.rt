@@ -13,16 +13,16 @@ use crate::block::Block;
 use crate::groups::{GROUP, GroupBounds};
 use cc_bounds::Span;
 
-/// Up to how many spans the last block has before another one is begun behind it.
+/// A span behind all others begins a new block where the last block has so many spans or more.
 const LAST_SPANS: usize = 56;
 
-/// Up to how many spans two neighbours have together that are joined where there is no spare block.
+/// Two neighbours with at most so many spans together may be joined where there is no spare block.
 const JOINED_SPANS: usize = 48;
 
-/// Puts a span in that shares no byte with one that is there.
+/// Puts in a span that shares no byte with one that is there.
 ///
-/// Where there is no spare block, two neighbours are joined first. The caller has so many blocks then that two of
-/// them have few spans together.
+/// Where there is no spare block, two neighbours are joined first. The caller then has so many blocks for its spans
+/// that two neighbours have at most `JOINED_SPANS` together.
 pub(crate) fn put(
     blocks: &mut Vec<Block>,
     groups: &mut GroupBounds,
@@ -88,7 +88,8 @@ fn put_with_spare(
     }
 }
 
-/// As `put`, below the last byte of the block at a position, and above those before it.
+/// As `put`, into the block at a position: the span begins at that block's last byte or below, and above all blocks
+/// before it.
 fn put_inside(
     blocks: &mut Vec<Block>,
     groups: &mut GroupBounds,
@@ -202,7 +203,7 @@ pub(crate) fn take_out(
     }
 }
 
-/// Lets the block at a position, if there is one, follow the blocks before it.
+/// Widens the first gap of the block at a position, if there is one: it begins where the blocks before now end.
 fn widen_at(blocks: &mut Vec<Block>, at: usize, end: u64)
     requires loose { AreLooseAt end at blocks.old.items }
     requires within { at ≤ length blocks.old.items }
@@ -221,7 +222,8 @@ fn widen_at(blocks: &mut Vec<Block>, at: usize, end: u64)
     }
 }
 
-/// Joins two neighbours that have few spans together. The caller has so many blocks that there are such.
+/// Joins the first two neighbours that have at most `JOINED_SPANS` spans together; the block that becomes free is a
+/// spare one. The caller has so many blocks for its spans that there are such neighbours.
 pub(crate) fn join_two(blocks: &mut Vec<Block>, spare: &mut Vec<Block>)
     requires many { length (spans_in blocks.old.items) < 49 * (length blocks.old.items / 2) }
     requires reserved { vec_len spare.old < vec_capacity spare.old }
@@ -243,7 +245,7 @@ pub(crate) fn join_two(blocks: &mut Vec<Block>, spare: &mut Vec<Block>)
     spare.push_reserved(upper);
 }
 
-/// Where the first two neighbours stand that have at most `JOINED_SPANS` spans together.
+/// The position of the lower of the first two neighbours that have at most `JOINED_SPANS` spans together.
 fn small_pair(blocks: &[Block]) -> Option<usize>
     ensures some { IfSome result (λ at. at + 1 < length blocks.now) }
     ensures few { IfSome result (λ at. (d : BlockState) → length (slice_index_or blocks.now at d).spans
@@ -357,7 +359,8 @@ fn place_at(blocks: &[Block], at: usize, end: u64, len: u128, align: u64, least:
     block.place(end_before(blocks, at, end), len, align)
 }
 
-/// Where a span with this base belongs: before are the blocks that end below it.
+/// The position of the block to which a span with this base belongs: the first whose last byte is not below the
+/// base, or the number of blocks where there is none.
 fn position_for(blocks: &[Block], base: u64) -> usize
     ensures within { result ≤ length blocks.now }
     ensures below { (d : BlockState) → 0 < result → (slice_index_or blocks.now (result - 1) d).last < base }
@@ -376,7 +379,8 @@ fn position_for(blocks: &[Block], base: u64) -> usize
     low
 }
 
-/// Where the blocks before a position end, the first of which follows an end.
+/// Where the blocks before a position end: behind the last byte of the last of them, and at `end` where there is
+/// none.
 fn end_before(blocks: &[Block], at: usize, end: u64) -> u64
     requires within { at ≤ length blocks.now }
     requires fits { blocks_end end (take at blocks.now) < 2 ^ 64 }
@@ -389,7 +393,7 @@ fn end_before(blocks: &[Block], at: usize, end: u64) -> u64
     }
 }
 
-/// Where the blocks end, the first of which follows an end.
+/// Where the blocks end: behind the last byte of the last one, and at `end` where there is none.
 pub(crate) fn row_end(blocks: &[Block], end: u64) -> u128
     ensures { result ≡ blocks_end end blocks.now }
 {

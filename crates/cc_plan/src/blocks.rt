@@ -14,15 +14,15 @@ use cc_bounds::Span;
 use std::alloc::{AllocError, Global};
 use std::marker::Model;
 
-/// For how many spans one more block is reserved.
+/// One block is reserved for so many spans of the limit, and two more beside.
 const SPANS_A_BLOCK: u32 = 24;
 
 /// A placer that holds its spans in blocks of up to 64, in the order of their addresses, where each block has a
 /// bound of the most room of a gap before one of its spans.
 ///
 /// To hold a span or to give one back takes a binary search over the blocks and one in a block. To find room takes
-/// a walk over the bounds of the blocks, and over the gaps of those that may have room.
-/// The blocks are reserved when it is made, and each is used again.
+/// a walk over the bounds of groups of 32 blocks, over the blocks of a group that may have room, and over the gaps
+/// of such a block. All blocks are reserved when the placer is made; one that is left empty is used again.
 #[derive(Drop)]
 pub struct BlockPlacer {
     limit: u32,
@@ -114,7 +114,8 @@ impl Placer for BlockPlacer {
     }
 }
 
-/// The least start of `len` bytes of the pool, at a multiple of `align`, between the spans of the blocks.
+/// The least start of `len` bytes of the pool, at a multiple of `align`, beside the spans of the blocks: in a gap
+/// before one of them, or else behind the last.
 fn room_in(blocks: &[Block], groups: &GroupBounds, pool: Span, len: u128, align: u64) -> Option<u64>
     requires blocks { AreBlocks pool.base blocks.now }
     requires covered { AreCovered blocks.now groups.now }

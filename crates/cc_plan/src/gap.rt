@@ -7,7 +7,7 @@ use crate::rounding::{padding, remainder};
 /// Objects of fewer bytes than this begin and end anywhere, as far as their size goes.
 const FIRST_COARSE_LENGTH: u64 = 4096;
 
-/// How many units a length has at least that is not short.
+/// A length of 4,096 bytes or more has at least so many of its units.
 const LEAST_UNITS: u64 = 512;
 
 /// The unit of a length: 8 below 4,096 bytes, and else the power of two of which it has at least 512, and
@@ -23,8 +23,9 @@ fn unit(len: u64) -> u64
 
 /// The room of the gap from `from` up to `to`: an object of more bytes has no place in it.
 ///
-/// It is the length below 4,096 bytes. Of longer gaps it is what is left from the first multiple of the length's
-/// unit on: objects of 512 such units and more lie at multiples of it.
+/// Below 4,096 bytes it is the gap's length. Of a longer gap it is what is left from the first multiple of the
+/// length's unit on, or one byte less than 512 units, whichever is more: only objects of 512 units and more have to
+/// lie at multiples of the unit.
 #[inline(always)]
 pub(crate) fn room(from: u64, to: u64) -> u64
     requires { from ≤ to }
@@ -39,10 +40,10 @@ pub(crate) fn room(from: u64, to: u64) -> u64
     coarse.max(LEAST_UNITS * unit - 1)
 }
 
-/// The least room of a gap that has a place for `len` bytes at a multiple of `align`.
+/// How much room a gap needs for a place of `len` bytes at a multiple of `align`: a gap with less has none.
 ///
-/// It is `len` for each object, since its place is at a multiple of the unit of its length. For other requests it
-/// is less, by less than a unit.
+/// It is `len` below 4,096 bytes and from 2^64 bytes up, and where `align` is a multiple of the length's unit, as each
+/// object's is. Else it is less than `len`, by one byte less than a unit.
 pub(crate) fn needed(len: u128, align: u64) -> u128
     requires { 0 < align }
     ensures { IsNeeded len align result }

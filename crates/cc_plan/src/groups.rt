@@ -28,7 +28,7 @@ impl Model for GroupBounds {
 }
 
 impl GroupBounds {
-    /// Of no block.
+    /// The bounds of a row without blocks: all are 0.
     pub(crate) fn new() -> GroupBounds {
         GroupBounds {
             bounds: [0; MOST_GROUPS],
@@ -56,7 +56,8 @@ impl GroupBounds {
         self.bounds[group] = self.bounds[group].max(block.bound());
     }
 
-    /// Renews the bound of the group of a block whose bound was greater before.
+    /// Renews the bound of a block's group where it is `before`, the block's bound before a change, and the block's
+    /// bound is lower now.
     pub(crate) fn lower(&mut self, blocks: &[Block], at: usize, before: u64)
         requires within { at < length blocks.now }
         requires few { length blocks.now ≤ 2752 }
@@ -69,7 +70,7 @@ impl GroupBounds {
         }
     }
 
-    /// Renews the bounds of the groups from a block's on.
+    /// Renews the bounds of all groups from that of the block at a position on.
     pub(crate) fn renew_from(&mut self, blocks: &[Block], at: usize)
         requires few { length blocks.now ≤ 2752 }
         requires covered { AreCoveredBut at (length blocks.now) blocks.now self.old }

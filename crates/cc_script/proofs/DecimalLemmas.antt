@@ -1,8 +1,10 @@
--- The decimal digits of numbers of few digits.
-use Rattle.std.proofs.Common.{◌≡◌, ℕ, ◌+◌, ◌/◌, ◌%◌, ◌^◌, ◌<◌, ◌≤◌, List, [], ◌∷◌, ◌++◌, decimal, ap, ◌∙◌, arith}
+-- The decimal digits of numbers of few digits, two by two as they are printed.
+use Rattle.std.proofs.Common.{◌≡◌, ℕ, ◌+◌, ◌*◌, ◌/◌, ◌%◌, ◌^◌, ◌<◌, ◌≤◌, ◌==◌, true, refl, slice_index, List, [], ◌∷◌, ◌++◌, decimal, ap, ◌∙◌, arith}
+use Rattle.std.proofs.lemmas.Bool.{eqb-true, agree_below_at}
+use Rattle.cc_script.specs.declared.line.TheConstants.{PAIRS}
 use Rattle.std.proofs.lemmas.Fmt.{decimal_digit, decimal_step}
 
--- a digit more than the tenth of the number has
+-- a number from 10 up has the digits of its tenth, and one digit more
 more : (n : ℕ) (digits : List ℕ) → 10 ≤ n → n < 2 ^ 64 → decimal (n / 10) ≡ digits → decimal n ≡ digits ++ (48 + n % 10) ∷ []
 more n digits some small tenth = decimal_step n some small ∙ ap (λ (l : List ℕ). l ++ (48 + n % 10) ∷ []) tenth
 
@@ -12,22 +14,79 @@ one_digit n h = let same : n % 10 ≡ n = omega (arith, h) in rw same (decimal_d
 pub two_digits : (n : ℕ) → 10 ≤ n → n < 100 → decimal n ≡ (48 + n / 10 % 10) ∷ (48 + n % 10) ∷ []
 two_digits n low high = more n _ low (omega (arith, high)) (one_digit (n / 10) (omega (arith, high)))
 
-pub three_digits : (n : ℕ) → 100 ≤ n → n < 1000 → decimal n ≡ (48 + n / 100 % 10) ∷ (48 + n / 10 % 10) ∷ (48 + n % 10) ∷ []
+three_digits : (n : ℕ) → 100 ≤ n → n < 1000 → decimal n ≡ (48 + n / 100 % 10) ∷ (48 + n / 10 % 10) ∷ (48 + n % 10) ∷ []
 three_digits n low high =
     let hundreds : n / 10 / 10 ≡ n / 100 = omega arith in
     rw (← hundreds) (more n _ (omega (arith, low)) (omega (arith, high)) (two_digits (n / 10) (omega (arith, low)) (omega (arith, high))))
 
-pub four_digits : (n : ℕ) → 1000 ≤ n → n < 10000
+four_digits : (n : ℕ) → 1000 ≤ n → n < 10000
     → decimal n ≡ (48 + n / 1000 % 10) ∷ (48 + n / 100 % 10) ∷ (48 + n / 10 % 10) ∷ (48 + n % 10) ∷ []
 four_digits n low high =
     let hundreds : n / 10 / 10 ≡ n / 100 = omega arith in
     let thousands : n / 10 / 100 ≡ n / 1000 = omega arith in
     rw (← hundreds, ← thousands) (more n _ (omega (arith, low)) (omega (arith, high)) (three_digits (n / 10) (omega (arith, low)) (omega (arith, high))))
 
-pub five_digits : (n : ℕ) → 10000 ≤ n → n < 100000
+five_digits : (n : ℕ) → 10000 ≤ n → n < 100000
     → decimal n ≡ (48 + n / 10000 % 10) ∷ (48 + n / 1000 % 10) ∷ (48 + n / 100 % 10) ∷ (48 + n / 10 % 10) ∷ (48 + n % 10) ∷ []
 five_digits n low high =
     let hundreds : n / 10 / 10 ≡ n / 100 = omega arith in
     let thousands : n / 10 / 100 ≡ n / 1000 = omega arith in
     let first : n / 10 / 1000 ≡ n / 10000 = omega arith in
     rw (← hundreds, ← thousands, ← first) (more n _ (omega (arith, low)) (omega (arith, high)) (four_digits (n / 10) (omega (arith, low)) (omega (arith, high))))
+
+six_digits : (n : ℕ) → 100000 ≤ n → n < 1000000
+    → decimal n ≡ (48 + n / 100000 % 10) ∷ (48 + n / 10000 % 10) ∷ (48 + n / 1000 % 10) ∷ (48 + n / 100 % 10) ∷ (48 + n / 10 % 10) ∷ (48 + n % 10) ∷ []
+six_digits n low high =
+    let hundreds : n / 10 / 10 ≡ n / 100 = omega arith in
+    let thousands : n / 10 / 100 ≡ n / 1000 = omega arith in
+    let second : n / 10 / 1000 ≡ n / 10000 = omega arith in
+    let first : n / 10 / 10000 ≡ n / 100000 = omega arith in
+    rw (← hundreds, ← thousands, ← second, ← first) (more n _ (omega (arith, low)) (omega (arith, high)) (five_digits (n / 10) (omega (arith, low)) (omega (arith, high))))
+
+-- the digits of the last pair, and of the pair before it
+tens_of : (n : ℕ) → n % 100 / 10 ≡ n / 10 % 10
+tens_of n = omega arith
+
+ones_of : (n : ℕ) → n % 100 % 10 ≡ n % 10
+ones_of n = omega arith
+
+thousands_of : (n : ℕ) → n / 100 % 100 / 10 ≡ n / 1000 % 10
+thousands_of n = omega arith
+
+hundreds_of : (n : ℕ) → n / 100 % 100 % 10 ≡ n / 100 % 10
+hundreds_of n = omega arith
+
+pub one_of_pair : (n : ℕ) → n < 10 → decimal n ≡ (48 + n % 100 % 10) ∷ []
+one_of_pair n h = rw (ones_of n) (one_digit n h)
+
+pub one_pair : (n : ℕ) → 10 ≤ n → n < 100 → decimal n ≡ (48 + n % 100 / 10) ∷ (48 + n % 100 % 10) ∷ []
+one_pair n low high = rw (tens_of n, ones_of n) (two_digits n low high)
+
+pub three_of_pairs : (n : ℕ) → 100 ≤ n → n < 1000
+    → decimal n ≡ (48 + n / 100 % 100 % 10) ∷ (48 + n % 100 / 10) ∷ (48 + n % 100 % 10) ∷ []
+three_of_pairs n low high = rw (hundreds_of n, tens_of n, ones_of n) (three_digits n low high)
+
+pub two_pairs : (n : ℕ) → 1000 ≤ n → n < 10000
+    → decimal n ≡ (48 + n / 100 % 100 / 10) ∷ (48 + n / 100 % 100 % 10) ∷ (48 + n % 100 / 10) ∷ (48 + n % 100 % 10) ∷ []
+two_pairs n low high = rw (thousands_of n, hundreds_of n, tens_of n, ones_of n) (four_digits n low high)
+
+pub five_of_pairs : (n : ℕ) → 10000 ≤ n → n < 100000
+    → decimal n ≡ (48 + n / 10000 % 10) ∷ (48 + n / 100 % 100 / 10) ∷ (48 + n / 100 % 100 % 10) ∷ (48 + n % 100 / 10) ∷ (48 + n % 100 % 10) ∷ []
+five_of_pairs n low high = rw (thousands_of n, hundreds_of n, tens_of n, ones_of n) (five_digits n low high)
+
+pub three_pairs : (n : ℕ) → 100000 ≤ n → n < 1000000
+    → decimal n ≡ (48 + n / 10000 / 10) ∷ (48 + n / 10000 % 10) ∷ (48 + n / 100 % 100 / 10) ∷ (48 + n / 100 % 100 % 10) ∷ (48 + n % 100 / 10) ∷ (48 + n % 100 % 10) ∷ []
+three_pairs n low high =
+    let first : n / 10000 / 10 ≡ n / 100000 % 10 = omega (arith, high) in
+    rw (first, thousands_of n, hundreds_of n, tens_of n, ones_of n) (six_digits n low high)
+
+-- the table of pairs has the two digits of each number
+pub first_listed : (n : ℕ) → n < 100 → slice_index PAIRS (2 * n) ≡ 48 + n / 10
+first_listed n fits =
+    eqb-true (slice_index PAIRS (2 * n)) (48 + n / 10)
+    (agree_below_at (λ k. slice_index PAIRS (2 * k) == 48 + k / 10) (λ k. true) 100 n refl fits)
+
+pub second_listed : (n : ℕ) → n < 100 → slice_index PAIRS (2 * n + 1) ≡ 48 + n % 10
+second_listed n fits =
+    eqb-true (slice_index PAIRS (2 * n + 1)) (48 + n % 10)
+    (agree_below_at (λ k. slice_index PAIRS (2 * k + 1) == 48 + k % 10) (λ k. true) 100 n refl fits)

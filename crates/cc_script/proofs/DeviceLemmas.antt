@@ -1,8 +1,9 @@
 -- What devices move in several calls.
 use Rattle.std.proofs.Common.{◌≡◌, ℕ, ◌+◌, ◌≤◌, List, [], ◌++◌, length, take, drop, Option, Some, None, refl, sym, ◌∙◌, ap, append_assoc, arith, subst, ◌-◌}
 use Rattle.std.proofs.lemmas.Grind.{common_steps}
-use Rattle.std.proofs.lemmas.List.{take-take, drop-take, take-append-drop, length-drop, take_rest, append-nil}
+use Rattle.std.proofs.lemmas.List.{take_all, take-take, drop-take, take-append-drop, length-drop, take_rest, append-nil}
 use Rattle.std.specs.Io.KnownBytes.{Appends, Consumes, Keeps}
+use Rattle.cc_script.specs.Devices.{TakesBeginning}
 
 pub appends_none : (a : Option (List ℕ)) → Appends a a []
 appends_none None = tt
@@ -51,6 +52,28 @@ appends_further a b c bytes i n p q =
 -- how many bytes such a write takes
 pub count_further : (bytes : List ℕ) (i n : ℕ) → i ≤ length bytes → n ≤ length (take (length bytes - i) (drop i bytes)) → i + n ≤ length bytes
 count_further bytes i n h k = omega (arith, ap length (take_rest bytes i), length-drop i bytes)
+
+-- a first write of all the bytes
+pub appends_whole : (a b : Option (List ℕ)) (bytes : List ℕ) (n : ℕ) → n ≡ length bytes → Appends a b (take n bytes) → Appends a b bytes
+appends_whole a b bytes n all p =
+    let same : take n bytes ≡ bytes = take_all n bytes (omega (arith, all)) in
+    subst (λ (l : List ℕ). Appends a b l) same p
+
+-- the rest of the bytes, after a first write of some
+pub whole_after : (a b c : Option (List ℕ)) (bytes : List ℕ) (n : ℕ)
+    → Appends a b (take n bytes) → Appends b c (take (length bytes - n) (drop n bytes)) → Appends a c bytes
+whole_after a b c bytes n p q =
+    let r : Appends b c (drop n bytes) = subst (λ (l : List ℕ). Appends b c l) (take_rest bytes n) q in
+    subst (λ (l : List ℕ). Appends a c l) (take-append-drop n bytes) (appends_twice a b c (take n bytes) (drop n bytes) p r)
+
+-- a beginning of the rest, after a first write of some
+pub begun_after : (a b c : Option (List ℕ)) (bytes : List ℕ) (n : ℕ) → n ≤ length bytes
+    → Appends a b (take n bytes) → TakesBeginning b c (take (length bytes - n) (drop n bytes)) → TakesBeginning a c bytes
+begun_after a b c bytes n within p t = record {
+  count = n + t.count;
+  within = count_further bytes n t.count within t.within;
+  taken = appends_further a b c bytes n t.count p t.taken;
+}
 
 -- a call that moved nothing, after a piece written whole
 pub then_kept : (a b c : Option (List ℕ)) (xs : List ℕ) → Appends a b xs → Keeps b c → Appends a c xs

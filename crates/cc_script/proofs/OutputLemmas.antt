@@ -54,7 +54,7 @@ one_output old new other opening text output other_output any_error other_error 
 
 -- ---- a beginning of it
 
--- commands that are taken are taken up to a state in between, and then the others from there
+-- a run of commands cut in two: the front leads to a state in between, and the back leads on from there
 record IsCut (old end : State) (front back : List (Result Op Refusal)) (replies : List Reply) : Type 0 where
   first : List Reply
   second : List Reply

@@ -32,7 +32,7 @@ commands_run a b (command ∷ commands) (reply ∷ replies) t =
     runs_command a t.0 b command reply (operations_of commands) (operation_replies commands replies) t.1
     (commands_run t.0 b commands replies t.2)
 
--- and lead from a reached state to a reached state
+-- commands that are taken lead from a reached state to a reached state
 pub commands_reach : (a b : State) (commands : List (Result Op Refusal)) (replies : List Reply) → IsReached a → TakesAll a commands replies b → IsReached b
 commands_reach a b commands replies reached t =
     IsReached-run a b (operations_of commands) (operation_replies commands replies) reached (commands_run a b commands replies t)
@@ -46,7 +46,7 @@ within_command given start a b c (Ok op) reply ops replies t r = (reply ∷ repl
 within_command given start a b c (Err refusal) reply ops replies t r =
     (replies, subst (λ (s : State). RunsWithin given start s ops replies c) t.1 r)
 
--- commands that are taken so run their operations so
+-- commands that use only given slots run operations that do
 commands_within : (given : ℕ → Bool) (start a b : State) (commands : List (Result Op Refusal)) (replies : List Reply)
     → TakesAllWithin given start a commands replies b → (all : List Reply) × RunsWithin given start a (operations_of commands) all b
 commands_within given start a b [] [] t = ([], t)

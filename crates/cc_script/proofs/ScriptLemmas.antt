@@ -38,7 +38,7 @@ still c l j text p q = subst (λ (x : List ℕ). Consumes c j x) (append-nil tex
 
 -- ---- where the sink failed
 
--- where it failed in a script, it failed in every longer one
+-- where the sink failed in the replies to a script, it failed in those to every longer one
 stops_in_longer : (a b : State) (t u : Option (List ℕ)) (opening : List Op) (xs ys : List ℕ)
     → StopsInReply a (commands_of opening xs) (Appends t u) b → StopsInReply a (commands_of opening (xs ++ ys)) (Appends t u) b
 stops_in_longer a b t u opening xs ys q =
@@ -58,7 +58,7 @@ stops a b t u opening given rest (inr s) =
     let whole : given ++ rest ≡ given = ap (λ (l : List ℕ). given ++ l) s.0 ∙ append-nil given in
     (inr s, subst (λ (x : List ℕ). BeginsOutput a opening x (Appends t u)) (sym whole) (stopped_begins a b opening given t u (inr s.1)))
 
--- in the opening
+-- the sink failed in the replies to the opening
 pub stops_in_opening : (a b : State) (c t u : Option (List ℕ)) (opening : List Op)
     → StopsInReply a (map Ok opening) (Appends t u) b → AnswersScript a opening c c (Appends t u) (Err Write) b
 stops_in_opening a b c t u opening p = record {
@@ -69,7 +69,7 @@ stops_in_opening a b c t u opening p = record {
   writes = stops a b t u opening [] (rest_left c) (inl (stops_before a b t u (map Ok opening) [] p));
 }
 
--- in a piece
+-- the sink failed in the replies to a piece
 pub stops_reading : (a b d z : State) (c l j t u v w : Option (List ℕ)) (opening : List Op) (start piece : List ℕ) (e f : Bool)
     → AnswersOpening a opening t u e b → (r : Reads b [] c l start u v f d) → Consumes l j piece
     → StopsInReply d (commands_from (rest_from [] r.text) piece) (Appends v w) z
@@ -107,7 +107,7 @@ fails_reading a b d c l j t u v opening start e f p r nothing = record {
   writes = writes_replies a b d t u v opening r.text start e f p r.answers;
 }
 
--- the beginning of the rest tells what the rest gets
+-- the first 129 bytes of a rest are answered as the whole rest: both are empty, or neither is
 rest_start : (rest : List ℕ) → rest_text (take 129 rest) ≡ rest_text rest
 rest_start [] = refl
 rest_start (byte ∷ rest) = refl

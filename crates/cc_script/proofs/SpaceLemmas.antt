@@ -127,7 +127,7 @@ no_names (name ∷ names) bits spaced = by (is_word name) refl spaced (find_name
   by true is spaced None e rest = rw e refl
   by true is spaced (Some named) e rest = rw e (rest (bit_or bits named) spaced)
 
--- where a text between two bytes has a space, a piece of it has
+-- where a text has a space, one of its pieces between `+` has one
 pieces-spaced : (text : List ℕ) → is_word text ≡ false → list_all is_word (slice_split (λ byte. byte == 43) text) ≡ false
 pieces-spaced [] spaced = cc
 pieces-spaced (x ∷ text) spaced = by (x == 43) refl (x == 32) refl spaced (slice_split (λ byte. byte == 43) text) (pieces-spaced text) where
@@ -208,7 +208,7 @@ one_or_more k value spaced two_none = by (is_word value) refl where
   by true is = rw (alone value is) refl
   by false is = spaced is ∙ fewer (words_of value) (many value is)
 
--- the four of them, where the value is a number within its limit
+-- the four commands whose one value is a number, where that is within its limit
 pub shown : (k : Keyword) (value : List ℕ) (number : ℕ) → k ≡ keyword.Show → index_in value ≡ Ok number → Ok (op.Show number) ≡ command_of k (words_of value)
 shown k value number is e =
     rw is
@@ -276,7 +276,7 @@ number_begins text at number within some space digits is =
       spelled = spelled (take at text) (omega (arith, sized)) digits ∙ ap Some (sym is);
     }
 
--- what a keyword and a slot that stands first come to
+-- the command of a keyword whose first value is the number of a slot
 pub indexed : (k : Keyword) (text second : List ℕ) (slot : ℕ) → BeginsWithIndex text slot second → two_values k (Ok slot) second ≡ command_of k (words_of text)
 indexed k text second slot is =
     let begins = is.begins in

@@ -8,12 +8,12 @@ use Rattle.std.specs.Str.Parse.{digits_value}
 use Rattle.cc_word.specs.declared.refusal.Refusal.TheVariants.{Syntax}
 use Rattle.cc_script.specs.Commands.{word_in}
 
--- a text of a word
+-- 32 hexadecimal digits are read as their word
 pub word_found : (text : List ℕ) (word : ℕ) → (length text ≡ 32) × AllPass is_hex_digit text → word ≡ digits_value 16 text → Ok word ≡ word_in text
 word_found text word is value =
     rw (eq-eqb (length text) 32 is.0, list_all-from_AllPass is_hex_digit text is.1) (ap Ok value)
 
--- any other text
+-- any other text is no word
 pub word_missed : (text : List ℕ) → ¬ ((length text ≡ 32) × AllPass is_hex_digit text) → Err Syntax ≡ word_in text
 word_missed text is_not = by (length text == 32) (list_all is_hex_digit text) refl refl where
   by : (sized digits : Bool) → (length text == 32) ≡ sized → list_all is_hex_digit text ≡ digits

@@ -38,26 +38,26 @@ pub record OneJoin (line : List ℕ) : Type 0 where
   pub joined : IsJoined line (words_of line)
   pub only : (words : List (List ℕ)) → IsJoined line words → words ≡ words_of line
 
--- The text begins with a word that spells the number, and the rest stands after its space. No public clause cites it.
+-- The text begins with a word that spells the number, and `rest` stands behind its space. No public clause cites it.
 pub record BeginsWithNumber (text : List ℕ) (number : ℕ) (rest : List ℕ) : Type 0 where
   pub word : List ℕ
   pub whole : words_of text ≡ word ∷ words_of rest
   pub spelled : number_of word ≡ Some number
 
--- The same of the number of a slot. No public clause cites it.
+-- The same of a number that a slot may have: at most 2^32 - 1. No public clause cites it.
 pub record BeginsWithIndex (text : List ℕ) (slot : ℕ) (rest : List ℕ) : Type 0 where
   pub begins : BeginsWithNumber text slot rest
   pub fits : slot ≤ 2 ^ 32 - 1
 
--- the number of a slot or of an object that a text spells
+-- the number of a slot or of an object that a text spells: at most 2^32 - 1
 abbrev pub index_in : (text : List ℕ) → Result ℕ Refusal
 index_in text = within_limit (2 ^ 32 - 1) (number_of text)
 
--- the address or the increment that a text spells
+-- the address or the increment that a text spells: at most 2^64 - 1
 abbrev pub address_in : (text : List ℕ) → Result ℕ Refusal
 address_in text = within_limit (2 ^ 64 - 1) (number_of text)
 
--- the length that a text spells
+-- the length that a text spells: at most 2^64
 abbrev pub length_in : (text : List ℕ) → Result ℕ Refusal
 length_in text = within_limit (2 ^ 64) (number_of text)
 
@@ -75,7 +75,7 @@ align_in text =
 abbrev pub word_in : (text : List ℕ) → Result ℕ Refusal
 word_in text = if length text == 32 && list_all is_hex_digit text then Ok (digits_value 16 text) else Err Syntax
 
--- the bits of a set and of the permissions of these names
+-- the bits of a set, and with them those of the permissions of these names; nothing where a name is unknown
 abbrev pub with_names : (bits : ℕ) (names : List (List ℕ)) → Option ℕ
 with_names bits [] = Some bits
 with_names bits (name ∷ names) =
@@ -117,7 +117,7 @@ abbrev pub one : {A : Type 0} → (A → Op) → Result A Refusal → Result Op 
 one make (Ok value) = Ok (make value)
 one make (Err fault) = Err fault
 
--- both values, or the fault: a text that spells no value comes before a number over its limit
+-- both values, or the fault: where each text has one, `Syntax` comes before `OutOfRange`
 abbrev pub both : {A B : Type 0} → Result A Refusal → Result B Refusal → Result (A × B) Refusal
 both (Ok first) (Ok second) = Ok (first, second)
 both (Ok first) (Err fault) = Err fault
@@ -167,6 +167,6 @@ command_in (word ∷ values) = of_keyword (keyword_of word) where
   of_keyword None = Err Syntax
   of_keyword (Some keyword) = command_of keyword values
 
--- The operation of a line, or its fault. Nothing of a line of more than 128 bytes is looked at.
+-- The operation of a line, or its fault. A line of more than 128 bytes has the fault `TooLong`, whatever is in it.
 unfoldable pub operation_of : (line : List ℕ) → Result Op Refusal
 operation_of line = if nat_lt 128 (length line) then Err TooLong else command_in (words_of line)

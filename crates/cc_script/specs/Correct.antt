@@ -27,8 +27,8 @@ pub record WritesReplies (old : State) (opening : List Op) (text : List ℕ) (Wr
   pub takes : TakesAll old (commands_of opening text) replies new
   pub written : Wrote (replies_text replies)
 
--- the replies to the commands before one of them, and a beginning of the reply to this one; the machine stands
--- after it
+-- the replies to the commands before one of them, and a beginning of the reply to that one; the machine has taken
+-- that command, and none behind it
 pub record StopsInReply (old : State) (commands : List (Result Op Refusal)) (Wrote : List ℕ → Type 0) (new : State) : Type 0 where
   pub earlier : List (Result Op Refusal)
   pub command : Result Op Refusal
@@ -57,8 +57,8 @@ BeginsOutput old opening text Wrote =
     (output : List ℕ) (any_error : Bool) (end : State) → ScriptOutput old opening text output any_error end
     → (count : ℕ) × Wrote (take count output)
 
--- What a run writes of a script, by what it answers, where the source gave the bytes `given` and has `rest` still to
--- come: all of it, or what came before the failure of a device.
+-- What a run writes of a script, by what it answers: the whole output, or what came before the failure of a device. The
+-- source gave the bytes `given`, and has `rest` still to come.
 abbrev pub WritesScript : (old : State) (opening : List Op) (given rest : List ℕ) (Wrote : List ℕ → Type 0) → Result Summary ScriptFault → (new : State) → Type 0
 WritesScript old opening given rest Wrote (Ok summary) new =
     (rest ≡ []) × WritesOutput old opening given Wrote summary.any_error new
@@ -67,8 +67,8 @@ WritesScript old opening given rest Wrote (Err Write) new =
     (StopsInReply old (commands_of opening given) Wrote new ⊎ ((rest ≡ []) × StopsAfterLines old opening given Wrote new))
     × BeginsOutput old opening (given ++ rest) Wrote
 
--- The script that was answered begins with the operations of `opening` and goes on as the source gives: where that
--- tells what was to come, `given` and `rest` are that. A source that tells nothing is tied to neither.
+-- What was written belongs to the script of the operations of `opening` and then the bytes that the source gave. Where it
+-- tells its bytes, `given` and `rest` are those that were to come; where not, nothing ties them to what was read.
 pub record AnswersScript (old : State) (opening : List Op) (to_come left : Option (List ℕ)) (Wrote : List ℕ → Type 0) (result : Result Summary ScriptFault) (new : State) : Type 0 where
   pub given : List ℕ
   pub rest : List ℕ
@@ -78,36 +78,40 @@ pub record AnswersScript (old : State) (opening : List Op) (to_come left : Optio
 
 -- ---- The theorem.
 
--- What a run finds, or what it leaves: the state of the machine; of the source the bytes still to come, where it
--- tells them, and whether a call of it has failed; of the sink the bytes taken, where it tells them, those of them
--- that wait in it, and whether a call of it has failed.
+-- What a run finds, or what it leaves: the machine's state; the bytes still to come of the source, and the bytes that
+-- the sink has taken, where these devices tell them; those of the taken bytes that wait in the sink; whether the sink
+-- is flushed; and of each device whether a call of it has failed.
 pub record Stand : Type 0 where
   pub machine : State
   pub to_come : Option (List ℕ)
   pub source_failed : Bool
   pub taken : Option (List ℕ)
   pub waiting : List ℕ
+  pub flushed : Bool
   pub sink_failed : Bool
 
 -- a stand by its parts, in this order
-abbrev pub stand : State → (to_come : Option (List ℕ)) (source_failed : Bool) (taken : Option (List ℕ)) (waiting : List ℕ) (sink_failed : Bool) → Stand
-stand machine to_come source_failed taken waiting sink_failed = record {
+abbrev pub stand : State → (to_come : Option (List ℕ)) (source_failed : Bool) (taken : Option (List ℕ)) (waiting : List ℕ) (flushed sink_failed : Bool) → Stand
+stand machine to_come source_failed taken waiting flushed sink_failed = record {
   machine = machine;
   to_come = to_come;
   source_failed = source_failed;
   taken = taken;
   waiting = waiting;
+  flushed = flushed;
   sink_failed = sink_failed;
 }
 
--- A script was run that begins with the operations of `opening` and goes on as the source gives. What was written
--- is the machine's answer to it, as far as no device failed; a failure is told, and just then; no byte waits in
--- the sink after the end, nor where the source failed and none waited before; and the laws of every run are kept.
+-- A run took the operations of `opening` and then the script that the source gave. What was written is the machine's
+-- answer, up to a device's failure. `Read` is answered exactly if the source failed, `Write` if the sink did. At the
+-- end no byte waits in the sink, and it is flushed; where the source failed none waits if none waited before. The laws
+-- of every run are kept.
 pub record RunsScript (opening : List Op) (before : Stand) (result : Result Summary ScriptFault) (after : Stand) : Type 0 where
   pub answers :
       AnswersScript before.machine opening before.to_come after.to_come (Appends before.taken after.taken) result after.machine
   pub read : (result ≡ Err Read) ↔ (after.source_failed ≡ true)
   pub write : (result ≡ Err Write) ↔ (after.sink_failed ≡ true)
   pub passed : OnOk result (after.waiting ≡ [])
+  pub flushed : OnOk result (after.flushed ≡ true)
   pub passed_before_read : result ≡ Err Read → before.waiting ≡ [] → after.waiting ≡ []
   pub laws : KeepsLaws before.machine after.machine

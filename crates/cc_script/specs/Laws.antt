@@ -12,7 +12,7 @@ use Rattle.cc_machine.specs.Confinement.{StepsWithin, IsConfined}
 use Rattle.cc_machine.specs.Reach.{ReachesAll}
 use Rattle.cc_script.specs.Output.{operations_of}
 
--- the machine takes a command; unless that is refused, it uses only slots that are held
+-- the machine takes a command; if this is an operation that is not refused, it uses only slots that are held
 abbrev pub TakesWithin : (given : ℕ → Bool) → (start old : State) → (command : Result Op Refusal) → Reply → State → Type 0
 TakesWithin given start old (Ok op) reply new = StepsWithin given start old op reply new
 TakesWithin given start old (Err refusal) reply new = (reply ≡ Refused refusal) × (new ≡ old)
@@ -27,9 +27,9 @@ TakesAllWithin given start old (command ∷ commands) (reply ∷ replies) new =
 TakesAllWithin given start old [] (reply ∷ replies) new = ⊥
 TakesAllWithin given start old (command ∷ commands) [] new = ⊥
 
--- The laws of every run, from the state at entry: the new state keeps those of one state. Whatever commands were
--- taken, if they used only given slots, and slots made since, it is confined to the given slots; and if their
--- operations are the path to a capability, it has that.
+-- The laws of every run from the old state to the new. The new state keeps the laws of a single state. Where commands led
+-- to it that used only given slots, and slots made since, it is confined to the given slots. Where the operations that
+-- led to it are the path to a capability, it has that capability.
 pub record KeepsLaws (old new : State) : Type 0 where
   pub tree : IsMonotonicTree new
   pub sealing : HasSealingAuthority new

@@ -1,6 +1,7 @@
 -- In reading order.
 pub mod Lines
 pub mod Numbers
+pub mod Digits
 pub mod Commands
 pub mod Replies
 pub mod Output

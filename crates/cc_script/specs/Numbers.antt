@@ -7,7 +7,7 @@ use Rattle.std.specs.Str.{bytes_eq}
 use Rattle.cc_word.specs.declared.refusal.Refusal.{Refusal}
 use Rattle.cc_word.specs.declared.refusal.Refusal.TheVariants.{Syntax, OutOfRange}
 
--- the number that one or more digits spell, the highest first, or none where a byte is no digit in this radix
+-- the number that one or more digits spell, the highest first; none where there is no byte, or one is no digit
 abbrev pub numeral_of : (radix : ℕ) (digits : List ℕ) → Option ℕ
 numeral_of radix digits =
     if nat_lt 0 (length digits) && list_all (λ digit. is_digit digit radix) digits
@@ -18,7 +18,7 @@ abbrev pub number_of : (text : List ℕ) → Option ℕ
 number_of text =
     if bytes_eq (take 2 text) (codes "0x") then numeral_of 16 (drop 2 text) else numeral_of 10 text
 
--- the number where it is at most the limit, and why it is refused
+-- the number, or why it is refused: `Syntax` where there is none, `OutOfRange` where it is above the limit
 abbrev pub within_limit : (limit : ℕ) → Option ℕ → Result ℕ Refusal
 within_limit limit None = Err Syntax
 within_limit limit (Some number) = if nat_le number limit then Ok number else Err OutOfRange

@@ -12,12 +12,12 @@ use Rattle.cc_script.specs.Lines.{lines_of, rest_of}
 use Rattle.cc_script.specs.Commands.{operation_of}
 use Rattle.cc_script.specs.Replies.{reply_text, refusal_text, is_error}
 
--- What a machine is given: the operations of an opening, and then of each line of the text the operation, or
--- its fault.
+-- What a machine is given: the operations of an opening, and then for each line of the text its operation or its
+-- fault.
 abbrev pub commands_of : (opening : List Op) (text : List ℕ) → List (Result Op Refusal)
 commands_of opening text = map Ok opening ++ map operation_of (lines_of text)
 
--- the machine steps an operation, or refuses a line for its fault and stays as it was
+-- the machine takes the step of an operation, or refuses a line for its fault and stays as it was
 abbrev pub Takes : State → (command : Result Op Refusal) → Reply → State → Type 0
 Takes old (Ok op) reply new = Step old op reply new
 Takes old (Err refusal) reply new = (reply ≡ Refused refusal) × (new ≡ old)
@@ -44,15 +44,15 @@ abbrev pub rest_text : (rest : List ℕ) → List ℕ
 rest_text [] = []
 rest_text (byte ∷ rest) = with_line_feed (refusal_text Unfinished)
 
--- The output of a script: the reply to each operation of the opening and to each line of the text, and the last
--- to an unfinished rest.
+-- The output of a script: the reply to each operation of the opening and to each line of the text, and the refusal of a
+-- rest that is not empty. `any_error` tells whether a reply is a refusal, or there is such a rest.
 pub record ScriptOutput (old : State) (opening : List Op) (text output : List ℕ) (any_error : Bool) (new : State) : Type 0 where
   pub replies : List Reply
   pub takes : TakesAll old (commands_of opening text) replies new
   pub output_is : output ≡ replies_text replies ++ rest_text (rest_of text)
   pub error_is : any_error ≡ (list_any is_error replies || not (length (rest_of text) == 0))
 
--- the operation first, where the command is one
+-- the operations with that of the command before them, where the command is one
 abbrev pub with_operation : (command : Result Op Refusal) → List Op → List Op
 with_operation (Ok op) ops = op ∷ ops
 with_operation (Err refusal) ops = ops
@@ -62,7 +62,7 @@ abbrev pub operations_of : (commands : List (Result Op Refusal)) → List Op
 operations_of [] = []
 operations_of (command ∷ commands) = with_operation command (operations_of commands)
 
--- the reply first, where the command is an operation
+-- the replies with this one before them, where the command is an operation
 abbrev pub with_reply : (command : Result Op Refusal) → Reply → List Reply → List Reply
 with_reply (Ok op) reply replies = reply ∷ replies
 with_reply (Err refusal) reply replies = replies

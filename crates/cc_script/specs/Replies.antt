@@ -29,12 +29,12 @@ parent_text (Some slot) = decimal slot
 abbrev pub refusal_text : Refusal → List ℕ
 refusal_text refusal = codes "error " ++ decimal (code_of refusal) ++ codes " " ++ name_of refusal
 
--- the alignment of a pool, of which 1 is not told
+-- the alignment of a pool: nothing for 1, and ` align 16` for 16
 abbrev pub align_text : Align → List ℕ
 align_text One = []
 align_text Sixteen = codes " align 16"
 
--- how many slots were revoked, and the bytes held after it
+-- how many slots were revoked, and how many bytes are held afterwards
 abbrev pub revoked_text : (revoked held : ℕ) → List ℕ
 revoked_text revoked held = codes " revoked " ++ decimal revoked ++ codes " held " ++ decimal held
 
@@ -54,7 +54,7 @@ reply_text (Freed object revoked held) = codes "freed " ++ decimal object ++ rev
 reply_text (Swept objects revoked held) = codes "swept " ++ decimal objects ++ revoked_text revoked held
 reply_text (Refused refusal) = refusal_text refusal
 
--- the reply is an error
+-- the reply is an error: a refusal
 abbrev pub is_error : Reply → Bool
 is_error (Refused refusal) = true
 is_error reply = false

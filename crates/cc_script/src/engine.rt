@@ -41,9 +41,9 @@ pub fn run_script<R: Source, W: Sink>(
     requires source { R.has_failed source.old ≡ false }
     requires sink { W.has_failed sink.old ≡ false }
     ensures { RunsScript []
-        (stand machine.old (R.to_come source.old) (R.has_failed source.old) (W.taken_bytes sink.old) (W.waiting_bytes sink.old) (W.has_failed sink.old))
+        (stand machine.old (R.to_come source.old) (R.has_failed source.old) (W.taken_bytes sink.old) (W.waiting_bytes sink.old) (W.is_flushed sink.old) (W.has_failed sink.old))
         result
-        (stand machine.new (R.to_come source.new) (R.has_failed source.new) (W.taken_bytes sink.new) (W.waiting_bytes sink.new) (W.has_failed sink.new)) }
+        (stand machine.new (R.to_come source.new) (R.has_failed source.new) (W.taken_bytes sink.new) (W.waiting_bytes sink.new) (W.is_flushed sink.new) (W.has_failed sink.new)) }
 {
     run_script_after(&[], machine, source, sink)
 }
@@ -60,9 +60,9 @@ pub fn run_script_after<R: Source, W: Sink>(
     requires source { R.has_failed source.old ≡ false }
     requires sink { W.has_failed sink.old ≡ false }
     ensures { RunsScript opening.now
-        (stand machine.old (R.to_come source.old) (R.has_failed source.old) (W.taken_bytes sink.old) (W.waiting_bytes sink.old) (W.has_failed sink.old))
+        (stand machine.old (R.to_come source.old) (R.has_failed source.old) (W.taken_bytes sink.old) (W.waiting_bytes sink.old) (W.is_flushed sink.old) (W.has_failed sink.old))
         result
-        (stand machine.new (R.to_come source.new) (R.has_failed source.new) (W.taken_bytes sink.new) (W.waiting_bytes sink.new) (W.has_failed sink.new)) }
+        (stand machine.new (R.to_come source.new) (R.has_failed source.new) (W.taken_bytes sink.new) (W.waiting_bytes sink.new) (W.is_flushed sink.new) (W.has_failed sink.new)) }
 {
     tell_reached(machine);
     let result = run_pieces(opening, machine, source, sink);
@@ -90,6 +90,7 @@ fn run_pieces<R: Source, W: Sink>(
     ensures read { (result ≡ Err ScriptFault.Read) ↔ (R.has_failed source.new ≡ true) }
     ensures write { (result ≡ Err ScriptFault.Write) ↔ (W.has_failed sink.new ≡ true) }
     ensures passed { OnOk result (W.waiting_bytes sink.new ≡ []) }
+    ensures flushed { OnOk result (W.is_flushed sink.new ≡ true) }
     ensures passed_before_read { result ≡ Err ScriptFault.Read → W.waiting_bytes sink.old ≡ [] → W.waiting_bytes sink.new ≡ [] }
 {
     let mut start = LineStart::new();
@@ -296,6 +297,7 @@ fn finish<W: Sink>(rest: &[u8], sink: &mut W) -> Result<bool, Failed>
     ensures ok { OnOk result (Appends (W.taken_bytes sink.old) (W.taken_bytes sink.new) (rest_text rest.now)) }
     ensures err { OnErr result (TakesBeginning (W.taken_bytes sink.old) (W.taken_bytes sink.new) (rest_text rest.now)) }
     ensures passed { OnOk result (W.waiting_bytes sink.new ≡ []) }
+    ensures flushed { OnOk result (W.is_flushed sink.new ≡ true) }
     ensures fails { IsErr result ↔ (W.has_failed sink.new ≡ true) }
 {
     let is_error = match refuse_rest(rest, sink) {

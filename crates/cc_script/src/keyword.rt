@@ -1,5 +1,5 @@
 //! The first words of commands.
-ghost use Rattle.std.specs.Prelude.{◌≡◌, IfSome};
+ghost use Rattle.std.specs.Prelude.{◌≡◌, None, IfSome, IfNone};
 ghost use Rattle.cc_script.specs.Commands.{keyword_of, words_of, command_in, command_of};
 
 /// The first word of a command, which says what the words after it are.
@@ -37,6 +37,10 @@ impl Keyword {
     pub fn read(word: &[u8]) -> Option<Keyword>
         ensures { result ≡ keyword_of word.now }
     {
+        // a word that begins as no keyword does is told by its first byte
+        if Keyword::guess(word).is_none() {
+            return None;
+        }
         let keyword = if word == b"show".as_slice() {
             Keyword::Show
         } else if word == b"bounds".as_slice() {
@@ -85,7 +89,9 @@ impl Keyword {
 
     /// The one keyword that a line can begin with, going by its first two bytes.
     #[inline(always)]
-    fn guess(line: &[u8]) -> Option<Keyword> {
+    fn guess(line: &[u8]) -> Option<Keyword>
+        ensures { IfNone result (keyword_of line.now ≡ None) }
+    {
         let keyword = match line {
             [b'a', b'd', ..] => Keyword::Addr,
             [b'a', ..] => Keyword::Alloc,

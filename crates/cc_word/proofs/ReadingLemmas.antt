@@ -35,7 +35,7 @@ worth-most byte fits =
     let none = eqb-true (worth byte - 2 ^ 32) 0 (agree_below_at (λ b. (worth b - 2 ^ 32) == 0) (λ b. true) 256 byte refl fits) in
     omega (arith, none)
 
--- what bytes make of a number, each by its worth
+-- the number that bytes make behind `before`: for each, 16 times what is there and the worth of the byte
 pub gathered : (before : ℕ) (bytes : List ℕ) → ℕ
 gathered before [] = before
 gathered before (byte ∷ bytes) = gathered (before * 16 + worth byte) bytes
@@ -45,7 +45,7 @@ pub gathered_more : (before i : ℕ) (bytes : List ℕ) → i < length bytes
 unfolding gathered
 gathered_more before i bytes within = rw (drop_more bytes i 0 within) refl
 
--- two at a time
+-- the same, two bytes at a time
 pub gathered_pair : (before i : ℕ) (bytes : List ℕ) → 2 * i + 1 < length bytes
     → gathered (before * 256 + 16 * worth (slice_index bytes (2 * i)) + worth (slice_index bytes (2 * i + 1))) (drop (2 * (i + 1)) bytes)
     ≡ gathered before (drop (2 * i) bytes)
@@ -56,7 +56,7 @@ gathered_pair before i bytes within =
     let place : 2 * (i + 1) ≡ 2 * i + 1 + 1 = omega arith in
     rw (joined, place) (gathered_more first (2 * i + 1) bytes within ∙ gathered_more before (2 * i) bytes (omega arith))
 
--- it is never less
+-- more bytes never make the number less
 gathered-least : (before : ℕ) (bytes : List ℕ) → before ≤ gathered before bytes
 unfolding gathered
 gathered-least before [] = omega arith
@@ -88,7 +88,7 @@ second_passes false b h = cc h
 worth-digit : (byte : ℕ) → is_hex_digit byte ≡ true → worth byte ≡ digit_value byte
 worth-digit byte h = rw h refl
 
--- and theirs
+-- of digits the number is the one that they spell
 gathered-value : (before : ℕ) (bytes : List ℕ) → list_all is_hex_digit bytes ≡ true → gathered before bytes ≡ digits_value_after 16 before bytes
 unfolding gathered
 gathered-value before [] digits = refl
@@ -115,13 +115,13 @@ all_below (byte ∷ bytes) digits = (
   all_below bytes (second_passes (is_hex_digit byte) (list_all is_hex_digit bytes) digits),
 )
 
--- eight digits spell less
+-- eight digits spell a number below 2 ^ 32
 eight-small : (bytes : List ℕ) → length bytes ≡ 8 → list_all is_hex_digit bytes ≡ true → digits_value 16 bytes < 2 ^ 32
 eight-small bytes eight digits =
     let below : digits_value 16 bytes < 16 ^ length bytes = digits_value-lt 16 bytes (all_below bytes digits) in
     rw eight at below
 
--- what is gathered of all eight
+-- the number of eight bytes: below 2 ^ 32 exactly if they are digits, and then the number that they spell
 pub record Gathered (number : ℕ) (bytes : List ℕ) : Type 0 where
   pub digits : number < 2 ^ 32 → AllPass is_hex_digit bytes
   pub small : AllPass is_hex_digit bytes → number < 2 ^ 32

@@ -36,7 +36,7 @@ byte-high k n =
 byte-low : (k n : ℕ) → byte_at k n % 16 ≡ n / 16 ^ twice k % 16
 byte-low k n = rw (byte_at-is k n, ← pow-twice k) (omega arith)
 
--- the text of the bytes of a number
+-- the text of `k` bytes of a number, the highest first, is its last `2 * k` digits
 encode-bytes_high_first : (k n : ℕ) → encode_with lower_digits (bytes_high_first k n) ≡ digits_of (twice k) n
 unfolding encode_with digits_of
 encode-bytes_high_first zero n = refl
@@ -46,7 +46,7 @@ encode-bytes_high_first (suc k) n =
 pub half_written : (half : ℕ) → encode_with lower_digits (to_be_bytes w64 half) ≡ digits_of 16 half
 half_written half = encode-bytes_high_first 8 half
 
--- the first half of a text written, and then the other
+-- a text of 32 bytes whose first sixteen are written, and then the others, is what was written
 pub put_halves : (text first second : List ℕ) → length text ≡ 32 → length first ≡ 16 → length second ≡ 16
     → take 16 (first ++ drop 16 text) ++ (second ++ drop 16 (drop 16 (first ++ drop 16 text))) ≡ first ++ second
 put_halves text first second whole one other =

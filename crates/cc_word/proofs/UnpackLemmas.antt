@@ -76,7 +76,7 @@ plain_layout-fits fields =
       fields.address_fits,
     )
 
--- and every fields have a word of 128 bits
+-- the word of any fields has 128 bits
 pub word_of-fits : (fields : Fields) → word_of fields < 2 ^ 128
 word_of-fits fields =
     let fits = xor_lt 128 (plain_layout_of fields) null_layout (plain_layout-fits fields) (omega arith) in

@@ -7,7 +7,7 @@ use Rattle.cc_word.specs.Word.{bit_of, layout_of}
 abbrev pub null_layout : ℕ
 null_layout = 0x0000_1fff_fc01_8004_0000_0000_0000_0000
 
--- the layout of fields
+-- the layout of fields: each number at its own bits, with nothing turned
 unfoldable pub plain_layout_of : Fields → ℕ
 plain_layout_of fields =
     layout_of fields.perms fields.reserved (bit_of fields.flag) fields.otype (bit_of fields.ie) fields.t fields.b fields.address

@@ -3,7 +3,7 @@ use Rattle.std.specs.Prelude.{ℕ, ◌⊎◌, List, codes}
 use Rattle.cc_word.specs.declared.refusal.Refusal.{Refusal}
 use Rattle.cc_word.specs.declared.refusal.Refusal.TheVariants.{Syntax, Unfinished, TooLong, OutOfRange, NoSlot, Revoked, Sealed, Unsealed, OutOfBounds, Inexact, Unrepresentable, MissingPermission, ReservedType, TypeMismatch, NotCanonical, ExceedsAuthority, NoPool, PoolAlreadySet, ZeroSize, NoRoom, NoObject, Full}
 
--- the code of a refusal
+-- the number by which scripts print a refusal
 abbrev pub code_of : Refusal → ℕ
 code_of Syntax = 1
 code_of Unfinished = 2
@@ -28,7 +28,7 @@ code_of NoRoom = 20
 code_of NoObject = 21
 code_of Full = 22
 
--- the name of a refusal
+-- the one lower-case word by which scripts print a refusal
 abbrev pub name_of : Refusal → List ℕ
 name_of Syntax = codes "syntax"
 name_of Unfinished = codes "unfinished"

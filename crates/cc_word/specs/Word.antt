@@ -10,7 +10,7 @@ bit_of bit = if bit then 1 else 0
 abbrev pub turned : (bit number : ℕ) → ℕ
 turned bit number = if number / 2 ^ bit % 2 == 1 then number - 2 ^ bit else number + 2 ^ bit
 
--- the layout: the sum of each field times two to the power of its lowest bit
+-- the layout: the sum of the fields, each times two to the power of its lowest bit
 abbrev pub layout_of : (perms reserved flag otype ie t b address : ℕ) → ℕ
 layout_of perms reserved flag otype ie t b address =
     perms * 2 ^ 112 + reserved * 2 ^ 110 + flag * 2 ^ 109 + otype * 2 ^ 91 + ie * 2 ^ 90

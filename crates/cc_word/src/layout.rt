@@ -11,7 +11,7 @@ use crate::fields::Fields;
 /// fields' layout with these bits turned, so that null is all zeros.
 const NULL_LAYOUT: u128 = 0x0000_1fff_fc01_8004_0000_0000_0000_0000;
 
-/// A layout from a word, and a word from a layout: the bits of the null capability turned.
+/// The layout of a word, and the word of a layout: either turns the bits that null's layout has.
 #[tactic(auto, using(crate::proofs::WordLemmas::turned_twice))]
 fn turned(number: u128) -> u128
     ensures turned { result ≡ bit_xor number null_layout }
@@ -38,7 +38,7 @@ fn bit(layout: u128, low: u32) -> bool
     bits(layout, low, 1) == 1
 }
 
-/// The fields of a layout.
+/// The fields cut from a layout, each from its own bits.
 #[tactic(auto, unfolding(crate::specs::Layout::plain_layout_of))]
 fn fields_of_layout(layout: u128) -> Fields
     ensures { plain_layout_of result ≡ layout }
@@ -66,7 +66,7 @@ fn followed(high: u128, low: u128, width: u32) -> u128
     (high << width) | low
 }
 
-/// The layout of fields.
+/// The layout of fields: each at its own bits, before those of null are turned.
 #[tactic(auto, unfolding(crate::specs::Layout::plain_layout_of))]
 fn layout(fields: &Fields) -> u128
     ensures { result ≡ plain_layout_of fields.now }

@@ -10,4 +10,4 @@ mod text;
 pub use fields::Fields;
 pub use layout::{pack, unpack};
 pub use refusal::Refusal;
-pub use text::{read_word, write_half, write_word, write_word_to};
+pub use text::{read_quarter, read_word, write_half, write_word, write_word_to};

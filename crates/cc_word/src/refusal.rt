@@ -6,9 +6,9 @@ ghost use Rattle.cc_word.specs.Refusal.{code_of, name_of};
 /// it was.
 #[derive(Clone, Copy, PartialEq, Eq, Debug)]
 pub enum Refusal {
-    /// A text is no command, no number or no word.
+    /// A text is not the command, the number or the word that is wanted.
     Syntax = 1,
-    /// A script ends within a line.
+    /// A script ends within a line: its last bytes have no line feed.
     Unfinished = 2,
     /// A line of a script has more than 128 bytes.
     TooLong = 3,
@@ -22,7 +22,7 @@ pub enum Refusal {
     Sealed = 7,
     /// A capability is unsealed that has to be sealed.
     Unsealed = 8,
-    /// A request or an address does not lie within the bounds that it needs.
+    /// A request does not lie within the capability's bounds, or an authority's address within its own.
     OutOfBounds = 9,
     /// The bounds asked for can't be stored without rounding.
     Inexact = 10,
@@ -30,7 +30,7 @@ pub enum Refusal {
     Unrepresentable = 11,
     /// The authority lacks the permission to seal or to unseal.
     MissingPermission = 12,
-    /// The authority's address is no type that sealing may give.
+    /// The authority's address is above 0x3ffef, the last type that sealing gives.
     ReservedType = 13,
     /// The authority's address is not the type of the sealed capability.
     TypeMismatch = 14,
@@ -46,9 +46,9 @@ pub enum Refusal {
     ZeroSize = 19,
     /// No place in the pool is left for an object of this size.
     NoRoom = 20,
-    /// No object has this number, or where a live one is wanted, none that lives.
+    /// No object has this number; or a live one is wanted, and the object of this number was freed.
     NoObject = 21,
-    /// As many slots or objects as the limit were made.
+    /// As many slots or objects were made as the limit allows.
     Full = 22,
 }
 

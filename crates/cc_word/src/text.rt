@@ -175,6 +175,21 @@ pub fn read_word(text: &[u8]) -> Option<u128>
     }
 }
 
+/// The number that eight hexadecimal digits of either case spell, as those of a quarter of a word, and `None` where
+/// a byte is no digit.
+#[inline(always)]
+pub fn read_quarter(digits: &[u8; 8]) -> Option<u32>
+    ensures found { IsSome result ↔ AllPass is_hex_digit digits.now }
+    ensures value { IfSome result (λ number. number ≡ digits_value 16 digits.now) }
+{
+    let number = value_of_eight(digits);
+    if number < NONE {
+        Some(number as u32)
+    } else {
+        None
+    }
+}
+
 /// The 32 hexadecimal digits of a word, in lower case, the highest first: what [`read_word`] reads back.
 #[inline(always)]
 pub fn write_word(word: u128) -> [u8; 32]

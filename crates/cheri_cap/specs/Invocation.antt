@@ -1,5 +1,5 @@
 -- What a command line asks for.
-use Rattle.std.specs.Prelude.{cond, ◌≡◌, ◌≤◌, ◌⊎◌, ◌↔◌, ◌&&◌, ◌||◌, ℕ, Bool, IsTrue, true, not, pos, List, [], ◌∷◌, Option, Some, None, IfSome, IsSome, is_some, Ok, IsOk, codes, option_map, unwrap_or, if◌then◌else◌}
+use Rattle.std.specs.Prelude.{cond, ◌≡◌, ◌≤◌, ◌⊎◌, ◌↔◌, ◌&&◌, ◌||◌, ℕ, Bool, IsTrue, true, not, pos, List, [], ◌∷◌, Option, Some, None, IfSome, IsSome, is_some, codes, option_map, unwrap_or, if◌then◌else◌}
 use Rattle.std.specs.Borrow.{Bor}
 use Rattle.std.specs.Option.{option_map_or}
 use Rattle.std.specs.Result.{result_ok}
@@ -23,7 +23,9 @@ use Rattle.cc_decode.specs.declared.format.Format.{Format}
 use Rattle.cc_decode.specs.declared.format.Format.TheVariants.{Columns, Csv}
 use Rattle.cc_decode.specs.declared.format.Format.TheVariants as format
 use Rattle.cheri_cap.specs.declared.invocation.Invocation.{Invocation}
-use Rattle.cheri_cap.specs.declared.invocation.Invocation.TheVariants.{Decode, Explain, ExplainLength, Map, Plan, Round, Run, Show}
+use Rattle.cheri_cap.specs.declared.invocation.Invocation.TheVariants.{Ask, Decode, Map, Plan, Run}
+use Rattle.cheri_cap.specs.declared.question.Question.{Question}
+use Rattle.cheri_cap.specs.declared.question.Question.TheVariants.{Explain, ExplainLength, Round, Show}
 
 -- ---- the program as clap reads it
 
@@ -114,11 +116,20 @@ bare_program = let bare = new_app (codes "cheri-cap") in record bare {
   };
 }
 
+-- the program with `show` and `round`
+abbrev pub with_words : App → App
+with_words program = with_subcommand (with_subcommand program show_command.top) round_command.top
+
+-- the program with `run`, `plan` and `map`
+abbrev pub with_scripts : App → Bor (List (Bor Text)) → App
+with_scripts program aligns =
+    let runs = with_subcommand (with_subcommand program run_command.top) (plan_command aligns).top in
+    with_subcommand runs (map_command aligns).top
+
 -- the program as clap reads it, where `--align`, `--format` and `--bytes` take these texts
 abbrev pub program : (aligns formats orders : Bor (List (Bor Text))) → App
 program aligns formats orders =
-    let words = with_subcommand (with_subcommand bare_program show_command.top) round_command.top in
-    let scripts = with_subcommand (with_subcommand (with_subcommand words run_command.top) (plan_command aligns).top) (map_command aligns).top in
+    let scripts = with_scripts (with_words bare_program) aligns in
     with_subcommand (with_subcommand scripts (decode_command formats orders).top) explain_command.top
 
 -- the program as clap reads it, where `--align` takes 1 and 16, `--format` the names of the formats, and `--bytes`
@@ -170,12 +181,16 @@ input_named text = if bytes_eq text (codes "little") then Some (Bytes Little) el
 abbrev pub IsGiven : (value : Option Text) → Bool → Type 0
 IsGiven value given = IsTrue given ↔ (value ≡ Some (codes "true"))
 
+-- the name of the command that asks a question
+abbrev pub question_command : Question → Text
+question_command (Show word as_line) = codes "show"
+question_command (Explain word) = codes "explain"
+question_command (ExplainLength base size) = codes "explain"
+question_command (Round size) = codes "round"
+
 -- the name of the command
 abbrev pub command_of : Invocation → Text
-command_of (Show word as_line) = codes "show"
-command_of (Explain word) = codes "explain"
-command_of (ExplainLength base size) = codes "explain"
-command_of (Round size) = codes "round"
+command_of (Ask question) = question_command question
 command_of (Run limit stats file) = codes "run"
 command_of (Plan limit pool align stats file) = codes "plan"
 command_of (Map limit pool align svg file) = codes "map"
@@ -189,15 +204,19 @@ HasPool rows pool = (first_of (codes "base") rows ≡ Some pool.base.now) × (fi
 abbrev pub HasFile : List Row → Option (Bor Text) → Type 0
 HasFile rows file = first_of (codes "file") rows ≡ option_map (λ text. text.now) file
 
--- each text of the command is the value of its name, and none where the name has no value
-abbrev pub HasValues : List Row → Invocation → Type 0
-HasValues rows (Show word as_line) = (first_of (codes "word") rows ≡ Some word.now) × IsGiven (first_of (codes "line") rows) as_line
-HasValues rows (Explain word) =
+-- each text of the question is the value of its name, and none where the name has no value
+abbrev pub HasTexts : List Row → Question → Type 0
+HasTexts rows (Show word as_line) = (first_of (codes "word") rows ≡ Some word.now) × IsGiven (first_of (codes "line") rows) as_line
+HasTexts rows (Explain word) =
     (first_of (codes "word") rows ≡ Some word.now) × (first_of (codes "length") rows ≡ None) × (first_of (codes "base") rows ≡ None)
-HasValues rows (ExplainLength base size) =
+HasTexts rows (ExplainLength base size) =
     (first_of (codes "word") rows ≡ None) × (first_of (codes "length") rows ≡ Some size.now)
     × (base.now ≡ unwrap_or (first_of (codes "base") rows) (codes "0"))
-HasValues rows (Round size) = first_of (codes "length") rows ≡ Some size.now
+HasTexts rows (Round size) = first_of (codes "length") rows ≡ Some size.now
+
+-- the same of the texts and the other values of a command
+abbrev pub HasValues : List Row → Invocation → Type 0
+HasValues rows (Ask question) = HasTexts rows question
 HasValues rows (Run limit stats file) =
     IsLimit (first_of (codes "slots") rows) limit × IsGiven (first_of (codes "stats") rows) stats × HasFile rows file
 HasValues rows (Plan limit pool align stats file) =

@@ -4,3 +4,4 @@ pub mod Outcome
 pub mod Invocation
 pub mod Answering
 pub mod Running
+pub mod Telling

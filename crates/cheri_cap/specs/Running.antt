@@ -14,17 +14,17 @@ use Rattle.cc_command.specs.declared.tally.Tally.{Tally}
 use Rattle.cc_command.specs.declared.usage.Usage.{Usage}
 
 -- The script was run to its end that begins with the operations of `opening` and goes on as the source gives. The
--- replies went to a sink that had taken these bytes before, where it tells them.
-pub record RanToEnd (old : State) (opening : List Op) (to_come left taken : Option (List ℕ)) (summary : Summary) (new : State) : Type 0 where
-  pub taken_now : Option (List ℕ)
-  pub answers : AnswersScript old opening to_come left (Appends taken taken_now) (Ok summary) new
+-- replies went to a sink that had taken some bytes before and has taken some now, where it tells them.
+abbrev pub RanToEnd :
+    (old : State) (opening : List Op) (to_come left taken taken_now : Option (List ℕ)) (summary : Summary) (new : State) → Type 0
+RanToEnd old opening to_come left taken taken_now summary new =
+    AnswersScript old opening to_come left (Appends taken taken_now) (Ok summary) new
 
--- The sink took the map of a machine's pool, and then the summary of what the machine uses, and of a tally of replies
+-- The sink took the map of a machine's pool, and then the summary of what the machine uses, and of this tally of replies
 -- of which the first are to an opening of so many operations.
-pub record DrawsMap (state : State) (opening : ℕ) (taken taken_now : Option (List ℕ)) : Type 0 where
+pub record DrawsMap (state : State) (tally : Tally) (opening : ℕ) (taken taken_now : Option (List ℕ)) : Type 0 where
   pub map : List ℕ
   pub usage : Usage
-  pub tally : Tally
   pub is_map : IsMap (plan_of state) map
   pub is_usage : IsUsage state usage
   pub written : Appends taken taken_now (map ++ statistics_text usage tally opening)

@@ -2,7 +2,7 @@
 ghost use Rattle.std.specs.Prelude.{◌≡◌, IfOk, codes, false};
 ghost use Rattle.clap.specs.Words.{app_of, new_app};
 ghost use Rattle.clap.specs.declared.builder.command.Command.TheViews.{out-Command};
-ghost use Rattle.cheri_cap.specs.Invocation.{bare_program, decode_command, explain_command, map_command, plan_command, program, round_command, run_command, show_command, with_pool, with_pool_options};
+ghost use Rattle.cheri_cap.specs.Invocation.{bare_program, decode_command, explain_command, map_command, plan_command, program, round_command, run_command, show_command, with_pool, with_pool_options, with_scripts, with_words};
 
 use crate::arguments::{
     choice_option, flag_option, optional_argument, slots_option, valued_option, wanted_argument,
@@ -27,14 +27,33 @@ pub(crate) fn program<'a>(
 ) -> Result<Command<'a>, AllocError>
     ensures { IfOk result (λ command. app_of command ≡ program aligns.entry formats.entry orders.entry) }
 {
-    bare_program(alloc)?
-        .subcommand(show_command(alloc)?)?
-        .subcommand(round_command(alloc)?)?
-        .subcommand(run_command(alloc)?)?
-        .subcommand(plan_command(alloc, aligns)?)?
-        .subcommand(map_command(alloc, aligns)?)?
+    let words = with_words(alloc, bare_program(alloc)?)?;
+    with_scripts(alloc, words, aligns)?
         .subcommand(decode_command(alloc, formats, orders)?)?
         .subcommand(explain_command(alloc)?)
+}
+
+/// The program with `show` and `round`.
+fn with_words<'a>(alloc: Global, program: Command<'a>) -> Result<Command<'a>, AllocError>
+    ensures { IfOk result (λ command. app_of command ≡ with_words (app_of program.entry)) }
+{
+    program
+        .subcommand(show_command(alloc)?)?
+        .subcommand(round_command(alloc)?)
+}
+
+/// The program with `run`, `plan` and `map`.
+fn with_scripts<'a>(
+    alloc: Global,
+    program: Command<'a>,
+    aligns: &'a [&'a str],
+) -> Result<Command<'a>, AllocError>
+    ensures { IfOk result (λ command. app_of command ≡ with_scripts (app_of program.entry) aligns.entry) }
+{
+    program
+        .subcommand(run_command(alloc)?)?
+        .subcommand(plan_command(alloc, aligns)?)?
+        .subcommand(map_command(alloc, aligns)?)
 }
 
 /// `show [--line] WORD`.

@@ -1,7 +1,7 @@
 //! The texts of the help: of each command what it does (`ABOUT`), and what stands behind its arguments (`AFTER_HELP`);
 //! and of each argument and option what it means (`HELP`).
 
-pub(crate) const VERSION: &str = "0.2.0\nCHERI Concentrate, 128 bits, CHERI ISA version 9";
+pub(crate) const VERSION: &str = "0.3.0\nCHERI Concentrate, 128 bits, CHERI ISA version 9";
 
 pub(crate) const ABOUT: &str =
     "Shows and derives 128-bit CHERI Concentrate capabilities, and plans who gets which bytes of a pool";

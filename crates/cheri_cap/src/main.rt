@@ -15,9 +15,13 @@ mod commands;
 mod error_writer;
 mod help;
 mod invocation;
+mod mapping;
 mod outcome;
+mod pool;
+mod question;
 mod reading;
 mod running;
+mod telling;
 mod values;
 
 use answering::answer_question;
@@ -27,12 +31,12 @@ use clap::error::ErrorKind;
 use invocation::Invocation;
 use outcome::{Ending, Fault, ending_of, status};
 use reading::read_words;
-use running::{Telling, Terminals};
 use std::alloc::AllocError;
 use std::env::{self, Env};
 use std::io::{self, IsTerminal};
 use std::process::ExitCode;
 use std::rt::Files;
+use telling::{Telling, Terminals};
 
 fn main(rt: HostRuntime) -> ExitCode {
     let terminals = Terminals {
@@ -155,9 +159,9 @@ fn answer<R: AllocGlobal + Files + Input + Eprint, W: Sink + Drop>(
             align,
             svg,
             file,
-        } => running::map(rt, limit, pool, align, svg, file, output),
+        } => mapping::map(rt, limit, pool, align, svg, file, output),
         Invocation::Decode { options, file } => running::decode(rt, options, file, output),
-        question => Ok(answer_question(question, &mut output)?),
+        Invocation::Ask(question) => Ok(answer_question(question, &mut output)?),
     }
 }
 

@@ -7,6 +7,7 @@ ghost use Rattle.cheri_cap.specs.Invocation.{HasChoice, HasFlag, HasItsTexts, Ha
 use crate::commands::{explain_command, program};
 use crate::help::EXPLAIN_CHOICE;
 use crate::invocation::Invocation;
+use crate::question::Question;
 use crate::values::{
     align_of, base_of, format_of, input_of, is_given, limit_of, pool_texts, value_of, wanted_text,
 };
@@ -123,10 +124,10 @@ fn read_show<'a>(matches: &ArgMatches<'a>) -> Invocation<'a>
     ensures command { command_of result ≡ codes "show" }
     ensures values { HasValues (rows_of (found_of matches.now)) result }
 {
-    Invocation::Show {
+    Invocation::Ask(Question::Show {
         word: wanted_text(matches, "word"),
         as_line: is_given(matches, "line"),
-    }
+    })
 }
 
 /// What `round` asks for.
@@ -135,9 +136,9 @@ fn read_round<'a>(matches: &ArgMatches<'a>) -> Invocation<'a>
     ensures command { command_of result ≡ codes "round" }
     ensures values { HasValues (rows_of (found_of matches.now)) result }
 {
-    Invocation::Round {
+    Invocation::Ask(Question::Round {
         length: wanted_text(matches, "length"),
-    }
+    })
 }
 
 /// What `run` asks for.
@@ -213,10 +214,10 @@ fn read_explain<'a>(matches: &ArgMatches<'a>) -> Invocation<'a>
     ensures values { HasValues (rows_of (found_of matches.now)) result }
 {
     match value_of(matches, "word") {
-        Some(word) => Invocation::Explain { word },
-        None => Invocation::ExplainLength {
+        Some(word) => Invocation::Ask(Question::Explain { word }),
+        None => Invocation::Ask(Question::ExplainLength {
             base: base_of(matches),
             length: wanted_text(matches, "length"),
-        },
+        }),
     }
 }

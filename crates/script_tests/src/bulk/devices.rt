@@ -1,7 +1,8 @@
 //! Devices that fail.
+use super::decode_between;
 use super::rows::{COLUMNS, TEXT};
-use cc_decode::{Format, InputForm, Options, decode_words};
-use cc_script::{ScriptFault, SliceSink, SliceSource};
+use cc_decode::{Format, InputForm, Options};
+use cc_script::ScriptFault;
 
 /// Words on lines, answered in columns.
 const COLUMN_LINES: Options = Options {
@@ -20,21 +21,22 @@ fn count_lines(text: &[u8]) -> usize {
     count
 }
 
+/// These are the answers to the whole lines of the first bytes of the text.
+fn are_answers(written: &[u8], given: usize) -> bool {
+    let before = &TEXT.as_bytes()[..given.min(TEXT.len())];
+    COLUMNS.as_bytes().starts_with(written) && count_lines(written) == count_lines(before)
+}
+
 /// The call of the source fails: what was written is the answers to the whole lines before it.
 fn read_fails(call: u32) -> bool {
-    let mut source = SliceSource::new(TEXT.as_bytes(), 13, Some(call));
     let mut room = [0; 512];
-    let mut sink = SliceSink::new(&mut room, 4096, None);
-    let ended = decode_words(COLUMN_LINES, &mut source, &mut sink);
-    let taken = sink.taken();
+    let fails = (Some(call), None);
+    let (end, taken) = decode_between(COLUMN_LINES, TEXT.as_bytes(), (13, 4096), fails, &mut room);
     let given = (call as usize).saturating_sub(1).saturating_mul(13);
-    let before = &TEXT.as_bytes()[..given.min(TEXT.len())];
-    let Some(written) = room.get(..taken) else {
-        return false;
-    };
-    ended == Err(ScriptFault::Read)
-        && COLUMNS.as_bytes().starts_with(written)
-        && count_lines(written) == count_lines(before)
+    match room.get(..taken) {
+        Some(written) => matches!(end, Err(ScriptFault::Read)) && are_answers(written, given),
+        None => false,
+    }
 }
 
 #[test]
@@ -46,12 +48,10 @@ fn each_read_fails_in_turn(rt: HostRuntime) {
 
 /// The call of the sink fails: what was written is a beginning of the answers.
 fn write_fails(call: u32) -> bool {
-    let mut source = SliceSource::new(TEXT.as_bytes(), 4096, None);
     let mut room = [0; 512];
-    let mut sink = SliceSink::new(&mut room, 11, Some(call));
-    let ended = decode_words(COLUMN_LINES, &mut source, &mut sink);
-    let taken = sink.taken();
-    ended == Err(ScriptFault::Write) && room.get(..taken) == COLUMNS.as_bytes().get(..taken)
+    let fails = (None, Some(call));
+    let (end, taken) = decode_between(COLUMN_LINES, TEXT.as_bytes(), (4096, 11), fails, &mut room);
+    matches!(end, Err(ScriptFault::Write)) && room.get(..taken) == COLUMNS.as_bytes().get(..taken)
 }
 
 #[test]
@@ -59,4 +59,18 @@ fn each_write_fails_in_turn(rt: HostRuntime) {
     for call in 1..29u32 {
         assert!(rt; write_fails(call), "call {call}");
     }
+}
+
+/// The call of the sink would fail, and is never made.
+fn ends_before(call: u32) -> bool {
+    let mut room = [0; 512];
+    let fails = (None, Some(call));
+    let (end, taken) = decode_between(COLUMN_LINES, TEXT.as_bytes(), (4096, 11), fails, &mut room);
+    end.is_ok() && taken == COLUMNS.len()
+}
+
+/// A second flush would be the call that fails: the sink is flushed once, behind its 27 writes.
+#[test]
+fn flushed_once_behind_all_writes(rt: HostRuntime) {
+    assert!(rt; ends_before(29));
 }

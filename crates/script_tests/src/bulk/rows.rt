@@ -1,7 +1,7 @@
 //! Worked answers, whatever the pieces in which the text comes.
-use cc_decode::{ByteOrder, Format, InputForm, Options, decode_words};
-use cc_script::{SliceSink, SliceSource, Summary};
-use std::process::Abort;
+use super::decode_between;
+use cc_decode::{ByteOrder, Format, InputForm, Options};
+use cc_script::Summary;
 
 /// Two words, lines that are none, and a rest.
 pub const TEXT: &str = "\
@@ -56,26 +56,9 @@ fn is_answered(
     piece: usize,
     any_error: bool,
 ) -> bool {
-    let mut source = SliceSource::new(input, piece.max(1), None);
     let mut room = [0; 512];
-    let mut sink = SliceSink::new(&mut room, piece.max(1), None);
-    let ended = decode_words(options, &mut source, &mut sink);
-    let taken = sink.taken();
-    ended == Ok(Summary { any_error }) && room.get(..taken) == Some(answers.as_bytes())
-}
-
-fn assert_answers(
-    rt: &impl Abort,
-    options: Options,
-    input: &[u8],
-    answers: &str,
-    piece: usize,
-    any_error: bool,
-) {
-    assert!(rt;
-        is_answered(options, input, answers, piece, any_error),
-        "pieces of {piece}"
-    );
+    let (end, taken) = decode_between(options, input, (piece, piece), (None, None), &mut room);
+    end == Ok(Summary { any_error }) && room.get(..taken) == Some(answers.as_bytes())
 }
 
 /// Words on lines, answered in this format.
@@ -86,31 +69,31 @@ fn lines_in(format: Format) -> Options {
     }
 }
 
+/// The worked text in pieces of this size is answered in columns and as lines.
+fn is_answered_in_both(piece: usize) -> bool {
+    let text = TEXT.as_bytes();
+    is_answered(lines_in(Format::Columns), text, COLUMNS, piece, true)
+        && is_answered(lines_in(Format::Text), text, LINES, piece, true)
+}
+
 #[test]
 fn answers_in_each_format(rt: HostRuntime) {
     for piece in [1usize, 2, 3, 7, 33, 4096] {
-        for (format, answers) in [(Format::Columns, COLUMNS), (Format::Text, LINES)] {
-            assert_answers(&rt, lines_in(format), TEXT.as_bytes(), answers, piece, true);
-        }
+        assert!(rt; is_answered_in_both(piece), "pieces of {piece}");
     }
 }
 
 #[test]
 fn values_have_a_header_and_commas(rt: HostRuntime) {
-    assert_answers(&rt, lines_in(Format::Csv), FEW.as_bytes(), VALUES, 7, true);
+    assert!(rt; is_answered(lines_in(Format::Csv), FEW.as_bytes(), VALUES, 7, true));
 }
 
 #[test]
 fn words_alone_are_no_error(rt: HostRuntime) {
-    assert_answers(&rt, lines_in(Format::Columns), b"", "", 7, false);
-    assert_answers(
-        &rt,
-        lines_in(Format::Text),
-        b"ffff0000000f803d0000000000010070\n",
-        "0x10070 [rwxRW,0x10070-0x12070]\n",
-        7,
-        false,
-    );
+    let word = b"ffff0000000f803d0000000000010070\n";
+    let line = "0x10070 [rwxRW,0x10070-0x12070]\n";
+    assert!(rt; is_answered(lines_in(Format::Columns), b"", "", 7, false));
+    assert!(rt; is_answered(lines_in(Format::Text), word, line, 7, false));
 }
 
 /// A word and a line feed of another, as they stand in the memory of a little-endian machine.
@@ -118,26 +101,25 @@ const BYTES: [u8; 17] = [
     0x70, 0x00, 0x01, 0, 0, 0, 0, 0, 0x3d, 0x80, 0x0f, 0, 0, 0, 0xff, 0xff, b'\n',
 ];
 
-const BYTES_ANSWERS: [(ByteOrder, &str); 2] = [
-    (
-        ByteOrder::Little,
-        "0x10070 [rwxRW,0x10070-0x12070]\nerror 2 unfinished\n",
-    ),
-    (
-        ByteOrder::Big,
-        "0x3d800f000000ffff [,0x0-0x10000000000000000] (sealed)\nerror 2 unfinished\n",
-    ),
-];
+const LITTLE_ANSWERS: &str = "0x10070 [rwxRW,0x10070-0x12070]\nerror 2 unfinished\n";
+
+const BIG_ANSWERS: &str =
+    "0x3d800f000000ffff [,0x0-0x10000000000000000] (sealed)\nerror 2 unfinished\n";
+
+/// The bytes in pieces of this size are words in this order.
+fn are_words(order: ByteOrder, answers: &str, piece: usize) -> bool {
+    let options = Options {
+        input: InputForm::Bytes(order),
+        format: Format::Text,
+    };
+    is_answered(options, &BYTES, answers, piece, true)
+}
 
 #[test]
 fn sixteen_bytes_are_a_word(rt: HostRuntime) {
     for piece in [1usize, 7, 4096] {
-        for (order, answers) in BYTES_ANSWERS {
-            let options = Options {
-                input: InputForm::Bytes(order),
-                format: Format::Text,
-            };
-            assert_answers(&rt, options, &BYTES, answers, piece, true);
-        }
+        let is_so = are_words(ByteOrder::Little, LITTLE_ANSWERS, piece)
+            && are_words(ByteOrder::Big, BIG_ANSWERS, piece);
+        assert!(rt; is_so, "pieces of {piece}");
     }
 }

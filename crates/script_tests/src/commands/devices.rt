@@ -1,6 +1,6 @@
 //! Sinks that fail, and sinks over writers.
 use super::rows::{NULL_LISTING, NULL_WORD};
-use cc_command::show_word;
+use cc_command::{Counted, show_word};
 use cc_script::{FromWriter, ScriptFault, Sink, SliceSink, Summary};
 use std::io::{self, Write};
 
@@ -30,6 +30,18 @@ fn each_call_fails_in_turn(rt: HostRuntime) {
             assert!(rt; is_so, "call {fail_at}, pieces of {piece}");
         }
     }
+}
+
+/// The first call of the sink behind fails: a flush is one, and telling it before a read is none.
+fn is_only_told(sink: &mut Counted<SliceSink>) -> bool {
+    sink.before_read().is_ok() && sink.flush().is_err()
+}
+
+#[test]
+fn counted_sink_is_not_flushed_before_a_read(rt: HostRuntime) {
+    let mut room = [0u8; 4];
+    let behind = SliceSink::new(&mut room, 4, Some(1));
+    assert!(rt; is_only_told(&mut Counted::new(behind)));
 }
 
 #[test]

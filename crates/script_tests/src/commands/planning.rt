@@ -1,9 +1,9 @@
 //! Worked plans: the numbers of a pool, and the scripts that follow.
 use cc_command::{PoolTexts, plan_numbers, plan_script};
-use cc_machine::{Align, Machine};
+use cc_machine::{Align, Len, Machine};
 use cc_script::{ScriptFault, SliceSink, SliceSource, Summary};
 use cc_word::Refusal;
-use std::test::Fail;
+use std::alloc::{AllocError, Global};
 
 /// A pool's base, length and alignment, a script, what is written, and whether a reply is an error.
 type Row<'a> = (&'a str, &'a str, Align, &'a str, &'a str, bool);
@@ -28,6 +28,22 @@ const ROWS: [Row; 7] = [
         "slot 1 ffff0000000000000000000000010000 0x0 0x10000000000000000\nslot 2 ffff0000000190000000000000010000 0x10000 0x20000\npool 2 0x10000 0x20000 align 16\nobject 1 slot 3 ffff0000041d80040000000000010000 0x10000 0x10070 held 112\nobject 2 slot 4 ffff0000010180740000000000010070 0x10070 0x11400 held 5120\nobject 3 slot 5 ffff0000050594040000000000011400 0x11400 0x11410 held 5136\nobject 4 slot 6 ffff000002838a0d0000000000011410 0x11410 0x13410 held 13328\nobject 5 slot 7 ffff00000105b4140000000000013410 0x13410 0x14410 held 17424\nerror 1 syntax\nerror 18 poolset\n", true),
 ];
 
+/// How the run of a plan ends, and how many bytes of its output are then in the room.
+fn plan_between(
+    machine: &mut Machine,
+    pool: (u64, Len, Align),
+    script: &[u8],
+    pieces: (usize, usize),
+    fail_at: Option<u32>,
+    room: &mut [u8],
+) -> (Result<Summary, ScriptFault>, usize) {
+    let (base, length, align) = pool;
+    let mut source = SliceSource::new(script, pieces.0.max(1), fail_at);
+    let mut sink = SliceSink::new(room, pieces.1.max(1), None);
+    let ended = plan_script(machine, base, length, align, &mut source, &mut sink);
+    (ended, sink.taken())
+}
+
 /// A row in pieces of these sizes, into room of a size, ends so, and writes what it has to as far as there is
 /// room.
 fn is_planned(
@@ -43,53 +59,72 @@ fn is_planned(
         return false;
     };
     let mut room = [0u8; 2048];
-    let mut source = SliceSource::new(script.as_bytes(), pieces.0.max(1), fail_at);
-    let mut sink = SliceSink::new(room.split_at_mut(size.min(2048)).0, pieces.1.max(1), None);
-    let ended = plan_script(machine, base, length, align, &mut source, &mut sink);
-    let taken = sink.taken();
+    let (pool, limited) = ((base, length, align), &mut room[..size.min(2048)]);
+    let (ended, taken) = plan_between(machine, pool, script.as_bytes(), pieces, fail_at, limited);
     ended == answer
         && taken == output.len().min(size)
         && room.get(..taken) == output.as_bytes().get(..taken)
 }
 
-#[test]
-fn plans_are_answered(rt: HostRuntime) -> Result<(), Fail> {
-    for row in &ROWS {
-        for pieces in [(1usize, 1usize), (7, 200), (4096, 4096)] {
-            let mut machine = Machine::with_limit(rt.alloc(), 4096)?;
-            let answer = Ok(Summary { any_error: row.5 });
-            assert!(rt;
-                is_planned(&mut machine, row, pieces, None, 2048, answer),
-                "{}",
-                row.3
-            );
+/// How many slots a new machine has after this; none, where it is not so.
+fn is_planned_anew(
+    alloc: Global,
+    row: &Row,
+    pieces: (usize, usize),
+    fail_at: Option<u32>,
+    size: usize,
+    answer: Result<Summary, ScriptFault>,
+) -> Option<u32> {
+    match Machine::with_limit(alloc, 4096) {
+        Ok(mut machine) => {
+            if is_planned(&mut machine, row, pieces, fail_at, size, answer) {
+                Some(machine.slots())
+            } else {
+                None
+            }
         }
+        Err(AllocError) => None,
     }
-    Ok(())
+}
+
+/// The row is answered in pieces of these sizes, with ample room.
+fn is_answered(alloc: Global, row: &Row, pieces: (usize, usize)) -> bool {
+    let answer = Ok(Summary { any_error: row.5 });
+    is_planned_anew(alloc, row, pieces, None, 2048, answer).is_some()
 }
 
 #[test]
-fn pool_is_made_before_the_first_read(rt: HostRuntime) -> Result<(), Fail> {
-    let mut machine = Machine::with_limit(rt.alloc(), 4096)?;
+fn plans_are_answered(rt: HostRuntime) {
+    for row in &ROWS {
+        let is_so = is_answered(rt.alloc(), row, (1, 1))
+            && is_answered(rt.alloc(), row, (7, 200))
+            && is_answered(rt.alloc(), row, (4096, 4096));
+        assert!(rt; is_so, "{}", row.3);
+    }
+}
+
+#[test]
+fn pool_is_made_before_the_first_read(rt: HostRuntime) {
     let answer = Err(ScriptFault::Read);
-    assert!(rt; is_planned(&mut machine, &POOL, (1, 200), Some(1), 2048, answer));
-    assert!(rt; machine.slots() == 3);
-    Ok(())
+    let slots = is_planned_anew(rt.alloc(), &POOL, (1, 200), Some(1), 2048, answer);
+    assert!(rt; matches!(slots, Some(3)));
+}
+
+/// A plan into room of this size ends, and its machine then has so many slots.
+fn fills(alloc: Global, size: usize, slots: u32) -> bool {
+    let answer = Err(ScriptFault::Write);
+    match is_planned_anew(alloc, &POOL, (1, 200), None, size, answer) {
+        Some(found) => found == slots,
+        None => false,
+    }
 }
 
 #[test]
-fn full_sink_ends_a_plan(rt: HostRuntime) -> Result<(), Fail> {
+fn full_sink_ends_a_plan(rt: HostRuntime) {
     // the first reply and its line feed have 64 bytes
     for (size, slots) in [(0usize, 2), (63, 2), (64, 3), (65, 3)] {
-        let mut machine = Machine::with_limit(rt.alloc(), 4096)?;
-        let answer = Err(ScriptFault::Write);
-        assert!(rt;
-            is_planned(&mut machine, &POOL, (1, 200), None, size, answer),
-            "{size}"
-        );
-        assert!(rt; machine.slots() == slots, "{size}");
+        assert!(rt; fills(rt.alloc(), size, slots), "{size}");
     }
-    Ok(())
 }
 
 const FAULTS: [(&str, &str, Refusal); 10] = [
@@ -119,8 +154,8 @@ fn is_fault(base: &str, length: &str, refusal: Refusal) -> bool {
 
 #[test]
 fn faults_of_the_numbers(rt: HostRuntime) {
-    for (base, length, refusal) in FAULTS {
-        assert!(rt; is_fault(base, length, refusal), "{base} {length}");
+    for (base, length, refusal) in &FAULTS {
+        assert!(rt; is_fault(base, length, *refusal), "{base} {length}");
     }
 }
 

@@ -1,7 +1,8 @@
 //! The summary of a worked plan.
-use cc_command::{Counted, plan_script, show_statistics, usage_of};
+use cc_command::{Counted, Tally, Usage, plan_script, show_statistics, usage_of};
 use cc_machine::{Align, Len, Machine};
 use cc_script::{SliceSink, SliceSource, Summary};
+use std::alloc::{AllocError, Global};
 use std::test::Fail;
 
 /// Nine lines, of which three are refused.
@@ -11,29 +12,38 @@ const SCRIPT: &str =
 #[rattlefmt::skip]
 const SUMMARY: &str = "lines 9\nrefused.syntax 1\nfirst.syntax 8\nrefused.slot 1\nfirst.slot 9\nrefused.revoked 1\nfirst.revoked 7\nslots 6\nlimit 16\nmade 3\nlive 1\nquarantined 1\nswept 1\nasked 8241\nheld 8242\npadding 1\npadding.percent 0.01\npool 65536\nfree 57294\nholes 2\nlargest 57232\nhighest 0x1206f\n";
 
-#[test]
-fn plan_is_summed_up(rt: HostRuntime) -> Result<(), Fail> {
-    let mut machine = Machine::with_limit(rt.alloc(), 16)?;
+/// What is told of the plan is the summary; no machine holds more than 2^80 bytes.
+fn is_summary(usage: &Usage, tally: &Tally) -> bool {
+    if usage.held > 1 << 80 {
+        return false;
+    }
+    let mut lines = [0u8; 1024];
+    let mut told = SliceSink::new(&mut lines, 3, None);
+    let is_told = show_statistics(usage, tally, 3, &mut told).is_ok();
+    let taken = told.taken();
+    is_told && lines.get(..taken) == Some(SUMMARY.as_bytes())
+}
+
+fn has_summary(alloc: Global, machine: &Machine, tally: &Tally) -> bool {
+    match usage_of(alloc, machine) {
+        Ok(usage) => is_summary(&usage, tally),
+        Err(AllocError) => false,
+    }
+}
+
+/// The plan of the script, in a pool of this length, ends with an error, and is summed up.
+fn is_summed_up(alloc: Global, machine: &mut Machine, length: Len) -> bool {
     let mut room = [0u8; 2048];
     let mut source = SliceSource::new(SCRIPT.as_bytes(), 7, None);
     let mut sink = Counted::new(SliceSink::new(&mut room, 5, None));
-    let Some(length) = Len::new(65536) else {
-        panic!(rt; "65536");
-    };
-    let ended = plan_script(
-        &mut machine,
-        0x10000,
-        length,
-        Align::One,
-        &mut source,
-        &mut sink,
-    );
-    assert!(rt; ended == Ok(Summary { any_error: true }));
-    let usage = usage_of(rt.alloc(), &machine)?;
-    let mut lines = [0u8; 1024];
-    let mut told = SliceSink::new(&mut lines, 3, None);
-    assert!(rt; show_statistics(&usage, sink.tally(), 3, &mut told).is_ok());
-    let taken = told.taken();
-    assert!(rt; lines.get(..taken) == Some(SUMMARY.as_bytes()));
+    let ended = plan_script(machine, 0x10000, length, Align::One, &mut source, &mut sink);
+    matches!(ended, Ok(Summary { any_error: true })) && has_summary(alloc, machine, sink.tally())
+}
+
+#[test]
+fn plan_is_summed_up(rt: HostRuntime) -> Result<(), Fail> {
+    let length = Len::new(65536).ok_or("no length")?;
+    let mut machine = Machine::with_limit(rt.alloc(), 16)?;
+    assert!(rt; is_summed_up(rt.alloc(), &mut machine, length));
     Ok(())
 }

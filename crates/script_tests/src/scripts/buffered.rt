@@ -29,14 +29,35 @@ fn answer<S: Sink>(sink: &mut S, call: Call) -> Option<usize> {
     }
 }
 
-/// The sink with lent room answers each call as its row says.
+/// The sink with lent room answers the call as its row says.
+fn is_answered(sink: &mut Buffered<SliceSink>, row: &Row) -> bool {
+    let (call, wanted, taken) = *row;
+    answer(sink, call) == wanted && sink.inner().taken() == taken
+}
+
 fn answers(sink: &mut Buffered<SliceSink>, rows: &[Row]) -> bool {
-    for (call, wanted, taken) in rows {
-        if answer(sink, *call) != *wanted || sink.inner().taken() != *taken {
+    for row in rows {
+        if !is_answered(sink, row) {
             return false;
         }
     }
     true
+}
+
+/// Through room of this size each call is answered as its row says, by a sink that takes so many bytes at once and
+/// fails at this call; then it has taken these bytes.
+fn answers_through(
+    size: usize,
+    piece: usize,
+    fail_at: Option<u32>,
+    rows: &[Row],
+    wanted: &[u8; 16],
+) -> bool {
+    let mut taken = [0u8; 16];
+    let mut room = [0u8; 8];
+    let inner = SliceSink::new(&mut taken, piece.max(1), fail_at);
+    let mut sink = Buffered::new(inner, &mut room[..size.min(8)]);
+    answers(&mut sink, rows) && taken == *wanted
 }
 
 const PASSED_ON: [Row; 6] = [
@@ -50,11 +71,7 @@ const PASSED_ON: [Row; 6] = [
 
 #[test]
 fn bytes_wait_until_passed_on(rt: HostRuntime) {
-    let mut taken = [0u8; 16];
-    let mut room = [0u8; 4];
-    let mut sink = Buffered::new(SliceSink::new(&mut taken, 16, None), &mut room);
-    assert!(rt; answers(&mut sink, &PASSED_ON));
-    assert!(rt; taken == *b"abcdefghijk\0\0\0\0\0");
+    assert!(rt; answers_through(4, 16, None, &PASSED_ON, b"abcdefghijk\0\0\0\0\0"));
 }
 
 const NOT_TAKEN: [Row; 4] = [
@@ -66,10 +83,8 @@ const NOT_TAKEN: [Row; 4] = [
 
 #[test]
 fn bytes_not_taken_go_on_waiting(rt: HostRuntime) {
-    let mut taken = [0u8; 16];
-    let mut room = [0u8; 8];
-    let mut sink = Buffered::new(SliceSink::new(&mut taken, 2, Some(2)), &mut room);
-    assert!(rt; answers(&mut sink, &NOT_TAKEN));
+    let taken = b"ab\0\0\0\0\0\0\0\0\0\0\0\0\0\0";
+    assert!(rt; answers_through(8, 2, Some(2), &NOT_TAKEN, taken));
 }
 
 /// A script, its replies, and the rooms in which they wait: less than a reply, as much, and all of them.
@@ -88,31 +103,41 @@ const SCRIPTS: [(&[u8], &[u8], [usize; 9]); 2] = [
     ),
 ];
 
-/// How many bytes of replies reach the slice through room of this size.
-fn replied(
-    alloc: Global,
-    script: &[u8],
-    size: usize,
-    taken: &mut [u8],
-) -> Result<usize, AllocError> {
+/// The replies that reach the slice through room of this size are these.
+fn replies(machine: &mut Machine, script: &[u8], wanted: &[u8], size: usize) -> bool {
+    let mut taken = [0u8; 256];
     let mut room = [0u8; 200];
-    let mut machine = Machine::with_limit(alloc, 4)?;
     let mut source = SliceSource::new(script, 1 + size / 8, None);
-    let mut sink = Buffered::new(SliceSink::new(taken, 7, None), &mut room[..size.min(200)]);
-    let _ = run_script(&mut machine, &mut source, &mut sink);
-    Ok(sink.inner().taken())
+    let inner = SliceSink::new(&mut taken, 7, None);
+    let mut sink = Buffered::new(inner, &mut room[..size.min(200)]);
+    let _ = run_script(machine, &mut source, &mut sink);
+    let count = sink.inner().taken();
+    taken.get(..count) == Some(wanted)
+}
+
+/// The same on a new machine.
+fn replies_anew(alloc: Global, script: &[u8], wanted: &[u8], size: usize) -> bool {
+    match Machine::with_limit(alloc, 4) {
+        Ok(mut machine) => replies(&mut machine, script, wanted, size),
+        Err(AllocError) => false,
+    }
+}
+
+/// The same through room of each of these sizes.
+fn replies_in_all(alloc: Global, script: &[u8], wanted: &[u8], sizes: &[usize; 9]) -> bool {
+    for size in sizes {
+        if !replies_anew(alloc, script, wanted, *size) {
+            return false;
+        }
+    }
+    true
 }
 
 #[test]
-fn replies_are_the_same_in_any_room(rt: HostRuntime) -> Result<(), AllocError> {
-    for (script, replies, sizes) in &SCRIPTS {
-        for size in sizes {
-            let mut taken = [0u8; 256];
-            let count = replied(rt.alloc(), script, *size, &mut taken)?;
-            assert!(rt; taken.get(..count) == Some(*replies), "{size}");
-        }
+fn replies_are_the_same_in_any_room(rt: HostRuntime) {
+    for (script, wanted, sizes) in &SCRIPTS {
+        assert!(rt; replies_in_all(rt.alloc(), script, wanted, sizes));
     }
-    Ok(())
 }
 
 const FULL_ROOM: [Row; 4] = [
@@ -124,11 +149,8 @@ const FULL_ROOM: [Row; 4] = [
 
 #[test]
 fn full_room_is_passed_on_at_the_next_byte(rt: HostRuntime) {
-    let mut taken = [0u8; 16];
-    let mut room = [0u8; 4];
-    let mut sink = Buffered::new(SliceSink::new(&mut taken, 16, None), &mut room);
-    assert!(rt; answers(&mut sink, &FULL_ROOM));
-    assert!(rt; taken == *b"abcde\0\0\0\0\0\0\0\0\0\0\0");
+    let taken = b"abcde\0\0\0\0\0\0\0\0\0\0\0";
+    assert!(rt; answers_through(4, 16, None, &FULL_ROOM, taken));
 }
 
 const FAILED_FLUSH: [Row; 3] = [
@@ -139,10 +161,8 @@ const FAILED_FLUSH: [Row; 3] = [
 
 #[test]
 fn failed_flush_behind_is_told(rt: HostRuntime) {
-    let mut taken = [0u8; 16];
-    let mut room = [0u8; 4];
-    let mut sink = Buffered::new(SliceSink::new(&mut taken, 16, Some(2)), &mut room);
-    assert!(rt; answers(&mut sink, &FAILED_FLUSH));
+    let taken = b"abc\0\0\0\0\0\0\0\0\0\0\0\0\0";
+    assert!(rt; answers_through(4, 16, Some(2), &FAILED_FLUSH, taken));
 }
 
 /// Of two sinks with lent room, one behind the other, the call that passes bytes on fails, and all later ones.
@@ -226,11 +246,17 @@ fn come_in_time(machine: &mut Machine, size: usize) -> bool {
     result == Ok(Summary { any_error: true }) && taken.get() == 94
 }
 
-#[test]
-fn replies_come_before_the_next_read(rt: HostRuntime) -> Result<(), AllocError> {
-    for size in [0usize, 1, 14, 15, 16, 64] {
-        let mut machine = Machine::with_limit(rt.alloc(), 4)?;
-        assert!(rt; come_in_time(&mut machine, size), "{size}");
+/// The same on a new machine.
+fn come_in_time_anew(alloc: Global, size: usize) -> bool {
+    match Machine::with_limit(alloc, 4) {
+        Ok(mut machine) => come_in_time(&mut machine, size),
+        Err(AllocError) => false,
     }
-    Ok(())
+}
+
+#[test]
+fn replies_come_before_the_next_read(rt: HostRuntime) {
+    for size in [0usize, 1, 14, 15, 16, 64] {
+        assert!(rt; come_in_time_anew(rt.alloc(), size), "{size}");
+    }
 }

@@ -1,26 +1,18 @@
 //! Bytes that no one would write.
-use cc_machine::Machine;
-use cc_script::{SliceSink, SliceSource, Summary, run_script};
-use std::process::Abort;
-use std::test::Fail;
+use super::{ERRORS, SOUND, writes_anew};
+use std::alloc::Global;
 
 const SYNTAX: &str = "error 1 syntax\n";
 
-/// The run of a text in pieces of this size writes this, of which some is an error.
-fn writes(machine: &mut Machine, text: &[u8], size: usize, output: &[u8]) -> bool {
-    let mut room = [0u8; 64];
-    let mut source = SliceSource::new(text, size.max(1), None);
-    let mut sink = SliceSink::new(&mut room, size.max(1), None);
-    let ended = run_script(machine, &mut source, &mut sink);
-    ended == Ok(Summary { any_error: true })
-        && sink.taken() == output.len()
-        && room.starts_with(output)
-}
-
-fn run(rt: &impl Abort, machine: &mut Machine, text: &[u8], output: &str) {
-    for size in &[1usize, 7, 128, 4096] {
-        assert!(rt; writes(machine, text, *size, output.as_bytes()), "{output}");
+/// A text, in pieces of each size, gives this error.
+fn is_refused(alloc: Global, text: &[u8], error: &str) -> bool {
+    for size in [1usize, 7, 128, 4096] {
+        let run = (text, (size, size), SOUND, error.as_bytes(), ERRORS);
+        if !writes_anew(alloc, 16, &run) {
+            return false;
+        }
     }
+    true
 }
 
 #[rattlefmt::skip]
@@ -36,21 +28,22 @@ const TEXTS: [(&str, &str); 8] = [
 ];
 
 #[test]
-fn hostile_lines(rt: HostRuntime) -> Result<(), Fail> {
-    let mut machine = Machine::with_limit(rt.alloc(), 16)?;
-    for (text, output) in &TEXTS {
-        run(&rt, &mut machine, text.as_bytes(), output);
+fn hostile_lines(rt: HostRuntime) {
+    for (text, error) in TEXTS {
+        assert!(rt; is_refused(rt.alloc(), text.as_bytes(), error), "{text}");
     }
-    Ok(())
+}
+
+/// A line of 129 such bytes is too long, and shorter ones are read.
+fn are_bytes_0xff_refused(alloc: Global) -> bool {
+    let mut line = [0xffu8; 130];
+    line[129] = b'\n';
+    is_refused(alloc, &line, "error 3 long\n")
+        && is_refused(alloc, &line[1..], SYNTAX)
+        && is_refused(alloc, &line[2..], SYNTAX)
 }
 
 #[test]
-fn lines_of_bytes_0xff(rt: HostRuntime) -> Result<(), Fail> {
-    let mut machine = Machine::with_limit(rt.alloc(), 16)?;
-    let mut line = [0xffu8; 130];
-    line[129] = b'\n';
-    run(&rt, &mut machine, &line, "error 3 long\n");
-    run(&rt, &mut machine, &line[1..], SYNTAX);
-    run(&rt, &mut machine, &line[2..], SYNTAX);
-    Ok(())
+fn lines_of_bytes_0xff(rt: HostRuntime) {
+    assert!(rt; are_bytes_0xff_refused(rt.alloc()));
 }

@@ -1,5 +1,6 @@
 //! One script cut after each of its bytes, and with each call of its devices failing in turn, to a sink that
 //! passes each reply on and to sinks in which replies wait. A machine's state is told by how it goes on.
+use super::{End, Fails, Pieces, is_end, run_between};
 use cc_machine::Machine;
 use cc_script::{Buffered, ScriptFault, SliceSink, SliceSource, Summary, run_script};
 use std::alloc::{AllocError, Global};
@@ -87,8 +88,8 @@ const ROOMS: [Option<usize>; 6] = [None, Some(1), Some(2), Some(64), Some(200), 
 
 #[derive(Clone, Copy)]
 struct Devices {
-    pieces: (usize, usize),
-    fails: (Option<u32>, Option<u32>),
+    pieces: Pieces,
+    fails: Fails,
     room: Option<usize>,
 }
 
@@ -98,23 +99,33 @@ const SOUND: Devices = Devices {
     room: None,
 };
 
-/// What the run answers, and how many bytes the slice took.
-fn run_between(
+/// How the run of a text through room of this size ends, and how many bytes the slice took.
+fn run_buffered(
+    machine: &mut Machine,
+    text: &[u8],
+    devices: &Devices,
+    size: usize,
+    taken: &mut [u8],
+) -> (End, usize) {
+    let mut room = [0u8; MOST_ROOM];
+    let mut source = SliceSource::new(text, devices.pieces.0.max(1), devices.fails.0);
+    let sink = SliceSink::new(taken, devices.pieces.1.max(1), devices.fails.1);
+    let mut sink = Buffered::new(sink, &mut room[..size.min(MOST_ROOM)]);
+    let end = run_script(machine, &mut source, &mut sink);
+    (end, sink.inner().taken())
+}
+
+/// The same through the devices' room, if they have one.
+fn run_through(
     machine: &mut Machine,
     text: &[u8],
     devices: &Devices,
     taken: &mut [u8],
-) -> (Result<Summary, ScriptFault>, usize) {
-    let mut source = SliceSource::new(text, devices.pieces.0.max(1), devices.fails.0);
-    let mut sink = SliceSink::new(taken, devices.pieces.1.max(1), devices.fails.1);
-    let Some(room) = devices.room else {
-        let answer = run_script(machine, &mut source, &mut sink);
-        return (answer, sink.taken());
-    };
-    let mut lent = [0u8; MOST_ROOM];
-    let mut sink = Buffered::new(sink, &mut lent[..room.min(MOST_ROOM)]);
-    let answer = run_script(machine, &mut source, &mut sink);
-    (answer, sink.inner().taken())
+) -> (End, usize) {
+    match devices.room {
+        Some(size) => run_buffered(machine, text, devices, size, taken),
+        None => run_between(machine, text, devices.pieces, devices.fails, taken),
+    }
 }
 
 /// The run of a text ends so, and writes this.
@@ -122,12 +133,12 @@ fn writes(
     machine: &mut Machine,
     text: &[u8],
     devices: &Devices,
-    answer: Result<Summary, ScriptFault>,
+    wanted: End,
     output: &[u8],
 ) -> bool {
     let mut taken = [0u8; 2048];
-    let (answered, count) = run_between(machine, text, devices, &mut taken);
-    answered == answer && count == output.len() && taken.starts_with(output)
+    let (end, count) = run_through(machine, text, devices, &mut taken);
+    is_end(end, wanted) && taken.get(..count) == Some(output)
 }
 
 /// The machine stands after these first lines of the script: it gives the replies to all the others.
@@ -142,12 +153,12 @@ fn runs(
     alloc: Global,
     text: &[u8],
     devices: &Devices,
-    answer: Result<Summary, ScriptFault>,
+    wanted: End,
     output: &[u8],
     lines: usize,
 ) -> Result<bool, AllocError> {
     let mut machine = Machine::with_limit(alloc, 16)?;
-    let is_written = writes(&mut machine, text, devices, answer, output);
+    let is_written = writes(&mut machine, text, devices, wanted, output);
     Ok(is_written && stands_after(alloc, &mut machine, lines)?)
 }
 
@@ -156,7 +167,7 @@ fn runs_in_all(
     alloc: Global,
     text: &[u8],
     devices: &Devices,
-    answer: Result<Summary, ScriptFault>,
+    wanted: End,
     output: &[u8],
     lines: usize,
 ) -> Result<bool, AllocError> {
@@ -165,7 +176,7 @@ fn runs_in_all(
             room: *room,
             ..*devices
         };
-        if !runs(alloc, text, &devices, answer, output, lines)? {
+        if !runs(alloc, text, &devices, wanted, output, lines)? {
             return Ok(false);
         }
     }
@@ -238,7 +249,8 @@ fn write_fails(
 }
 
 /// Each write of the replies fails in turn, in pieces of this size; then the flush; and then no call does.
-fn all_writes_fail(alloc: Global, whole: &[u8], size: usize) -> Result<bool, AllocError> {
+fn all_writes_fail(alloc: Global, size: usize) -> Result<bool, AllocError> {
+    let (whole, any_error) = output_of(alloc, 0, SCRIPT, true)?;
     let mut call = 0u32;
     let mut before = 0usize;
     for (line, reply) in REPLIES.iter().enumerate() {
@@ -254,8 +266,9 @@ fn all_writes_fail(alloc: Global, whole: &[u8], size: usize) -> Result<bool, All
         before = before.saturating_add(reply.len());
     }
     Ok(
-        write_fails(alloc, size, call.saturating_add(1), whole, 18)?
-            && no_write_fails(alloc, size, call.saturating_add(2), whole)?,
+        any_error
+            && write_fails(alloc, size, call.saturating_add(1), &whole, 18)?
+            && no_write_fails(alloc, size, call.saturating_add(2), &whole)?,
     )
 }
 
@@ -271,72 +284,77 @@ fn no_write_fails(alloc: Global, size: usize, call: u32, whole: &[u8]) -> Result
 
 #[test]
 fn each_write_and_the_flush_fail(rt: HostRuntime) -> Result<(), Fail> {
-    let (whole, any_error) = output_of(rt.alloc(), 0, SCRIPT, true)?;
-    assert!(rt; any_error);
     for size in [1usize, 5, 200] {
-        assert!(rt; all_writes_fail(rt.alloc(), &whole, size)?, "{size}");
+        assert!(rt; all_writes_fail(rt.alloc(), size)?, "{size}");
     }
     Ok(())
 }
 
-/// What the run answers where this call of the sink fails, and how many bytes of the output it took before
-/// it; none, where it took others.
+/// How a run ends where this call of the sink fails, and how many bytes of the output it took before it; none,
+/// where it took others.
 fn taken_before(
     machine: &mut Machine,
     whole: &[u8],
     size: usize,
     room: Option<usize>,
     call: u32,
-) -> Option<(Result<Summary, ScriptFault>, usize)> {
+) -> Option<(End, usize)> {
     let devices = Devices {
         pieces: (SCRIPT.len(), size),
         fails: (None, Some(call)),
         room,
     };
     let mut taken = [0u8; 2048];
-    let (answer, count) = run_between(machine, SCRIPT, &devices, &mut taken);
+    let (end, count) = run_through(machine, SCRIPT, &devices, &mut taken);
     if taken.get(..count) == whole.get(..count) {
-        Some((answer, count))
+        Some((end, count))
     } else {
         None
     }
 }
 
-/// Each call of the sink fails in turn, after more and more bytes, and then none does.
-fn more_and_more_is_taken(
+/// The same on a new machine.
+fn taken_anew(
     alloc: Global,
     whole: &[u8],
     size: usize,
     room: Option<usize>,
-) -> Result<bool, AllocError> {
+    call: u32,
+) -> Option<(End, usize)> {
+    match Machine::with_limit(alloc, 16) {
+        Ok(mut machine) => taken_before(&mut machine, whole, size, room, call),
+        Err(AllocError) => None,
+    }
+}
+
+/// Each call of the sink fails in turn, after more and more bytes, and then none does.
+fn more_and_more_is_taken(alloc: Global, whole: &[u8], size: usize, room: Option<usize>) -> bool {
     let mut before = 0usize;
     for call in 1u32..1000 {
-        let mut machine = Machine::with_limit(alloc, 16)?;
-        let Some((answer, count)) = taken_before(&mut machine, whole, size, room, call) else {
-            return Ok(false);
-        };
-        if answer == Ok(Summary { any_error: true }) {
-            return Ok(count == whole.len());
+        match taken_anew(alloc, whole, size, room, call) {
+            Some((Err(ScriptFault::Write), count)) if count >= before => before = count,
+            Some((Ok(summary), count)) => return summary.any_error && count == whole.len(),
+            _ => return false,
         }
-        if answer != Err(ScriptFault::Write) || count < before {
-            return Ok(false);
-        }
-        before = count;
     }
-    Ok(false)
+    false
+}
+
+/// The same for each room.
+fn more_and_more_is_taken_in_all(alloc: Global, size: usize) -> Result<bool, AllocError> {
+    let (whole, any_error) = output_of(alloc, 0, SCRIPT, true)?;
+    for room in ROOMS {
+        if !more_and_more_is_taken(alloc, &whole, size, room) {
+            return Ok(false);
+        }
+    }
+    Ok(any_error)
 }
 
 #[test]
 fn each_call_fails_where_many_replies_wait(rt: HostRuntime) -> Result<(), Fail> {
-    let (whole, any_error) = output_of(rt.alloc(), 0, SCRIPT, true)?;
-    assert!(rt; any_error);
     for size in [1usize, 5, 200] {
-        for room in ROOMS {
-            assert!(rt;
-                more_and_more_is_taken(rt.alloc(), &whole, size, room)?,
-                "{size} {room:?}"
-            );
-        }
+        assert!(rt; more_and_more_is_taken_in_all(rt.alloc(), size)?, "{size}");
     }
     Ok(())
 }

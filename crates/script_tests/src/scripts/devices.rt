@@ -108,3 +108,10 @@ fn reader_and_writer_move_bytes(rt: HostRuntime) {
     assert!(rt; write_all(&mut sink, b"abc").is_ok() && sink.flush().is_ok());
     assert!(rt; taken.as_slice() == b"abc".as_slice());
 }
+
+#[test]
+fn writer_takes_an_empty_piece(rt: HostRuntime) {
+    let mut taken = Vec::new(rt.alloc());
+    let mut sink = FromWriter::new(&mut taken);
+    assert!(rt; matches!(sink.write(b""), Ok(0)));
+}

@@ -22,23 +22,55 @@ const PLAIN: [(&str, Op); 13] = [
     ("sweep", Op::Sweep),
 ];
 
+/// The line spells the operation.
+fn spells(line: &[u8], op: &Op) -> bool {
+    match parse_line(line) {
+        Ok(found) => found == *op,
+        Err(_) => false,
+    }
+}
+
+/// The line is refused so; no two refusals have one code.
+fn is_refused(line: &[u8], refusal: Refusal) -> bool {
+    match parse_line(line) {
+        Ok(_) => false,
+        Err(found) => found.code() == refusal.code(),
+    }
+}
+
 #[test]
 fn lines_spell_operations(rt: HostRuntime) {
     for (line, op) in &PLAIN {
-        assert!(rt; parse_line(line.as_bytes()) == Ok(*op), "{line}");
+        assert!(rt; spells(line.as_bytes(), op), "{line}");
+    }
+}
+
+/// Each line with a length of 512 bytes spells its operation.
+fn lengths_are_spelled() -> bool {
+    match Len::new(0x200) {
+        Some(len) => {
+            spells(b"bounds 1 0x200", &Op::Bounds(1, len))
+                && spells(b"exact 1 512", &Op::Exact(1, len))
+                && spells(b"round 0x200", &Op::Round(len))
+                && spells(b"alloc 512", &Op::Alloc(len))
+        }
+        None => false,
+    }
+}
+
+/// The line spells the permissions of these bits for slot 0.
+fn spells_perms(line: &[u8], bits: u16) -> bool {
+    match Perms::from_bits(bits) {
+        Some(perms) => spells(line, &Op::Perms(0, perms)),
+        None => false,
     }
 }
 
 #[test]
 fn lengths_and_permissions_are_spelled(rt: HostRuntime) {
-    let len = Len::new(0x200).expect(&rt, "a length");
-    assert!(rt; parse_line(b"bounds 1 0x200") == Ok(Op::Bounds(1, len)));
-    assert!(rt; parse_line(b"exact 1 512") == Ok(Op::Exact(1, len)));
-    assert!(rt; parse_line(b"round 0x200") == Ok(Op::Round(len)));
-    assert!(rt; parse_line(b"alloc 512") == Ok(Op::Alloc(len)));
-    let none = Perms::from_bits(0).expect(&rt, "no permission");
-    assert!(rt; parse_line(b"perms 0 LOAD+LOAD") == Ok(Op::Perms(0, Perms::LOAD)));
-    assert!(rt; parse_line(b"perms 0 -") == Ok(Op::Perms(0, none)));
+    assert!(rt; lengths_are_spelled());
+    assert!(rt; spells_perms(b"perms 0 LOAD+LOAD", 4));
+    assert!(rt; spells_perms(b"perms 0 -", 0));
 }
 
 #[rattlefmt::skip]
@@ -90,21 +122,30 @@ const FAULTS: [(&str, Refusal); 42] = [
 #[test]
 fn faults_in_their_order(rt: HostRuntime) {
     for (line, fault) in &FAULTS {
-        assert!(rt; parse_line(line.as_bytes()) == Err(*fault), "{line}");
+        assert!(rt; is_refused(line.as_bytes(), *fault), "{line}");
     }
+}
+
+/// A command of 128 bytes is read, and of one more it is too long.
+fn zeros_are_read() -> bool {
+    let mut line = [b'0'; 129];
+    line[..5].copy_from_slice(b"show ");
+    spells(&line[..128], &Op::Show(0)) && is_refused(&line, TooLong)
+}
+
+/// A number that fills a line of 128 bytes is out of range, and not too long.
+fn nines_are_out_of_range() -> bool {
+    let mut number = [b'9'; 128];
+    number[..6].copy_from_slice(b"alloc ");
+    is_refused(&number, OutOfRange)
 }
 
 #[test]
 fn lines_of_more_than_128_bytes(rt: HostRuntime) {
-    let mut line = [b'0'; 129];
-    line[..5].copy_from_slice(b"show ");
-    assert!(rt; parse_line(&line[..128]) == Ok(Op::Show(0)));
-    assert!(rt; parse_line(&line) == Err(TooLong));
-    assert!(rt; parse_line(&[0xff; 128]) == Err(Syntax));
-    assert!(rt; parse_line(&[0xff; 129]) == Err(TooLong));
-    let mut number = [b'9'; 128];
-    number[..6].copy_from_slice(b"alloc ");
-    assert!(rt; parse_line(&number) == Err(OutOfRange));
+    assert!(rt; zeros_are_read());
+    assert!(rt; is_refused(&[0xff; 128], Syntax));
+    assert!(rt; is_refused(&[0xff; 129], TooLong));
+    assert!(rt; nines_are_out_of_range());
 }
 
 const NAMES: [&str; 16] = [
@@ -126,19 +167,23 @@ const NAMES: [&str; 16] = [
     "USER3",
 ];
 
+/// The name spells the permission of this bit.
+fn is_name_of(name: &str, bit: u16) -> bool {
+    let mut line = [0u8; 64];
+    let end = name.len().saturating_add(8);
+    if end > 64 {
+        return false;
+    }
+    line[..8].copy_from_slice(b"perms 0 ");
+    line[8..end].copy_from_slice(name.as_bytes());
+    spells_perms(&line[..end], bit)
+}
+
 #[test]
 fn every_name_of_a_permission(rt: HostRuntime) {
     let mut bit = 1u16;
     for name in &NAMES {
-        let mut line = [0u8; 64];
-        let end = 8 + name.len();
-        line[..8].copy_from_slice(b"perms 0 ");
-        line[8..end].copy_from_slice(name.as_bytes());
-        let perms = Perms::from_bits(bit).expect(&rt, "a bit");
-        assert!(rt;
-            parse_line(&line[..end]) == Ok(Op::Perms(0, perms)),
-            "{name}"
-        );
+        assert!(rt; is_name_of(name, bit), "{name}");
         bit = bit.wrapping_mul(2);
     }
 }

@@ -1,134 +1,119 @@
 //! Scripts that begin with operations.
 
+use super::{CLEAN, ERRORS, End, Fails, SOUND, is_end};
 use cc_machine::{Len, Machine, Op};
 use cc_plan::Align;
-use cc_script::{ScriptFault, SliceSink, SliceSource, Summary, run_script_after};
-use std::alloc::Global;
-use std::process::Abort;
-use std::test::Fail;
+use cc_script::{ScriptFault, SliceSink, SliceSource, run_script_after};
+use std::alloc::{AllocError, Global};
 
 /// The replies to the operations of a plan of 65,536 bytes from 0x10000 on.
 const PLAN: &[u8] =
     b"slot 1 ffff0000000000000000000000010000 0x0 0x10000000000000000\nslot 2 ffff0000000190000000000000010000 0x10000 0x20000\npool 2 0x10000 0x20000\n";
 
-/// The run after an opening ends so, and writes this.
-fn writes(
+/// A script, the calls that fail, the replies to the opening and to the script, and how the run ends.
+type Row<'a> = (&'a [u8], Fails, (&'a [u8], &'a [u8]), End);
+
+/// How the run of a script after an opening ends, and how many bytes of the replies are then in the room.
+fn run_after(
+    opening: &[Op],
     machine: &mut Machine,
-    opening: &[Op],
     script: &[u8],
-    fails: (Option<u32>, Option<u32>),
-    output: (&[u8], &[u8]),
-    answer: Result<Summary, ScriptFault>,
-) -> bool {
-    let mut room = [0u8; 512];
+    fails: Fails,
+    room: &mut [u8],
+) -> (End, usize) {
     let mut source = SliceSource::new(script, 5, fails.0);
-    let mut sink = SliceSink::new(&mut room, 512, fails.1);
-    let ended = run_script_after(opening, machine, &mut source, &mut sink);
-    let taken = sink.taken();
-    ended == answer
-        && room.starts_with(output.0)
-        && room.get(output.0.len()..taken) == Some(output.1)
+    let mut sink = SliceSink::new(room, 512, fails.1);
+    let end = run_script_after(opening, machine, &mut source, &mut sink);
+    (end, sink.taken())
 }
 
-fn run(
-    rt: &impl Abort,
-    alloc: Global,
-    opening: &[Op],
-    script: &[u8],
-    fails: (Option<u32>, Option<u32>),
-    output: (&[u8], &[u8]),
-    answer: Result<Summary, ScriptFault>,
-) -> Result<(), Fail> {
-    let mut machine = Machine::with_limit(alloc, 16)?;
-    assert!(rt; writes(&mut machine, opening, script, fails, output, answer));
-    Ok(())
+/// The run after an opening ends as the row says, and writes what it says.
+fn writes(opening: &[Op], machine: &mut Machine, row: &Row) -> bool {
+    let (script, fails, (first, then), wanted) = *row;
+    let mut room = [0u8; 512];
+    let (end, taken) = run_after(opening, machine, script, fails, &mut room);
+    is_end(end, wanted) && room.starts_with(first) && room.get(first.len()..taken) == Some(then)
 }
 
-fn plan(rt: &impl Abort) -> [Op; 3] {
-    let len = Len::new(65_536).expect(rt, "a length");
-    [
-        Op::Addr(0, 0x10000),
-        Op::Exact(1, len),
-        Op::Pool(2, Align::One),
-    ]
+/// The same on a new machine.
+fn writes_anew(alloc: Global, opening: &[Op], row: &Row) -> bool {
+    match Machine::with_limit(alloc, 16) {
+        Ok(mut machine) => writes(opening, &mut machine, row),
+        Err(AllocError) => false,
+    }
 }
 
-#[test]
-fn replies_to_the_opening_come_first(rt: HostRuntime) -> Result<(), Fail> {
-    let object: &[u8] =
-        b"object 1 slot 3 ffff0000041880040000000000010000 0x10000 0x10064 held 100\n";
-    run(
-        &rt,
-        rt.alloc(),
-        &plan(&rt),
-        b"alloc 100\n",
-        (None, None),
-        (PLAN, object),
-        Ok(Summary { any_error: false }),
-    )?;
-    run(
-        &rt,
-        rt.alloc(),
-        &plan(&rt),
-        b"",
-        (None, None),
-        (PLAN, b""),
-        Ok(Summary { any_error: false }),
-    )?;
-    run(
-        &rt,
-        rt.alloc(),
-        &plan(&rt),
-        b"free 1",
-        (None, None),
-        (PLAN, b"error 2 unfinished\n"),
-        Ok(Summary { any_error: true }),
-    )?;
-    Ok(())
+/// The same after the operations of the plan.
+fn is_planned(alloc: Global, row: &Row) -> bool {
+    match Len::new(65_536) {
+        Some(len) => {
+            let opening = [
+                Op::Addr(0, 0x10000),
+                Op::Exact(1, len),
+                Op::Pool(2, Align::One),
+            ];
+            writes_anew(alloc, &opening, row)
+        }
+        None => false,
+    }
 }
+
+const OBJECT: &[u8] =
+    b"object 1 slot 3 ffff0000041880040000000000010000 0x10000 0x10064 held 100\n";
+
+/// The sixth call of the sink would fail, and is never made: the plan has three replies and the script one, and
+/// then the sink is flushed, once.
+const SIXTH_CALL: Fails = (None, Some(6));
+
+const PLANNED: [Row; 3] = [
+    (b"alloc 100\n", SIXTH_CALL, (PLAN, OBJECT), CLEAN),
+    (b"", SOUND, (PLAN, b""), CLEAN),
+    (b"free 1", SOUND, (PLAN, b"error 2 unfinished\n"), ERRORS),
+];
 
 #[test]
-fn error_in_the_opening_is_told(rt: HostRuntime) -> Result<(), Fail> {
-    run(
-        &rt,
-        rt.alloc(),
-        &[Op::Show(7), Op::Sweep],
-        b"sweep\n",
-        (None, None),
-        (
-            b"error 5 slot\nswept 0 revoked 0 held 0\n",
-            b"swept 0 revoked 0 held 0\n",
-        ),
-        Ok(Summary { any_error: true }),
-    )?;
-    Ok(())
+fn replies_to_the_opening_come_first(rt: HostRuntime) {
+    for row in &PLANNED {
+        assert!(rt; is_planned(rt.alloc(), row));
+    }
 }
 
-#[test]
-fn opening_is_answered_before_the_first_read(rt: HostRuntime) -> Result<(), Fail> {
-    run(
-        &rt,
-        rt.alloc(),
-        &plan(&rt),
-        b"alloc 100\n",
-        (Some(1), None),
-        (PLAN, b""),
-        Err(ScriptFault::Read),
-    )?;
-    Ok(())
-}
+const SWEPT: &[u8] = b"swept 0 revoked 0 held 0\n";
+
+const REFUSED: Row = (
+    b"sweep\n",
+    SOUND,
+    (b"error 5 slot\nswept 0 revoked 0 held 0\n", SWEPT),
+    ERRORS,
+);
 
 #[test]
-fn sink_fails_in_the_opening(rt: HostRuntime) -> Result<(), Fail> {
-    let first: &[u8] = b"slot 1 ffff0000000000000000000000010000 0x0 0x10000000000000000\n";
-    run(
-        &rt,
-        rt.alloc(),
-        &plan(&rt),
-        b"alloc 100\n",
-        (None, Some(2)),
-        (first, b""),
-        Err(ScriptFault::Write),
-    )?;
-    Ok(())
+fn error_in_the_opening_is_told(rt: HostRuntime) {
+    assert!(rt; writes_anew(rt.alloc(), &[Op::Show(7), Op::Sweep], &REFUSED));
+}
+
+const FAILED_READ: Row = (
+    b"alloc 100\n",
+    (Some(1), None),
+    (PLAN, b""),
+    Err(ScriptFault::Read),
+);
+
+#[test]
+fn opening_is_answered_before_the_first_read(rt: HostRuntime) {
+    assert!(rt; is_planned(rt.alloc(), &FAILED_READ));
+}
+
+const FIRST: &[u8] = b"slot 1 ffff0000000000000000000000010000 0x0 0x10000000000000000\n";
+
+const FAILED_WRITE: Row = (
+    b"alloc 100\n",
+    (None, Some(2)),
+    (FIRST, b""),
+    Err(ScriptFault::Write),
+);
+
+#[test]
+fn sink_fails_in_the_opening(rt: HostRuntime) {
+    assert!(rt; is_planned(rt.alloc(), &FAILED_WRITE));
 }

@@ -99,36 +99,49 @@ const PLAIN: [(Reply, &str); 10] = [
     ),
 ];
 
+fn is_text_of(reply: &Reply, text: &str) -> bool {
+    reply_line(reply).bytes() == text.as_bytes()
+}
+
 #[test]
 fn replies_as_text(rt: HostRuntime) {
     for (reply, text) in &PLAIN {
-        let line = reply_line(reply);
-        assert!(rt; line.bytes() == text.as_bytes(), "{text}");
+        assert!(rt; is_text_of(reply, text), "{text}");
     }
 }
 
 #[test]
-fn capabilities_as_text(rt: HostRuntime) {
-    let perms = Perms::from_bits(0xffff).expect(&rt, "a set");
-    let sealed = ObjType::from_bits(7).expect(&rt, "a type");
+fn root_as_text(rt: HostRuntime) {
     let root = Reply::Shown {
         word: 0xffff << 112,
         span: ALL,
-        perms,
+        perms: Perms::all(),
         flag: false,
         otype: ObjType::UNSEALED,
         parent: None,
     };
     let text = "cap ffff0000000000000000000000000000 0x0 0x10000000000000000 ffff 0 3ffff -";
-    assert!(rt; reply_line(&root).bytes() == text.as_bytes());
+    assert!(rt; is_text_of(&root, text));
+}
+
+/// A sealed capability with a flag and a parent.
+fn is_sealed_one_told() -> bool {
+    let Some(otype) = ObjType::from_bits(7) else {
+        return false;
+    };
     let small = Reply::Shown {
         word: 0xffff_1fff_c481_9004_0000_0000_0000_1000,
         span: SMALL,
-        perms,
+        perms: Perms::all(),
         flag: true,
-        otype: sealed,
+        otype,
         parent: Some(2),
     };
     let text = "cap ffff1fffc48190040000000000001000 0x1000 0x1200 ffff 1 00007 2";
-    assert!(rt; reply_line(&small).bytes() == text.as_bytes());
+    is_text_of(&small, text)
+}
+
+#[test]
+fn sealed_capability_as_text(rt: HostRuntime) {
+    assert!(rt; is_sealed_one_told());
 }

@@ -1,10 +1,11 @@
 //! Worked scripts, each on a machine of its own.
+use super::{Pieces, SOUND, is_end, run_between, writes_anew};
 use cc_machine::Machine;
-use cc_script::{ScriptFault, SliceSink, SliceSource, run_script};
+use cc_script::{ScriptFault, Summary};
+use std::alloc::{AllocError, Global};
 use std::process::Abort;
-use std::test::Fail;
 
-/// A script, the limit of slots, and what it writes.
+/// A name, the limit of slots, a script, and what it writes.
 type Row<'a> = (&'a str, u32, &'a str, &'a str);
 
 #[rattlefmt::skip]
@@ -61,39 +62,48 @@ const ROWS: [Row; 27] = [
         "slot 1 ffff0000000000000000000000010000 0x0 0x10000000000000000\nslot 2 ffff0000000190000000000000010000 0x10000 0x20000\nerror 1 syntax\nerror 1 syntax\nerror 1 syntax\npool 2 0x10000 0x20000 align 16\nobject 1 slot 3 ffff0000041d80040000000000010000 0x10000 0x10070 held 112\nobject 2 slot 4 ffff0000010180740000000000010070 0x10070 0x11400 held 5120\nobject 3 slot 5 ffff0000050594040000000000011400 0x11400 0x11410 held 5136\nobject 4 slot 6 ffff000002838a0d0000000000011410 0x11410 0x13410 held 13328\nobject 5 slot 7 ffff00000105b4140000000000013410 0x13410 0x14410 held 17424\nerror 1 syntax\nerror 18 poolset\nround 0x1ff8 0x8 0xfffffffffffffff8\n"),
 ];
 
-/// The row's script writes what it has to, and no device fails.
-fn writes(machine: &mut Machine, row: &Row, sizes: (usize, usize)) -> bool {
+/// Whether a line of the output is an error.
+fn has_error(output: &str) -> bool {
+    output.starts_with("error ") || output.contains("\nerror ")
+}
+
+/// The row's script, on a new machine with so many slots, writes what it has to.
+fn answers(alloc: Global, limit: u32, row: &Row, pieces: Pieces) -> bool {
     let (_, _, script, output) = *row;
-    let mut room = [0u8; 2048];
-    let mut source = SliceSource::new(script.as_bytes(), sizes.0.max(1), None);
-    let mut sink = SliceSink::new(&mut room, sizes.1.max(1), None);
-    let ended = run_script(machine, &mut source, &mut sink);
-    ended.is_ok() && sink.taken() == output.len() && room.starts_with(output.as_bytes())
+    let end = Ok(Summary {
+        any_error: has_error(output),
+    });
+    let run = (script.as_bytes(), pieces, SOUND, output.as_bytes(), end);
+    writes_anew(alloc, limit, &run)
 }
 
-fn run(rt: &impl Abort, machine: &mut Machine, row: &Row, sizes: (usize, usize)) {
-    assert!(rt; writes(machine, row, sizes), "{}", row.0);
+fn answers_in_all_pieces(alloc: Global, row: &Row) -> bool {
+    answers(alloc, row.1, row, (1, 1))
+        && answers(alloc, row.1, row, (7, 7))
+        && answers(alloc, row.1, row, (4096, 4096))
 }
 
-#[test]
-fn rows(rt: HostRuntime) -> Result<(), Fail> {
-    for row in &ROWS {
-        for size in &[1usize, 7, 4096] {
-            let mut machine = Machine::with_limit(rt.alloc(), row.1.clamp(1, 65_536))?;
-            run(&rt, &mut machine, row, (*size, *size));
-        }
+fn run_all(rt: &impl Abort, alloc: Global, rows: &[Row]) {
+    for row in rows {
+        assert!(rt; answers_in_all_pieces(alloc, row), "{}", row.0);
     }
-    Ok(())
 }
 
-/// The script `tests/opening` refuses each request for memory after the machines were opened.
 #[test]
-fn no_memory_after_opening(rt: HostRuntime) -> Result<(), Fail> {
-    let mut plan = Machine::with_limit(rt.alloc(), 64)?;
-    let mut pool = Machine::with_limit(rt.alloc(), 64)?;
-    run(&rt, &mut plan, &ROWS[18], (7, 5));
-    run(&rt, &mut pool, &ROWS[19], (7, 5));
-    Ok(())
+fn rows(rt: HostRuntime) {
+    run_all(&rt, rt.alloc(), &ROWS);
+}
+
+/// The script `tests/opening` refuses each request for memory after the machine was opened.
+#[test]
+fn no_memory_after_opening(rt: HostRuntime) {
+    assert!(rt; answers(rt.alloc(), 64, &ROWS[18], (7, 5)));
+}
+
+/// The same of a machine whose pool is the whole address space.
+#[test]
+fn no_memory_after_opening_for_a_whole_pool(rt: HostRuntime) {
+    assert!(rt; answers(rt.alloc(), 64, &ROWS[19], (7, 5)));
 }
 
 const SHOWN: &[u8] =
@@ -101,40 +111,50 @@ const SHOWN: &[u8] =
 
 /// A script whose eleventh read fails ends so, and its reply fills this room, as far as it goes.
 fn fails(machine: &mut Machine, room: &mut [u8], fault: ScriptFault) -> bool {
-    let mut source = SliceSource::new(b"show 0\nsho", 1, Some(11));
-    let mut sink = SliceSink::new(room, 256, None);
-    let ended = run_script(machine, &mut source, &mut sink);
-    let taken = sink.taken();
-    ended == Err(fault)
+    let failing = (Some(11), None);
+    let (end, taken) = run_between(machine, b"show 0\nsho", (1, 256), failing, room);
+    is_end(end, Err(fault))
         && taken == room.len().min(SHOWN.len())
         && room.get(..taken) == SHOWN.get(..taken)
 }
 
+/// The read fails where there is room for the reply, and else the write.
+fn device_fails(alloc: Global) -> bool {
+    match Machine::with_limit(alloc, 16) {
+        Ok(mut machine) => {
+            fails(&mut machine, &mut [0u8; 256], ScriptFault::Read)
+                && fails(&mut machine, &mut [0u8; 7], ScriptFault::Write)
+        }
+        Err(AllocError) => false,
+    }
+}
+
 #[test]
-fn device_failures(rt: HostRuntime) -> Result<(), Fail> {
-    let mut machine = Machine::with_limit(rt.alloc(), 16)?;
-    assert!(rt; fails(&mut machine, &mut [0u8; 256], ScriptFault::Read));
-    assert!(rt; fails(&mut machine, &mut [0u8; 7], ScriptFault::Write));
-    Ok(())
+fn device_failures(rt: HostRuntime) {
+    assert!(rt; device_fails(rt.alloc()));
 }
 
 const FIRST: &[u8] = b"slot 1 ffff0000000000000000000000000001 0x0 0x10000000000000000\n";
 
 /// A script of two replies fills room for one, and the machine has then so many slots.
 fn fills(machine: &mut Machine, room: &mut [u8], slots: u32) -> bool {
-    let mut source = SliceSource::new(b"addr 0 1\naddr 0 2\n", 5, None);
-    let mut sink = SliceSink::new(room, 5, None);
-    let ended = run_script(machine, &mut source, &mut sink);
-    ended == Err(ScriptFault::Write) && machine.slots() == slots && FIRST.starts_with(room)
+    let script = b"addr 0 1\naddr 0 2\n";
+    let (end, _) = run_between(machine, script, (5, 5), SOUND, room);
+    is_end(end, Err(ScriptFault::Write)) && machine.slots() == slots && FIRST.starts_with(room)
+}
+
+/// The same of a new machine.
+fn fills_anew(alloc: Global, room: &mut [u8], slots: u32) -> bool {
+    match Machine::with_limit(alloc, 16) {
+        Ok(mut machine) => fills(&mut machine, room, slots),
+        Err(AllocError) => false,
+    }
 }
 
 #[test]
-fn room_for_one_reply(rt: HostRuntime) -> Result<(), Fail> {
-    let mut machine = Machine::with_limit(rt.alloc(), 16)?;
-    assert!(rt; fills(&mut machine, &mut [0u8; 64], 3));
-    let mut machine = Machine::with_limit(rt.alloc(), 16)?;
-    assert!(rt; fills(&mut machine, &mut [0u8; 63], 2));
-    Ok(())
+fn room_for_one_reply(rt: HostRuntime) {
+    assert!(rt; fills_anew(rt.alloc(), &mut [0u8; 64], 3));
+    assert!(rt; fills_anew(rt.alloc(), &mut [0u8; 63], 2));
 }
 
 /// Scripts of capabilities, sealing and bounds, and of two reasons to refuse one command.
@@ -161,12 +181,6 @@ const CALLS: [Row; 9] = [
 ];
 
 #[test]
-fn rows_of_calls(rt: HostRuntime) -> Result<(), Fail> {
-    for row in &CALLS {
-        for size in &[1usize, 7, 4096] {
-            let mut machine = Machine::with_limit(rt.alloc(), row.1.clamp(1, 65_536))?;
-            run(&rt, &mut machine, row, (*size, *size));
-        }
-    }
-    Ok(())
+fn rows_of_calls(rt: HostRuntime) {
+    run_all(&rt, rt.alloc(), &CALLS);
 }

@@ -1,11 +1,10 @@
 //! Scripts over slices.
 ghost use Rattle.std.specs.Prelude.{None};
 
+use super::{CLEAN, ERRORS, End, Row, SOUND, run_each, writes_anew};
 use cc_machine::Machine;
-use cc_script::{Failed, ScriptFault, Sink, SliceSink, SliceSource, Summary, run_script};
+use cc_script::{Failed, ScriptFault, Sink, SliceSource, run_script};
 use std::alloc::{AllocError, Global};
-use std::process::Abort;
-use std::test::Fail;
 
 /// What the tests' scripts hold: a reply, an error, a long line, an empty line and a rest.
 const SCRIPT: &[u8] = b"round 4095\nshow 1\n\nround 0x10000000000000001\nround 1\nsho";
@@ -13,193 +12,94 @@ const SCRIPT: &[u8] = b"round 4095\nshow 1\n\nround 0x10000000000000001\nround 1
 const OUTPUT: &[u8] =
     b"round 0xfff 0x1 0xffffffffffffffff\nerror 5 slot\nerror 1 syntax\nerror 4 range\nround 0x1 0x1 0xffffffffffffffff\nerror 2 unfinished\n";
 
-/// The run of a script ends so, and writes this.
-fn writes(
-    machine: &mut Machine,
-    script: &[u8],
-    pieces: (usize, usize),
-    fails: (Option<u32>, Option<u32>),
-    output: &[u8],
-    answer: Result<Summary, ScriptFault>,
-) -> bool {
-    let mut room = [0u8; 256];
-    let mut source = SliceSource::new(script, pieces.0.max(1), fails.0);
-    let mut sink = SliceSink::new(&mut room, pieces.1.max(1), fails.1);
-    let ended = run_script(machine, &mut source, &mut sink);
-    ended == answer && sink.taken() == output.len() && room.starts_with(output)
-}
+const ROUND_1: &[u8] = b"round 0x1 0x1 0xffffffffffffffff\n";
 
-fn run(
-    rt: &impl Abort,
-    alloc: Global,
-    script: &[u8],
-    pieces: (usize, usize),
-    fails: (Option<u32>, Option<u32>),
-    output: &[u8],
-    answer: Result<Summary, ScriptFault>,
-) -> Result<(), Fail> {
-    let mut machine = Machine::with_limit(alloc, 16)?;
-    assert!(rt; writes(&mut machine, script, pieces, fails, output, answer));
-    Ok(())
-}
+const UNFINISHED: &[u8] = b"error 2 unfinished\n";
 
-const CLEAN: Result<Summary, ScriptFault> = Ok(Summary { any_error: false });
-
-const ERRORS: Result<Summary, ScriptFault> = Ok(Summary { any_error: true });
+const EMPTY: [Row; 1] = [(b"", (1, 1), SOUND, b"", CLEAN)];
 
 #[test]
-fn empty_script(rt: HostRuntime) -> Result<(), Fail> {
-    run(&rt, rt.alloc(), b"", (1, 1), (None, None), b"", CLEAN)?;
-    Ok(())
+fn empty_script(rt: HostRuntime) {
+    run_each(&rt, rt.alloc(), &EMPTY);
 }
 
-#[test]
-fn output_in_every_size_of_pieces(rt: HostRuntime) -> Result<(), Fail> {
-    let sizes: [usize; 6] = [1, 2, 3, 7, 128, 5000];
-    for read in &sizes {
-        for write in &sizes {
-            run(
-                &rt,
-                rt.alloc(),
-                SCRIPT,
-                (*read, *write),
-                (None, None),
-                OUTPUT,
-                ERRORS,
-            )?;
+/// The script, read in pieces of this size and written in pieces of all sizes.
+fn is_answered(alloc: Global, read: usize) -> bool {
+    for write in [1usize, 2, 3, 7, 128, 5000] {
+        if !writes_anew(alloc, 16, &(SCRIPT, (read, write), SOUND, OUTPUT, ERRORS)) {
+            return false;
         }
     }
-    Ok(())
+    true
 }
 
 #[test]
-fn rest_is_no_line(rt: HostRuntime) -> Result<(), Fail> {
-    run(
-        &rt,
-        rt.alloc(),
-        b"round 1",
-        (100, 100),
-        (None, None),
-        b"error 2 unfinished\n",
-        ERRORS,
-    )?;
-    run(
-        &rt,
-        rt.alloc(),
-        &[b'a'; 200],
-        (7, 100),
-        (None, None),
-        b"error 2 unfinished\n",
-        ERRORS,
-    )?;
-    run(
-        &rt,
-        rt.alloc(),
-        b"round 1\n",
-        (100, 100),
-        (None, None),
-        b"round 0x1 0x1 0xffffffffffffffff\n",
-        CLEAN,
-    )?;
-    Ok(())
+fn output_in_every_size_of_pieces(rt: HostRuntime) {
+    for read in [1usize, 2, 3, 7, 128, 5000] {
+        assert!(rt; is_answered(rt.alloc(), read), "{read}");
+    }
 }
 
+const RESTS: [Row; 3] = [
+    (b"round 1", (100, 100), SOUND, UNFINISHED, ERRORS),
+    (&[b'a'; 200], (7, 100), SOUND, UNFINISHED, ERRORS),
+    (b"round 1\n", (100, 100), SOUND, ROUND_1, CLEAN),
+];
+
 #[test]
-fn faults_do_not_stop_the_run(rt: HostRuntime) -> Result<(), Fail> {
-    let mut script = [b'\xff'; 140];
+fn rest_is_no_line(rt: HostRuntime) {
+    run_each(&rt, rt.alloc(), &RESTS);
+}
+
+/// A line of 129 bytes is too long, and the next one is read.
+fn next_line_is_read(alloc: Global) -> bool {
+    let mut script = [b'\xff'; 138];
     script[129] = b'\n';
-    script[130..138].copy_from_slice(b"round 1\n");
-    run(
-        &rt,
-        rt.alloc(),
-        &script[..138],
-        (9, 9),
-        (None, None),
-        b"error 3 long\nround 0x1 0x1 0xffffffffffffffff\n",
-        ERRORS,
-    )?;
-    Ok(())
+    script[130..].copy_from_slice(b"round 1\n");
+    let output = b"error 3 long\nround 0x1 0x1 0xffffffffffffffff\n";
+    writes_anew(alloc, 16, &(&script, (9, 9), SOUND, output, ERRORS))
 }
 
 #[test]
-fn read_fails(rt: HostRuntime) -> Result<(), Fail> {
-    let read = Err(ScriptFault::Read);
-    run(
-        &rt,
-        rt.alloc(),
-        SCRIPT,
-        (1, 100),
-        (Some(1), None),
-        b"",
-        read,
-    )?;
-    run(
-        &rt,
-        rt.alloc(),
-        b"round 1\nsho",
-        (1, 100),
-        (Some(12), None),
-        b"round 0x1 0x1 0xffffffffffffffff\n",
-        read,
-    )?;
-    run(
-        &rt,
-        rt.alloc(),
-        b"round 1",
-        (7, 100),
-        (Some(2), None),
-        b"",
-        read,
-    )?;
-    Ok(())
+fn faults_do_not_stop_the_run(rt: HostRuntime) {
+    assert!(rt; next_line_is_read(rt.alloc()));
 }
 
-#[test]
-fn write_fails(rt: HostRuntime) -> Result<(), Fail> {
-    let write = Err(ScriptFault::Write);
-    run(
-        &rt,
-        rt.alloc(),
-        b"round 1\nround 1\n",
-        (100, 7),
-        (None, Some(2)),
-        b"round 0",
-        write,
-    )?;
-    run(
-        &rt,
-        rt.alloc(),
-        b"round 1\nround 1\n",
-        (100, 7),
-        (None, Some(1)),
-        b"",
-        write,
-    )?;
-    Ok(())
-}
+const READ: End = Err(ScriptFault::Read);
+
+const WRITE: End = Err(ScriptFault::Write);
+
+const FAILED_READS: [Row; 3] = [
+    (SCRIPT, (1, 100), (Some(1), None), b"", READ),
+    (b"round 1\nsho", (1, 100), (Some(12), None), ROUND_1, READ),
+    (b"round 1", (7, 100), (Some(2), None), b"", READ),
+];
 
 #[test]
-fn failed_flush_is_told(rt: HostRuntime) -> Result<(), Fail> {
-    let write = Err(ScriptFault::Write);
-    run(
-        &rt,
-        rt.alloc(),
-        b"show 1\nx",
-        (100, 100),
-        (None, Some(3)),
-        b"error 5 slot\nerror 2 unfinished\n",
-        write,
-    )?;
-    run(
-        &rt,
-        rt.alloc(),
-        b"",
-        (100, 100),
-        (None, Some(1)),
-        b"",
-        write,
-    )?;
-    Ok(())
+fn read_fails(rt: HostRuntime) {
+    run_each(&rt, rt.alloc(), &FAILED_READS);
+}
+
+#[rattlefmt::skip]
+const FAILED_WRITES: [Row; 2] = [
+    (b"round 1\nround 1\n", (100, 7), (None, Some(2)), b"round 0", WRITE),
+    (b"round 1\nround 1\n", (100, 7), (None, Some(1)), b"", WRITE),
+];
+
+#[test]
+fn write_fails(rt: HostRuntime) {
+    run_each(&rt, rt.alloc(), &FAILED_WRITES);
+}
+
+#[rattlefmt::skip]
+const FAILED_FLUSHES: [Row; 2] = [
+    (b"show 1\nx", (100, 100), (None, Some(3)), b"error 5 slot\nerror 2 unfinished\n", WRITE),
+    (b"", (100, 100), (None, Some(1)), b"", WRITE),
+];
+
+#[test]
+fn failed_flush_is_told(rt: HostRuntime) {
+    run_each(&rt, rt.alloc(), &FAILED_FLUSHES);
 }
 
 /// A sink that counts its flushes.
@@ -234,28 +134,38 @@ impl Sink for Counting {
     }
 }
 
-fn flushes(
-    alloc: Global,
-    script: &[u8],
-    writes: u32,
-    fail_at: Option<u32>,
-) -> Result<u32, AllocError> {
-    let mut machine = Machine::with_limit(alloc, 16)?;
+/// How often a sink that takes so many writes is flushed in a run of the script.
+fn count_flushes(machine: &mut Machine, script: &[u8], writes: u32, fail_at: Option<u32>) -> u32 {
     let mut source = SliceSource::new(script, 3, fail_at);
     let mut sink = Counting {
         flushes: 0,
         writes_left: writes,
         has_failed: false,
     };
-    let _ = run_script(&mut machine, &mut source, &mut sink);
-    Ok(sink.flushes)
+    let _ = run_script(machine, &mut source, &mut sink);
+    sink.flushes
 }
 
+/// It is flushed so often in a run on a new machine.
+fn is_flushed(alloc: Global, row: &(&[u8], u32, Option<u32>, u32)) -> bool {
+    let (script, writes, fail_at, count) = *row;
+    match Machine::with_limit(alloc, 16) {
+        Ok(mut machine) => count_flushes(&mut machine, script, writes, fail_at) == count,
+        Err(AllocError) => false,
+    }
+}
+
+/// A script, how many writes the sink takes, the read that fails, and how often the sink is flushed.
+const FLUSHES: [(&[u8], u32, Option<u32>, u32); 4] = [
+    (SCRIPT, 100, None, 1),
+    (b"", 100, None, 1),
+    (SCRIPT, 100, Some(4), 0),
+    (SCRIPT, 2, None, 0),
+];
+
 #[test]
-fn flushed_once_and_not_after_a_failure(rt: HostRuntime) -> Result<(), Fail> {
-    assert!(rt; flushes(rt.alloc(), SCRIPT, 100, None)? == 1);
-    assert!(rt; flushes(rt.alloc(), b"", 100, None)? == 1);
-    assert!(rt; flushes(rt.alloc(), SCRIPT, 100, Some(4))? == 0);
-    assert!(rt; flushes(rt.alloc(), SCRIPT, 2, None)? == 0);
-    Ok(())
+fn flushed_once_and_not_after_a_failure(rt: HostRuntime) {
+    for row in &FLUSHES {
+        assert!(rt; is_flushed(rt.alloc(), row), "{row:?}");
+    }
 }

@@ -8,7 +8,7 @@ use Rattle.cc_bounds.proofs.SoundDecodingLemmas.{sound-decodes}
 use Rattle.cc_bounds.proofs.TightestLemmas.{granted-tight, granted-tightest}
 use Rattle.cc_bounds.proofs.encoding.set_bounds.Goals as goal
 
--- a request of the caller is a span
+-- a request that ends at 2 ^ 64 or below is a span of the address space
 request-span : (base len : ℕ) → base < 2 ^ 64 → base + len ≤ 2 ^ 64 → IsSpan (span_from base len)
 request-span base len base_fits fits = record { in_order = omega arith; base_fits = base_fits; top_fits = fits }
 

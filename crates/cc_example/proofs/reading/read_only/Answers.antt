@@ -31,7 +31,7 @@ masked cap result (inl (_, is)) =
     by permissions = and_comm (2 ^ 2) (bit_and permissions (2 ^ 2)) ∙ and_assoc (2 ^ 2) permissions (2 ^ 2) ∙ ap (bit_and permissions) (and_self (2 ^ 2))
 masked cap result (inr (_, is)) = subst (λ (r : Result Capability Refusal). IfOk r (λ made. HasAll (2 ^ 2) made.permissions)) (sym is) tt
 
--- it leaves the bytes
+-- masking permissions leaves the bytes that were granted
 same_bytes : (cap : Capability) (mask : ℕ) (result : Result Capability Refusal) (request : Span) → MasksPermissions cap mask result → IsGranted request cap.span
     → IfOk result (λ made. IsGranted request made.span)
 same_bytes cap mask result request (inl (_, is)) granted = subst (λ (r : Result Capability Refusal). IfOk r (λ made. IsGranted request made.span)) (sym is) granted
@@ -40,13 +40,13 @@ same_bytes cap mask result request (inr (_, is)) granted = subst (λ (r : Result
 pub returns-clause-load : goal.returns-clause-load
 returns-clause-load c = masked c.in_ok-set_bounds.field-0 c.and_perms.result c.and_perms.ensures.made
 
--- a capability that was moved has the address
+-- a capability whose address was set has that address
 placed_at : (cap placed : Capability) (address : ℕ) → SetsAddress cap address (Ok placed) → placed.address ≡ address
 placed_at cap placed address (inl (_, inl (_, is))) = let same : placed ≡ at_address cap address = cc in ap (λ (c : Capability). c.address) same
 placed_at cap placed address (inl (_, inr (_, is))) = cc
 placed_at cap placed address (inr (_, is)) = cc
 
--- one whose bounds were set has those that are granted
+-- a capability whose bounds were set has the granted span of the request
 granted_bytes : (cap bounded : Capability) (length : ℕ) → SetsBounds cap length (Ok bounded) → IsGranted (span_from cap.address length) bounded.span
 granted_bytes cap bounded length (inl (_, inl (_, (granted, is_granted, is)))) =
     let same : bounded ≡ with_span cap granted = cc in

@@ -9,6 +9,7 @@ returns g c =
       read = runs.read;
       write = runs.write;
       passed = runs.passed;
+      flushed = runs.flushed;
       passed_before_read = runs.passed_before_read;
       laws = laws_kept _ _ c.tell_reached.ensures c.tell_reached-2.ensures;
     }

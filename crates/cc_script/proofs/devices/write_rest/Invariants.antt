@@ -1,6 +1,6 @@
 use Rattle.std.proofs.Common.{length, ◌-◌, ◌≡◌, ◌≤◌, false, take}
 use Rattle.std.specs.Io.KnownBytes.{Appends}
-use Rattle.cc_script.proofs.devices.write_all.Given as goal
+use Rattle.cc_script.proofs.devices.write_rest.Given as goal
 
 abbrev pub invariant-loop-at : goal.invariant-loop-at
 invariant-loop-at g l = record {

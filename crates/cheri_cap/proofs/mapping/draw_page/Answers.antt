@@ -1,4 +1,4 @@
-use Rattle.cheri_cap.proofs.running.draw_page.Goals as goal
+use Rattle.cheri_cap.proofs.mapping.draw_page.Goals as goal
 
 pub returns-clause-drawn : goal.returns-clause-drawn
 returns-clause-drawn g c = record {

@@ -1,0 +1,125 @@
+//! `map`: a pool at the end of its script, as a map or as a drawing.
+ghost use Rattle.std.specs.Prelude.{◌≡◌, ◌≢◌, ◌≤◌, ◌↔◌, [], false, true, Err, IfOk, OnOk, option_map};
+ghost use Rattle.cc_command.specs.Planning.{plan_opening};
+ghost use Rattle.cheri_cap.specs.Running.{DrawsMap, DrawsPage, RanToEnd};
+ghost use Rattle.cheri_cap.specs.Script.{NamesFile, RefusesPool};
+
+use crate::outcome::Fault;
+use crate::pool::{OPENING, Pool};
+use crate::running::{MOST_WAITING, open};
+use cc_command::{
+    Counted, PoolTexts, plan_numbers, plan_script, show_drawing, show_map, show_statistics,
+    usage_of, write_refusal,
+};
+use cc_machine::{Align, Machine};
+use cc_script::{Buffered, FromReader, FromWriter, Sink, Source, Summary};
+use std::io;
+use std::rt::Files;
+
+/// Runs a script on a new machine with a pool, and draws the pool in place of the replies: on a page, or as a map, under
+/// which the run is summed up. Where a text spells no number, or one that is too large, the answer says so, and nothing
+/// more is done.
+pub fn map<R: AllocGlobal + Files + Input, W: Sink + Drop>(
+    rt: &R,
+    limit: u32,
+    texts: PoolTexts<'_>,
+    align: Align,
+    svg: bool,
+    file: Option<&str>,
+    mut output: W,
+) -> Result<Summary, Fault>
+    requires from_one { 1 ≤ limit }
+    requires at_most { limit ≤ 65536 }
+    requires output { W.has_failed output ≡ false }
+    ensures open { result ≡ Err Fault.Open → NamesFile (option_map (λ text. text.now) file.entry) }
+    ensures refused { RefusesPool texts.entry.base.now texts.entry.length.now result }
+{
+    match plan_numbers(&texts) {
+        Ok((base, length)) => {
+            let pool = Pool {
+                base,
+                length,
+                align,
+            };
+            map_pool(rt, limit, pool, svg, file, output)
+        }
+        Err(refusal) => Ok(write_refusal(refusal, &mut output)?),
+    }
+}
+
+/// Runs a script on a new machine with this pool, and draws the pool.
+fn map_pool<R: AllocGlobal + Files + Input, W: Sink + Drop>(
+    rt: &R,
+    limit: u32,
+    pool: Pool,
+    svg: bool,
+    file: Option<&str>,
+    output: W,
+) -> Result<Summary, Fault>
+    requires from_one { 1 ≤ limit }
+    requires at_most { limit ≤ 65536 }
+    requires output { W.has_failed output ≡ false }
+    ensures { result ≡ Err Fault.Open → NamesFile (option_map (λ text. text.now) file.entry) }
+{
+    let (mut machine, script) = open(rt, limit, file)?;
+    let mut source = FromReader::new(script);
+    let mut room = [0u8; MOST_WAITING];
+    let mut sink = Buffered::new(output, &mut room);
+    let mut counted = Counted::new(FromWriter::new(io::sink()));
+    if svg {
+        draw_page(&mut machine, pool, &mut source, &mut counted, &mut sink)
+    } else {
+        draw_map(rt, &mut machine, pool, &mut source, &mut counted, &mut sink)
+    }
+}
+
+/// Runs a script on a machine that is given a pool, and maps the pool and sums up the run where the script came to
+/// its end. The replies go to the sink that counts.
+fn draw_map<R: AllocGlobal, S: Source, V: Sink, W: Sink>(
+    rt: &R,
+    machine: &mut Machine,
+    pool: Pool,
+    source: &mut S,
+    counted: &mut Counted<V>,
+    sink: &mut W,
+) -> Result<Summary, Fault>
+    requires source { S.has_failed source.old ≡ false }
+    requires counted { V.has_failed counted.old.inner ≡ false }
+    requires sink { W.has_failed sink.old ≡ false }
+    ensures open { result ≢ Err Fault.Open }
+    ensures ran { IfOk result (λ summary. RanToEnd machine.old (plan_opening pool.base pool.length pool.align) (S.to_come source.old) (S.to_come source.new) (V.taken_bytes counted.old.inner) (V.taken_bytes counted.new.inner) summary machine.new) }
+    ensures drawn { OnOk result (DrawsMap machine.new counted.new.tally OPENING (W.taken_bytes sink.old) (W.taken_bytes sink.new)) }
+    ensures passed { OnOk result (W.waiting_bytes sink.new ≡ []) }
+    ensures read { (result ≡ Err Fault.Read) ↔ (S.has_failed source.new ≡ true) }
+    ensures write { W.has_failed sink.new ≡ true → result ≡ Err Fault.Write }
+{
+    let summary = plan_script(machine, pool.base, pool.length, pool.align, source, counted)?;
+    let usage = usage_of(rt.alloc(), machine)?;
+    show_map(machine, sink)?;
+    show_statistics(&usage, counted.tally(), OPENING, sink)?;
+    Ok(summary)
+}
+
+/// Runs a script on a machine that is given a pool, and draws the pool on a page where the script came to its end. The
+/// replies go to another sink.
+fn draw_page<S: Source, V: Sink, W: Sink>(
+    machine: &mut Machine,
+    pool: Pool,
+    source: &mut S,
+    replies: &mut V,
+    sink: &mut W,
+) -> Result<Summary, Fault>
+    requires source { S.has_failed source.old ≡ false }
+    requires replies { V.has_failed replies.old ≡ false }
+    requires sink { W.has_failed sink.old ≡ false }
+    ensures open { result ≢ Err Fault.Open }
+    ensures ran { IfOk result (λ summary. RanToEnd machine.old (plan_opening pool.base pool.length pool.align) (S.to_come source.old) (S.to_come source.new) (V.taken_bytes replies.old) (V.taken_bytes replies.new) summary machine.new) }
+    ensures drawn { OnOk result (DrawsPage machine.new (W.taken_bytes sink.old) (W.taken_bytes sink.new)) }
+    ensures passed { OnOk result (W.waiting_bytes sink.new ≡ []) }
+    ensures read { (result ≡ Err Fault.Read) ↔ (S.has_failed source.new ≡ true) }
+    ensures write { W.has_failed sink.new ≡ true → result ≡ Err Fault.Write }
+{
+    let summary = plan_script(machine, pool.base, pool.length, pool.align, source, replies)?;
+    show_drawing(machine, sink)?;
+    Ok(summary)
+}

@@ -1,0 +1,130 @@
+//! What is told of a run on standard error: a summary, and hints.
+ghost use Rattle.std.specs.Prelude.{◌≡◌, List, ℕ};
+ghost use Rattle.cc_word.specs.declared.refusal.Refusal.TheVariants as refusal;
+ghost use Rattle.cc_script.specs.Lines.{lines_of};
+ghost use Rattle.cc_command.specs.Tally.{IsTally, counted, first_from, is_refusal};
+ghost use Rattle.cheri_cap.specs.Telling.{hints_of, telling_of};
+
+use crate::error_writer::ErrorWriter;
+use cc_command::{Hints, Tally, Watch, show_hints, show_statistics, usage_of};
+use cc_machine::{Len, Machine};
+use cc_script::FromWriter;
+use std::alloc::AllocError;
+
+/// Which standard streams are terminals.
+#[derive(Clone, Copy)]
+pub struct Terminals {
+    /// Standard input.
+    pub input: bool,
+    /// Standard error.
+    pub errors: bool,
+}
+
+/// What is told on standard error beside a fault.
+#[derive(Clone, Copy)]
+pub struct Telling {
+    /// Whether the run is summed up.
+    pub stats: bool,
+    /// Whether hints are given.
+    pub hints: bool,
+    /// Whether it is told that a script from standard input is waited for.
+    pub waits: bool,
+}
+
+impl Telling {
+    /// What is told where a summary is asked for or not, and where these streams are terminals.
+    pub fn new(stats: bool, terminals: Terminals) -> Self
+        ensures { result ≡ telling_of stats terminals }
+    {
+        Telling {
+            stats,
+            hints: stats || terminals.errors,
+            waits: terminals.input && terminals.errors,
+        }
+    }
+}
+
+/// Tells that a script is read from a terminal.
+pub fn tell_waiting<R: Eprint>(rt: &R, telling: Telling, file: Option<&str>) {
+    if telling.waits && matches!(file, None | Some("-")) {
+        let _ = eprintln!(rt;
+            "hint: reading a script from the terminal, a command on each line; Control-D ends it"
+        );
+    }
+}
+
+/// The place of `Inexact` among the counts of a tally, which stand in the order of the codes.
+const INEXACT: usize = 9;
+
+/// The place of `Full`.
+const FULL: usize = 21;
+
+/// The number of the first reply that is `Inexact`, and 0 where none is.
+fn first_inexact(tally: &Tally) -> u64
+    ensures { (text : List ℕ) → IsTally text tally.now → result ≡ counted (first_from (is_refusal refusal.Inexact) 1 (lines_of text)) }
+{
+    tally.counts[INEXACT].first
+}
+
+/// The number of the first reply that is `Full`, and 0 where none is.
+fn first_full(tally: &Tally) -> u64
+    ensures { (text : List ℕ) → IsTally text tally.now → result ≡ counted (first_from (is_refusal refusal.Full) 1 (lines_of text)) }
+{
+    tally.counts[FULL].first
+}
+
+/// What is worth a hint after a run whose first `opening` replies made its pool, of this length where it has one: the
+/// numbers of the first replies that are `Inexact` and `Full`, and what was seen in the script.
+fn hints_of(inexact: u64, full: u64, watch: &Watch, opening: u64, pool: Option<Len>) -> Hints
+    ensures { result ≡ hints_of inexact full watch.now opening pool }
+{
+    Hints {
+        inexact: if inexact == 0 || inexact > opening {
+            None
+        } else {
+            pool
+        },
+        carriage_return: watch.carriage_return,
+        marked_word: watch.marked_word,
+        full: full.saturating_sub(opening),
+    }
+}
+
+/// Sums up a run, and gives hints, where that is asked for.
+pub fn tell<R: AllocGlobal + Eprint>(
+    rt: &R,
+    machine: &Machine,
+    tally: &Tally,
+    watch: &Watch,
+    opening: u64,
+    pool: Option<Len>,
+    telling: Telling,
+) -> Result<(), AllocError> {
+    if telling.stats {
+        sum_up(rt, machine, tally, opening)?;
+    }
+    if telling.hints {
+        let hints = hints_of(
+            first_inexact(tally),
+            first_full(tally),
+            watch,
+            opening,
+            pool,
+        );
+        let _ = show_hints(&hints, &mut FromWriter::new(ErrorWriter { to: rt }));
+    }
+    Ok(())
+}
+
+/// Sums up a run on standard error. Where that takes no bytes, nobody is told.
+fn sum_up<R: AllocGlobal + Eprint>(
+    rt: &R,
+    machine: &Machine,
+    tally: &Tally,
+    opening: u64,
+) -> Result<(), AllocError> {
+    let usage = usage_of(rt.alloc(), machine)?;
+    let mut sink = FromWriter::new(ErrorWriter { to: rt });
+    let _ = show_statistics(&usage, tally, opening, &mut sink);
+    Ok(())
+}
