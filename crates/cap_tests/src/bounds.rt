@@ -1,4 +1,4 @@
-//! Decoded words, bounds that are set, a plain search for the granule, and spans.
+//! Words that are decoded, bounds that are set, and spans.
 mod decoding;
 mod encoding;
 mod plain_search;

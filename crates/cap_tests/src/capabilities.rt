@@ -1,4 +1,4 @@
-//! Worked rows: what a call makes, as its word and its bounds.
+//! Rules of derivation, the root, canonical words, lines of words, and many words at once.
 mod many_words;
 mod rules;
 mod values;
@@ -22,7 +22,7 @@ fn at(address: u64) -> Result<Cap, Refusal> {
     Cap::root().set_address(address)
 }
 
-/// A capability from address 0x1000 up to 0x1200.
+/// The capability for [0x1000, 0x1200), at 0x1000.
 fn small() -> Result<Cap, Refusal> {
     at(0x1000)?.set_bounds(0x200)
 }

@@ -1,5 +1,5 @@
-//! Worked rows of words, of bounds and of capabilities, as callers of the three crates meet them. They stand
-//! apart from those crates, so that the bodies are not proved once more beside them.
+//! Tests of cc_word, cc_bounds and cc_cap: worked rows, as callers meet these crates. They stand apart from them, so
+//! that the bodies are not proved once more beside the tests.
 #![tactic(auto)]
 
 #[cfg(test)]

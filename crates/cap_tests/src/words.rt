@@ -1,9 +1,10 @@
+//! Words and their fields, their texts, and refusals.
 ghost use Rattle.std.specs.Prelude.{◌<◌};
 
 use cc_word::{Refusal, pack, read_word, unpack, write_half, write_word, write_word_to};
 use std::test::Fail;
 
-// A word's text, and of its fields: permissions, reserved bits, flag, type, IE, T field, B field, address.
+/// A word's text, and its fields: permissions, reserved bits, flag, type, IE, T field, B field, address.
 type Row<'a> = (&'a [u8; 32], u16, u8, bool, u32, bool, u16, u16, u64);
 
 #[rattlefmt::skip]
@@ -62,7 +63,7 @@ fn vectors(rt: HostRuntime) {
 
 const WORD: u128 = 0xfedc_ba98_7654_3210_0123_4567_89ab_cdef;
 
-/// The digits of a word, in a text, in room that is given, and of its upper half.
+/// A word is written as a text and into room that is given, and its upper half as a text.
 fn is_written() -> bool {
     let mut text = [0; 32];
     write_word_to(WORD, &mut text);
@@ -71,7 +72,7 @@ fn is_written() -> bool {
         && write_half(0xfedc_ba98_7654_3210) == *b"fedcba9876543210"
 }
 
-/// Too short or too long, or with a byte that is no digit.
+/// Texts that are too short or too long, or have a byte that is no digit.
 const NO_WORDS: [&[u8]; 5] = [
     b"",
     b"fedcba98765432100123456789abcde",
@@ -97,7 +98,7 @@ fn refusals(rt: HostRuntime) {
     assert!(rt; sealed.otype == 0 && sealed != unpack(0));
 }
 
-/// The fields of a word with one bit set are not those of null, and are their clone.
+/// The fields of the word with this one bit are not those of null, and equal their clone.
 fn is_told_apart(bit: u32) -> bool
     requires { bit < 128 }
 {
@@ -105,7 +106,7 @@ fn is_told_apart(bit: u32) -> bool
     fields != unpack(0) && fields.clone().is_ok_and(|copy| copy == fields)
 }
 
-// What `==` and `Clone` are has no contract of its own: each of these values is told from the others, and is its clone.
+/// `==` and `clone` have no contract: unequal values are told apart, and a clone equals its original.
 #[test]
 fn values_are_told_apart(rt: HostRuntime) -> Result<(), Fail> {
     assert!(rt; Refusal::Sealed != Refusal::Unsealed);

@@ -1,5 +1,5 @@
-//! Worked rows of the planner and of the machine, as callers of the two crates meet them. They stand apart
-//! from those crates, so that the bodies are not proved once more beside them.
+//! Tests of cc_plan and cc_machine: worked rows, as callers meet these crates. They stand apart from them, so that the
+//! bodies are not proved once more beside the tests.
 #![tactic(auto)]
 
 #[cfg(test)]

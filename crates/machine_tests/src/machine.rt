@@ -1,4 +1,4 @@
-//! Worked rows as lists of operations: each operation with its reply.
+//! Operations and the replies of a machine, in rows.
 mod aligned;
 mod memory;
 mod objects;
@@ -19,8 +19,7 @@ fn length(bytes: u128) -> Result<Len, Fail> {
     Ok(Len::new(bytes).ok_or("longer than the address space")?)
 }
 
-/// An operation with its length as a plain number. Rows of them are constants, whose proof costs next to
-/// nothing.
+/// An operation whose length is a plain number, so that rows of them can be constants.
 #[derive(Clone, Copy)]
 enum Ask {
     Bounds(u32, u128),
@@ -54,7 +53,7 @@ enum Told {
     PoolSet(u32, u64, u128, Align),
     /// An object, its slot, its word, its base and top, and the bytes held.
     Allocated(u32, u32, u128, u64, u128, u128),
-    /// An object, whose end revokes no slot yet, and the bytes held.
+    /// An object that was freed, by which no slot is revoked yet, and the bytes held.
     Freed(u32, u128),
     /// How many objects were swept, how many slots were revoked, and the bytes held.
     Swept(u32, u32, u128),
@@ -294,7 +293,7 @@ const SEALING: [(Ask, Told); 13] = [
     (Ask::Op(Op::Unseal(2, 4)), Told::Refused(Refusal::Unsealed)),
 ];
 
-/// What slot 4 is shown as, with its type.
+/// How slot 4 is shown, with this type.
 fn shown_sealed(otype: ObjType) -> Reply {
     Reply::Shown {
         word: 0xffff1fffc48190040000000000001000,
@@ -347,7 +346,8 @@ fn rebuilding(rt: HostRuntime) -> Result<(), Fail> {
     new_replies(&rt, rt.alloc(), &REBUILDING)
 }
 
-/// The first makes a slot, the second has no room for one, and the others go on.
+/// The second of two slots is made, and a third has no room; that bounds are inexact is told before that; and slots are
+/// shown as ever.
 fn are_of_two_slots(told: &[Reply; 4]) -> bool {
     let word = 0xffff0000000000000000000000000001;
     told[0] == Told::Whole(1, word).reply()

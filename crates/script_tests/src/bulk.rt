@@ -1,13 +1,12 @@
-//! Worked answers, by topic.
-
+//! Words in bulk.
 mod devices;
 mod rows;
 
 use cc_decode::{Options, decode_words};
 use cc_script::{ScriptFault, SliceSink, SliceSource, Summary};
 
-/// Words decoded between two devices, with the most bytes that each moves at once and the call of each that fails,
-/// if one does: how that ends, and how many bytes of the answers are then in the room.
+/// How the decoding of an input ends, and how many bytes of the answers are then in the room. The source gives at most
+/// `pieces.0` bytes at once, and the sink takes `pieces.1`; `fails` says which call of each fails, if one does.
 fn decode_between(
     options: Options,
     input: &[u8],

@@ -1,5 +1,4 @@
-//! Worked answers, by topic.
-
+//! What each command writes.
 mod devices;
 mod explaining;
 mod hints;

@@ -1,5 +1,5 @@
-//! Worked rows of scripts, of what the commands write, and of words in bulk, as callers of the three crates
-//! meet them. They stand apart from those crates, so that the bodies are not proved once more beside them.
+//! Tests of cc_script, cc_command and cc_decode: worked rows, as callers meet these crates. They stand apart from them,
+//! so that the bodies are not proved once more beside the tests.
 #![tactic(auto)]
 
 #[cfg(test)]

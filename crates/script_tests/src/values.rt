@@ -1,10 +1,11 @@
-//! What `==` and `clone` are, of values from the machine up: unequal ones are told apart, and a clone is its original.
+//! `==` and `clone` have no contract: unequal values of a machine or a run are told apart, and a clone equals its
+//! original.
 use cc_bounds::Span;
 use cc_machine::{Align, Len, Object, ObjectState, Op, Reply};
 use cc_script::{ScriptFault, Summary};
 use cc_word::Refusal;
 
-/// A reply is its clone, and not this one.
+/// The other reply equals its clone, and not this one.
 fn reply_is_told_apart(other: &Reply, reply: &Reply) -> bool {
     let Ok(copy) = other.clone() else {
         return false;
@@ -12,7 +13,7 @@ fn reply_is_told_apart(other: &Reply, reply: &Reply) -> bool {
     *other != *reply && copy == *other
 }
 
-/// An operation is its clone, and not this one.
+/// The other operation equals its clone, and not this one.
 fn op_is_told_apart(other: &Op, op: &Op) -> bool {
     let Ok(copy) = other.clone() else {
         return false;
@@ -26,7 +27,7 @@ fn pool_set(slot: u32, span: Span, align: Align) -> Reply {
     Reply::PoolSet { slot, span, align }
 }
 
-/// Replies that are not the one of slot 1 in alignment 1.
+/// Replies that differ from that of a pool in slot 1, of alignment 1.
 fn others() -> [Reply; 6] {
     [
         Reply::Refused(Refusal::Sealed),
@@ -78,7 +79,7 @@ fn swept(objects: u32, revoked: u32) -> Reply {
     }
 }
 
-/// Replies of objects, in twos that differ.
+/// Replies of objects, in pairs that differ.
 fn pairs() -> [(Reply, Reply); 6] {
     [
         (allocated(1, 16), allocated(2, 16)),
@@ -97,7 +98,7 @@ fn replies_of_objects_are_told_apart(rt: HostRuntime) {
     }
 }
 
-/// Objects that are not the live one of 8 bytes in slot 1.
+/// A live object of 8 bytes in slot 1 is told from these.
 fn live_is_told_apart() -> bool {
     let object = |size, slot, state| Object { size, slot, state };
     let live = object(8, 1, ObjectState::Live);

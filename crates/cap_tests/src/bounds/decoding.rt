@@ -1,4 +1,4 @@
-//! Words with the exponent, the base and the top that they decode to.
+//! Words, and the exponent and bounds that they decode to.
 use cc_bounds::{Span, decode, exponent};
 use cc_word::unpack;
 
@@ -34,8 +34,9 @@ const KNOWN_WORDS: [Row; 24] = [
     (0xffffffffffffffffffffffffffffffff, 0, 0xfffffffffffffffb, 0x10000000000000ff9), // all ones
 ];
 
-/// One set of fields at the first and the last address of a window, between them, and just below and
-/// above; and a window that crosses the end of the address space. Found as `SEARCHED_WORDS` were.
+/// The same bounds fields in five words: at an address inside a window, at the window's first and last, and at the
+/// addresses just below and above it; and a window that crosses the end of the address space. Found as
+/// `SEARCHED_WORDS` were.
 #[rattlefmt::skip]
 const ONE_WINDOW: [Row; 6] = [
     (0xffff00000001bf050000000000020010, 1, 0x1fe00, 0x22000),

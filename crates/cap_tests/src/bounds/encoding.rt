@@ -1,5 +1,4 @@
-//! Setting bounds, rounding lengths and windows, against rows that were worked out by hand and from the
-//! definitions.
+//! Bounds that are set, lengths that are rounded, and windows: rows worked out by hand from the definitions.
 
 use cc_bounds::{Set, Span, alignment_mask, granule, represents, round_length, set_bounds};
 use cc_word::unpack;
@@ -68,10 +67,11 @@ fn granules_on_both_sides_of_each_growth(rt: HostRuntime) {
     }
 }
 
-/// The base and length of a request; e, ie, t and b; the base and top that are granted; exact.
+/// The base and length of a request; the exponent, IE, the T and the B field; the base and top that are granted;
+/// whether they are exact.
 type SetRow = ((u64, u128), (u8, bool, u16, u16), (u64, u128), bool);
 
-/// The granted bounds of a request that can be met.
+/// What a request is granted, if it ends within the address space.
 fn granted_to((base, len): (u64, u128)) -> Option<Set> {
     if len <= LAP && u128::from(base) + len <= LAP {
         Some(set_bounds(base, len))
@@ -198,8 +198,7 @@ fn large_requests(rt: HostRuntime) {
     check_sets(&rt, &LARGE);
 }
 
-/// The exponent, base and length of a sound span, and the addresses at which its window begins and of
-/// its last number.
+/// The exponent, base and length of a span that can be exact, and the first and the last address of its window.
 const WINDOWS: [(u8, (u64, u128), u64, u64); 6] = [
     (0, (0x1000, 0x200), 0x800, 0x47ff),
     (0, (0, 0x200), 0xffff_ffff_ffff_f800, 0x37ff),
@@ -240,7 +239,7 @@ fn window_edges(rt: HostRuntime) {
     }
 }
 
-/// The exponent, base and length of sound spans for which every address is representable.
+/// The exponent, base and length of spans that can be exact, whose windows hold every address.
 const WITHOUT_EDGES: [(u8, (u64, u128)); 5] = [
     (50, (0, 0x4000_0000_0000_0000)),
     (50, (0xc000_0000_0000_0000, 0x4000_0000_0000_0000)),
@@ -264,9 +263,9 @@ fn every_address_representable(rt: HostRuntime) {
     }
 }
 
-/// Words, each with the base and top of the sound span that its fields store, if they store one: null,
-/// small bounds in the window and at its end, exponents 1 and 51, an exponent of 53, another word of the
-/// bounds of null, a top below the base, a top past the end.
+/// Words, and the base and top that setting bounds stores as their fields, if it ever does: null, small bounds at their
+/// base and at the end of their window, exponents 1 and 51; and an exponent of 53, other fields for the bounds of null,
+/// a top below the base, a top past the end.
 const WORDS: [(u128, Option<(u64, u128)>); 9] = [
     (0, Some((0, LAP))),
     (
@@ -303,12 +302,12 @@ fn stored_spans(rt: HostRuntime) {
     }
 }
 
-/// A span is its clone, and none of these.
+/// The span equals its clone, and not this one.
 fn span_is_told_apart(span: Span, other: Span) -> bool {
     span != other && other.clone().is_ok_and(|copy| copy == other)
 }
 
-/// A set of bounds is its clone, and not this one.
+/// The set of bounds equals its clone, and not this one.
 fn set_is_told_apart(set: &Set, other: Set) -> bool {
     *set != other && other.clone().is_ok_and(|copy| copy == other)
 }

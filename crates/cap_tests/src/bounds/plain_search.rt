@@ -1,4 +1,4 @@
-//! Setting bounds by a plain search, which tries one granule after another: an oracle for [`set_bounds`].
+//! `set_bounds` against a plain search, which tries one granule after another.
 ghost use Rattle.std.specs.Prelude.{◌<◌, ◌≤◌};
 
 use cc_bounds::{Span, set_bounds};
@@ -34,7 +34,7 @@ fn granule_power(request: &Span) -> u32
     MAX_POWER
 }
 
-/// What a request is granted: e, ie, t and b; the granted span; exact.
+/// What a request is granted: the exponent, IE, the T and the B field; the granted span; whether it is exact.
 fn searched(request: Span) -> ((u8, bool, u16, u16), Span, bool) {
     let power = granule_power(&request);
     let exponent = power.saturating_sub(3);
@@ -48,7 +48,7 @@ fn searched(request: Span) -> ((u8, bool, u16, u16), Span, bool) {
     (fields, granted, granted == request)
 }
 
-/// Compares both at each length from 4,000 to 8,300.
+/// Both agree on each length from 4,000 to 8,300.
 fn check_lengths(rt: &impl Abort, base: u64)
     requires { base < 64 }
 {

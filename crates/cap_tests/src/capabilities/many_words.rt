@@ -1,8 +1,9 @@
-//! Many words at once: the root's word, one of 512 bytes, and one whose bounds no capability stores.
+//! Many words at once.
 use super::END;
 use cc_bounds::Span;
 use cc_cap::many;
 
+/// The root's word, one of 512 bytes, and one with an exponent field of 53, which no capability has.
 const WORDS: [u128; 3] = [
     0xffff0000000000000000000000000000,
     0xffff0000048190040000000000001000,
@@ -18,7 +19,7 @@ const SPANS: [Span; 3] = [
     Span { base: 0, top: END },
 ];
 
-/// Addresses of which the second is out of the window of its word.
+/// An address for each word; the second is outside its window.
 const ADDRESSES: [u64; 3] = [7, 0x10000, 0];
 
 fn are_decoded() -> bool {

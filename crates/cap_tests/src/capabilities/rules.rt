@@ -1,5 +1,4 @@
-//! Worked rows of every rule: what it makes, or which refusal comes first. Each is tried by the call of [`Cap`]
-//! and by the one on words.
+//! Every rule: what it makes, or which refusal comes first, by the call of [`Cap`] and by the one on words.
 use super::{END, told};
 use cc_cap::{Cap, Perms, words};
 use cc_word::Refusal::{
@@ -8,7 +7,7 @@ use cc_word::Refusal::{
 };
 use cc_word::{Refusal, unpack};
 
-/// A rule, with what it takes beside the word: of the last three, another word.
+/// A rule, and what it takes beside the word; the last three take another word.
 #[derive(Clone, Copy)]
 enum Rule {
     SetAddress(u64),
@@ -36,13 +35,14 @@ macro_rules! root {
     };
 }
 
-/// [0x1000, 0x1200), and [0, 0x200), at this address.
+/// [0x1000, 0x1200) at this address.
 macro_rules! small {
     ($address:expr) => {
         0xffff0000048190040000000000000000 + $address
     };
 }
 
+/// [0, 0x200) at this address.
 macro_rules! start {
     ($address:expr) => {
         0xffff0000048180040000000000000000 + $address
@@ -70,19 +70,24 @@ macro_rules! outside {
     };
 }
 
-/// Sealed with type 7: [0x1000, 0x1200) at 0x1000, and the root.
+/// [0x1000, 0x1200) at 0x1000, sealed with type 7.
 const SMALL_SEALED: u128 = 0xffff1fffc48190040000000000001000;
 
+/// The root, sealed with type 7.
 const ROOT_SEALED: u128 = 0xffff1fffc00000000000000000000000;
+
 /// The root at 7 with UNSEAL alone.
 const UNSEALER: u128 = 0x02000000000000000000000000000007;
-/// Of type 0, but with an exponent field of 53; and a sealed entry, whose type is reserved.
+/// Not canonical: sealed with type 0, and with an exponent field of 53.
 const NO_WORD: u128 = 0xffff1ffff80000010000000000000000;
 
+/// A sentry, whose type is reserved, so that it is not canonical.
 const SENTRY: u128 = 0xffff0000080000000000000000000000;
-/// An address of the upper half, and the capability of that half there.
+
+/// The first address of the upper half of the address space.
 const HALF: u64 = 0x8000_0000_0000_0000;
 
+/// The upper half at its first address.
 const UPPER: u128 = 0xffff0000000010078000000000000000;
 
 #[rattlefmt::skip]
@@ -209,7 +214,7 @@ fn capability(word: u128) -> Result<Cap, Refusal> {
     unsealed.seal(&Cap::root().set_address(u64::from(otype))?)
 }
 
-/// What the call of a capability makes, which takes lengths up to that of the address space.
+/// What the call of a capability makes; a longer length than that of the address space is cut to it.
 fn made(word: u128, rule: Rule) -> Result<Cap, Refusal> {
     let cap = capability(word)?;
     match rule {
@@ -255,7 +260,7 @@ fn each_rule_makes_its_word(rt: HostRuntime) {
     }
 }
 
-/// Both calls refuse the word so; no two refusals have one code.
+/// Both calls refuse the word so.
 fn refuses(word: u128, rule: Rule, refusal: Refusal) -> bool {
     match (made(word, rule), made_word(word, rule)) {
         (Err(found), Err(again)) => {

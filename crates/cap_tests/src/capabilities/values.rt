@@ -1,10 +1,10 @@
-//! What `==` and `Clone` are: unequal values are told apart, and a clone is its original.
+//! `==` and `clone` have no contract: unequal values are told apart, and a clone equals its original.
 use super::{at, small};
 use cc_cap::{Cap, ObjType, Perms};
 use cc_word::Refusal;
 use std::test::Fail;
 
-/// A capability is its clone, with its word, and not this one.
+/// The capability equals its clone, word and all, and not this one.
 fn is_told_apart(small: Cap, other: Cap) -> bool {
     let Ok(copy) = other.clone() else {
         return false;
@@ -26,7 +26,7 @@ fn capabilities_are_told_apart(rt: HostRuntime) -> Result<(), Fail> {
     Ok(())
 }
 
-/// A type is its clone, with its number, and not that of a capability without a seal.
+/// The type equals its clone, has this number, and is not that of an unsealed capability.
 fn is_type(otype: ObjType, bits: u32) -> bool {
     let Ok(copy) = otype.clone() else {
         return false;
@@ -34,7 +34,7 @@ fn is_type(otype: ObjType, bits: u32) -> bool {
     otype != ObjType::UNSEALED && copy == otype && copy.bits() == bits
 }
 
-/// Permissions are their clone, with their bits, and not these others.
+/// The permissions equal their clone, have these bits, and are not these others.
 fn are_perms(perms: Perms, bits: u16, other: Perms) -> bool {
     let Ok(copy) = perms.clone() else {
         return false;

@@ -1,7 +1,7 @@
-//! The line of a word.
+//! Lines of words.
 use cc_cap::WordLine;
 
-/// Words, their tags and their lines.
+/// A word, whether it has its tag, and its line.
 const ROWS: [(u128, bool, &str); 12] = [
     (
         0xffff0000000f803d0000000000010070,
@@ -68,7 +68,7 @@ const ROWS: [(u128, bool, &str); 12] = [
     ),
 ];
 
-/// The line of a word, with this tag.
+/// The word has this line.
 fn has_line(word: u128, tagged: bool, text: &str) -> bool {
     WordLine::of_word(word, tagged).bytes() == text.as_bytes()
 }

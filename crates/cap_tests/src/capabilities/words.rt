@@ -1,8 +1,9 @@
-//! Which words are canonical or equal, and the names of permissions.
+//! Which words are canonical, equal capabilities, and names of permissions.
 use super::{at, small};
 use cc_cap::{Perms, is_canonical};
 use std::test::Fail;
 
+/// A word, and whether it is canonical.
 #[rattlefmt::skip]
 const WORDS: [(u128, bool); 24] = [
     (0, true), // null

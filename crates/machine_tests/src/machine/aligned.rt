@@ -1,4 +1,4 @@
-//! A pool of alignment 16: what each object is given, and what no alignment changes.
+//! A machine whose pool has alignment 16.
 use super::{Ask, Told, length, replies};
 use cc_machine::{Align, Machine, Op, Reply};
 use cc_word::Refusal;

@@ -1,5 +1,5 @@
-//! Opening where memory is refused: the next attempt succeeds. In an ordinary run none is refused; the script
-//! `tests/opening` has each request of this test refused in turn.
+//! A machine opens at the second attempt where memory was refused at the first. In an ordinary run none is refused;
+//! `tests/opening` refuses each request of this test in turn.
 use cc_machine::{Machine, Op, Reply};
 use cc_word::Refusal;
 use std::alloc::AllocError;

@@ -1,4 +1,4 @@
-//! Pools and objects: each operation with its reply, the slots that are revoked and the bytes held.
+//! Pools and objects: where they are placed, which slots a sweep revokes, and refusals in their order.
 use super::{Ask, END, Told, length, replies};
 use cc_machine::{Align, Len, Machine, Object, ObjectState, Op, Reply};
 use cc_word::Refusal;
@@ -6,7 +6,7 @@ use std::alloc::Global;
 use std::process::Abort;
 use std::test::Fail;
 
-/// A machine with a pool of these bytes in slot 2.
+/// A machine whose slot 2 is a pool of so many bytes from this base.
 pub(super) fn with_pool(
     rt: &impl Abort,
     alloc: Global,
@@ -19,7 +19,7 @@ pub(super) fn with_pool(
     Ok(machine)
 }
 
-/// The pool of these bytes is made in slot 2.
+/// The machine's slot 2 becomes a pool of so many bytes from this base.
 fn sets_pool(machine: &mut Machine, base: u64, len: Len) -> bool {
     let top = u128::from(base).saturating_add(len.get());
     makes_slot(machine, Op::Addr(0, base))
@@ -51,10 +51,10 @@ pub(super) fn are_usable(machine: &Machine, slots: &[u32]) -> bool {
     true
 }
 
-/// The size of an object, where it is made, and the bytes held.
+/// The size of an object, its base and top, and the bytes held after it.
 type Place = (u128, u64, u128, u128);
 
-/// An object is made at this place.
+/// The next object has this number and this place.
 fn places(machine: &mut Machine, object: u32, place: &Place) -> bool {
     let (size, base, top, held) = *place;
     let slot = machine.slots();
@@ -107,7 +107,7 @@ fn planned(rt: &impl Abort, alloc: Global) -> Result<Machine, Fail> {
     Ok(machine)
 }
 
-/// Object 2 is swept, and there is none of these two numbers.
+/// Object 2 is swept, and there are no objects 0 and 6.
 fn has_swept(machine: &Machine) -> bool {
     let is_swept = match machine.object(2) {
         Ok(object) => object == SECOND,
@@ -323,7 +323,7 @@ const ORDER_OF_REFUSALS_SEALED: [(Ask, Told); 11] = [
     (Ask::Alloc(END), Told::Refused(Refusal::Full)),
 ];
 
-/// A machine of one slot, the root's, makes no object.
+/// A machine with room for the root's slot alone makes no object.
 fn full_machine_refuses(rt: &impl Abort, alloc: Global) -> Result<(), Fail> {
     let mut full = Machine::with_limit(alloc, 1)?;
     replies(rt, &mut full, &ORDER_OF_REFUSALS);

@@ -1,4 +1,4 @@
-//! Freed objects stay held until a sweep, which revokes exactly what belongs to them.
+//! Freed objects are held until a sweep, which revokes their slots and no others.
 use super::objects::{are_revoked, are_usable, with_pool};
 use super::{Ask, END, Told, replies};
 use cc_cap::Perms;
@@ -89,7 +89,7 @@ const FREED_DOWN: [(Ask, Told); 2] = [
     (Ask::Op(Op::Free(1)), Told::Freed(1, 300)),
 ];
 
-/// Two objects are freed so, and swept at once.
+/// Two objects are freed in this order, and swept at once.
 fn swept_together(rt: &impl Abort, alloc: Global, frees: &[(Ask, Told)]) -> Result<(), Fail> {
     let mut machine = with_pool(rt, alloc, 0x10000, 0x10000)?;
     replies(rt, &mut machine, &TWO_OBJECTS);

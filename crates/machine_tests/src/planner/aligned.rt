@@ -1,4 +1,4 @@
-//! Pools of both alignments: what an object takes, where it begins, and what stays free.
+//! What an object takes and where it begins, in pools of both alignments.
 ghost use Rattle.std.specs.Prelude.{◌≤◌};
 
 use super::{code, pool, with_pool};
@@ -10,7 +10,7 @@ use std::alloc::Global;
 use std::process::Abort;
 use std::test::Fail;
 
-// A size, the word of its object, the object's bounds, and how many bytes are held after it.
+/// A size, the word of its object, the object's base and top, and how many bytes are held after it.
 type Row = (u128, u128, u64, u128, u128);
 
 const ALIGNED: [Row; 5] = [
@@ -51,7 +51,7 @@ const ALIGNED: [Row; 5] = [
     ),
 ];
 
-/// An object of the row's size has its word and bounds, and so many bytes are held.
+/// The next object is that of the row.
 fn makes<P: Placer>(planner: &mut Planner<P>, row: &Row) -> bool {
     let (size, word, base, top, held) = *row;
     if size > 1 << 64 {
@@ -74,8 +74,8 @@ fn check_rows<P: Placer>(rt: &impl Abort, alloc: Global) -> Result<(), Fail> {
     Ok(())
 }
 
-/// The unit of so many bytes as a power of two: 0 below 4,096 bytes, else the first of 3, 4, 5 and so on of
-/// which the bytes take at most 1,023; and at least that of the alignment.
+/// The unit of so many bytes as a power of two: 0 below 4,096 bytes, else the first from 3 up of whose units the bytes
+/// take at most 1,023; and never less than that of the alignment.
 fn unit_power(size: u128, align: Align) -> u32
     ensures { result ≤ 55 }
 {
@@ -94,8 +94,8 @@ fn unit_power(size: u128, align: Align) -> u32
     55
 }
 
-/// Where an object of so many bytes is placed in all of the address space beside an object of one byte at
-/// its beginning, by a plain search.
+/// Where a plain search places an object of so many bytes, in a pool of the whole address space whose first byte is
+/// held.
 fn searched(size: u128, align: Align) -> Option<Span> {
     let power = unit_power(size, align);
     let start = 1u64 << power;
@@ -108,7 +108,7 @@ fn searched(size: u128, align: Align) -> Option<Span> {
     }
 }
 
-/// An object of so many bytes is placed there, or has no room where no place is told.
+/// The next object, of so many bytes, is placed there; where no place is told it has no room.
 fn places(planner: &mut Planner<BlockPlacer>, size: u128, place: Option<Span>) -> bool {
     if size > 1 << 64 {
         return false;
@@ -120,7 +120,7 @@ fn places(planner: &mut Planner<BlockPlacer>, size: u128, place: Option<Span>) -
     }
 }
 
-/// An object of so many bytes is placed where the plain search says, and so is the same after a sweep.
+/// An object of so many bytes is placed where the plain search says, and again once it was swept.
 fn places_twice(planner: &mut Planner<BlockPlacer>, size: u128, align: Align) -> bool {
     let place = searched(size, align);
     places(planner, size, place)
@@ -130,7 +130,7 @@ fn places_twice(planner: &mut Planner<BlockPlacer>, size: u128, align: Align) ->
                 && places(planner, size, place))
 }
 
-/// A planner for all of the address space, with an object of one byte at its beginning.
+/// A planner whose pool is the whole address space, of which the first byte is held.
 fn with_one_byte(alloc: Global, align: Align) -> Result<Planner<BlockPlacer>, Fail> {
     let mut planner = with_pool(alloc, 16, Cap::root(), align)?;
     planner.alloc(1)?;
@@ -146,7 +146,7 @@ fn check_size(rt: &impl Abort, alloc: Global, size: u128, align: Align) -> Resul
     Ok(())
 }
 
-/// Sizes around this one, in both alignments.
+/// The sizes from 18 below this one to 18 above it, in both alignments.
 fn check_around(rt: &impl Abort, alloc: Global, size: u128) -> Result<(), Fail> {
     for more in 0..37u32 {
         let near = size.saturating_add(u128::from(more)).saturating_sub(18);
@@ -156,7 +156,7 @@ fn check_around(rt: &impl Abort, alloc: Global, size: u128) -> Result<(), Fail> 
     Ok(())
 }
 
-// A size, and its object's unit and how many bytes it takes: in a pool of alignment 1, and in one of 16.
+/// A size; its object's unit and how many bytes it takes, in a pool of alignment 1; and both in one of 16.
 type SetAside = (u128, u64, u128, u64, u128);
 
 const SET_ASIDE: [SetAside; 13] = [
@@ -175,7 +175,7 @@ const SET_ASIDE: [SetAside; 13] = [
     (4294967297, 8388608, 4303355904, 8388608, 4303355904),
 ];
 
-/// Beside one byte at the beginning of the address space an object begins at its unit.
+/// Where the first byte is held, an object begins at its unit, and takes so many bytes.
 fn check_set_aside(
     rt: &impl Abort,
     alloc: Global,

@@ -1,4 +1,4 @@
-//! The three placers answer alike, and blocks are split.
+//! The three placers answer alike, whatever is made, freed and swept; and blocks that are split and joined again.
 ghost use Rattle.std.specs.Prelude.{◌≤◌, ◌^◌};
 ghost use Rattle.cc_plan.specs.Replay.{IsWithinLimit};
 
@@ -13,7 +13,7 @@ use std::alloc::Global;
 use std::process::Abort;
 use std::test::Fail;
 
-// A planner over each of the placers.
+/// A planner over each placer.
 #[derive(Drop)]
 struct Planners {
     scanning: Planner<ScanPlacer>,
@@ -30,7 +30,7 @@ impl Planners {
         })
     }
 
-    // The reply of each to the call, if it is the same.
+    /// The reply to the call, if all three give the same.
     fn reply(&mut self, call: PlanCall) -> Option<PlanReply>
         requires { IsWithinLimit call }
     {
@@ -44,14 +44,14 @@ impl Planners {
         }
     }
 
-    // As many bytes are held by each, and as many spans by those that count them alike.
+    /// All three hold as many bytes, and the two that count spans alike as many spans.
     fn hold_alike(&self) -> bool {
         self.sorted.held_bytes() == self.scanning.held_bytes()
             && self.blocks.held_bytes() == self.scanning.held_bytes()
             && self.blocks.placer().count() == self.scanning.placer().count()
     }
 
-    // Each frees the object, with the same reply.
+    /// The three reply alike to a free of the object.
     fn free(&mut self, number: u32) -> bool {
         self.reply(Free(ObjectId(number))).is_some()
     }
@@ -70,7 +70,8 @@ fn reply<P: Placer>(planner: &mut Planner<P>, call: PlanCall) -> PlanReply
     replies[0]
 }
 
-// The least size of a kind: some bytes, around the granules of 8 and 16 bytes, and around that of 2^20.
+/// The least of the 20 sizes of a kind: few bytes; around 4,096 and 8,184 bytes, above which the granule is 8 and 16
+/// bytes; and around 1,023 and 1,024 times 2^19, above which it is 2^20.
 fn least_size(kind: u32) -> u128
     ensures { result ≤ 2 ^ 63 }
 {
@@ -85,7 +86,7 @@ fn least_size(kind: u32) -> u128
     }
 }
 
-// The next call of a walk over so many kinds of sizes: three of five make an object, the others free one.
+/// The next call of a walk over so many kinds of sizes: three of five make an object, the others free one.
 fn next_call(seed: u32, kinds: u32, objects: u32) -> PlanCall
     ensures { IsWithinLimit result }
 {
@@ -97,7 +98,7 @@ fn next_call(seed: u32, kinds: u32, objects: u32) -> PlanCall
     }
 }
 
-// The replies of all are the same in a walk of 900 calls, which makes more than 100 objects.
+/// All three reply alike in a walk of 900 calls, which makes more than 100 objects.
 fn walks(planners: &mut Planners, first: u32, kinds: u32) -> bool {
     let mut seed = first;
     let mut made = 0u32;
@@ -161,7 +162,7 @@ fn same_replies_in_alignment_16(rt: HostRuntime) -> Result<(), Fail> {
     check_walk(&rt, rt.alloc(), 13, 7, Cap::root(), Align::Sixteen)
 }
 
-// One of the 120 orders of five.
+/// The orders of five, by a number from 0 to 119.
 fn order_of(number: u32) -> [u32; 5] {
     let mut order = [1, 2, 3, 4, 5u32];
     order.swap(0, (number % 5) as usize);
@@ -171,7 +172,8 @@ fn order_of(number: u32) -> [u32; 5] {
     order
 }
 
-// Objects 2 i - 1 of 16 i bytes, so that no hole below its own has room for it, each before one of a byte.
+/// Makes object 2 i - 1 of 16 i bytes, and behind it object 2 i of one byte, for i from 1 to 5: no hole below its own is
+/// large enough for a large one, so it is made again where it was.
 fn makes_ten(planners: &mut Planners) -> bool {
     for i in 1..6u32 {
         if planners.reply(Alloc(16 * u128::from(i))).is_none()
@@ -183,7 +185,7 @@ fn makes_ten(planners: &mut Planners) -> bool {
     true
 }
 
-// Frees the large ones, each before a sweep.
+/// Frees the large ones in this order, with a sweep after each.
 fn sweeps_each(planners: &mut Planners, order: &[u32; 5]) -> bool {
     for i in order {
         if !planners.free(i.wrapping_mul(2).wrapping_sub(1)) || !planners.sweep() {
@@ -233,7 +235,7 @@ fn makes_400(planner: &mut Planner<BlockPlacer>) -> bool {
     true
 }
 
-// One object of each block stays.
+/// Sweeps all but every 56th object, so that one of each block stays.
 fn sweeps_393(planner: &mut Planner<BlockPlacer>) -> bool {
     for object in 1..401u32 {
         if object % 56 != 0 && planner.free(ObjectId(object)).is_err() {
@@ -243,7 +245,7 @@ fn sweeps_393(planner: &mut Planner<BlockPlacer>) -> bool {
     planner.sweep() == 393
 }
 
-// Below the first of those that stayed the first block is split again and again.
+/// Makes objects below the first that stayed, for which the first block is split again and again.
 fn makes_393(planner: &mut Planner<BlockPlacer>) -> bool {
     for start in 0..393u64 {
         match planner.alloc(1) {

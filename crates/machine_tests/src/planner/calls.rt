@@ -1,4 +1,4 @@
-//! Each refusal in its order, the capability of an object, and the opening of a planner.
+//! Refusals in their order, the capability of an object, and what a new planner holds.
 use super::Answer::{Freed, Placed, Refused};
 use super::{Row, answers, code, pool, with_pool};
 use PlanCall::{Alloc, Free};
@@ -12,7 +12,7 @@ use cc_word::Refusal;
 use std::alloc::{AllocError, Global};
 use std::test::Fail;
 
-/// Only the first capability that has no seal is taken for a pool.
+/// The first capability that is not sealed becomes the pool, and none after it.
 fn takes_one_pool(planner: &mut Planner<ScanPlacer>, pool: Cap, sealed: Cap) -> bool {
     code(&planner.give_pool(sealed)) == Refusal::Sealed.code()
         && planner.give_pool(pool).is_ok()
@@ -46,7 +46,7 @@ fn refusals_in_order(rt: HostRuntime) -> Result<(), Fail> {
     Ok(())
 }
 
-/// An object of so many bytes gets this number and this word.
+/// The next object, of so many bytes, has this number and this word.
 fn allocates(planner: &mut Planner<SortedPlacer>, size: u128, number: u32, word: u128) -> bool {
     if size > 1 << 64 {
         return false;
@@ -57,7 +57,7 @@ fn allocates(planner: &mut Planner<SortedPlacer>, size: u128, number: u32, word:
     }
 }
 
-/// Of two objects the first is freed, and there are no others.
+/// Of two objects the first is freed and the second live, and there are no others.
 fn has_two_objects(planner: &Planner<SortedPlacer>) -> bool {
     let (Some(first), Some(second)) = (planner.object(ObjectId(1)), planner.object(ObjectId(2)))
     else {
@@ -97,7 +97,7 @@ fn capability_of_an_object(rt: HostRuntime) -> Result<(), Fail> {
     Ok(())
 }
 
-/// A placer and a planner for so many objects hold none.
+/// A new placer holds no span, and a new planner no byte.
 fn opens<P: Placer>(alloc: Global, limit: u32) -> Result<bool, AllocError> {
     if limit == 0 || limit > 65536 {
         return Ok(false);

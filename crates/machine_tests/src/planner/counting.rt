@@ -8,7 +8,7 @@ use cc_word::Refusal;
 use std::alloc::{AllocError, Global};
 use std::test::Fail;
 
-/// A placer that counts how often it held a span.
+/// A placer that counts how often it is asked to hold a span, and passes every call on.
 #[derive(Drop)]
 struct CountingPlacer<P> {
     inner: P,
@@ -64,7 +64,7 @@ const SWEPT: [Row; 1] = [(Sweep, Swept(1), 48)];
 
 const FIFTH: [Row; 1] = [(Alloc(8), Placed(5, 0x10010, 0x10018), 56)];
 
-/// So many spans were held, and so many are held.
+/// The placer was asked so often to hold a span, and so many are held.
 fn has_held(planner: &Planner<CountingPlacer<SortedPlacer>>, holds: u32, count: u32) -> bool {
     planner.placer().holds == holds && planner.placer().count() == count
 }

@@ -1,4 +1,4 @@
-//! A placer without a planner: blocks of one span use up the spare ones, so that two are joined.
+//! A placer without a planner: where no spare block is left, two blocks of one span are joined.
 ghost use Rattle.std.specs.Prelude.{◌≡◌, ◌<◌, IsSome};
 ghost use Rattle.cc_plan.specs.Placement.{AddsSpan};
 
@@ -7,7 +7,7 @@ use cc_plan::{BlockPlacer, Placer};
 use std::process::Abort;
 use std::test::Fail;
 
-// Holds so many bytes at the least start that they have.
+/// Holds so many bytes at the lowest place that they have.
 fn hold_least(rt: &impl Abort, placer: &mut BlockPlacer, len: u64) -> Span
     requires some { 0 < len }
     requires pool { IsSome placer.old.pool }
@@ -26,7 +26,7 @@ fn hold_least(rt: &impl Abort, placer: &mut BlockPlacer, len: u64) -> Span
     span
 }
 
-// Holds a span, some more of as many bytes above it and one above these, and gives all back but the last.
+/// Holds a span and `more` above it, each of `len` bytes, and gives all back but the last, which is its answer.
 fn keep_last(rt: &impl Abort, placer: &mut BlockPlacer, len: u64, more: u32) -> Span
     requires some { 0 < len }
     requires pool { IsSome placer.old.pool }
@@ -44,7 +44,7 @@ fn keep_last(rt: &impl Abort, placer: &mut BlockPlacer, len: u64, more: u32) -> 
     kept
 }
 
-// No span of one of these lengths has a place in the 56 of the one before.
+/// Each is more than 56 times the one before, so that no span of it has a place in the 56 of those.
 const LENGTHS: [u64; 8] = [
     1,
     1 << 6,
@@ -56,7 +56,8 @@ const LENGTHS: [u64; 8] = [
     1 << 42,
 ];
 
-// Six blocks are enough for 100 spans, and each length leaves one of one span, so the sixth needs two of them joined.
+/// There are six blocks for 100 spans, and each length leaves a block of one span: so the sixth length needs two of
+/// them joined.
 #[test]
 fn blocks_of_one_span_are_joined(rt: HostRuntime) -> Result<(), Fail> {
     let mut placer = BlockPlacer::with_limit(rt.alloc(), 100)?;

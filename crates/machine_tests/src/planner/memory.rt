@@ -1,5 +1,5 @@
-//! Opening where memory is refused: the next attempt succeeds. In an ordinary run none is refused; the script
-//! `tests/opening` has each request of these tests refused in turn.
+//! Placers and planners open at the second attempt where memory was refused at the first. In an ordinary run none is
+//! refused; `tests/opening` refuses each request of these tests in turn.
 ghost use Rattle.std.specs.Prelude.{◌≤◌};
 
 use cc_plan::{BlockPlacer, ObjectId, Placer, Planner, ScanPlacer, SortedPlacer};

@@ -1,5 +1,4 @@
-//! Runs of calls: the same for each placer.
-
+//! Runs of calls, the same for each placer.
 use super::{pool, with_pool};
 use PlanCall::{Alloc, Free, Sweep};
 use cc_plan::{
@@ -11,7 +10,7 @@ use std::alloc::Global;
 use std::process::Abort;
 use std::test::Fail;
 
-/// The reply is this object, which begins there.
+/// The reply is an object of this number, which begins there.
 fn is_placed(reply: &PlanReply, number: u32, start: u64) -> bool {
     match reply {
         PlanReply::Placed(object, cap) => object.0 == number && cap.address() == start,

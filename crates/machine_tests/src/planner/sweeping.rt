@@ -1,5 +1,4 @@
-//! Sweeps: what stays held until one, and what it gives back.
-
+//! Sweeps: what is held until one, and what it gives back.
 use super::Answer::{Placed, Refused, Swept};
 use super::{Row, answers, code, pool, with_pool};
 use PlanCall::{Alloc, Free, Sweep};
@@ -37,7 +36,7 @@ const PLACED_AGAIN: [Row; 2] = [
     (Sweep, Swept(0), 256),
 ];
 
-/// A live object is freed, once, and keeps its bytes.
+/// A live object can be freed once, and its bytes stay held.
 fn frees<P: Placer>(planner: &mut Planner<P>, number: u32) -> bool {
     planner.free(ObjectId(number)).is_ok()
         && is_in_state(planner, number, ObjectState::Freed)
@@ -46,7 +45,7 @@ fn frees<P: Placer>(planner: &mut Planner<P>, number: u32) -> bool {
         && code(&planner.alloc(1)) == Refusal::NoRoom.code()
 }
 
-/// The second and the third of four objects are swept.
+/// Of four objects the second and the third are swept, and the others live.
 fn two_are_swept<P: Placer>(planner: &Planner<P>) -> bool {
     is_in_state(planner, 1, ObjectState::Live)
         && is_in_state(planner, 2, ObjectState::Swept)
@@ -75,7 +74,7 @@ const BEFORE_ANY_POOL: [Row; 2] = [
     (Alloc(1), Refused(Refusal::NoPool), 0),
 ];
 
-/// A sweep before there is a pool, and two frees in both orders.
+/// A sweep before there is a pool, and a sweep of two objects, freed in either order.
 fn check_sweeps<P: Placer>(rt: &impl Abort, alloc: Global) -> Result<(), Fail> {
     let mut planner: Planner<P> = Planner::with_limit(alloc, 1)?;
     answers(rt, &mut planner, &BEFORE_ANY_POOL);
@@ -83,7 +82,7 @@ fn check_sweeps<P: Placer>(rt: &impl Abort, alloc: Global) -> Result<(), Fail> {
     two_freed_and_swept::<P>(rt, alloc, 3, 2)
 }
 
-/// What the test knows of an object.
+/// What the plain list has of an object.
 #[derive(Drop)]
 struct Known {
     bytes: Span,
@@ -104,7 +103,7 @@ fn padded(size: u128) -> u128 {
     }
 }
 
-/// How many bytes the objects have that are not swept; none, where one of these bytes is in the span too.
+/// How many bytes the objects have that are not swept; `None` where one of these bytes is in the span too.
 fn held_beside(known: &[Known], span: Span) -> Option<u128> {
     let mut held = 0u128;
     for object in known {
@@ -119,7 +118,7 @@ fn held_beside(known: &[Known], span: Span) -> Option<u128> {
     Some(held)
 }
 
-/// Frees a live object of the list, and tells whether there is one.
+/// Frees the live object of this number in the list, and tells whether there is one.
 fn free_known(known: &mut [Known], id: ObjectId) -> bool {
     let Some(position) = (id.0 as usize).checked_sub(1) else {
         return false;
@@ -134,7 +133,7 @@ fn free_known(known: &mut [Known], id: ObjectId) -> bool {
     is_live
 }
 
-/// Sweeps the freed objects of the list.
+/// Sweeps the freed objects of the list, and tells how many.
 fn sweep_known(known: &mut [Known]) -> u32 {
     let mut count = 0u32;
     for object in known {
@@ -158,7 +157,7 @@ fn next_call(seed: u32) -> PlanCall {
     }
 }
 
-/// Makes an object, which is padded and shares no byte with those of the list, or has no room.
+/// Makes an object: it has as many bytes as its size takes, and shares none with those of the list; or there is no room.
 fn made_in_both<P: Placer>(planner: &mut Planner<P>, known: &mut Vec<Known>, size: u128) -> bool {
     if size > 1 << 64 {
         return false;

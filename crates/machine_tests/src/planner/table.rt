@@ -1,5 +1,4 @@
-//! Starts, bounds and held bytes of lists of calls, for each placer.
-
+//! Where objects are placed, and how many bytes are held, call by call and for each placer.
 use super::Answer::{Freed, Placed, Refused, Swept};
 use super::{Row, answers, pool, with_pool};
 use PlanCall::{Alloc, Free, Sweep};
@@ -51,7 +50,7 @@ const BETWEEN_TWO_OBJECTS: [Row; 12] = [
     (Alloc(1), Placed(8, 0x1000f, 0x10010), 81),
 ];
 
-// A gap of 4,096 bytes whose first multiple of 8 is 4 bytes from its start.
+/// A gap of 4,096 bytes whose first multiple of 8 is 4 bytes from its start.
 const LONG_GAP_WITHOUT_A_PLACE: [Row; 10] = [
     (Alloc(4), Placed(1, 0x10000, 0x10004), 4),
     (Alloc(2048), Placed(2, 0x10004, 0x10804), 2052),
@@ -65,7 +64,7 @@ const LONG_GAP_WITHOUT_A_PLACE: [Row; 10] = [
     (Alloc(1), Placed(7, 0x11003, 0x11004), 8200),
 ];
 
-// A gap of 8,192 bytes that begins at a multiple of 8, and at none of 16.
+/// A gap of 8,192 bytes that begins at a multiple of 8, and at none of 16.
 const LONG_GAP_OF_FINER_OBJECTS: [Row; 11] = [
     (Alloc(8), Placed(1, 0x10000, 0x10008), 8),
     (Alloc(4088), Placed(2, 0x10008, 0x11000), 4096),
@@ -80,7 +79,7 @@ const LONG_GAP_OF_FINER_OBJECTS: [Row; 11] = [
     (Alloc(8184), Placed(7, 0x10008, 0x12000), 16392),
 ];
 
-// The bytes of a freed object are placed again after a sweep, and not before it.
+/// The bytes of a freed object are placed again after a sweep, and not before it.
 const SAME_BYTES: [Row; 7] = [
     (Alloc(100), Placed(1, 0x10000, 0x10064), 100),
     (Alloc(5000), Placed(2, 0x10068, 0x113f0), 5100),
@@ -113,7 +112,7 @@ const NO_BYTES: [Row; 3] = [
     (Free(ObjectId(1)), Refused(Refusal::NoObject), 0),
 ];
 
-// In pools of alignment 16. Four objects fill a pool; one is freed, and its bytes are placed again after a sweep.
+/// In a pool of alignment 16 that four objects fill, one is freed, and its bytes are placed again after a sweep.
 const QUARANTINE_OF_16: [Row; 9] = [
     (Alloc(10), Placed(1, 0x10000, 0x10010), 16),
     (Alloc(10), Placed(2, 0x10010, 0x10020), 32),
@@ -126,7 +125,7 @@ const QUARANTINE_OF_16: [Row; 9] = [
     (Alloc(16), Placed(5, 0x10010, 0x10020), 64),
 ];
 
-// A pool of 71 bytes from 0x10001.
+/// A pool of 71 bytes from 0x10001.
 const UNEVEN_ENDS: [Row; 4] = [
     (Alloc(49), Refused(Refusal::NoRoom), 0),
     (Alloc(17), Placed(1, 0x10010, 0x10030), 32),

@@ -21,13 +21,13 @@ fn count_lines(text: &[u8]) -> usize {
     count
 }
 
-/// These are the answers to the whole lines of the first bytes of the text.
+/// The answers to the whole lines of the text's first `given` bytes were written, and no others.
 fn are_answers(written: &[u8], given: usize) -> bool {
     let before = &TEXT.as_bytes()[..given.min(TEXT.len())];
     COLUMNS.as_bytes().starts_with(written) && count_lines(written) == count_lines(before)
 }
 
-/// The call of the source fails: what was written is the answers to the whole lines before it.
+/// Where this call of the source fails, the lines that came whole before it are answered.
 fn read_fails(call: u32) -> bool {
     let mut room = [0; 512];
     let fails = (Some(call), None);
@@ -46,7 +46,7 @@ fn each_read_fails_in_turn(rt: HostRuntime) {
     }
 }
 
-/// The call of the sink fails: what was written is a beginning of the answers.
+/// Where this call of the sink fails, a beginning of the answers was written.
 fn write_fails(call: u32) -> bool {
     let mut room = [0; 512];
     let fails = (None, Some(call));
@@ -61,7 +61,7 @@ fn each_write_fails_in_turn(rt: HostRuntime) {
     }
 }
 
-/// The call of the sink would fail, and is never made.
+/// This call of the sink would fail, and is never made.
 fn ends_before(call: u32) -> bool {
     let mut room = [0; 512];
     let fails = (None, Some(call));

@@ -1,4 +1,4 @@
-//! Worked answers, whatever the pieces in which the text comes.
+//! The answers to worked texts and bytes, whatever the pieces in which they come.
 use super::decode_between;
 use cc_decode::{ByteOrder, Format, InputForm, Options};
 use cc_script::Summary;
@@ -96,7 +96,7 @@ fn words_alone_are_no_error(rt: HostRuntime) {
     assert!(rt; is_answered(lines_in(Format::Text), word, line, 7, false));
 }
 
-/// A word and a line feed of another, as they stand in the memory of a little-endian machine.
+/// A word as it stands in the memory of a little-endian machine, and one byte of another.
 const BYTES: [u8; 17] = [
     0x70, 0x00, 0x01, 0, 0, 0, 0, 0, 0x3d, 0x80, 0x0f, 0, 0, 0, 0xff, 0xff, b'\n',
 ];
@@ -106,7 +106,7 @@ const LITTLE_ANSWERS: &str = "0x10070 [rwxRW,0x10070-0x12070]\nerror 2 unfinishe
 const BIG_ANSWERS: &str =
     "0x3d800f000000ffff [,0x0-0x10000000000000000] (sealed)\nerror 2 unfinished\n";
 
-/// The bytes in pieces of this size are words in this order.
+/// These are the answers to the bytes as words in this order, in pieces of this size.
 fn are_words(order: ByteOrder, answers: &str, piece: usize) -> bool {
     let options = Options {
         input: InputForm::Bytes(order),

@@ -1,10 +1,11 @@
-//! Sinks that fail, and sinks over writers.
+//! What a command tells of sinks and writers that fail.
 use super::rows::{NULL_LISTING, NULL_WORD};
 use cc_command::{Counted, show_word};
 use cc_script::{FromWriter, ScriptFault, Sink, SliceSink, Summary};
 use std::io::{self, Write};
 
-/// Call `fail_at` of the sink fails, the flush too, where there are as many calls; pieces are of this size.
+/// Where call `fail_at` of the sink fails, a write or the flush, the listing was written up to it; where there are fewer
+/// calls, all of it was. The sink takes `piece` bytes at once.
 fn fails_at(listing: &[u8], piece: usize, fail_at: u32) -> bool {
     let mut room = [0; 512];
     let mut sink = SliceSink::new(&mut room, piece.max(1), Some(fail_at));
@@ -21,7 +22,6 @@ fn fails_at(listing: &[u8], piece: usize, fail_at: u32) -> bool {
     is_as_wanted && room.get(..taken) == listing.get(..taken)
 }
 
-/// Each call of the sink fails in turn, and then no call does.
 #[test]
 fn each_call_fails_in_turn(rt: HostRuntime) {
     for piece in [1usize, 5, 200] {
@@ -32,7 +32,7 @@ fn each_call_fails_in_turn(rt: HostRuntime) {
     }
 }
 
-/// The first call of the sink behind fails: a flush is one, and telling it before a read is none.
+/// The first call of the sink behind would fail: `before_read` makes none there, and `flush` does.
 fn is_only_told(sink: &mut Counted<SliceSink>) -> bool {
     sink.before_read().is_ok() && sink.flush().is_err()
 }
@@ -53,7 +53,7 @@ fn vec_as_writer(rt: HostRuntime) {
     assert!(rt; bytes.as_slice() == NULL_LISTING.as_bytes());
 }
 
-/// A writer that answers its calls by a plan, and counts the flushes.
+/// A writer that answers its calls as it is told to, and counts the flushes.
 #[derive(Drop)]
 struct Faulty {
     write: Answer,
@@ -89,6 +89,7 @@ impl Write for Faulty {
     }
 }
 
+/// How a writer answers, and its flush; whether the command ends well; and how often it flushes.
 const ANSWERS: [(Answer, Answer, bool, u32); 6] = [
     (Answer::All, Answer::All, true, 1),
     (Answer::Nothing, Answer::All, false, 0),
@@ -98,7 +99,7 @@ const ANSWERS: [(Answer, Answer, bool, u32); 6] = [
     (Answer::All, Answer::Broken, false, 1),
 ];
 
-/// A writer that answers so, and its flush so: whether the command ends well, and how often it flushes.
+/// A command to such a writer ends as the row says.
 fn ends(row: &(Answer, Answer, bool, u32)) -> bool {
     let (write, flush, is_ok, flushes) = *row;
     let mut writer = Faulty {

@@ -83,7 +83,7 @@ const EXPLAINED: [(&str, &str, bool); 4] = [
     ("0x000000000000000000000000000000", NO_WORD, true),
 ];
 
-/// What is written of a text into ample room, and how that ends.
+/// The text has this answer, in ample room.
 fn is_explained(text: &str, answer: &str, any_error: bool) -> bool {
     let mut room = [0; 2048];
     let mut sink = SliceSink::new(&mut room, 500, None);
@@ -99,7 +99,7 @@ fn words_are_explained(rt: HostRuntime) {
     }
 }
 
-/// Words that are not canonical, each with the end of its line that says why.
+/// A word that is not canonical, and the end of the line that says why.
 const FAULTY: [(&str, &str); 5] = [
     (
         "ffff8000048190040000000000001000",
@@ -123,7 +123,7 @@ const FAULTY: [(&str, &str); 5] = [
     ),
 ];
 
-/// The reason stands in what is written of the text.
+/// The reason stands in the answer to the word.
 fn has_reason(text: &str, reason: &str) -> bool {
     let mut room = [0; 2048];
     let mut sink = SliceSink::new(&mut room, 2048, None);
@@ -139,7 +139,7 @@ fn words_of_no_capability_are_told_why(rt: HostRuntime) {
     }
 }
 
-/// The worked length of docs/FORMAT.md: 16 bytes are its granule, and 17 are granted beside it.
+/// The worked length of docs/FORMAT.md: its granule is 16 bytes, and 17 bytes more are granted.
 const REQUEST: &str = "\
 request   0x1fff bytes, from 0x10068 to 0x12067
 granule   0x10 bytes: the request touches 513 of them, and at most 1023 can be counted
@@ -156,7 +156,7 @@ const REQUESTS: [(&str, &str, &str, bool); 3] = [
     ("1", "0x10000000000000000", "error 9 bounds\n", true),
 ];
 
-/// What is written of a length into ample room, and how that ends.
+/// The request has this answer, in ample room.
 fn length_is_explained(base: &str, length: &str, answer: &str, any_error: bool) -> bool {
     let mut room = [0; 1024];
     let mut sink = SliceSink::new(&mut room, 100, None);

@@ -1,4 +1,4 @@
-//! The hints of a worked script.
+//! What is watched in a script, and the hints of it.
 use cc_command::{Hints, Watched, show_hints};
 use cc_machine::{Len, Machine};
 use cc_script::{SliceSink, SliceSource, Summary, run_script};
@@ -9,7 +9,7 @@ const SCRIPT: &[u8] = b"show 0\nrebuild 0 0:1\nshow 0\r\nshow 0\r\n";
 #[rattlefmt::skip]
 const HINTS: &[u8] = b"hint: the pool's bounds are not exact: 0x2000 bytes from a multiple of 0x10 are\nhint: line 3 ends in CR: end lines in LF alone, as dos2unix does\nhint: line 2 has a word with 0x or a colon: a word is 32 digits alone\n";
 
-/// The first lines of the script with a carriage return and with a marked word, if its run ends with errors.
+/// The first line of the script with a carriage return and that with a marked word, if its run ends with an error.
 fn hinted_lines(machine: &mut Machine) -> Option<(u64, u64)> {
     let mut room = [0u8; 512];
     let mut source = Watched::new(SliceSource::new(SCRIPT, 7, None));

@@ -1,10 +1,11 @@
-//! The cells of a worked map, and a map and a drawing of a worked plan.
+//! The cells of a map, and a map and a drawing of a plan's pool.
 use cc_bounds::Span;
 use cc_command::{cells_of, map_row, plan_script, show_drawing, show_map};
 use cc_machine::{Align, Len, Machine, ObjectState, PlannedObject};
 use cc_script::{SliceSink, SliceSource, Summary};
 use std::test::Fail;
 
+/// A live object, a freed one behind it, a freed one of one byte, and one that is swept.
 #[rattlefmt::skip]
 const OBJECTS: [PlannedObject; 4] = [
     PlannedObject { size: 100, span: Span { base: 0x1000, top: 0x1064 }, state: ObjectState::Live },
@@ -13,11 +14,11 @@ const OBJECTS: [PlannedObject; 4] = [
     PlannedObject { size: 64, span: Span { base: 0x1100, top: 0x1140 }, state: ObjectState::Swept },
 ];
 
-/// Sixty-four bytes, a freed object of twenty and a live one of nine, and six bytes more.
+/// The map of a pool of 70 bytes, with a freed object of 20 and behind it a live one of 9.
 #[rattlefmt::skip]
 const MAP: &str = "cells of 0x1 bytes: # live, ~ quarantined, * both, . free\n0x1000 ~~~~~~~~~~~~~~~~~~~~#########...................................\n0x1040 ......\n";
 
-/// The end of their drawing, in cells 14 points wide.
+/// The end of its drawing, in cells 14 points wide.
 #[rattlefmt::skip]
 const RECTANGLES: &[u8] = b"<rect x='280' y='0' width='126' height='24'><title>object 2: 0x1014-0x101d</title></rect>\n</g>\n<g fill='url(#stripes)' stroke='#e69f00' stroke-width='.4'>\n<rect x='0' y='0' width='280' height='24'><title>object 1: 0x1000-0x1014</title></rect>\n</g>\n</g>\n</svg>\n";
 
@@ -43,7 +44,7 @@ fn cells_say_what_holds_their_bytes(rt: HostRuntime) {
     assert!(rt; cells_are_told());
 }
 
-/// The plan is run.
+/// The plan is run without an error.
 fn is_planned(machine: &mut Machine, length: Len) -> bool {
     let mut room = [0u8; 1024];
     let mut source = SliceSource::new(b"alloc 20\nalloc 9\nfree 1\n", 7, None);

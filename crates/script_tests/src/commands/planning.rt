@@ -1,4 +1,4 @@
-//! Worked plans: the numbers of a pool, and the scripts that follow.
+//! Plans: the numbers of a pool, and the scripts that follow.
 use cc_command::{PoolTexts, plan_numbers, plan_script};
 use cc_machine::{Align, Len, Machine};
 use cc_script::{ScriptFault, SliceSink, SliceSource, Summary};
@@ -44,8 +44,8 @@ fn plan_between(
     (ended, sink.taken())
 }
 
-/// A row in pieces of these sizes, into room of a size, ends so, and writes what it has to as far as there is
-/// room.
+/// The plan of a row, in pieces of these sizes and with a failing read, ends so, and its output fills the room of this
+/// size as far as it goes.
 fn is_planned(
     machine: &mut Machine,
     row: &Row,
@@ -66,7 +66,7 @@ fn is_planned(
         && room.get(..taken) == output.as_bytes().get(..taken)
 }
 
-/// How many slots a new machine has after this; none, where it is not so.
+/// How many slots a new machine has after such a plan; `None` where it ends otherwise.
 fn is_planned_anew(
     alloc: Global,
     row: &Row,
@@ -87,7 +87,7 @@ fn is_planned_anew(
     }
 }
 
-/// The row is answered in pieces of these sizes, with ample room.
+/// The plan of the row has its output in pieces of these sizes, with ample room.
 fn is_answered(alloc: Global, row: &Row, pieces: (usize, usize)) -> bool {
     let answer = Ok(Summary { any_error: row.5 });
     is_planned_anew(alloc, row, pieces, None, 2048, answer).is_some()
@@ -110,7 +110,7 @@ fn pool_is_made_before_the_first_read(rt: HostRuntime) {
     assert!(rt; matches!(slots, Some(3)));
 }
 
-/// A plan into room of this size ends, and its machine then has so many slots.
+/// With room of this size the plan ends at a failed write, and its machine then has so many slots.
 fn fills(alloc: Global, size: usize, slots: u32) -> bool {
     let answer = Err(ScriptFault::Write);
     match is_planned_anew(alloc, &POOL, (1, 200), None, size, answer) {
@@ -144,7 +144,7 @@ const FAULTS: [(&str, &str, Refusal); 10] = [
     ("1 ", "1", Refusal::Syntax),
 ];
 
-/// The numbers are refused so.
+/// The texts of the pool are refused so.
 fn is_fault(base: &str, length: &str, refusal: Refusal) -> bool {
     match plan_numbers(&PoolTexts { base, length }) {
         Ok(_) => false,
@@ -170,7 +170,7 @@ const NUMBERS: [(&str, &str, u64, u128); 3] = [
     ),
 ];
 
-/// The texts are these numbers.
+/// The texts of the pool spell these numbers.
 fn are_numbers(base: &str, length: &str, address: u64, bytes: u128) -> bool {
     match plan_numbers(&PoolTexts { base, length }) {
         Ok((found, len)) => found == address && len.get() == bytes,

@@ -9,7 +9,7 @@ const RANGE: &str = "error 4 range\n";
 
 const WHOLE_ADDRESS_SPACE: &str = "round 0x10000000000000000 0x80000000000000 0xff80000000000000\n";
 
-/// What is written of a text into ample room, and how that ends.
+/// The text has this answer, in ample room.
 fn is_rounded(text: &str, answer: &str, any_error: bool) -> bool {
     let mut room = [0; 128];
     let mut sink = SliceSink::new(&mut room, 128, None);
@@ -66,7 +66,8 @@ fn numbers_that_are_no_length(rt: HostRuntime) {
     }
 }
 
-/// Call `fail_at` of the sink fails, the flush too, where there are as many calls; pieces are of this size.
+/// Where call `fail_at` of the sink fails, a write or the flush, the answer was written up to it; where there are fewer
+/// calls, all of it was. The sink takes `piece` bytes at once.
 fn fails_at(answer: &[u8], piece: usize, fail_at: u32) -> bool {
     let mut room = [0; 128];
     let mut sink = SliceSink::new(&mut room, piece.max(1), Some(fail_at));
@@ -83,7 +84,6 @@ fn fails_at(answer: &[u8], piece: usize, fail_at: u32) -> bool {
     is_as_wanted && room.get(..taken) == answer.get(..taken)
 }
 
-/// Each call of the sink fails in turn, and then no call does.
 #[test]
 fn each_call_fails_in_turn(rt: HostRuntime) {
     for piece in [1usize, 7, 128] {

@@ -54,7 +54,7 @@ top 0x1200
 canonical yes
 ";
 
-/// What is written of a text into ample room, and how that ends.
+/// The text has this answer, in ample room.
 fn is_shown(text: &str, answer: &str, any_error: bool) -> bool {
     let mut room = [0; 512];
     let mut sink = SliceSink::new(&mut room, 200, None);

@@ -1,4 +1,4 @@
-//! The summary of a worked plan.
+//! The summary of a plan.
 use cc_command::{Counted, Tally, Usage, plan_script, show_statistics, usage_of};
 use cc_machine::{Align, Len, Machine};
 use cc_script::{SliceSink, SliceSource, Summary};
@@ -12,7 +12,7 @@ const SCRIPT: &str =
 #[rattlefmt::skip]
 const SUMMARY: &str = "lines 9\nrefused.syntax 1\nfirst.syntax 8\nrefused.slot 1\nfirst.slot 9\nrefused.revoked 1\nfirst.revoked 7\nslots 6\nlimit 16\nmade 3\nlive 1\nquarantined 1\nswept 1\nasked 8241\nheld 8242\npadding 1\npadding.percent 0.01\npool 65536\nfree 57294\nholes 2\nlargest 57232\nhighest 0x1206f\n";
 
-/// What is told of the plan is the summary; no machine holds more than 2^80 bytes.
+/// What is written of such a use and tally is the summary.
 fn is_summary(usage: &Usage, tally: &Tally) -> bool {
     if usage.held > 1 << 80 {
         return false;
@@ -31,7 +31,7 @@ fn has_summary(alloc: Global, machine: &Machine, tally: &Tally) -> bool {
     }
 }
 
-/// The plan of the script, in a pool of this length, ends with an error, and is summed up.
+/// The plan of the script, in a pool of this length, ends with an error and has this summary.
 fn is_summed_up(alloc: Global, machine: &mut Machine, length: Len) -> bool {
     let mut room = [0u8; 2048];
     let mut source = SliceSource::new(SCRIPT.as_bytes(), 7, None);

@@ -1,4 +1,4 @@
-//! What `==` is of the texts of a pool: unequal ones are told apart.
+//! `==` has no contract: unequal texts of a pool are told apart.
 use cc_command::PoolTexts;
 
 #[test]

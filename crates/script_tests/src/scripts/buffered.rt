@@ -1,4 +1,4 @@
-//! A sink with lent room.
+//! A sink that lets bytes wait in room that is lent to it.
 use cc_machine::Machine;
 use cc_script::{
     Buffered, FromReader, FromWriter, Sink, SliceSink, SliceSource, Summary, run_script,
@@ -18,7 +18,7 @@ enum Call<'a> {
 
 use Call::{BeforeRead, Flush, Write as Put};
 
-/// A call, how many bytes it takes, or none where it fails, and how many have reached the slice after it.
+/// A call, how many bytes it takes, `None` where it fails, and how many bytes have then reached the slice.
 type Row<'a> = (Call<'a>, Option<usize>, usize);
 
 fn answer<S: Sink>(sink: &mut S, call: Call) -> Option<usize> {
@@ -29,7 +29,7 @@ fn answer<S: Sink>(sink: &mut S, call: Call) -> Option<usize> {
     }
 }
 
-/// The sink with lent room answers the call as its row says.
+/// The sink answers the call as its row says.
 fn is_answered(sink: &mut Buffered<SliceSink>, row: &Row) -> bool {
     let (call, wanted, taken) = *row;
     answer(sink, call) == wanted && sink.inner().taken() == taken
@@ -44,8 +44,8 @@ fn answers(sink: &mut Buffered<SliceSink>, rows: &[Row]) -> bool {
     true
 }
 
-/// Through room of this size each call is answered as its row says, by a sink that takes so many bytes at once and
-/// fails at this call; then it has taken these bytes.
+/// With room of this size each call is answered as its row says, before a slice that takes `piece` bytes at most at
+/// once and fails at call `fail_at`; then the slice holds these bytes.
 fn answers_through(
     size: usize,
     piece: usize,
@@ -87,7 +87,7 @@ fn bytes_not_taken_go_on_waiting(rt: HostRuntime) {
     assert!(rt; answers_through(8, 2, Some(2), &NOT_TAKEN, taken));
 }
 
-/// A script, its replies, and the rooms in which they wait: less than a reply, as much, and all of them.
+/// A script, its replies, and sizes of the room: less than a reply has, as much, and enough for all.
 #[rattlefmt::skip]
 const SCRIPTS: [(&[u8], &[u8], [usize; 9]); 2] = [
     (
@@ -103,7 +103,7 @@ const SCRIPTS: [(&[u8], &[u8], [usize; 9]); 2] = [
     ),
 ];
 
-/// The replies that reach the slice through room of this size are these.
+/// These replies reach the slice through room of this size.
 fn replies(machine: &mut Machine, script: &[u8], wanted: &[u8], size: usize) -> bool {
     let mut taken = [0u8; 256];
     let mut room = [0u8; 200];
@@ -165,7 +165,7 @@ fn failed_flush_behind_is_told(rt: HostRuntime) {
     assert!(rt; answers_through(4, 16, Some(2), &FAILED_FLUSH, taken));
 }
 
-/// Of two sinks with lent room, one behind the other, the call that passes bytes on fails, and all later ones.
+/// Where bytes can't be passed on by the second of two such sinks, that call of the first fails, and every later one.
 fn fails_behind(sink: &mut Buffered<Buffered<SliceSink>>) -> bool {
     answer(sink, Put(b"abc")) == Some(3)
         && answer(sink, BeforeRead).is_none()
@@ -199,7 +199,7 @@ impl<'a> Write for Told<'a> {
     }
 }
 
-/// A reader that gives its next piece only where the replies to the lines before were written.
+/// A reader that gives its next piece only once so many bytes of replies were written.
 #[derive(Drop)]
 struct Waits<'a> {
     taken: &'a Cell<usize>,
@@ -221,7 +221,7 @@ impl<'a> Read for Waits<'a> {
     }
 }
 
-// Each reply has fifteen bytes.
+/// Pieces of a script, each with how many bytes of replies come before it; a reply has fifteen.
 const PIECES: [(usize, &[u8]); 7] = [
     (0, b"a\n"),
     (15, b"b\nc\n"),
@@ -232,7 +232,7 @@ const PIECES: [(usize, &[u8]); 7] = [
     (75, b"h"),
 ];
 
-/// All replies came, in time, through room of this size.
+/// Through room of this size each reply comes in time, and all of them.
 fn come_in_time(machine: &mut Machine, size: usize) -> bool {
     let taken = Cell::new(0usize);
     let mut room = [0u8; 64];

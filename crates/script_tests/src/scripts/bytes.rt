@@ -1,10 +1,10 @@
-//! Bytes that no one would write.
+//! Lines that nobody would write.
 use super::{ERRORS, SOUND, writes_anew};
 use std::alloc::Global;
 
 const SYNTAX: &str = "error 1 syntax\n";
 
-/// A text, in pieces of each size, gives this error.
+/// The text is answered by this error, in pieces of each size.
 fn is_refused(alloc: Global, text: &[u8], error: &str) -> bool {
     for size in [1usize, 7, 128, 4096] {
         let run = (text, (size, size), SOUND, error.as_bytes(), ERRORS);
@@ -34,7 +34,7 @@ fn hostile_lines(rt: HostRuntime) {
     }
 }
 
-/// A line of 129 such bytes is too long, and shorter ones are read.
+/// A line of 129 bytes 0xff is too long, and shorter ones are read.
 fn are_bytes_0xff_refused(alloc: Global) -> bool {
     let mut line = [0xffu8; 130];
     line[129] = b'\n';

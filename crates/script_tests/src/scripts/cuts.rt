@@ -1,5 +1,5 @@
-//! One script cut after each of its bytes, and with each call of its devices failing in turn, to a sink that
-//! passes each reply on and to sinks in which replies wait. A machine's state is told by how it goes on.
+//! One script, cut after each of its bytes, and with each call of its devices failing in turn; to a sink that passes
+//! each reply on, and to sinks in which replies wait. Which lines a machine took is seen from its replies to the others.
 use super::{End, Fails, Pieces, is_end, run_between};
 use cc_machine::Machine;
 use cc_script::{Buffered, ScriptFault, SliceSink, SliceSource, Summary, run_script};
@@ -34,7 +34,8 @@ const REPLIES: [&str; 18] = [
 
 const UNFINISHED: &str = "error 2 unfinished\n";
 
-/// The output of a text that goes on from the first lines of the script, and whether it has an error.
+/// The output of a text that stands in the script behind `skipped` lines, and whether it has an error. Where the text
+/// is whole, its rest is answered too.
 fn output_of(
     alloc: Global,
     skipped: usize,
@@ -58,7 +59,7 @@ fn output_of(
     Ok((output, any_error))
 }
 
-/// What follows the first lines of the script.
+/// The script without its first `count` lines.
 fn after_lines(count: usize) -> &'static [u8] {
     let mut left = count;
     for (index, byte) in SCRIPT.iter().enumerate() {
@@ -83,7 +84,7 @@ fn line_feeds(text: &[u8]) -> usize {
 /// The room that the program lends.
 const MOST_ROOM: usize = 32_768;
 
-/// The room in which replies wait, or none where the sink passes each write on.
+/// The size of the room in which replies wait; `None` where the sink passes each write on.
 const ROOMS: [Option<usize>; 6] = [None, Some(1), Some(2), Some(64), Some(200), Some(MOST_ROOM)];
 
 #[derive(Clone, Copy)]
@@ -99,7 +100,7 @@ const SOUND: Devices = Devices {
     room: None,
 };
 
-/// How the run of a text through room of this size ends, and how many bytes the slice took.
+/// How the run of a text ends whose replies wait in room of this size, and how many bytes the slice took.
 fn run_buffered(
     machine: &mut Machine,
     text: &[u8],
@@ -115,7 +116,7 @@ fn run_buffered(
     (end, sink.inner().taken())
 }
 
-/// The same through the devices' room, if they have one.
+/// The same with the devices' room, if they have one.
 fn run_through(
     machine: &mut Machine,
     text: &[u8],
@@ -128,7 +129,7 @@ fn run_through(
     }
 }
 
-/// The run of a text ends so, and writes this.
+/// The run of a text ends so, and has this output.
 fn writes(
     machine: &mut Machine,
     text: &[u8],
@@ -141,14 +142,14 @@ fn writes(
     is_end(end, wanted) && taken.get(..count) == Some(output)
 }
 
-/// The machine stands after these first lines of the script: it gives the replies to all the others.
+/// The machine took the first `lines` lines of the script, and no more: it gives the replies to all the others.
 fn stands_after(alloc: Global, machine: &mut Machine, lines: usize) -> Result<bool, AllocError> {
     let text = after_lines(lines);
     let (output, any_error) = output_of(alloc, lines, text, true)?;
     Ok(writes(machine, text, &SOUND, Ok(Summary { any_error }), &output))
 }
 
-/// The run of a text on a new machine ends so and writes this, and the machine stands after these lines.
+/// The run of a text on a new machine ends so and has this output, and the machine took so many lines.
 fn runs(
     alloc: Global,
     text: &[u8],
@@ -162,7 +163,7 @@ fn runs(
     Ok(is_written && stands_after(alloc, &mut machine, lines)?)
 }
 
-/// The same through pieces of so many bytes, into each room.
+/// The same with each room.
 fn runs_in_all(
     alloc: Global,
     text: &[u8],
@@ -183,7 +184,7 @@ fn runs_in_all(
     Ok(true)
 }
 
-/// The first bytes of the script, read in pieces of this size, are a script of their own.
+/// The first `cut` bytes of the script, read in pieces of this size, are answered as a script of their own.
 fn is_cut(alloc: Global, cut: usize, size: usize) -> Result<bool, AllocError> {
     let text = &SCRIPT[..cut.min(SCRIPT.len())];
     let (output, any_error) = output_of(alloc, 0, text, true)?;
@@ -205,7 +206,7 @@ fn script_cut_after_each_byte(rt: HostRuntime) -> Result<(), Fail> {
     Ok(())
 }
 
-/// The call of the source fails, in pieces of this size: the lines that it gave before it are answered.
+/// Where this call of the source fails, in pieces of this size, the lines that came whole before it are answered.
 fn read_fails(alloc: Global, size: usize, call: u32) -> Result<bool, AllocError> {
     let given = (call as usize).saturating_sub(1).saturating_mul(size);
     let text = &SCRIPT[..given.min(SCRIPT.len())];
@@ -230,8 +231,8 @@ fn each_read_fails(rt: HostRuntime) -> Result<(), Fail> {
     Ok(())
 }
 
-/// The call of the sink fails when it took this output, and the machine stands after these lines, whatever
-/// the room: a piece of six bytes ends one line at most, whose reply is passed on before the next.
+/// Where this call of the sink fails, it had taken this output, and the machine so many lines, whatever the room: a
+/// piece of six bytes ends one line at most, whose reply is passed on before the next piece.
 fn write_fails(
     alloc: Global,
     size: usize,
@@ -248,7 +249,7 @@ fn write_fails(
     runs_in_all(alloc, SCRIPT, &devices, answer, output, lines.min(17))
 }
 
-/// Each write of the replies fails in turn, in pieces of this size; then the flush; and then no call does.
+/// Each write fails in turn, in pieces of this size; then the flush; and then no call does.
 fn all_writes_fail(alloc: Global, size: usize) -> Result<bool, AllocError> {
     let (whole, any_error) = output_of(alloc, 0, SCRIPT, true)?;
     let mut call = 0u32;
@@ -290,8 +291,8 @@ fn each_write_and_the_flush_fail(rt: HostRuntime) -> Result<(), Fail> {
     Ok(())
 }
 
-/// How a run ends where this call of the sink fails, and how many bytes of the output it took before it; none,
-/// where it took others.
+/// How a run ends where this call of the sink fails, and how many bytes of the output it took before; `None` where it
+/// took other bytes.
 fn taken_before(
     machine: &mut Machine,
     whole: &[u8],
@@ -327,7 +328,7 @@ fn taken_anew(
     }
 }
 
-/// Each call of the sink fails in turn, after more and more bytes, and then none does.
+/// Each call of the sink fails in turn, each after no fewer bytes than the one before, and then none does.
 fn more_and_more_is_taken(alloc: Global, whole: &[u8], size: usize, room: Option<usize>) -> bool {
     let mut before = 0usize;
     for call in 1u32..1000 {

@@ -1,9 +1,9 @@
-//! Devices over std's readers and writers, and over slices.
+//! Sources and sinks over slices, and over std's readers and writers.
 use cc_script::{Failed, FromReader, FromWriter, Sink, SliceSink, SliceSource, Source, write_all};
 use std::io;
 use std::io::Read;
 
-/// A read into so many bytes gives these.
+/// A read into room of so many bytes gives these.
 fn reads<S: Source>(source: &mut S, room: usize, given: &[u8]) -> bool {
     let mut piece = [0u8; 8];
     match source.read(&mut piece[..room.min(8)]) {
@@ -65,7 +65,7 @@ impl Read for Endless {
     }
 }
 
-/// It gives 2^30 bytes, and then fails where it is asked for more.
+/// It gives 2^30 bytes, then none into no room, and then fails.
 fn gives_2_to_the_30(source: &mut FromReader<Endless>) -> bool {
     let mut piece = [0u8; 65_536];
     for _ in 0..16_384 {
@@ -81,7 +81,7 @@ fn reader_gives_at_most_2_to_the_30_bytes(rt: HostRuntime) {
     assert!(rt; gives_2_to_the_30(&mut FromReader::new(Endless)));
 }
 
-/// A reader that fails at its first call.
+/// A reader each call of which is interrupted.
 #[derive(Drop)]
 struct Broken;
 

@@ -1,9 +1,9 @@
-//! Devices over readers and writers that fail once, and would go on after it.
+//! Sources and sinks over readers and writers that are interrupted once, and would go on after it.
 use cc_script::{FromReader, FromWriter, Sink, Source};
 use std::io;
 use std::io::{Read, Write};
 
-/// Is interrupted at its first call, and does each of the later ones.
+/// A reader and writer whose first call is interrupted, and whose later ones succeed.
 #[derive(Drop)]
 struct InterruptedOnce {
     has_failed: bool,

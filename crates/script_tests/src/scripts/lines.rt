@@ -1,4 +1,4 @@
-//! Lines as users write them.
+//! Lines, and the operations that they spell or why they are refused.
 use cc_cap::Perms;
 use cc_machine::{Align, Len, Op};
 use cc_script::parse_line;
@@ -30,7 +30,7 @@ fn spells(line: &[u8], op: &Op) -> bool {
     }
 }
 
-/// The line is refused so; no two refusals have one code.
+/// The line is refused so.
 fn is_refused(line: &[u8], refusal: Refusal) -> bool {
     match parse_line(line) {
         Ok(_) => false,
@@ -45,7 +45,7 @@ fn lines_spell_operations(rt: HostRuntime) {
     }
 }
 
-/// Each line with a length of 512 bytes spells its operation.
+/// Lines with a length of 512 bytes spell their operations.
 fn lengths_are_spelled() -> bool {
     match Len::new(0x200) {
         Some(len) => {
@@ -58,7 +58,7 @@ fn lengths_are_spelled() -> bool {
     }
 }
 
-/// The line spells the permissions of these bits for slot 0.
+/// The line spells `perms` of slot 0, with these bits.
 fn spells_perms(line: &[u8], bits: u16) -> bool {
     match Perms::from_bits(bits) {
         Some(perms) => spells(line, &Op::Perms(0, perms)),
@@ -126,7 +126,7 @@ fn faults_in_their_order(rt: HostRuntime) {
     }
 }
 
-/// A command of 128 bytes is read, and of one more it is too long.
+/// A line of 128 bytes is read, and one of 129 is too long.
 fn zeros_are_read() -> bool {
     let mut line = [b'0'; 129];
     line[..5].copy_from_slice(b"show ");
@@ -167,7 +167,7 @@ const NAMES: [&str; 16] = [
     "USER3",
 ];
 
-/// The name spells the permission of this bit.
+/// In a line the name spells the permission with these bits.
 fn is_name_of(name: &str, bit: u16) -> bool {
     let mut line = [0u8; 64];
     let end = name.len().saturating_add(8);

@@ -1,4 +1,4 @@
-//! Numbers as users write them.
+//! Texts, and the lengths that they spell or why they are refused.
 use cc_script::read_length;
 use cc_word::Refusal;
 use cc_word::Refusal::{OutOfRange, Syntax};

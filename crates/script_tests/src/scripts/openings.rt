@@ -1,12 +1,11 @@
-//! Scripts that begin with operations.
-
+//! Runs that begin with operations, before their script.
 use super::{CLEAN, ERRORS, End, Fails, SOUND, is_end};
 use cc_machine::{Len, Machine, Op};
 use cc_plan::Align;
 use cc_script::{ScriptFault, SliceSink, SliceSource, run_script_after};
 use std::alloc::{AllocError, Global};
 
-/// The replies to the operations of a plan of 65,536 bytes from 0x10000 on.
+/// The replies to the operations of a plan of 65,536 bytes from 0x10000.
 const PLAN: &[u8] =
     b"slot 1 ffff0000000000000000000000010000 0x0 0x10000000000000000\nslot 2 ffff0000000190000000000000010000 0x10000 0x20000\npool 2 0x10000 0x20000\n";
 
@@ -27,7 +26,7 @@ fn run_after(
     (end, sink.taken())
 }
 
-/// The run after an opening ends as the row says, and writes what it says.
+/// The run after this opening ends as the row says, and has its replies.
 fn writes(opening: &[Op], machine: &mut Machine, row: &Row) -> bool {
     let (script, fails, (first, then), wanted) = *row;
     let mut room = [0u8; 512];
@@ -43,7 +42,7 @@ fn writes_anew(alloc: Global, opening: &[Op], row: &Row) -> bool {
     }
 }
 
-/// The same after the operations of the plan.
+/// The same after the operations of a plan.
 fn is_planned(alloc: Global, row: &Row) -> bool {
     match Len::new(65_536) {
         Some(len) => {

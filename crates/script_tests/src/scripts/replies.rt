@@ -1,4 +1,4 @@
-//! Replies as users read them.
+//! Replies and their texts.
 use cc_bounds::Span;
 use cc_cap::{ObjType, Perms};
 use cc_machine::{Align, Reply};
@@ -124,7 +124,7 @@ fn root_as_text(rt: HostRuntime) {
     assert!(rt; is_text_of(&root, text));
 }
 
-/// A sealed capability with a flag and a parent.
+/// A sealed capability that has its flag and a parent has this text.
 fn is_sealed_one_told() -> bool {
     let Some(otype) = ObjType::from_bits(7) else {
         return false;

@@ -1,11 +1,11 @@
-//! Worked scripts, each on a machine of its own.
+//! Worked scripts and their outputs, each on a new machine.
 use super::{Pieces, SOUND, is_end, run_between, writes_anew};
 use cc_machine::Machine;
 use cc_script::{ScriptFault, Summary};
 use std::alloc::{AllocError, Global};
 use std::process::Abort;
 
-/// A name, the limit of slots, a script, and what it writes.
+/// A name, the most slots of the machine, a script, and its output.
 type Row<'a> = (&'a str, u32, &'a str, &'a str);
 
 #[rattlefmt::skip]
@@ -67,7 +67,7 @@ fn has_error(output: &str) -> bool {
     output.starts_with("error ") || output.contains("\nerror ")
 }
 
-/// The row's script, on a new machine with so many slots, writes what it has to.
+/// The row's script has its output on a new machine with at most so many slots, in these pieces.
 fn answers(alloc: Global, limit: u32, row: &Row, pieces: Pieces) -> bool {
     let (_, _, script, output) = *row;
     let end = Ok(Summary {
@@ -90,17 +90,17 @@ fn run_all(rt: &impl Abort, alloc: Global, rows: &[Row]) {
 }
 
 #[test]
-fn rows(rt: HostRuntime) {
+fn worked_scripts_have_their_outputs(rt: HostRuntime) {
     run_all(&rt, rt.alloc(), &ROWS);
 }
 
-/// The script `tests/opening` refuses each request for memory after the machine was opened.
+/// `tests/opening` refuses each request for memory that this test makes after the machine was opened.
 #[test]
 fn no_memory_after_opening(rt: HostRuntime) {
     assert!(rt; answers(rt.alloc(), 64, &ROWS[18], (7, 5)));
 }
 
-/// The same of a machine whose pool is the whole address space.
+/// The same on a machine whose pool is the whole address space.
 #[test]
 fn no_memory_after_opening_for_a_whole_pool(rt: HostRuntime) {
     assert!(rt; answers(rt.alloc(), 64, &ROWS[19], (7, 5)));
@@ -109,7 +109,7 @@ fn no_memory_after_opening_for_a_whole_pool(rt: HostRuntime) {
 const SHOWN: &[u8] =
     b"cap ffff0000000000000000000000000000 0x0 0x10000000000000000 ffff 0 3ffff -\n";
 
-/// A script whose eleventh read fails ends so, and its reply fills this room, as far as it goes.
+/// The run of a script whose eleventh read fails ends so, and its first reply fills this room as far as it goes.
 fn fails(machine: &mut Machine, room: &mut [u8], fault: ScriptFault) -> bool {
     let failing = (Some(11), None);
     let (end, taken) = run_between(machine, b"show 0\nsho", (1, 256), failing, room);
@@ -118,7 +118,7 @@ fn fails(machine: &mut Machine, room: &mut [u8], fault: ScriptFault) -> bool {
         && room.get(..taken) == SHOWN.get(..taken)
 }
 
-/// The read fails where there is room for the reply, and else the write.
+/// With room for the first reply the read fails, and without it the write.
 fn device_fails(alloc: Global) -> bool {
     match Machine::with_limit(alloc, 16) {
         Ok(mut machine) => {
@@ -130,20 +130,20 @@ fn device_fails(alloc: Global) -> bool {
 }
 
 #[test]
-fn device_failures(rt: HostRuntime) {
+fn devices_fail(rt: HostRuntime) {
     assert!(rt; device_fails(rt.alloc()));
 }
 
 const FIRST: &[u8] = b"slot 1 ffff0000000000000000000000000001 0x0 0x10000000000000000\n";
 
-/// A script of two replies fills room for one, and the machine has then so many slots.
+/// The first of two replies fills this room, the run ends, and the machine then has so many slots.
 fn fills(machine: &mut Machine, room: &mut [u8], slots: u32) -> bool {
     let script = b"addr 0 1\naddr 0 2\n";
     let (end, _) = run_between(machine, script, (5, 5), SOUND, room);
     is_end(end, Err(ScriptFault::Write)) && machine.slots() == slots && FIRST.starts_with(room)
 }
 
-/// The same of a new machine.
+/// The same on a new machine.
 fn fills_anew(alloc: Global, room: &mut [u8], slots: u32) -> bool {
     match Machine::with_limit(alloc, 16) {
         Ok(mut machine) => fills(&mut machine, room, slots),
@@ -157,7 +157,7 @@ fn room_for_one_reply(rt: HostRuntime) {
     assert!(rt; fills_anew(rt.alloc(), &mut [0u8; 63], 2));
 }
 
-/// Scripts of capabilities, sealing and bounds, and of two reasons to refuse one command.
+/// Scripts of sealing and bounds, and of commands with two reasons to be refused.
 #[rattlefmt::skip]
 const CALLS: [Row; 9] = [
     ("rounding_within_parent", 4096, "bounds 0 0x1008\naddr 1 3\nbounds 2 0x1004\nexact 2 0x1004\nbounds 2 0x1006\n",
@@ -181,6 +181,6 @@ const CALLS: [Row; 9] = [
 ];
 
 #[test]
-fn rows_of_calls(rt: HostRuntime) {
+fn worked_derivations_have_their_outputs(rt: HostRuntime) {
     run_all(&rt, rt.alloc(), &CALLS);
 }

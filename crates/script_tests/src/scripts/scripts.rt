@@ -1,4 +1,4 @@
-//! Scripts over slices.
+//! Scripts in pieces of every size, rests, failures, and flushes.
 ghost use Rattle.std.specs.Prelude.{None};
 
 use super::{CLEAN, ERRORS, End, Row, SOUND, run_each, writes_anew};
@@ -6,7 +6,7 @@ use cc_machine::Machine;
 use cc_script::{Failed, ScriptFault, Sink, SliceSource, run_script};
 use std::alloc::{AllocError, Global};
 
-/// What the tests' scripts hold: a reply, an error, a long line, an empty line and a rest.
+/// Lines with a reply and with an error, an empty one, and a rest.
 const SCRIPT: &[u8] = b"round 4095\nshow 1\n\nround 0x10000000000000001\nround 1\nsho";
 
 const OUTPUT: &[u8] =
@@ -23,7 +23,7 @@ fn empty_script(rt: HostRuntime) {
     run_each(&rt, rt.alloc(), &EMPTY);
 }
 
-/// The script, read in pieces of this size and written in pieces of all sizes.
+/// The script has its output, read in pieces of this size and written in pieces of every size.
 fn is_answered(alloc: Global, read: usize) -> bool {
     for write in [1usize, 2, 3, 7, 128, 5000] {
         if !writes_anew(alloc, 16, &(SCRIPT, (read, write), SOUND, OUTPUT, ERRORS)) {
@@ -102,7 +102,7 @@ fn failed_flush_is_told(rt: HostRuntime) {
     run_each(&rt, rt.alloc(), &FAILED_FLUSHES);
 }
 
-/// A sink that counts its flushes.
+/// A sink that takes `writes_left` writes and then fails, and counts its flushes.
 #[derive(Drop)]
 struct Counting {
     flushes: u32,
@@ -134,7 +134,7 @@ impl Sink for Counting {
     }
 }
 
-/// How often a sink that takes so many writes is flushed in a run of the script.
+/// How often a sink that takes so many writes is flushed in a run of the script whose read `fail_at` fails.
 fn count_flushes(machine: &mut Machine, script: &[u8], writes: u32, fail_at: Option<u32>) -> u32 {
     let mut source = SliceSource::new(script, 3, fail_at);
     let mut sink = Counting {
@@ -146,7 +146,7 @@ fn count_flushes(machine: &mut Machine, script: &[u8], writes: u32, fail_at: Opt
     sink.flushes
 }
 
-/// It is flushed so often in a run on a new machine.
+/// On a new machine the sink is flushed as often as the row says.
 fn is_flushed(alloc: Global, row: &(&[u8], u32, Option<u32>, u32)) -> bool {
     let (script, writes, fail_at, count) = *row;
     match Machine::with_limit(alloc, 16) {
