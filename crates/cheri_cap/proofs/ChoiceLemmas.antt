@@ -1,4 +1,4 @@
--- The choice that `explain` wants, and the faults of the program's words.
+-- Which values of `explain` go together, and the faults of the program's words.
 use Rattle.std.proofs.Common.{◌≡◌, Bool, true, false, List, [], ◌∷◌, Option, Some, None, inl, inr, is_some, refl, subst, sym, option_map}
 use Rattle.std.specs.Prelude.{◌&&◌, Result, Ok, Err, not, unwrap_or}
 use Rattle.std.specs.Borrow.{Bor}
@@ -24,13 +24,13 @@ pub length_wanted : (size base : Option Text) → choice_fault false (is_some si
 length_wanted None base e = cc e
 length_wanted (Some text) base e = (text, refl)
 
--- a default for a text
+-- the default of a text that is not given
 pub text_or : (given : Option (Bor Text)) (other : Bor Text)
     → (unwrap_or given other).now ≡ unwrap_or (option_map (λ text. text.now) given) other.now
 text_or None other = refl
 text_or (Some text) other = refl
 
--- a text that is found is a value
+-- a text is given exactly where it has a value
 pub is_some-now : (found : Option (Bor Text)) → is_some found ≡ is_some (option_map (λ text. text.now) found)
 is_some-now None = refl
 is_some-now (Some text) = refl
@@ -45,7 +45,7 @@ none_given : (choice : Option ErrorKind) → not (is_some choice) ≡ true → c
 none_given None e = refl
 none_given (Some kind) e = cc e
 
--- words that are taken are taken by clap, and are a choice
+-- words that are taken are taken by clap, and their values go together
 pub taken_parts : (app : App) (words : List Text) → is_taken app words ≡ true
     → (takes app words ≡ true) × (choice_fault_in (subcommand_of app words) ≡ None)
 taken_parts app words taken =
@@ -61,13 +61,13 @@ first_kind (k ∷ ks) second e has = has
 pub clap_fails : (app : App) (words : List Text) (e : Error) → HasKind (fault_of app words) e → HasKind (faults_of app words) e
 clap_fails app words e has = first_kind (fault_of app words) (kinds_in (choice_fault_in (subcommand_of app words))) e has
 
--- where clap has none, the choice decides
+-- where clap has no error, the values of `explain` decide
 pub choice_fails : {T : Type 0} (app : App) (words : List Text) (r : Result T Error) → fault_of app words ≡ []
     → FailsBy (kinds_in (choice_fault_in (subcommand_of app words))) r → FailsBy (faults_of app words) r
 choice_fails app words r faultless told =
     subst (λ (kinds : Kinds). FailsBy (or_else kinds (kinds_in (choice_fault_in (subcommand_of app words)))) r) (sym faultless) told
 
--- an error where the choice has no fault is want of memory
+-- an error where the values of `explain` go together is want of memory
 pub choice_refuses : {T : Type 0} (choice : Option ErrorKind) (r : Result T Error) (Q : Error → Type 0) → FailsBy (kinds_in choice) r
     → ((e : Error) → (choice ≡ None → kind_of e ≡ OutOfMemory) → Q e) → IfErr r Q
 choice_refuses choice (Ok value) Q told make = tt

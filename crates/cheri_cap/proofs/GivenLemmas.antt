@@ -24,7 +24,7 @@ use Rattle.clap.specs.declared.parser.matches.ValueSource.{ValueSource}
 use Rattle.clap.specs.declared.parser.matches.ValueSource.TheVariants.{CommandLine, DefaultValue}
 use Rattle.cheri_cap.specs.Invocation.{HasText}
 
--- both steps are without a fault
+-- two steps have no fault where neither has one
 pub both_empty : (a b : Kinds) → or_else a b ≡ [] → (a ≡ []) × (b ≡ [])
 both_empty [] b e = (refl, e)
 both_empty (k ∷ ks) b e = cc e
@@ -35,7 +35,7 @@ abbrev HasValue : List Text → Type 0
 HasValue [] = ⊥
 HasValue (v ∷ vs) = ⊤
 
--- the values of an id are read and taken as its rule among the command's says
+-- these values of an id are read as its rule among the command's says, and pass
 abbrev pub Passes : List Rule → Text → Reading → List Text → Type 0
 Passes c id how values = (a : Rule) → arg_by_id c id ≡ Some a → (how ≡ reading_by a) × (values_fault a values ≡ [])
 
@@ -43,7 +43,7 @@ Passes c id how values = (a : Rule) → arg_by_id c id ≡ Some a → (how ≡ r
 abbrev IsGiven : List Rule → Row → Type 0
 IsGiven c r = HasValue r.values × Passes c r.id r.reading r.values
 
--- each row
+-- each row has a value, and all its values pass
 abbrev pub AreGiven : List Rule → List Row → Type 0
 AreGiven c [] = ⊤
 AreGiven c (r ∷ rs) = IsGiven c r × AreGiven c rs
@@ -58,7 +58,7 @@ values_more a (x ∷ xs) ys h rest =
     let parts = both_empty (value_kinds a.ignore_case (parser_of_value a.parser) x) (values_fault a xs) h in
     rw parts.0 (values_more a xs ys parts.1 rest)
 
--- a row of the id is changed to one that is given, or is taken out
+-- the change makes rows that are given of a row that is
 abbrev Keeps : List Rule → Text → (Row → List Row) → Type 0
 Keeps c id change = (r : Row) (rs : List Row) → r.id ≡ id → IsGiven c r → AreGiven c rs → AreGiven c (change r ++ rs)
 
@@ -121,7 +121,7 @@ no_default rows a none = go (has_row a.id rows) a.defaults none
 pub no_default-given : (c : List Rule) (a : Rule) → a.defaults ≡ [] → (rows : List Row) → AreGiven c rows → AreGiven c (with_default rows a)
 no_default-given c a none rows given = rw (no_default rows a none) given
 
--- a rule that is the first of its id, and whose uses set one value or more
+-- a rule without a default that is the first of its id, and whose uses set one value or more
 pub set_gives : (c : List Rule) (a : Rule) → a.defaults ≡ [] → action_of a ≡ Set → (unwrap_or_range a.range).start_inclusive ≡ 1 → arg_by_id c a.id ≡ Some a → GivesValue c a
 set_gives c a none sets least own = record { default = no_default-given c a none; uses = uses }
   where
@@ -139,7 +139,7 @@ set_gives c a none sets least own = record { default = no_default-given c a none
         (λ b is. let same : a ≡ b = cc (sym own ∙ is) in (ap reading_by same, subst (λ (r : Rule). values_fault r (v ∷ vs) ≡ []) same pass.1))
         (without-given c a.id rows given))
 
--- a flag that is the first of its id: it is `false`, and a use of it makes it `true`
+-- a flag whose rule is the first of its id: it is `false`, and a use of it makes it `true`
 pub flag_gives : (c : List Rule) (a : Rule) → a.defaults ≡ codes "false" ∷ [] → a.missing ≡ codes "true" ∷ [] → action_of a ≡ SetTrue → values_fault a (codes "false" ∷ []) ≡ []
     → arg_by_id c a.id ≡ Some a → GivesValue c a
 flag_gives c a off on sets passes own = record { default = default; uses = uses }
@@ -353,7 +353,7 @@ level-given s names words has below all e =
 
 -- ---- arguments that are found
 
--- the argument has a value, and its values pass
+-- a row that is found has a value, and its values pass
 abbrev FoundPasses : List Rule → Text → Option Row → Type 0
 FoundPasses c id None = ⊤
 FoundPasses c id (Some r) = HasValue r.values × Passes c id r.reading r.values

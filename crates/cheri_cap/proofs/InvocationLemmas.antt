@@ -1,6 +1,6 @@
--- Which command lines clap takes for the program: those that name one of its commands and give it its texts.
+-- Words that clap takes name one of the program's commands, and give it the values that it wants.
 use Rattle.std.proofs.Common.{◌≡◌, ◌==◌, ◌∙◌, ◌⊎◌, ℕ, Bool, true, false, List, [], ◌∷◌, Option, Some, None, arith, is_some, refl, subst, sym, ap, ap₂, inl, inr, codes, get_or, if◌then◌else◌, option_map}
-use Rattle.std.specs.Prelude.{cond, ⊤, ◌&&◌, ◌||◌, IfSome, IsOk, IsSome, Result, Ok, Err, find, not, Box, pos, unwrap_or}
+use Rattle.std.specs.Prelude.{cond, ⊤, ◌&&◌, ◌||◌, IfSome, IsSome, Result, Ok, Err, find, not, Box, pos, unwrap_or}
 use Rattle.std.specs.Borrow.{Bor}
 use Rattle.std.specs.Box.{box_value}
 use Rattle.std.specs.List.{list_any}
@@ -12,32 +12,29 @@ use Rattle.std.proofs.lemmas.Int.{ints}
 use Rattle.std.proofs.lemmas.Slice.Eq.{bytes_eq-Decides}
 use Rattle.clap.specs.Kinds.{check_kinds}
 use Rattle.clap.specs.Lexer.{without_minus}
-use Rattle.clap.specs.Walk.{Row, Rule, Text, answers_to, arg_by_id, first_of, nothing_held, one_of, rows_after, rows_of, texts, walk}
+use Rattle.clap.specs.Walk.{Row, Rule, Text, answers_to, arg_by_id, first_of, nothing_held, one_of, rows_after, texts, walk}
 use Rattle.clap.specs.Simple.{Shape, argument_words, built, entered, filled, help_rule, help_shape, label_of, names_of, rows_at, subcommand_of, subcommand_rows, subcommand_rows_of}
 use Rattle.clap.specs.Faults.{check_fault, entered_fault, fault_of, level_fault}
 use Rattle.clap.specs.Facts.{explicit_source}
-use Rattle.clap.specs.Matches.{ReadsOne, first_value, subcommand_name_of}
+use Rattle.clap.specs.Matches.{ReadsOne, subcommand_name_of}
 use Rattle.clap.specs.Takes.{is_given}
 use Rattle.clap.specs.Values.{IsSignedIn, same_text}
 use Rattle.clap.specs.declared.builder.value_parser.ValueParser.TheVariants.{Signed}
 use Rattle.clap.specs.declared.parser.matches.ArgMatches.{ArgMatches}
 use Rattle.clap.specs.declared.parser.matches.ArgMatches.TheViews.{out-ArgMatches, out-SubCommand}
-use Rattle.clap.specs.declared.parser.matches.Found.{Found}
 use Rattle.clap.specs.declared.parser.matches.SubCommand.{SubCommand}
 use Rattle.clap.proofs.ValueTestLemmas.{accepts-Accepts}
-use Rattle.clap.proofs.WalkLemmas.{first_value-rows}
 use Rattle.cc_word.specs.declared.refusal.Refusal.{Refusal}
 use Rattle.cc_word.specs.declared.refusal.Refusal.TheVariants.{Syntax}
 use Rattle.cc_plan.specs.declared.align.Align.{Align}
 use Rattle.cc_plan.specs.declared.align.Align.TheVariants.{One, Sixteen}
-use Rattle.cc_script.specs.Commands.{align_in}
 use Rattle.cc_decode.specs.declared.input.InputForm.{InputForm}
 use Rattle.cc_decode.specs.declared.input.ByteOrder.TheVariants.{Little, Big}
 use Rattle.cc_decode.specs.declared.input.InputForm.TheVariants.{Bytes, Lines}
 use Rattle.cc_decode.specs.declared.format.Format.{Format}
 use Rattle.cc_decode.specs.declared.format.Format.TheVariants.{Columns}
 use Rattle.cc_decode.specs.declared.format.Format.TheVariants as format
-use Rattle.cheri_cap.specs.Invocation.{HasChoice, HasItsTexts, HasLimit, HasText, HasValues, HasWanted, IsChosen, IsGiven, IsLimit, IsInvocation, IsLimitText, choice_fault_in, choice_fault_of, align_named, decimal_value, format_named, format_names, program, slots_option, choice_option, command_of, input_named, order_names, HasFlag, flag_option}
+use Rattle.cheri_cap.specs.Invocation.{HasChoice, HasItsTexts, HasLimit, HasValues, HasWanted, IsChosen, IsGiven, IsLimit, IsInvocation, IsLimitText, choice_fault_in, align_named, decimal_value, format_named, format_names, program, slots_option, choice_option, command_of, input_named, order_names, HasFlag, flag_option}
 use Rattle.cheri_cap.specs.declared.invocation.Invocation.{Invocation}
 use Rattle.cheri_cap.proofs.GivenLemmas.{GiveValues, GivesValue, IsTaken, flag_gives, level-given, level_parts, no_default-given, required_given, set_gives, taken}
 
@@ -118,7 +115,7 @@ align_read text among = go (bytes_eq (codes "1") text) (bytes_eq (codes "16") te
     go false true other is e = subst (λ (t : Text). IsSome (align_named t)) ((bytes_eq-Decides (codes "16") text).0 is) refl
     go false false one sixteen e = cc e
 
--- what is read of an alignment that is not 16
+-- an alignment that is not 16 is 1
 pub align_one : (given : Option Text) → IfSome given (λ text. IsSome (align_named text)) → (given ≡ Some (codes "16") → ⊥) → IsChosen align_named One given One
 align_one None read other = refl
 align_one (Some text) read other =
@@ -134,7 +131,7 @@ align_one (Some text) read other =
 
 -- ---- formats
 
--- what has a name is a format
+-- each name of a format names one
 format_read : (text : Text) → list_any (λ name. bytes_eq name text) format_names ≡ true → IsSome (format_named text)
 format_read text among = go (bytes_eq (codes "columns") text) (bytes_eq (codes "text") text) (bytes_eq (codes "csv") text) refl refl refl among
   where
@@ -145,7 +142,7 @@ format_read text among = go (bytes_eq (codes "columns") text) (bytes_eq (codes "
     go false false true one two is e = subst (λ (t : Text). IsSome (format_named t)) ((bytes_eq-Decides (codes "csv") text).0 is) refl
     go false false false one two three e = cc e
 
--- what is read of a format that is none of the others
+-- a format that is neither of the others is columns
 pub format_columns : (given : Option Text) → IfSome given (λ text. IsSome (format_named text)) → (given ≡ Some (codes "text") → ⊥) → (given ≡ Some (codes "csv") → ⊥)
     → IsChosen format_named Columns given Columns
 format_columns None read not_line not_csv = refl
@@ -164,7 +161,7 @@ format_columns (Some text) read not_line not_csv =
 
 -- ---- orders of bytes
 
--- what has a name is an order
+-- each name of an order names one
 order_read : (text : Text) → list_any (λ name. bytes_eq name text) order_names ≡ true → IsSome (input_named text)
 order_read text among = go (bytes_eq (codes "little") text) (bytes_eq (codes "big") text) refl refl among
   where
@@ -174,7 +171,7 @@ order_read text among = go (bytes_eq (codes "little") text) (bytes_eq (codes "bi
     go false true other is e = subst (λ (t : Text). IsSome (input_named t)) ((bytes_eq-Decides (codes "big") text).0 is) refl
     go false false one two e = cc e
 
--- what is read of an order that is not big
+-- an order that is not big is little
 pub order_little : (text : Text) → IsSome (input_named text) → (text ≡ codes "big" → ⊥) → IsChosen input_named Lines (Some text) (Bytes Little)
 order_little text read other =
     go (bytes_eq text (codes "little")) (bytes_eq text (codes "big")) (λ is. other ((bytes_eq-Decides text (codes "big")).0 is)) read
@@ -187,9 +184,7 @@ order_little text read other =
     go false true not_big read = absurd (not_big refl)
     go false false not_big read = cc read
 
--- ---- names
-
--- two names that the test tells apart
+-- two texts that the test tells apart
 other : (a b : Text) → bytes_eq a b ≡ false → a ≡ b → ⊥
 other a b differ same =
     let equal : bytes_eq a b ≡ true = (bytes_eq-Decides a b).1 same in
@@ -215,7 +210,7 @@ has_flag name rows taken = let flag = go (first_of name rows) (one_of name rows)
           (λ e. (bytes_eq-Decides text (codes "false")).0 e) is.1,
     )
 
--- what is read of a flag
+-- what `get_flag` reads of a flag
 pub flag_read : (value : Option Text) (flag : Bool) → IfSome value (λ text. (text ≡ codes "true") ⊎ (text ≡ codes "false")) → (value ≡ None → flag ≡ false)
     → (value ≡ Some (codes "true") → flag ≡ true) → (value ≡ Some (codes "false") → flag ≡ false) → IsGiven value flag
 flag_read None flag either none on off = (λ is. let no : true ≡ false = sym is ∙ none refl in cc no, λ is. cc is)

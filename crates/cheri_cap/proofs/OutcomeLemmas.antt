@@ -12,7 +12,7 @@ use Rattle.cheri_cap.specs.declared.outcome.Fault.{Fault}
 use Rattle.cheri_cap.specs.declared.outcome.Fault.TheVariants as fault
 use Rattle.cheri_cap.specs.Outcome.{EndsBy, EndsOn, ending_of}
 
--- want of memory is no refusal of a command line
+-- an error that refuses the command line is not want of memory
 pub refused_not_for_memory :
     (kind : ErrorKind) (ending : Ending) → EndsBy kind ending → ending ≡ Refused → kind ≢ OutOfMemory
 refused_not_for_memory kind ending told is_refused = λ is_memory.

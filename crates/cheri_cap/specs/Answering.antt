@@ -1,4 +1,4 @@
--- Which answer each question about one word or one length gets, and for which it is an error.
+-- What `show`, `explain` and `round` answer, and where that is an error.
 use Rattle.std.specs.Prelude.{ℕ, true, false, IsErr, List}
 use Rattle.cc_script.specs.Commands.{length_in}
 use Rattle.cc_command.specs.Explanation.{IsExplanation}
@@ -9,7 +9,7 @@ use Rattle.cc_command.specs.Rounding.{IsRounding}
 use Rattle.cheri_cap.specs.declared.question.Question.{Question}
 use Rattle.cheri_cap.specs.declared.question.Question.TheVariants.{Explain, ExplainLength, Round, Show}
 
--- the answer to a question
+-- the bytes are the answer to the question
 abbrev pub IsAnswerTo : Question → (answer : List ℕ) → Type 0
 IsAnswerTo (Show word false) answer = IsListing word.now answer
 IsAnswerTo (Show word true) answer = IsLineAnswer word.now answer
@@ -17,7 +17,7 @@ IsAnswerTo (Explain word) answer = IsExplanation word.now answer
 IsAnswerTo (ExplainLength base size) answer = IsLengthExplanation base.now size.now answer
 IsAnswerTo (Round size) answer = IsRounding size.now answer
 
--- its texts spell no word, no request for bounds or no length, so that the answer is an error
+-- the answer is an error: the texts spell no word, no bounds that can be asked for, or no length
 abbrev pub IsUnanswerable : Question → Type 0
 IsUnanswerable (Show word as_line) = ¬ IsWordText word.now
 IsUnanswerable (Explain word) = ¬ IsWordText word.now

@@ -1,4 +1,4 @@
--- What a command line asks for.
+-- Which command lines are taken, and what each asks for.
 use Rattle.std.specs.Prelude.{cond, ◌≡◌, ◌≤◌, ◌⊎◌, ◌↔◌, ◌&&◌, ◌||◌, ℕ, Bool, IsTrue, true, not, pos, List, [], ◌∷◌, Option, Some, None, IfSome, IsSome, is_some, codes, option_map, unwrap_or, if◌then◌else◌}
 use Rattle.std.specs.Borrow.{Bor}
 use Rattle.std.specs.Option.{option_map_or}
@@ -29,19 +29,19 @@ use Rattle.cheri_cap.specs.declared.question.Question.TheVariants.{Explain, Expl
 
 -- ---- the program as clap reads it
 
--- an argument that may be left out, and has one value
+-- an argument that may be left out
 abbrev pub optional_argument : Text → Rule
 optional_argument name = record (new_rule name) { action = Some Set; value_names = 1 }
 
--- an argument that is wanted
+-- an argument that has to be given
 abbrev pub wanted_argument : Text → Rule
 wanted_argument name = record (optional_argument name) { required = true }
 
--- an option of this name, which has one value
+-- an option `--name` with a value
 abbrev pub valued_option : Text → Rule
 valued_option name = record (optional_argument name) { long = Some name }
 
--- an option of this name, whose value is one of these texts
+-- an option `--name` whose value is one of these texts
 abbrev pub choice_option : Text → Bor (List (Bor Text)) → Rule
 choice_option name choices = record (valued_option name) { parser = Some (Names choices) }
 
@@ -49,7 +49,7 @@ choice_option name choices = record (valued_option name) { parser = Some (Names 
 abbrev pub slots_option : Rule
 slots_option = record (valued_option (codes "slots")) { parser = Some (Signed (pos 1) (pos 65536)) }
 
--- an option of this name that has no value
+-- an option `--name` without a value
 abbrev pub flag_option : Text → Rule
 flag_option name = record (new_rule name) { long = Some name; action = Some SetTrue }
 
@@ -73,11 +73,11 @@ run_command =
     let options = with_rule (with_rule (new_app (codes "run")) slots_option) (flag_option (codes "stats")) in
     with_rule options (optional_argument (codes "file"))
 
--- the command with `[--slots N] [--align ALIGN]`
+-- a command with `[--slots N] [--align ALIGN]` added
 abbrev pub with_pool_options : App → Bor (List (Bor Text)) → App
 with_pool_options command aligns = with_rule (with_rule command slots_option) (choice_option (codes "align") aligns)
 
--- the command with `BASE LENGTH [FILE]`
+-- a command with `BASE LENGTH [FILE]` added
 abbrev pub with_pool : App → App
 with_pool command =
     let pool = with_rule (with_rule command (wanted_argument (codes "base"))) (wanted_argument (codes "length")) in
@@ -105,7 +105,7 @@ decode_command formats orders =
     let options = with_rule (with_rule (new_app (codes "decode")) (choice_option (codes "format") formats)) (choice_option (codes "bytes") orders) in
     with_rule options (optional_argument (codes "file"))
 
--- a program that wants one of its commands and has a version, before its commands are added
+-- the program before its commands are added: it wants one of them, and has a version
 abbrev pub bare_program : App
 bare_program = let bare = new_app (codes "cheri-cap") in record bare {
   top = record bare.top {
@@ -116,24 +116,24 @@ bare_program = let bare = new_app (codes "cheri-cap") in record bare {
   };
 }
 
--- the program with `show` and `round`
+-- a program with `show` and `round` added
 abbrev pub with_words : App → App
 with_words program = with_subcommand (with_subcommand program show_command.top) round_command.top
 
--- the program with `run`, `plan` and `map`
+-- a program with `run`, `plan` and `map` added
 abbrev pub with_scripts : App → Bor (List (Bor Text)) → App
 with_scripts program aligns =
     let runs = with_subcommand (with_subcommand program run_command.top) (plan_command aligns).top in
     with_subcommand runs (map_command aligns).top
 
--- the program as clap reads it, where `--align`, `--format` and `--bytes` take these texts
+-- the whole program, where `--align`, `--format` and `--bytes` take these texts
 abbrev pub program : (aligns formats orders : Bor (List (Bor Text))) → App
 program aligns formats orders =
     let scripts = with_scripts (with_words bare_program) aligns in
     with_subcommand (with_subcommand scripts (decode_command formats orders).top) explain_command.top
 
--- the program as clap reads it, where `--align` takes 1 and 16, `--format` the names of the formats, and `--bytes`
--- those of the orders, wherever in memory these texts stand
+-- the whole program, where `--align` takes 1 and 16, `--format` the names of the formats, and `--bytes` those of the
+-- orders, wherever in memory these texts stand
 pub record IsProgram (app : App) : Type 0 where
   pub aligns : Bor (List (Bor Text))
   pub are : texts aligns.now ≡ codes "1" ∷ codes "16" ∷ []
@@ -145,12 +145,11 @@ pub record IsProgram (app : App) : Type 0 where
 
 -- ---- what clap found, and what it asks for
 
--- the number that decimal digits say, where a plus may stand before them
+-- the number that decimal digits spell, behind a plus or not
 abbrev pub decimal_value : Text → ℕ
 decimal_value text = digits_value 10 (without_leading_plus text)
 
--- the limit is the number that the value of `--slots` says, or 4,096 where it is not given, and a
--- machine can have it
+-- the limit is the value of `--slots`, or 4,096 where it is not given, and a machine can have it
 pub record IsLimit (given : Option Text) (limit : ℕ) : Type 0 where
   pub value : limit ≡ option_map_or decimal_value given 4096
   pub from_one : 1 ≤ limit
@@ -177,11 +176,11 @@ format_named text =
 abbrev pub input_named : Text → Option InputForm
 input_named text = if bytes_eq text (codes "little") then Some (Bytes Little) else if bytes_eq text (codes "big") then Some (Bytes Big) else None
 
--- whether the option was given: clap has the value `true` for one that was
+-- whether an option without a value was given: clap has `true` for it then
 abbrev pub IsGiven : (value : Option Text) → Bool → Type 0
 IsGiven value given = IsTrue given ↔ (value ≡ Some (codes "true"))
 
--- the name of the command that asks a question
+-- the command that asks the question
 abbrev pub question_command : Question → Text
 question_command (Show word as_line) = codes "show"
 question_command (Explain word) = codes "explain"
@@ -204,7 +203,7 @@ HasPool rows pool = (first_of (codes "base") rows ≡ Some pool.base.now) × (fi
 abbrev pub HasFile : List Row → Option (Bor Text) → Type 0
 HasFile rows file = first_of (codes "file") rows ≡ option_map (λ text. text.now) file
 
--- each text of the question is the value of its name, and none where the name has no value
+-- the texts of the question are the values that clap found, and what it has no text for has no value
 abbrev pub HasTexts : List Row → Question → Type 0
 HasTexts rows (Show word as_line) = (first_of (codes "word") rows ≡ Some word.now) × IsGiven (first_of (codes "line") rows) as_line
 HasTexts rows (Explain word) =
@@ -214,7 +213,7 @@ HasTexts rows (ExplainLength base size) =
     × (base.now ≡ unwrap_or (first_of (codes "base") rows) (codes "0"))
 HasTexts rows (Round size) = first_of (codes "length") rows ≡ Some size.now
 
--- the same of the texts and the other values of a command
+-- the values of the command are those that clap found
 abbrev pub HasValues : List Row → Invocation → Type 0
 HasValues rows (Ask question) = HasTexts rows question
 HasValues rows (Run limit stats file) =
@@ -229,14 +228,14 @@ HasValues rows (Decode options file) =
     IsChosen format_named Columns (first_of (codes "format") rows) options.format
     × IsChosen input_named Lines (first_of (codes "bytes") rows) options.input × HasFile rows file
 
--- the command is the subcommand that clap found, and each text is the value that it gives to its name
+-- clap found this command, with these values
 abbrev pub IsInvocation : Option (Text × List Row) → Invocation → Type 0
 IsInvocation found invocation = (rows : List Row) × (found ≡ Some (command_of invocation, rows)) × HasValues rows invocation
 
--- ---- the choice that `explain` wants, of which clap knows nothing
+-- ---- which values of `explain` go together, which clap is not told
 
--- Why the values that are given are no choice: WORD excludes `--length` and `--base`, and one of WORD and `--length` is
--- wanted.
+-- why the values that are given do not go together: WORD excludes `--length` and `--base`, and one of WORD and `--length`
+-- is wanted
 abbrev pub choice_fault : (has_word has_length has_base : Bool) → Option ErrorKind
 choice_fault has_word has_length has_base =
     if has_word then (if has_length || has_base then Some ArgumentConflict else None)
@@ -247,12 +246,12 @@ abbrev pub choice_fault_of : List Row → Option ErrorKind
 choice_fault_of rows =
     choice_fault (is_some (first_of (codes "word") rows)) (is_some (first_of (codes "length") rows)) (is_some (first_of (codes "base") rows))
 
--- the same of what clap found, which is no choice only for `explain`
+-- the same of what clap found: only values of `explain` may not go together
 abbrev pub choice_fault_in : Option (Text × List Row) → Option ErrorKind
 choice_fault_in None = None
 choice_fault_in (Some found) = if bytes_eq found.0 (codes "explain") then choice_fault_of found.1 else None
 
--- the words are taken: by clap, and for the choice
+-- the words are taken: clap takes them, and their values go together
 abbrev pub is_taken : App → List Text → Bool
 is_taken app words = takes app words && not (is_some (choice_fault_in (subcommand_of app words)))
 
@@ -261,7 +260,7 @@ abbrev pub kinds_in : Option ErrorKind → Kinds
 kinds_in None = []
 kinds_in (Some kind) = kind ∷ []
 
--- the kinds of error that the words may give: those of clap, and where it has none, that of the choice
+-- the kinds of error that the words may give: those of clap, and where it has none, that of `explain`
 abbrev pub faults_of : App → List Text → Kinds
 faults_of app words = or_else (fault_of app words) (kinds_in (choice_fault_in (subcommand_of app words)))
 
@@ -281,22 +280,21 @@ pub record IsLimitText (text : Text) : Type 0 where
   pub from_one : 1 ≤ decimal_value text
   pub at_most : decimal_value text ≤ 65536
 
--- the value of `--slots`, where it has one, is a number from 1 to 65,536, and is read as it is written
+-- `--slots` has no value or a number from 1 to 65,536, which is read as it is written
 pub record HasLimit (rows : List Row) : Type 0 where
   pub read : one_of (codes "slots") rows ≡ first_of (codes "slots") rows
   pub limit : IfSome (first_of (codes "slots") rows) IsLimitText
 
--- the value of an option of this name that has none of its own, where clap has one, is `true` or `false`, and is
--- read as it is written
+-- clap has no value, `true` or `false` for an option without a value, and it is read as it is written
 pub record HasFlag (name : Text) (rows : List Row) : Type 0 where
   pub read : one_of name rows ≡ first_of name rows
   pub value : IfSome (first_of name rows) (λ text. (text ≡ codes "true") ⊎ (text ≡ codes "false"))
 
--- the value of this name, where it has one, names what the option chooses
+-- the option has no value, or one that names what it chooses
 abbrev pub HasChoice : {A : Type 0} → (named : Text → Option A) → (name : Text) → List Row → Type 0
 HasChoice named name rows = IfSome (first_of name rows) (λ text. IsSome (named text))
 
--- what clap has for the command of this name, which is one of the program's
+-- the command of this name is one of the program's, and has the values that it wants
 abbrev pub HasWanted : Text → List Row → Type 0
 HasWanted name rows =
     cond (bytes_eq name (codes "show")) (HasText (codes "word") rows × HasFlag (codes "line") rows)
@@ -307,6 +305,6 @@ HasWanted name rows =
     (cond (bytes_eq name (codes "decode")) (HasChoice format_named (codes "format") rows × HasChoice input_named (codes "bytes") rows)
     (cond (bytes_eq name (codes "explain")) (choice_fault_of rows ≡ None) ⊥))))))
 
--- a command was found that has what it wants
+-- clap found a command, with the values that it wants
 abbrev pub HasItsTexts : Option (Text × List Row) → Type 0
 HasItsTexts found = (name : Text) × (rows : List Row) × (found ≡ Some (name, rows)) × HasWanted name rows

@@ -12,7 +12,7 @@ use Rattle.cc_script.specs.declared.summary.ScriptFault.{ScriptFault}
 use Rattle.cc_script.specs.declared.summary.ScriptFault.TheVariants.{Read, Write}
 use Rattle.cc_script.specs.declared.summary.Summary.{Summary}
 
--- the fault of the program where a device fails
+-- the fault of the program where a device failed
 abbrev pub fault_of : ScriptFault → Fault
 fault_of Read = fault.Read
 fault_of Write = fault.Write
@@ -29,21 +29,20 @@ status_of (Answered summary) = bit_of summary.any_error
 status_of Refused = 2
 status_of (Stopped fault) = 3
 
--- how the program ends that was asked for help or for its version: with an answer that is no error, or because it
--- can't be written
+-- how a request for help or for the version ends: with an answer that is no error, or because it could not be written
 abbrev pub EndsRequest : Ending → Type 0
 EndsRequest ending = (ending ≡ Answered (record { any_error = false })) ⊎ (ending ≡ Stopped fault.Write)
 
--- how the program ends where clap gives an error of this kind: all but want of memory, and a request for help or
--- for the version, is a command line that is refused
+-- how an error of this kind ends the program: want of memory stops it, help and the version are answered, and any
+-- other refuses the command line
 abbrev pub EndsBy : ErrorKind → Ending → Type 0
 EndsBy OutOfMemory ending = ending ≡ Stopped fault.Memory
 EndsBy DisplayHelp ending = EndsRequest ending
 EndsBy DisplayVersion ending = EndsRequest ending
 EndsBy _ ending = ending ≡ Refused
 
--- how the program ends on words at which clap may give these kinds of error: not as one whose command line is
--- refused, where there are none; by one of them, where there are some; or because memory is wanting
+-- How words end the program that may give these kinds of error: where there are none, the command line is not refused;
+-- where there are some, one of them ends it; and want of memory may stop it in either case.
 abbrev pub EndsOn : Kinds → Ending → Type 0
 EndsOn kinds ending =
     ((kinds ≡ []) × (ending ≢ Refused))

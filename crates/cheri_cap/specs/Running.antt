@@ -1,4 +1,4 @@
--- What is left where a script was run to its end: the machine and the summary, and what `map` writes of them.
+-- What holds where a script was run to its end, and what `map` writes then.
 use Rattle.std.specs.Prelude.{ℕ, List, ◌++◌, Option, Ok}
 use Rattle.std.specs.Io.KnownBytes.{Appends}
 use Rattle.cc_machine.specs.declared.op.Op.{Op}
@@ -13,15 +13,15 @@ use Rattle.cc_command.specs.Usage.{IsUsage}
 use Rattle.cc_command.specs.declared.tally.Tally.{Tally}
 use Rattle.cc_command.specs.declared.usage.Usage.{Usage}
 
--- The script was run to its end that begins with the operations of `opening` and goes on as the source gives. The
--- replies went to a sink that had taken some bytes before and has taken some now, where it tells them.
+-- The operations of `opening`, and then the script that was to come from a source, were answered to the end by a
+-- machine in this old state; the replies are what a sink took meanwhile, where it tells what it took.
 abbrev pub RanToEnd :
     (old : State) (opening : List Op) (to_come left taken taken_now : Option (List ℕ)) (summary : Summary) (new : State) → Type 0
 RanToEnd old opening to_come left taken taken_now summary new =
     AnswersScript old opening to_come left (Appends taken taken_now) (Ok summary) new
 
--- The sink took the map of a machine's pool, and then the summary of what the machine uses, and of this tally of replies
--- of which the first are to an opening of so many operations.
+-- The sink took the map of a machine's pool, and then the summary of a run: what the machine uses, and this tally of
+-- the replies, of which the first are to an opening of so many operations.
 pub record DrawsMap (state : State) (tally : Tally) (opening : ℕ) (taken taken_now : Option (List ℕ)) : Type 0 where
   pub map : List ℕ
   pub usage : Usage

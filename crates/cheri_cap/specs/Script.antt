@@ -12,7 +12,7 @@ abbrev pub NamesFile : Option Text → Type 0
 NamesFile None = ⊥
 NamesFile (Some path) = path ≢ codes "-"
 
--- where the texts spell no pool, the answer is an error, or can't be written
+-- where the texts spell no pool, the answer is an error, or could not be written
 abbrev pub RefusesPool : (base size : List ℕ) → Result Summary Fault → Type 0
 RefusesPool base size result =
     (refusal : Refusal) → pool_of base size ≡ Err refusal → (result ≡ Ok (record { any_error = true })) ⊎ (result ≡ Err fault.Write)

@@ -5,8 +5,8 @@ use Rattle.cc_command.specs.declared.watch.Watch.{Watch}
 use Rattle.cheri_cap.specs.declared.telling.Telling.{Telling}
 use Rattle.cheri_cap.specs.declared.telling.Terminals.{Terminals}
 
--- what is told where a summary is asked for or not: the summary where it is; hints where it is, and where standard error
--- is a terminal; and that a script is waited for where standard input and standard error are terminals
+-- what is told: the summary where it is asked for; hints where it is, or where standard error is a terminal; and that
+-- a script is waited for where standard input and standard error are terminals
 abbrev pub telling_of : (stats : Bool) → Terminals → Telling
 telling_of stats terminals = record {
   stats = stats;
@@ -14,14 +14,15 @@ telling_of stats terminals = record {
   waits = terminals.input && terminals.errors;
 }
 
--- the pool is worth a hint where one of the replies that make it is `Inexact`, by the number of the first reply that is
+-- the length of the pool, where one of the replies that make it is `Inexact`: the first that is has the number `inexact`,
+-- which is 0 where none is
 abbrev pub inexact_pool : (inexact opening : ℕ) → (pool : Option ℕ) → Option ℕ
 inexact_pool zero opening pool = None
 inexact_pool (suc before) opening pool = if nat_lt opening (suc before) then None else pool
 
--- The hints after a run whose first replies are those to an opening, which made a pool of this length: of the pool, of what
--- was seen in the script, and of the line whose reply is the first that is `Full`. The numbers of the first replies that
--- are `Inexact` and `Full` are given, and 0 where there is none.
+-- The hints after a run whose first `opening` replies made its pool, if it has one, of this length: of the pool, of what
+-- was seen in the script, and of the line whose reply is the first that is `Full`. `inexact` and `full` are the numbers of
+-- the first such replies, and 0 where there is none.
 abbrev pub hints_of : (inexact full : ℕ) → Watch → (opening : ℕ) → (pool : Option ℕ) → Hints
 hints_of inexact full watch opening pool = record {
   inexact = inexact_pool inexact opening pool;

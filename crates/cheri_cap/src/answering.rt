@@ -1,4 +1,4 @@
-//! `show`, `explain` and `round`: the answer to a question about one word or one length.
+//! `show`, `explain` and `round`: which call answers each question.
 ghost use Rattle.std.specs.Prelude.{◌≡◌, ◌↔◌, [], Err, false, true, IfOk, IsErr, IsTrue, OnErr, OnOk};
 ghost use Rattle.cc_command.specs.Answer.{WritesAnswer};
 ghost use Rattle.cheri_cap.specs.Answering.{IsAnswerTo, IsUnanswerable};
@@ -7,7 +7,8 @@ use crate::question::Question;
 use cc_command::{explain_length, explain_word, show_line, show_round, show_word};
 use cc_script::{ScriptFault, Sink, Summary};
 
-/// Writes the answer to a question about one word or one length.
+/// Writes the answer to a question. It is an error, and the summary says so, where a text spells no word, no number or
+/// one that is too large, and where the bytes asked for end past 2^64.
 pub fn answer_question<W: Sink>(
     question: Question<'_>,
     sink: &mut W,

@@ -8,7 +8,7 @@ use clap::builder::ValueParser;
 use clap::{Arg, ArgAction, value_parser};
 use std::alloc::Global;
 
-/// An argument without which the words are refused.
+/// An argument that has to be given.
 pub(crate) fn wanted_argument<'a>(
     alloc: Global,
     name: &'a str,
@@ -21,7 +21,7 @@ pub(crate) fn wanted_argument<'a>(
     optional_argument(alloc, name, placeholder, help).required(true)
 }
 
-/// An argument that may be left out, and has one value.
+/// An argument that may be left out.
 pub(crate) fn optional_argument<'a>(
     alloc: Global,
     name: &'a str,
@@ -37,7 +37,7 @@ pub(crate) fn optional_argument<'a>(
         .action(ArgAction::Set)
 }
 
-/// An option that may be left out, and has one value.
+/// An option `--name` with a value.
 pub(crate) fn valued_option<'a>(
     alloc: Global,
     name: &'a str,
@@ -50,7 +50,7 @@ pub(crate) fn valued_option<'a>(
     optional_argument(alloc, name, placeholder, help).long(name)
 }
 
-/// An option of this name that has no value.
+/// An option `--name` without a value.
 pub(crate) fn flag_option<'a>(alloc: Global, name: &'a str, help: &'a str) -> Arg<'a>
     ensures rule { rule_of result ≡ flag_option name.now }
     ensures local { result.global ≡ false }
@@ -61,7 +61,7 @@ pub(crate) fn flag_option<'a>(alloc: Global, name: &'a str, help: &'a str) -> Ar
         .action(ArgAction::SetTrue)
 }
 
-/// The option `--slots N`.
+/// The option `--slots N`, whose N is from 1 to 65,536.
 pub(crate) fn slots_option<'a>(alloc: Global) -> Arg<'a>
     ensures rule { rule_of result ≡ slots_option }
     ensures local { result.global ≡ false }
@@ -71,7 +71,7 @@ pub(crate) fn slots_option<'a>(alloc: Global) -> Arg<'a>
     ))
 }
 
-/// An option that may be left out, whose value is one of these texts.
+/// An option `--name` whose value is one of `choices`.
 pub(crate) fn choice_option<'a>(
     alloc: Global,
     name: &'a str,

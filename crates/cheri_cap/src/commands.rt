@@ -18,7 +18,8 @@ use crate::help::{
 use clap::Command;
 use std::alloc::{AllocError, Global};
 
-/// The program as clap reads it.
+/// The program with all its commands; `--align`, `--format` and `--bytes` take the texts of `aligns`, `formats` and
+/// `orders`.
 pub(crate) fn program<'a>(
     alloc: Global,
     aligns: &'a [&'a str],
@@ -165,7 +166,7 @@ fn decode_command<'a>(
         .arg(file)
 }
 
-/// The program without its commands.
+/// The program before its commands are added.
 fn bare_program<'a>(alloc: Global) -> Result<Command<'a>, AllocError>
     ensures { IfOk result (λ command. app_of command ≡ bare_program) }
 {
@@ -181,7 +182,7 @@ fn bare_program<'a>(alloc: Global) -> Result<Command<'a>, AllocError>
     )
 }
 
-/// A command of the program, before its arguments are added.
+/// A command before its arguments are added.
 fn bare_command<'a>(
     alloc: Global,
     name: &'a str,

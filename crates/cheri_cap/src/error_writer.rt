@@ -2,10 +2,10 @@
 use std::io::{self, ErrorKind, Write};
 use std::str;
 
-/// Writes text to standard error. A piece that is not UTF-8 is refused.
+/// A writer that prints on standard error. A piece that is not UTF-8 is refused.
 #[derive(Drop)]
 pub struct ErrorWriter<'a, R> {
-    /// What prints it.
+    /// What prints.
     pub to: &'a R,
 }
 

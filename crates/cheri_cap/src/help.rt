@@ -1,5 +1,5 @@
-//! The texts of the help: of each command what it does (`ABOUT`), and what stands behind its arguments (`AFTER_HELP`);
-//! and of each argument and option what it means (`HELP`).
+//! The texts of the help: what each command does (`ABOUT`), what follows its arguments (`AFTER_HELP`), and what each
+//! argument or option means (`HELP`).
 
 pub(crate) const VERSION: &str = "0.3.0\nCHERI Concentrate, 128 bits, CHERI ISA version 9";
 

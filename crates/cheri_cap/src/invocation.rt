@@ -4,23 +4,23 @@ use cc_command::PoolTexts;
 use cc_decode::Options;
 use cc_machine::Align;
 
-/// What the program is asked to do.
+/// A command and its values.
 #[derive(Clone, Copy)]
 pub enum Invocation<'a> {
     /// A question about one word or one length.
     Ask(Question<'a>),
-    /// `run [--slots N] [--stats] [FILE]`: the replies to a script.
+    /// `run [--slots N] [--stats] [FILE]`: answers a script on a new machine.
     Run {
-        /// The most slots, and the most objects, that the machine can have: from 1 to 65,536.
+        /// How many slots, and how many objects, the machine can have: from 1 to 65,536.
         limit: u32,
         /// Whether the run is summed up on standard error.
         stats: bool,
-        /// The script's file. Standard input where there is none, or where it is `-`.
+        /// The script's file; `None` and `-` are standard input.
         file: Option<&'a str>,
     },
-    /// `plan [--slots N] [--align ALIGN] [--stats] BASE LENGTH [FILE]`: the replies to a script, on a machine with a pool.
+    /// `plan [--slots N] [--align ALIGN] [--stats] BASE LENGTH [FILE]`: the same on a machine that has a pool.
     Plan {
-        /// The most slots, and the most objects, that the machine can have: from 1 to 65,536.
+        /// How many slots, and how many objects, the machine can have: from 1 to 65,536.
         limit: u32,
         /// The pool's bounds, as they were typed.
         pool: PoolTexts<'a>,
@@ -28,27 +28,27 @@ pub enum Invocation<'a> {
         align: Align,
         /// Whether the run is summed up on standard error.
         stats: bool,
-        /// The script's file. Standard input where there is none, or where it is `-`.
+        /// The script's file; `None` and `-` are standard input.
         file: Option<&'a str>,
     },
-    /// `map [--slots N] [--align ALIGN] [--svg] BASE LENGTH [FILE]`: what holds the bytes of a pool after a script.
+    /// `map [--slots N] [--align ALIGN] [--svg] BASE LENGTH [FILE]`: runs a script as `plan` does, and draws the pool.
     Map {
-        /// The most slots, and the most objects, that the machine can have: from 1 to 65,536.
+        /// How many slots, and how many objects, the machine can have: from 1 to 65,536.
         limit: u32,
         /// The pool's bounds, as they were typed.
         pool: PoolTexts<'a>,
         /// The pool's alignment.
         align: Align,
-        /// Whether the answer is a picture for a page.
+        /// Whether the pool is drawn as an SVG document.
         svg: bool,
-        /// The script's file. Standard input where there is none, or where it is `-`.
+        /// The script's file; `None` and `-` are standard input.
         file: Option<&'a str>,
     },
-    /// `decode [--format FORMAT] [--bytes ORDER] [FILE]`: what each word of a text, or of raw bytes, holds.
+    /// `decode [--format FORMAT] [--bytes ORDER] [FILE]`: tells what each word of a text, or of raw bytes, holds.
     Decode {
         /// How the input holds words, and how the answers are written.
         options: Options,
-        /// The text's file. Standard input where there is none, or where it is `-`.
+        /// The words' file; `None` and `-` are standard input.
         file: Option<&'a str>,
     },
 }

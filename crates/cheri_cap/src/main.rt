@@ -47,7 +47,7 @@ fn main(rt: HostRuntime) -> ExitCode {
     ExitCode::from(finish(&rt, ending))
 }
 
-/// Does what the program's arguments ask for.
+/// Does what the program's arguments ask for; they have to be UTF-8.
 fn answer_arguments<R: Env + AllocGlobal + Files + Input + Print + Eprint>(
     rt: &R,
     terminals: Terminals,
@@ -66,7 +66,7 @@ fn answer_arguments<R: Env + AllocGlobal + Files + Input + Print + Eprint>(
     }
 }
 
-/// Does what the arguments ask for, the program's own name first.
+/// Does what the arguments ask for; the first is the program's name.
 fn answer_strings<R: AllocGlobal + Files + Input + Print + Eprint>(
     rt: &R,
     terminals: Terminals,
@@ -82,7 +82,7 @@ fn answer_strings<R: AllocGlobal + Files + Input + Print + Eprint>(
     }
 }
 
-/// Does what the words ask for.
+/// Does what the words ask for; the first is the program's name.
 fn answer_words<R: AllocGlobal + Files + Input + Print + Eprint>(
     rt: &R,
     terminals: Terminals,
@@ -120,7 +120,7 @@ fn tell<R: Print + Eprint>(rt: &R, error: &Error) -> Ending
     }
 }
 
-/// Does what was asked for, and writes the answer to the output.
+/// Does what was asked for, and writes the answer to `output`.
 fn answer<R: AllocGlobal + Files + Input + Eprint, W: Sink + Drop>(
     rt: &R,
     terminals: Terminals,
@@ -165,7 +165,7 @@ fn answer<R: AllocGlobal + Files + Input + Eprint, W: Sink + Drop>(
     }
 }
 
-/// Tells a fault on standard error, and answers the exit status.
+/// The exit status, after a fault is told on standard error.
 fn finish<R: Eprint>(rt: &R, ending: Ending) -> u8
     ensures { result ≡ status_of ending }
 {

@@ -1,4 +1,4 @@
-//! `map`: a pool at the end of its script, as a map or as a drawing.
+//! `map`: draws a pool as it is at the end of its script.
 ghost use Rattle.std.specs.Prelude.{◌≡◌, ◌≢◌, ◌≤◌, ◌↔◌, [], false, true, Err, IfOk, OnOk, option_map};
 ghost use Rattle.cc_command.specs.Planning.{plan_opening};
 ghost use Rattle.cheri_cap.specs.Running.{DrawsMap, DrawsPage, RanToEnd};
@@ -16,9 +16,9 @@ use cc_script::{Buffered, FromReader, FromWriter, Sink, Source, Summary};
 use std::io;
 use std::rt::Files;
 
-/// Runs a script on a new machine with a pool, and draws the pool in place of the replies: on a page, or as a map, under
-/// which the run is summed up. Where a text spells no number, or one that is too large, the answer says so, and nothing
-/// more is done.
+/// `map`: answers a script as `plan` does, and in place of the replies writes a drawing of the pool, or a map and the
+/// summary of the run. Where a text of the pool spells no number, or one that is too large, the answer is that refusal,
+/// and no script is opened.
 pub fn map<R: AllocGlobal + Files + Input, W: Sink + Drop>(
     rt: &R,
     limit: u32,
@@ -47,7 +47,7 @@ pub fn map<R: AllocGlobal + Files + Input, W: Sink + Drop>(
     }
 }
 
-/// Runs a script on a new machine with this pool, and draws the pool.
+/// The same with this pool.
 fn map_pool<R: AllocGlobal + Files + Input, W: Sink + Drop>(
     rt: &R,
     limit: u32,
@@ -73,8 +73,8 @@ fn map_pool<R: AllocGlobal + Files + Input, W: Sink + Drop>(
     }
 }
 
-/// Runs a script on a machine that is given a pool, and maps the pool and sums up the run where the script came to
-/// its end. The replies go to the sink that counts.
+/// Answers a script on a machine that is given a pool, and where it came to its end writes the map and the summary to
+/// `sink`. The replies go to `counted` alone.
 fn draw_map<R: AllocGlobal, S: Source, V: Sink, W: Sink>(
     rt: &R,
     machine: &mut Machine,
@@ -100,8 +100,8 @@ fn draw_map<R: AllocGlobal, S: Source, V: Sink, W: Sink>(
     Ok(summary)
 }
 
-/// Runs a script on a machine that is given a pool, and draws the pool on a page where the script came to its end. The
-/// replies go to another sink.
+/// Answers a script on a machine that is given a pool, and where it came to its end writes the drawing to `sink`. The
+/// replies go to `replies` alone.
 fn draw_page<S: Source, V: Sink, W: Sink>(
     machine: &mut Machine,
     pool: Pool,

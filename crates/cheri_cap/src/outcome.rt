@@ -7,13 +7,13 @@ use cc_script::{ScriptFault, Summary};
 use std::alloc::AllocError;
 use thiserror::Error;
 
-/// Why the program stopped before its end. Its text is the one line that stands on standard error.
+/// Why the program stopped before its end. Its text is the line that stands on standard error then.
 #[derive(Clone, Copy, Debug, Error)]
 pub enum Fault {
     /// Memory was refused.
     #[error("cheri-cap: out of memory")]
     Memory,
-    /// A file can't be opened.
+    /// The file to be read could not be opened.
     #[error("cheri-cap: cannot open")]
     Open,
     /// A read failed.
@@ -35,7 +35,7 @@ pub enum Ending {
     Stopped(Fault),
 }
 
-/// The end of a program that was asked for an answer.
+/// How the program ends that was asked for an answer.
 pub fn ending_of(answer: Result<Summary, Fault>) -> Ending
     ensures { result ≡ ending_of answer }
 {

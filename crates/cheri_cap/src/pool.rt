@@ -1,16 +1,16 @@
-//! The pool that a plan begins with.
+//! The pool of `plan` and `map`.
 use cc_machine::{Align, Len};
 
-/// The pool that a plan begins with.
+/// The pool that the machine is given before its script.
 #[derive(Clone, Copy)]
 pub struct Pool {
     /// Its first address.
     pub base: u64,
-    /// Its length.
+    /// How many bytes it has.
     pub length: Len,
-    /// Its alignment.
+    /// What the bounds of each object are aligned to.
     pub align: Align,
 }
 
-/// The replies that a plan makes before its script.
+/// How many replies come before those to the script: two slots and the pool.
 pub const OPENING: u64 = 3;

@@ -1,30 +1,31 @@
 //! A question about one word or one length.
 
-/// What `show`, `explain` and `round` ask for.
+/// What `show`, `explain` and `round` ask for, with the texts as they were typed: any text may stand where a word or a
+/// number is wanted.
 #[derive(Clone, Copy)]
 pub enum Question<'a> {
     /// `show [--line] WORD`: the listing of a word, or its line.
     Show {
-        /// The text that stands for the word, which may be none.
+        /// The word.
         word: &'a str,
-        /// Whether the word is shown on one line.
+        /// Whether `--line` was given.
         as_line: bool,
     },
     /// `explain WORD`: how a word is decoded.
     Explain {
-        /// The text that stands for the word, which may be none.
+        /// The word.
         word: &'a str,
     },
     /// `explain --length N [--base B]`: what setting bounds grants.
     ExplainLength {
-        /// The text that stands for the first address of the bounds, which may be none: `0` where it is not given.
+        /// The first of the bytes asked for; `0` where `--base` was not given.
         base: &'a str,
-        /// The text that stands for their length, which may be none.
+        /// How many bytes are asked for.
         length: &'a str,
     },
     /// `round N`: the length that bounds of `N` bytes take, and its alignment.
     Round {
-        /// The text that stands for `N`, which may be none.
+        /// The length, `N`.
         length: &'a str,
     },
 }

@@ -1,4 +1,4 @@
-//! Reads the command line.
+//! Reads the command line: from words to an `Invocation`, or an error of clap's.
 ghost use Rattle.std.specs.Prelude.{◌≡◌, ◌∷◌, [], IfErr, IfOk, None, codes, is_some, true};
 ghost use Rattle.clap.specs.Walk.{texts};
 ghost use Rattle.clap.specs.Words.{App, FailsBy, first_of, found_of, kind_of, rows_of, subcommand_of, subcommand_rows_of};
@@ -18,8 +18,8 @@ use std::alloc::{AllocError, Global};
 
 /// Reads the program's words, its own name first.
 ///
-/// An error is a mistake in the words, a request for help or for the version, or want of memory; its
-/// kind says which, and its text is for the user.
+/// An error is a mistake in the words, a request for help or for the version, or want of memory; its kind says
+/// which.
 pub fn read_words<'a>(alloc: Global, words: &'a [&'a str]) -> Result<Invocation<'a>, Error>
     ensures read { IfOk result (λ invocation.
         (app : App) × IsProgram app × IsInvocation (subcommand_of app (texts words.now)) invocation) }
@@ -55,7 +55,7 @@ fn orders<'a>() -> &'a [&'a str]
     &["little", "big"]
 }
 
-/// What the command that clap found asks for, or that its values are no choice that it has.
+/// What the command that clap found asks for, or why the values of `explain` do not go together.
 fn chosen<'a>(alloc: Global, matches: &ArgMatches<'a>) -> Result<Invocation<'a>, Error>
     requires { choice_fault_in (subcommand_rows_of matches.now) ≡ None → HasItsTexts (subcommand_rows_of matches.now) }
     ensures read { IfOk result (IsInvocation (subcommand_rows_of matches.now)) }
@@ -67,7 +67,7 @@ fn chosen<'a>(alloc: Global, matches: &ArgMatches<'a>) -> Result<Invocation<'a>,
     }
 }
 
-/// Why the values of `explain` are no choice that it has, if that was found.
+/// Why the values of `explain` do not go together: a word stands alone, and without one a length is wanted.
 fn choice_fault(matches: &ArgMatches<'_>) -> Option<ErrorKind>
     ensures { result ≡ choice_fault_in (subcommand_rows_of matches.now) }
 {
@@ -86,7 +86,7 @@ fn choice_fault(matches: &ArgMatches<'_>) -> Option<ErrorKind>
     }
 }
 
-/// The error that says what `explain` has to choose from.
+/// The error that says which values `explain` takes together.
 fn choice_error(alloc: Global, kind: ErrorKind) -> Result<Error, AllocError>
     ensures { IfOk result (λ error. kind_of error ≡ kind) }
 {
@@ -100,7 +100,7 @@ fn has_value(matches: &ArgMatches<'_>, name: &str) -> bool
     value_of(matches, name).is_some()
 }
 
-/// What the command that clap found asks for.
+/// What the command that clap found asks for, by its name.
 fn invocation_of<'a>(matches: &ArgMatches<'a>) -> Invocation<'a>
     requires { HasItsTexts (subcommand_rows_of matches.now) }
     ensures { IsInvocation (subcommand_rows_of matches.now) result }
@@ -117,7 +117,6 @@ fn invocation_of<'a>(matches: &ArgMatches<'a>) -> Invocation<'a>
     }
 }
 
-/// What `show` asks for.
 fn read_show<'a>(matches: &ArgMatches<'a>) -> Invocation<'a>
     requires word { HasText (codes "word") (rows_of (found_of matches.now)) }
     requires line { HasFlag (codes "line") (rows_of (found_of matches.now)) }
@@ -130,7 +129,6 @@ fn read_show<'a>(matches: &ArgMatches<'a>) -> Invocation<'a>
     })
 }
 
-/// What `round` asks for.
 fn read_round<'a>(matches: &ArgMatches<'a>) -> Invocation<'a>
     requires { HasText (codes "length") (rows_of (found_of matches.now)) }
     ensures command { command_of result ≡ codes "round" }
@@ -141,7 +139,6 @@ fn read_round<'a>(matches: &ArgMatches<'a>) -> Invocation<'a>
     })
 }
 
-/// What `run` asks for.
 fn read_run<'a>(matches: &ArgMatches<'a>) -> Invocation<'a>
     requires limit { HasLimit (rows_of (found_of matches.now)) }
     requires stats { HasFlag (codes "stats") (rows_of (found_of matches.now)) }
@@ -155,7 +152,6 @@ fn read_run<'a>(matches: &ArgMatches<'a>) -> Invocation<'a>
     }
 }
 
-/// What `plan` asks for.
 fn read_plan<'a>(matches: &ArgMatches<'a>) -> Invocation<'a>
     requires pool { HasPoolTexts (rows_of (found_of matches.now)) }
     requires limit { HasLimit (rows_of (found_of matches.now)) }
@@ -173,7 +169,6 @@ fn read_plan<'a>(matches: &ArgMatches<'a>) -> Invocation<'a>
     }
 }
 
-/// What `map` asks for.
 fn read_map<'a>(matches: &ArgMatches<'a>) -> Invocation<'a>
     requires pool { HasPoolTexts (rows_of (found_of matches.now)) }
     requires limit { HasLimit (rows_of (found_of matches.now)) }
@@ -191,7 +186,6 @@ fn read_map<'a>(matches: &ArgMatches<'a>) -> Invocation<'a>
     }
 }
 
-/// What `decode` asks for.
 fn read_decode<'a>(matches: &ArgMatches<'a>) -> Invocation<'a>
     requires format { HasChoice format_named (codes "format") (rows_of (found_of matches.now)) }
     requires order { HasChoice input_named (codes "bytes") (rows_of (found_of matches.now)) }
@@ -207,7 +201,6 @@ fn read_decode<'a>(matches: &ArgMatches<'a>) -> Invocation<'a>
     }
 }
 
-/// What `explain` asks for.
 fn read_explain<'a>(matches: &ArgMatches<'a>) -> Invocation<'a>
     requires { choice_fault_of (rows_of (found_of matches.now)) ≡ None }
     ensures command { command_of result ≡ codes "explain" }

@@ -1,4 +1,4 @@
-//! What is told of a run on standard error: a summary, and hints.
+//! What is told of a run on standard error: a summary, hints, and that a script is waited for.
 ghost use Rattle.std.specs.Prelude.{◌≡◌, List, ℕ};
 ghost use Rattle.cc_word.specs.declared.refusal.Refusal.TheVariants as refusal;
 ghost use Rattle.cc_script.specs.Lines.{lines_of};
@@ -27,12 +27,12 @@ pub struct Telling {
     pub stats: bool,
     /// Whether hints are given.
     pub hints: bool,
-    /// Whether it is told that a script from standard input is waited for.
+    /// Whether it is told, before a script is read from standard input, that it is waited for.
     pub waits: bool,
 }
 
 impl Telling {
-    /// What is told where a summary is asked for or not, and where these streams are terminals.
+    /// What is told where `--stats` is given or not, and these streams are terminals or not.
     pub fn new(stats: bool, terminals: Terminals) -> Self
         ensures { result ≡ telling_of stats terminals }
     {
@@ -44,7 +44,7 @@ impl Telling {
     }
 }
 
-/// Tells that a script is read from a terminal.
+/// Tells the user at a terminal that the script is waited for.
 pub fn tell_waiting<R: Eprint>(rt: &R, telling: Telling, file: Option<&str>) {
     if telling.waits && matches!(file, None | Some("-")) {
         let _ = eprintln!(rt;
@@ -56,25 +56,25 @@ pub fn tell_waiting<R: Eprint>(rt: &R, telling: Telling, file: Option<&str>) {
 /// The place of `Inexact` among the counts of a tally, which stand in the order of the codes.
 const INEXACT: usize = 9;
 
-/// The place of `Full`.
+/// The place of `Full` among them.
 const FULL: usize = 21;
 
-/// The number of the first reply that is `Inexact`, and 0 where none is.
+/// The number of the first reply that is `Inexact`, from 1 up; 0 where none is.
 fn first_inexact(tally: &Tally) -> u64
     ensures { (text : List ℕ) → IsTally text tally.now → result ≡ counted (first_from (is_refusal refusal.Inexact) 1 (lines_of text)) }
 {
     tally.counts[INEXACT].first
 }
 
-/// The number of the first reply that is `Full`, and 0 where none is.
+/// The number of the first reply that is `Full`, from 1 up; 0 where none is.
 fn first_full(tally: &Tally) -> u64
     ensures { (text : List ℕ) → IsTally text tally.now → result ≡ counted (first_from (is_refusal refusal.Full) 1 (lines_of text)) }
 {
     tally.counts[FULL].first
 }
 
-/// What is worth a hint after a run whose first `opening` replies made its pool, of this length where it has one: the
-/// numbers of the first replies that are `Inexact` and `Full`, and what was seen in the script.
+/// What is worth a hint after a run whose first `opening` replies made its pool, if it has one, of `pool` bytes.
+/// `inexact` and `full` are the numbers of the first such replies, or 0.
 fn hints_of(inexact: u64, full: u64, watch: &Watch, opening: u64, pool: Option<Len>) -> Hints
     ensures { result ≡ hints_of inexact full watch.now opening pool }
 {
@@ -90,7 +90,7 @@ fn hints_of(inexact: u64, full: u64, watch: &Watch, opening: u64, pool: Option<L
     }
 }
 
-/// Sums up a run, and gives hints, where that is asked for.
+/// Sums up a run, and gives hints, as `telling` says.
 pub fn tell<R: AllocGlobal + Eprint>(
     rt: &R,
     machine: &Machine,
@@ -116,7 +116,7 @@ pub fn tell<R: AllocGlobal + Eprint>(
     Ok(())
 }
 
-/// Sums up a run on standard error. Where that takes no bytes, nobody is told.
+/// Sums up a run on standard error. That a write there failed is told nowhere.
 fn sum_up<R: AllocGlobal + Eprint>(
     rt: &R,
     machine: &Machine,

@@ -8,7 +8,7 @@ use cc_decode::{ByteOrder, Format, InputForm};
 use cc_machine::Align;
 use clap::ArgMatches;
 
-/// The most slots and objects of a machine where `--slots` is not given.
+/// The value of `--slots` where it is not given.
 const DEFAULT_LIMIT: u32 = 4096;
 
 /// The value of an argument or of an option, if it has one.
@@ -25,7 +25,7 @@ pub(crate) fn base_of<'a>(matches: &ArgMatches<'a>) -> &'a str
     value_of(matches, "base").unwrap_or("0")
 }
 
-/// The value of a wanted argument.
+/// The value of an argument that clap does not let be left out.
 pub(crate) fn wanted_text<'a>(matches: &ArgMatches<'a>, name: &str) -> &'a str
     requires { HasText name.now (rows_of (found_of matches.now)) }
     ensures { first_of name.now (rows_of (found_of matches.now)) ≡ Some result.now }
@@ -47,7 +47,7 @@ pub(crate) fn pool_texts<'a>(matches: &ArgMatches<'a>) -> PoolTexts<'a>
     }
 }
 
-/// Whether an option is given that has no value.
+/// Whether an option without a value was given.
 pub(crate) fn is_given(matches: &ArgMatches<'_>, name: &str) -> bool
     requires { HasFlag name.now (rows_of (found_of matches.now)) }
     ensures { IsGiven (first_of name.now (rows_of (found_of matches.now))) result }
@@ -55,7 +55,7 @@ pub(crate) fn is_given(matches: &ArgMatches<'_>, name: &str) -> bool
     matches.get_flag(name)
 }
 
-/// The value of `--slots`, or the default.
+/// The value of `--slots`, or 4,096.
 pub(crate) fn limit_of(matches: &ArgMatches<'_>) -> u32
     requires { HasLimit (rows_of (found_of matches.now)) }
     ensures { IsLimit (first_of (codes "slots") (rows_of (found_of matches.now))) result }
@@ -86,7 +86,7 @@ pub(crate) fn format_of(matches: &ArgMatches<'_>) -> Format
     }
 }
 
-/// Bytes in the order that the value of `--bytes` names, or lines.
+/// Raw bytes in the order that `--bytes` names, or lines of digits where it is not given.
 pub(crate) fn input_of(matches: &ArgMatches<'_>) -> InputForm
     requires { HasChoice input_named (codes "bytes") (rows_of (found_of matches.now)) }
     ensures { IsChosen input_named InputForm.Lines (first_of (codes "bytes") (rows_of (found_of matches.now))) result }

@@ -1,6 +1,5 @@
 use Rattle.std.proofs.Common.{◌∙◌, Option, ap, is_some, sym}
 use Rattle.clap.specs.Walk.{Text}
-use Rattle.clap.specs.Words.{found_of}
 use Rattle.cheri_cap.proofs.ChoiceLemmas.{is_some-now}
 use Rattle.cheri_cap.proofs.reading.has_value.Goals as goal
 

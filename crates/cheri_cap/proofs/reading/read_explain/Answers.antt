@@ -1,7 +1,6 @@
-use Rattle.std.proofs.Common.{◌≡◌, ◌∙◌, Option, Some, None, ap, codes, is_some, option_map, subst, sym}
+use Rattle.std.proofs.Common.{◌≡◌, ◌∙◌, Option, Some, None, ap, codes, is_some, option_map, subst}
 use Rattle.clap.specs.Walk.{Text}
 use Rattle.clap.specs.Words.{first_of, found_of, rows_of}
-use Rattle.std.specs.Prelude.{IsSome}
 use Rattle.cheri_cap.specs.Invocation.{choice_fault}
 use Rattle.cheri_cap.proofs.ChoiceLemmas.{length_wanted, word_alone}
 use Rattle.cheri_cap.proofs.reading.read_explain.Goals as goal
