@@ -1,5 +1,5 @@
 -- A value with a space in it spells nothing.
-use Rattle.std.proofs.Common.{true≢false, ◌<◌, ◌*◌, ◌++◌, take, drop, get_or, length-take, ◌≡◌, ℕ, ◌+◌, ◌≤◌, Bool, true, false, ◌&&◌, ◌==◌, not, List, [], ◌∷◌, ◌^◌, ◌-◌, length, nat_lt, nat_le, Option, Some, None, Result, Ok, Err, refl, sym, ◌∙◌, ap, arith, if◌then◌else◌, codes}
+use Rattle.std.proofs.Common.{true≢false, ◌<◌, ◌++◌, take, drop, get_or, length-take, ◌≡◌, ℕ, ◌+◌, ◌≤◌, Bool, true, false, ◌&&◌, ◌==◌, not, List, [], ◌∷◌, ◌^◌, ◌-◌, length, nat_lt, Option, Some, None, Result, Ok, Err, refl, sym, ◌∙◌, ap, arith, if◌then◌else◌, codes}
 use Rattle.std.proofs.lemmas.Bool.{eqb-true, lt-ltb}
 use Rattle.std.proofs.lemmas.List.{take-append-drop, drop_more, take_rest}
 use Rattle.std.proofs.lemmas.List.Splits.{length-slice_split}

@@ -1,16 +1,16 @@
-//! Devices over std's readers and writers.
+//! A source over a reader of std, and a sink over a writer.
 ghost use Rattle.std.specs.Prelude.{◌≡◌, ◌^◌, false};
 
 use crate::devices::{Failed, Sink, Source};
 use std::io::{Read, Write};
 
-/// The most bytes that a [`FromReader`] gives that is made without a limit of its own.
+/// How many bytes a [`FromReader`] gives at most that is made without a limit.
 const MOST_BYTES: usize = 1 << 30;
 
 /// A source over a reader. Any error of the reader is a failure, an interruption too.
 ///
-/// The read that would begin behind its limit fails: behind its first 2^30 bytes, where it has no limit of its
-/// own, so that a script through it has fewer.
+/// Once it gave as many bytes as its limit says, the next read fails, even where the reader has no more: a script that
+/// it gives to its end has fewer bytes. Without a limit of its own that is 2^30.
 #[derive(Drop)]
 pub struct FromReader<R> {
     reader: R,
@@ -19,7 +19,7 @@ pub struct FromReader<R> {
 }
 
 impl<R: Read> FromReader<R> {
-    /// A source that has not failed, over this reader.
+    /// A source over this reader, with a limit of 2^30 bytes. It has not failed.
     pub fn new(reader: R) -> Self
         ensures to_come { ⟦<FromReader<R> as Source>⟧.to_come result ≡ R.remaining reader }
         ensures most_to_come { ⟦<FromReader<R> as Source>⟧.most_to_come result ≡ 2 ^ 30 }
@@ -28,7 +28,7 @@ impl<R: Read> FromReader<R> {
         FromReader::with_limit(reader, MOST_BYTES)
     }
 
-    /// The same, but the read that would begin behind its first `limit` bytes fails.
+    /// The same, with a limit of `limit` bytes.
     pub fn with_limit(reader: R, limit: usize) -> Self
         ensures to_come { ⟦<FromReader<R> as Source>⟧.to_come result ≡ R.remaining reader }
         ensures most_to_come { ⟦<FromReader<R> as Source>⟧.most_to_come result ≡ limit }
@@ -68,8 +68,8 @@ impl<R: Read> Source for FromReader<R> {
     }
 }
 
-/// A sink over a writer. Any error of the writer is a failure, an interruption too, and so is a write
-/// that takes nothing of a piece that is not empty.
+/// A sink over a writer. Any error of the writer is a failure, an interruption too, and so is a write that takes nothing
+/// of a piece that is not empty.
 #[derive(Drop)]
 pub struct FromWriter<W> {
     writer: W,
@@ -77,7 +77,7 @@ pub struct FromWriter<W> {
 }
 
 impl<W: Write> FromWriter<W> {
-    /// A sink that has not failed, over this writer.
+    /// A sink over this writer. It has not failed.
     pub fn new(writer: W) -> Self
         ensures taken { ⟦<FromWriter<W> as Sink>⟧.taken_bytes result ≡ W.contents writer }
         ensures failed { ⟦<FromWriter<W> as Sink>⟧.has_failed result ≡ false }

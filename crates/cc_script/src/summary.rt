@@ -7,7 +7,7 @@ pub struct Summary {
     pub any_error: bool,
 }
 
-/// The device that failed, and so ended the run.
+/// Which device failed and so ended the run.
 #[derive(Clone, Copy, Debug, PartialEq, Eq)]
 pub enum ScriptFault {
     /// The source.
