@@ -1,12 +1,12 @@
 -- What the parts of decoding do. No public clause cites this file.
 use Rattle.std.specs.Prelude.{◌≡◌, ◌<◌, ℕ, Bool, ⊤, List, [], ◌∷◌, ◌++◌, length, take, Option}
-use Rattle.std.specs.Io.KnownBytes.{Appends, Consumes}
+use Rattle.std.specs.Io.KnownBytes.{Appends}
 use Rattle.std.specs.List.{list_any}
 use Rattle.cc_script.specs.Output.{with_line_feed}
 use Rattle.cc_decode.specs.Input.{entries_from, left_from}
-use Rattle.cc_decode.specs.Row.{IsWordRow, header_text}
+use Rattle.cc_decode.specs.Row.{IsWordRow}
 use Rattle.cc_decode.specs.Correct.{WritesAnswers}
-use Rattle.cc_decode.specs.Output.{Answer, IsAnswer, AreAnswers, answers_text}
+use Rattle.cc_decode.specs.Output.{Answer, IsAnswer}
 use Rattle.cc_decode.specs.declared.format.Format.{Format}
 use Rattle.cc_decode.specs.declared.input.InputForm.{InputForm}
 use Rattle.cc_decode.specs.declared.input.InputForm.TheVariants.{Lines, Bytes}
@@ -52,26 +52,3 @@ pub record PassesSome (taken taken_now : Option (List ℕ)) (waiting waiting_now
   pub passed : List ℕ
   pub written : Appends taken taken_now passed
   pub waits : waiting ≡ passed ++ waiting_now
-
--- The first entries of the piece were answered, and `rest` is still to come; the next entry has begun with
--- `begun_now`. The sink took the first bytes of the answers, and the others wait.
-pub record AnswersFirst (options : Options) (begun piece rest start : List ℕ) (taken taken_now : Option (List ℕ)) (waiting : List ℕ) (any_error : Bool) : Type 0 where
-  pub entries : List (List ℕ)
-  pub begun_now : List ℕ
-  pub entries_are : entries_from options.input begun piece ≡ entries ++ entries_from options.input begun_now rest
-  pub left_is : left_from options.input begun piece ≡ left_from options.input begun_now rest
-  pub start_is : start ≡ take 129 begun_now
-  pub answers : List Answer
-  pub are_answers : AreAnswers options entries answers
-  pub passed : List ℕ
-  pub written : Appends taken taken_now passed
-  pub waits : answers_text answers ≡ passed ++ waiting
-  pub error_is : any_error ≡ list_any (λ answer. answer.is_error) answers
-
--- what was done up to a read: the header was written, and then the answers to the text that was given so far
-pub record Reads (options : Options) (to_come left : Option (List ℕ)) (start : List ℕ) (taken taken_now : Option (List ℕ)) (any_error : Bool) : Type 0 where
-  pub text : List ℕ
-  pub given : Consumes to_come left text
-  pub opened : Option (List ℕ)
-  pub header : Appends taken opened (header_text options.format)
-  pub answers : Answers options [] text start opened taken_now any_error

@@ -12,9 +12,9 @@ use Rattle.cc_script.specs.Replies.{is_error}
 use Rattle.cc_script.specs.Output.{commands_of, replies_text, rest_text}
 use Rattle.cc_script.specs.Correct.{StopsInReply, StopsAfterLines, BeginsOutput, WritesReplies, WritesOutput, WritesScript, AnswersScript}
 use Rattle.cc_script.specs.declared.summary.ScriptFault.TheVariants.{Read, Write}
-use Rattle.cc_script.specs.Engine.{AnswersOpening, commands_from, Answers, Reads}
+use Rattle.cc_script.specs.Engine.{AnswersOpening, commands_from, Answers}
 use Rattle.cc_script.proofs.DeviceLemmas.{appends_twice, consumes_none, consumes_twice}
-use Rattle.cc_script.proofs.EngineLemmas.{takes_further, replies_text-append, commands_further, stops_behind, stops_before, stops_further}
+use Rattle.cc_script.proofs.EngineLemmas.{Reads, takes_further, replies_text-append, commands_further, stops_behind, stops_before, stops_further}
 use Rattle.cc_script.proofs.OutputLemmas.{stopped_begins}
 
 -- ---- what is still to come

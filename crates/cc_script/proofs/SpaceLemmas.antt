@@ -20,7 +20,7 @@ use Rattle.cc_machine.specs.declared.op.Op.TheVariants as op
 use Rattle.cc_script.specs.declared.keyword.Keyword.{Keyword}
 use Rattle.cc_script.specs.declared.keyword.Keyword.TheVariants as keyword
 use Rattle.cc_script.specs.Numbers.{numeral_of, number_of, within_limit}
-use Rattle.cc_script.specs.Commands.{words_of, permissions_in, with_names, align_in, flag_in, word_in, index_in, length_in, one, two, one_value, two_values, command_of, BeginsWithIndex, BeginsWithNumber}
+use Rattle.cc_script.specs.Commands.{words_of, permissions_in, with_names, align_in, flag_in, word_in, index_in, length_in, one, two, one_value, two_values, command_of, BeginsWithNumber}
 use Rattle.cc_script.proofs.CommandLemmas.{three_values, index_fits, index_over}
 
 -- no byte of the text is a space
@@ -277,10 +277,10 @@ number_begins text at number within some space digits is =
     }
 
 -- the command of a keyword whose first value is the number of a slot
-pub indexed : (k : Keyword) (text second : List ℕ) (slot : ℕ) → BeginsWithIndex text slot second → two_values k (Ok slot) second ≡ command_of k (words_of text)
-indexed k text second slot is =
-    let begins = is.begins in
-    ap (λ (first : Result ℕ Refusal). two_values k first second) (sym (index_fits begins.word slot begins.spelled is.fits))
+pub indexed : (k : Keyword) (text second : List ℕ) (slot : ℕ) → BeginsWithNumber text slot second → slot ≤ 2 ^ 32 - 1
+    → two_values k (Ok slot) second ≡ command_of k (words_of text)
+indexed k text second slot begins fits =
+    ap (λ (first : Result ℕ Refusal). two_values k first second) (sym (index_fits begins.word slot begins.spelled fits))
     ∙ two_or_more k begins.word second
     ∙ ap (command_of k) (sym begins.whole)
 

@@ -1,5 +1,5 @@
 -- Which line spells which command, and the operation or the fault of every line.
-use Rattle.std.specs.Prelude.{◌≡◌, ◌≢◌, ◌<◌, ◌≤◌, ℕ, Bool, true, false, ◌&&◌, ◌-◌, ◌^◌, ◌==◌, List, [], ◌∷◌, length, codes, nat_lt, if◌then◌else◌, Option, Some, None, option_map, option_and_then, Result, Ok, Err}
+use Rattle.std.specs.Prelude.{◌≡◌, ◌≢◌, ◌<◌, ℕ, Bool, true, false, ◌&&◌, ◌-◌, ◌^◌, ◌==◌, List, [], ◌∷◌, length, codes, nat_lt, if◌then◌else◌, Option, Some, None, option_map, option_and_then, Result, Ok, Err}
 use Rattle.std.specs.Int.RustNames.{bit_or}
 use Rattle.std.specs.List.{AllByRecursion, join_with_byte, list_all, slice_split}
 use Rattle.std.specs.Option.{ok_or}
@@ -43,11 +43,6 @@ pub record BeginsWithNumber (text : List ℕ) (number : ℕ) (rest : List ℕ) :
   pub word : List ℕ
   pub whole : words_of text ≡ word ∷ words_of rest
   pub spelled : number_of word ≡ Some number
-
--- The same of a number that a slot may have: at most 2^32 - 1. No public clause cites it.
-pub record BeginsWithIndex (text : List ℕ) (slot : ℕ) (rest : List ℕ) : Type 0 where
-  pub begins : BeginsWithNumber text slot rest
-  pub fits : slot ≤ 2 ^ 32 - 1
 
 -- the number of a slot or of an object that a text spells: at most 2^32 - 1
 abbrev pub index_in : (text : List ℕ) → Result ℕ Refusal

@@ -1,5 +1,6 @@
 use Rattle.std.proofs.Common.{◌≡◌, false, []}
-use Rattle.cc_decode.specs.Engine.{IsBegun, Reads}
+use Rattle.cc_decode.specs.Engine.{IsBegun}
+use Rattle.cc_decode.proofs.EngineLemmas.{Reads}
 use Rattle.cc_decode.proofs.engine.decode_pieces.Given as goal
 
 abbrev pub invariant-pieces : goal.invariant-pieces

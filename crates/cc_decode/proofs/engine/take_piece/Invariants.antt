@@ -1,5 +1,6 @@
 use Rattle.std.proofs.Common.{◌≡◌, ℕ, List, false, length, take}
-use Rattle.cc_decode.specs.Engine.{AnswersFirst, IsBegun}
+use Rattle.cc_decode.specs.Engine.{IsBegun}
+use Rattle.cc_decode.proofs.EngineLemmas.{AnswersFirst}
 use Rattle.cc_decode.proofs.engine.take_piece.Given as goal
 
 abbrev pub invariant-entries : goal.invariant-entries

@@ -6,7 +6,7 @@ pub returns-then-number-from : goal.returns-then-number-from
 returns-then-number-from c command is =
     let fits : c.in-Some.number ≤ 2 ^ 32 - 1 = omega (arith, c.if-number-from.true, c.from.ensures) in
     c.answer_second.ensures command
-    (is ∙ sym (indexed c.args.keyword c.args.values.now c.in-Some.second.now c.in-Some.number (record { begins = c.in-Some.ensures; fits = fits })))
+    (is ∙ sym (indexed c.args.keyword c.args.values.now c.in-Some.second.now c.in-Some.number c.in-Some.ensures fits))
 
 pub returns-else-number-from : goal.returns-else-number-from
 returns-else-number-from c command is =

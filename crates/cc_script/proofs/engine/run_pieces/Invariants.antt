@@ -1,5 +1,5 @@
 use Rattle.std.proofs.Common.{◌≡◌, false, []}
-use Rattle.cc_script.specs.Engine.{Reads}
+use Rattle.cc_script.proofs.EngineLemmas.{Reads}
 use Rattle.cc_script.proofs.engine.run_pieces.Given as goal
 
 abbrev pub invariant-pieces : goal.invariant-pieces
