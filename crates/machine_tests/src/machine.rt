@@ -6,18 +6,14 @@ mod quarantine;
 
 use cc_bounds::Span;
 use cc_cap::{ObjType, Perms};
-use cc_machine::{Align, Len, Machine, Op, Reply};
+use cc_machine::{Align, Len, Machine, Object, Op, Reply};
 use cc_word::Refusal;
-use std::alloc::Global;
+use std::alloc::{AllocError, Global};
 use std::process::Abort;
 use std::test::Fail;
 
 /// The end of the address space.
 const END: u128 = 1 << 64;
-
-fn length(bytes: u128) -> Result<Len, Fail> {
-    Ok(Len::new(bytes).ok_or("longer than the address space")?)
-}
 
 /// An operation whose length is a plain number, so that rows of them can be constants.
 #[derive(Clone, Copy)]
@@ -25,18 +21,20 @@ enum Ask {
     Bounds(u32, u128),
     Exact(u32, u128),
     Alloc(u128),
+    Round(u128),
     Op(Op),
 }
 
 impl Ask {
-    fn op(self, rt: &impl Abort) -> Op {
-        let length = |bytes| Len::new(bytes).expect(rt, "at most the address space");
-        match self {
-            Ask::Bounds(slot, bytes) => Op::Bounds(slot, length(bytes)),
-            Ask::Exact(slot, bytes) => Op::Exact(slot, length(bytes)),
-            Ask::Alloc(bytes) => Op::Alloc(length(bytes)),
+    /// The operation, if its length is one.
+    fn op(self) -> Option<Op> {
+        Some(match self {
+            Ask::Bounds(slot, bytes) => Op::Bounds(slot, Len::new(bytes)?),
+            Ask::Exact(slot, bytes) => Op::Exact(slot, Len::new(bytes)?),
+            Ask::Alloc(bytes) => Op::Alloc(Len::new(bytes)?),
+            Ask::Round(bytes) => Op::Round(Len::new(bytes)?),
             Ask::Op(op) => op,
-        }
+        })
     }
 }
 
@@ -49,6 +47,10 @@ enum Told {
     Whole(u32, u128),
     /// A word with all permissions, no flag and no seal, its base and top, and the slot's parent.
     Shown(u128, u64, u128, Option<u32>),
+    /// The same with a seal of this type.
+    ShownSealed(u128, u64, u128, u32, Option<u32>),
+    /// A length rounded, its granule and its mask.
+    Rounded(u128, u64, u64),
     /// The slot of the pool, its base and top, and the alignment.
     PoolSet(u32, u64, u128, Align),
     /// An object, its slot, its word, its base and top, and the bytes held.
@@ -58,6 +60,18 @@ enum Told {
     /// How many objects were swept, how many slots were revoked, and the bytes held.
     Swept(u32, u32, u128),
     Refused(Refusal),
+}
+
+/// What a slot of all permissions and no flag is shown as.
+fn shown(word: u128, span: Span, otype: ObjType, parent: Option<u32>) -> Reply {
+    Reply::Shown {
+        word,
+        span,
+        perms: Perms::all(),
+        flag: false,
+        otype,
+        parent,
+    }
 }
 
 impl Told {
@@ -73,13 +87,17 @@ impl Told {
                 word,
                 span: Span { base: 0, top: END },
             },
-            Told::Shown(word, base, top, parent) => Reply::Shown {
-                word,
-                span: Span { base, top },
-                perms: Perms::all(),
-                flag: false,
-                otype: ObjType::UNSEALED,
-                parent,
+            Told::Shown(word, base, top, parent) => {
+                shown(word, Span { base, top }, ObjType::UNSEALED, parent)
+            }
+            Told::ShownSealed(word, base, top, bits, parent) => {
+                let otype = ObjType::from_bits(bits).unwrap_or(ObjType::UNSEALED);
+                shown(word, Span { base, top }, otype, parent)
+            }
+            Told::Rounded(rounded, granule, mask) => Reply::Rounded {
+                rounded,
+                granule,
+                mask,
             },
             Told::PoolSet(slot, base, top, align) => Reply::PoolSet {
                 slot,
@@ -108,55 +126,161 @@ impl Told {
     }
 }
 
-/// The machine replies to each operation in turn as its row says.
-fn replies(rt: &impl Abort, machine: &mut Machine, rows: &[(Ask, Told)]) {
-    for (ask, told) in rows {
-        assert_eq!(rt; machine.step(&ask.op(rt)), told.reply());
+/// An operation and its reply.
+type Row = (Ask, Told);
+
+/// The reply to the operation; `OutOfRange`, as no machine replies, where its length is none.
+fn reply(machine: &mut Machine, ask: Ask) -> Reply {
+    match ask.op() {
+        Some(op) => machine.step(&op),
+        None => Reply::Refused(Refusal::OutOfRange),
     }
 }
 
-/// A new machine replies to each operation in turn as its row says.
-fn new_replies(rt: &impl Abort, alloc: Global, rows: &[(Ask, Told)]) -> Result<(), Fail> {
-    let mut machine = Machine::with_limit(alloc, 4096)?;
-    replies(rt, &mut machine, rows);
+/// The machine's first reply to these operations in turn that is not its row's, if there is one.
+fn wrong_reply(machine: &mut Machine, rows: &[Row]) -> Option<Reply> {
+    for (ask, told) in rows {
+        let reply = reply(machine, *ask);
+        if reply != told.reply() {
+            return Some(reply);
+        }
+    }
+    None
+}
+
+/// What is seen of a machine without an operation.
+#[derive(Clone, Copy)]
+enum Look {
+    /// How many slots there are.
+    Slots(u32),
+    /// How many bytes are held.
+    Held(u128),
+    /// A slot, and its parent.
+    Parent(u32, Option<u32>),
+    /// A slot, and its word.
+    Word(u32, u128),
+    /// A slot that can be used.
+    Usable(u32),
+    /// A slot that is revoked.
+    Revoked(u32),
+    /// A number that no slot has.
+    NoSlot(u32),
+    /// An object's number, and what is told of it.
+    Object(u32, Object),
+    /// A number that no object has.
+    NoObject(u32),
+}
+
+fn has_word(machine: &Machine, slot: u32, word: u128) -> bool {
+    match machine.slot(slot) {
+        Ok(cap) => cap.word() == word,
+        Err(_) => false,
+    }
+}
+
+fn has_object(machine: &Machine, number: u32, object: Object) -> bool {
+    match machine.object(number) {
+        Ok(found) => found == object,
+        Err(_) => false,
+    }
+}
+
+fn has_parent(machine: &Machine, slot: u32, parent: Option<u32>) -> bool {
+    match machine.parent(slot) {
+        Ok(found) => found == parent,
+        Err(_) => false,
+    }
+}
+
+fn has_no_slot(machine: &Machine, slot: u32) -> bool {
+    matches!(machine.slot(slot), Err(Refusal::NoSlot))
+        && matches!(machine.parent(slot), Err(Refusal::NoSlot))
+}
+
+fn is_seen(machine: &Machine, look: Look) -> bool {
+    match look {
+        Look::Slots(count) => machine.slots() == count,
+        Look::Held(bytes) => {
+            machine.held_bytes() == bytes && machine.planner().held_bytes() == bytes
+        }
+        Look::Parent(slot, parent) => has_parent(machine, slot, parent),
+        Look::Word(slot, word) => has_word(machine, slot, word),
+        Look::Usable(slot) => machine.slot(slot).is_ok(),
+        Look::Revoked(slot) => matches!(machine.slot(slot), Err(Refusal::Revoked)),
+        Look::NoSlot(slot) => has_no_slot(machine, slot),
+        Look::Object(number, object) => has_object(machine, number, object),
+        Look::NoObject(number) => matches!(machine.object(number), Err(Refusal::NoObject)),
+    }
+}
+
+/// The position of the first of these that is not seen, if there is one.
+fn wrong_look(machine: &Machine, looks: &[Look]) -> Option<usize> {
+    for (position, look) in looks.iter().enumerate() {
+        if !is_seen(machine, *look) {
+            return Some(position);
+        }
+    }
+    None
+}
+
+/// What is wrong with a new machine of so many slots: its first reply that is not its row's, or the first look
+/// that is not seen after the last row.
+fn wrong_anew(
+    alloc: Global,
+    limit: u32,
+    rows: &[&[Row]],
+    looks: &[Look],
+) -> Result<(Option<Reply>, Option<usize>), AllocError> {
+    let mut machine = Machine::with_limit(alloc, limit.clamp(1, 65_536))?;
+    for part in rows {
+        if let Some(reply) = wrong_reply(&mut machine, part) {
+            return Ok((Some(reply), None));
+        }
+    }
+    Ok((None, wrong_look(&machine, looks)))
+}
+
+/// A new machine of so many slots replies to each operation in turn as its row says, and then each look is seen.
+fn check(
+    rt: &impl Abort,
+    alloc: Global,
+    limit: u32,
+    rows: &[&[Row]],
+    looks: &[Look],
+) -> Result<(), Fail> {
+    let (reply, look) = wrong_anew(alloc, limit, rows, looks)?;
+    assert!(rt; reply.is_none(), "{reply:?}");
+    assert!(rt; look.is_none(), "{look:?}");
     Ok(())
 }
 
+/// Slot 2 has the bytes from 0x1000 up to 0x1200.
 #[rattlefmt::skip]
-const SMALL: [(Ask, Told); 2] = [
+const SMALL: [Row; 2] = [
     (Ask::Op(Op::Addr(0, 0x1000)), Told::Whole(1, 0xffff0000000000000000000000001000)),
     (Ask::Bounds(1, 0x200), Told::Made(2, 0xffff0000048190040000000000001000, 0x1000, 0x1200)),
 ];
 
-/// A machine in which slot 2 has the bytes from 0x1000 up to 0x1200.
-fn small(rt: &impl Abort, alloc: Global) -> Result<Machine, Fail> {
-    let mut machine = Machine::with_limit(alloc, 4096)?;
-    replies(rt, &mut machine, &SMALL);
-    Ok(machine)
-}
-
 #[test]
 fn opens_with_ample_memory(rt: HostRuntime) -> Result<(), Fail> {
     for limit in [1, 2, 4096, 65536] {
-        assert!(rt; Machine::with_limit(rt.alloc(), limit)?.slots() == 1);
+        check(&rt, rt.alloc(), limit, &[], &[Look::Slots(1)])?;
     }
     Ok(())
 }
 
-const ROOT_SHOWN: [(Ask, Told); 1] = [(
+const ROOT_SHOWN: [Row; 1] = [(
     Ask::Op(Op::Show(0)),
     Told::Shown(0xffff0000000000000000000000000000, 0, END, None),
 )];
 
 #[test]
 fn root_shown(rt: HostRuntime) -> Result<(), Fail> {
-    let mut machine = Machine::with_limit(rt.alloc(), 1)?;
-    replies(&rt, &mut machine, &ROOT_SHOWN);
-    Ok(())
+    check(&rt, rt.alloc(), 1, &[&ROOT_SHOWN], &[])
 }
 
 #[rattlefmt::skip]
-const SMALL_BOUNDS: [(Ask, Told); 3] = [
+const SMALL_BOUNDS: [Row; 3] = [
     (Ask::Op(Op::Addr(2, 0x1200)), Told::Made(3, 0xffff0000048190040000000000001200, 0x1000, 0x1200)),
     (Ask::Exact(3, 0), Told::Made(4, 0xffff0000048192040000000000001200, 0x1200, 0x1200)),
     (Ask::Op(Op::Rebuild(2, 0xffff0000048192040000000000001200)), Told::Made(5, 0xffff0000048192040000000000001200, 0x1200, 0x1200)),
@@ -164,27 +288,25 @@ const SMALL_BOUNDS: [(Ask, Told); 3] = [
 
 #[test]
 fn small_bounds(rt: HostRuntime) -> Result<(), Fail> {
-    let mut machine = small(&rt, rt.alloc())?;
-    replies(&rt, &mut machine, &SMALL_BOUNDS);
-    assert!(rt; matches!(machine.parent(5), Ok(Some(2))));
-    Ok(())
+    let looks = [Look::Parent(5, Some(2))];
+    check(&rt, rt.alloc(), 4096, &[&SMALL, &SMALL_BOUNDS], &looks)
 }
 
 #[rattlefmt::skip]
-const BOUNDS_AND_LENGTHS_EMPTY: [(Ask, Told); 2] = [
+const BOUNDS_AND_LENGTHS_EMPTY: [Row; 2] = [
     (Ask::Op(Op::Addr(0, 0x1000)), Told::Whole(1, 0xffff0000000000000000000000001000)),
     (Ask::Bounds(1, 0), Told::Made(2, 0xffff0000040190040000000000001000, 0x1000, 0x1000)),
 ];
 
 #[rattlefmt::skip]
-const BOUNDS_AND_LENGTHS_LENGTHS: [(Ask, Told); 3] = [
+const BOUNDS_AND_LENGTHS_LENGTHS: [Row; 3] = [
     (Ask::Bounds(0, 4095), Told::Made(1, 0xffff000007fe40040000000000000000, 0, 0xfff)),
     (Ask::Bounds(0, 4096), Told::Made(2, 0xffff0000000180040000000000000000, 0, 0x1000)),
     (Ask::Bounds(0, 8191), Told::Made(3, 0xffff0000000180050000000000000000, 0, 0x2000)),
 ];
 
 #[rattlefmt::skip]
-const BOUNDS_AND_LENGTHS_END: [(Ask, Told); 3] = [
+const BOUNDS_AND_LENGTHS_END: [Row; 3] = [
     (Ask::Op(Op::Addr(0, 0xffffffffffffff00)), Told::Whole(1, 0xffff000000000000ffffffffffffff00)),
     (Ask::Bounds(1, 0x100), Told::Made(2, 0xffff00000401bf04ffffffffffffff00, 0xffffffffffffff00, END)),
     (Ask::Bounds(1, 0x101), Told::Refused(Refusal::OutOfBounds)),
@@ -192,13 +314,13 @@ const BOUNDS_AND_LENGTHS_END: [(Ask, Told); 3] = [
 
 #[test]
 fn bounds_and_lengths(rt: HostRuntime) -> Result<(), Fail> {
-    new_replies(&rt, rt.alloc(), &BOUNDS_AND_LENGTHS_EMPTY)?;
-    new_replies(&rt, rt.alloc(), &BOUNDS_AND_LENGTHS_LENGTHS)?;
-    new_replies(&rt, rt.alloc(), &BOUNDS_AND_LENGTHS_END)
+    check(&rt, rt.alloc(), 4096, &[&BOUNDS_AND_LENGTHS_EMPTY], &[])?;
+    check(&rt, rt.alloc(), 4096, &[&BOUNDS_AND_LENGTHS_LENGTHS], &[])?;
+    check(&rt, rt.alloc(), 4096, &[&BOUNDS_AND_LENGTHS_END], &[])
 }
 
 #[rattlefmt::skip]
-const ROUNDED_AND_INEXACT: [(Ask, Told); 5] = [
+const ROUNDED_AND_INEXACT: [Row; 5] = [
     (Ask::Op(Op::Addr(0, 1)), Told::Whole(1, 0xffff0000000000000000000000000001)),
     (Ask::Bounds(1, 4096), Told::Made(2, 0xffff0000000380040000000000000001, 0, 0x1008)),
     (Ask::Exact(1, 4096), Told::Refused(Refusal::Inexact)),
@@ -208,46 +330,44 @@ const ROUNDED_AND_INEXACT: [(Ask, Told); 5] = [
 
 #[test]
 fn rounded_and_inexact(rt: HostRuntime) -> Result<(), Fail> {
-    new_replies(&rt, rt.alloc(), &ROUNDED_AND_INEXACT)
+    check(&rt, rt.alloc(), 4096, &[&ROUNDED_AND_INEXACT], &[])
 }
 
-/// A length, what it is rounded to, its granule and its mask.
-type Rounding = (u128, u128, u64, u64);
-
 #[rattlefmt::skip]
-const ROUNDINGS: [Rounding; 5] = [
-    (4095, 0xfff, 1, 0xffffffffffffffff),
-    (8184, 0x1ff8, 8, 0xfffffffffffffff8),
-    (8185, 0x2000, 0x10, 0xfffffffffffffff0),
-    (0xffffffffffffffff, END, 0x80000000000000, 0xff80000000000000),
-    (END, END, 0x80000000000000, 0xff80000000000000),
+const ROUNDINGS: [Row; 5] = [
+    (Ask::Round(4095), Told::Rounded(0xfff, 1, 0xffffffffffffffff)),
+    (Ask::Round(8184), Told::Rounded(0x1ff8, 8, 0xfffffffffffffff8)),
+    (Ask::Round(8185), Told::Rounded(0x2000, 0x10, 0xfffffffffffffff0)),
+    (Ask::Round(0xffffffffffffffff), Told::Rounded(END, 0x80000000000000, 0xff80000000000000)),
+    (Ask::Round(END), Told::Rounded(END, 0x80000000000000, 0xff80000000000000)),
 ];
 
-fn rounds(machine: &mut Machine, row: &Rounding) -> bool {
-    let (bytes, rounded, granule, mask) = *row;
-    let Some(len) = Len::new(bytes) else {
-        return false;
-    };
-    let reply = Reply::Rounded {
-        rounded,
-        granule,
-        mask,
-    };
-    len.get() == bytes && machine.step(&Op::Round(len)) == reply
+/// So many bytes are a length.
+fn is_length(bytes: u128) -> bool {
+    match Len::new(bytes) {
+        Some(len) => len.get() == bytes,
+        None => false,
+    }
+}
+
+/// The lengths of the rows are lengths, and no greater number is one.
+fn are_lengths() -> bool {
+    is_length(4095)
+        && is_length(8184)
+        && is_length(8185)
+        && is_length(0xffffffffffffffff)
+        && is_length(END)
+        && !is_length(END + 1)
 }
 
 #[test]
 fn lengths_rounded(rt: HostRuntime) -> Result<(), Fail> {
-    let mut machine = Machine::with_limit(rt.alloc(), 1)?;
-    for row in &ROUNDINGS {
-        assert!(rt; rounds(&mut machine, row), "{row:?}");
-    }
-    assert!(rt; Len::new(END + 1).is_none());
-    Ok(())
+    assert!(rt; are_lengths());
+    check(&rt, rt.alloc(), 1, &[&ROUNDINGS], &[])
 }
 
 #[rattlefmt::skip]
-const WINDOW_EDGES: [(Ask, Told); 4] = [
+const WINDOW_EDGES: [Row; 4] = [
     (Ask::Op(Op::Addr(2, 0x800)), Told::Made(3, 0xffff0000048190040000000000000800, 0x1000, 0x1200)),
     (Ask::Op(Op::Addr(2, 0x47ff)), Told::Made(4, 0xffff00000481900400000000000047ff, 0x1000, 0x1200)),
     (Ask::Op(Op::Addr(2, 0x7ff)), Told::Refused(Refusal::Unrepresentable)),
@@ -255,7 +375,7 @@ const WINDOW_EDGES: [(Ask, Told); 4] = [
 ];
 
 #[rattlefmt::skip]
-const WINDOW_EDGES_ROUND_ZERO: [(Ask, Told); 4] = [
+const WINDOW_EDGES_ROUND_ZERO: [Row; 4] = [
     (Ask::Bounds(0, 0x200), Told::Made(1, 0xffff0000048180040000000000000000, 0, 0x200)),
     (Ask::Op(Op::Addr(1, 0xfffffffffffff800)), Told::Made(2, 0xffff000004818004fffffffffffff800, 0, 0x200)),
     (Ask::Op(Op::Addr(1, 0xfffffffffffff7ff)), Told::Refused(Refusal::Unrepresentable)),
@@ -263,7 +383,7 @@ const WINDOW_EDGES_ROUND_ZERO: [(Ask, Told); 4] = [
 ];
 
 #[rattlefmt::skip]
-const WINDOW_EDGES_EVERYWHERE: [(Ask, Told); 3] = [
+const WINDOW_EDGES_EVERYWHERE: [Row; 3] = [
     (Ask::Op(Op::Addr(0, 0x8000000000000000)), Told::Whole(1, 0xffff0000000000008000000000000000)),
     (Ask::Bounds(1, 0x8000000000000000), Told::Made(2, 0xffff0000000010078000000000000000, 0x8000000000000000, END)),
     (Ask::Op(Op::Addr(2, 0)), Told::Made(3, 0xffff0000000010070000000000000000, 0x8000000000000000, END)),
@@ -271,13 +391,13 @@ const WINDOW_EDGES_EVERYWHERE: [(Ask, Told); 3] = [
 
 #[test]
 fn window_edges(rt: HostRuntime) -> Result<(), Fail> {
-    replies(&rt, &mut small(&rt, rt.alloc())?, &WINDOW_EDGES);
-    new_replies(&rt, rt.alloc(), &WINDOW_EDGES_ROUND_ZERO)?;
-    new_replies(&rt, rt.alloc(), &WINDOW_EDGES_EVERYWHERE)
+    check(&rt, rt.alloc(), 4096, &[&SMALL, &WINDOW_EDGES], &[])?;
+    check(&rt, rt.alloc(), 4096, &[&WINDOW_EDGES_ROUND_ZERO], &[])?;
+    check(&rt, rt.alloc(), 4096, &[&WINDOW_EDGES_EVERYWHERE], &[])
 }
 
 #[rattlefmt::skip]
-const SEALING: [(Ask, Told); 13] = [
+const SEALING: [Row; 14] = [
     (Ask::Op(Op::Addr(0, 7)), Told::Whole(3, 0xffff0000000000000000000000000007)),
     (Ask::Op(Op::Seal(2, 3)), Told::Made(4, 0xffff1fffc48190040000000000001000, 0x1000, 0x1200)),
     (Ask::Bounds(4, 16), Told::Refused(Refusal::Sealed)),
@@ -291,46 +411,25 @@ const SEALING: [(Ask, Told); 13] = [
     (Ask::Op(Op::Unseal(4, 0)), Told::Refused(Refusal::TypeMismatch)),
     (Ask::Op(Op::Seal(4, 9)), Told::Refused(Refusal::NoSlot)),
     (Ask::Op(Op::Unseal(2, 4)), Told::Refused(Refusal::Unsealed)),
+    (Ask::Op(Op::Show(4)), Told::ShownSealed(0xffff1fffc48190040000000000001000, 0x1000, 0x1200, 7, Some(2))),
 ];
 
-/// How slot 4 is shown, with this type.
-fn shown_sealed(otype: ObjType) -> Reply {
-    Reply::Shown {
-        word: 0xffff1fffc48190040000000000001000,
-        span: Span {
-            base: 0x1000,
-            top: 0x1200,
-        },
-        perms: Perms::all(),
-        flag: false,
-        otype,
-        parent: Some(2),
-    }
-}
-
-/// Slots 4 and 7 have their parents, the root has none, and there are nine slots.
-fn has_parents(machine: &Machine) -> bool {
-    matches!(machine.parent(4), Ok(Some(2)))
-        && matches!(machine.parent(7), Ok(Some(3)))
-        && matches!(machine.parent(0), Ok(None))
-        && matches!(machine.parent(9), Err(Refusal::NoSlot))
-        && machine.slots() == 9
-        && matches!(machine.slot(9), Err(Refusal::NoSlot))
-}
+const SEALED: [Look; 6] = [
+    Look::Parent(4, Some(2)),
+    Look::Parent(7, Some(3)),
+    Look::Parent(0, None),
+    Look::Slots(9),
+    Look::NoSlot(9),
+    Look::Word(4, 0xffff1fffc48190040000000000001000),
+];
 
 #[test]
 fn sealing(rt: HostRuntime) -> Result<(), Fail> {
-    let mut machine = small(&rt, rt.alloc())?;
-    let shown = shown_sealed(ObjType::from_bits(7).ok_or("a reserved type")?);
-    replies(&rt, &mut machine, &SEALING);
-    assert!(rt; machine.step(&Op::Show(4)) == shown);
-    assert!(rt; has_parents(&machine));
-    assert!(rt; machine.slot(4)?.word() == 0xffff1fffc48190040000000000001000);
-    Ok(())
+    check(&rt, rt.alloc(), 4096, &[&SMALL, &SEALING], &SEALED)
 }
 
 #[rattlefmt::skip]
-const REBUILDING: [(Ask, Told); 8] = [
+const REBUILDING: [Row; 8] = [
     (Ask::Op(Op::Rebuild(0, 0)), Told::Whole(1, 0)),
     (Ask::Op(Op::Rebuild(0, 0xffff0000000000010000000000000000)), Told::Refused(Refusal::NotCanonical)),
     (Ask::Op(Op::Rebuild(0, 0xffff0000000020000000000000000000)), Told::Refused(Refusal::NotCanonical)),
@@ -343,7 +442,7 @@ const REBUILDING: [(Ask, Told); 8] = [
 
 #[test]
 fn rebuilding(rt: HostRuntime) -> Result<(), Fail> {
-    new_replies(&rt, rt.alloc(), &REBUILDING)
+    check(&rt, rt.alloc(), 4096, &[&REBUILDING], &[])
 }
 
 /// The second of two slots is made, and a third has no room; that bounds are inexact is told before that; and slots are
@@ -356,18 +455,25 @@ fn are_of_two_slots(told: &[Reply; 4]) -> bool {
         && told[3] == Told::Shown(word, 0, END, Some(0)).reply()
 }
 
-#[test]
-fn slots_run_out(rt: HostRuntime) -> Result<(), Fail> {
-    let mut machine = Machine::with_limit(rt.alloc(), 2)?;
+/// A machine of two slots replies so to a run of operations, and then has two.
+fn is_full_at_two(machine: &mut Machine) -> bool {
+    let Some(len) = Len::new(4096) else {
+        return false;
+    };
     let ops = [
         Op::Addr(0, 1),
         Op::Addr(0, 2),
-        Op::Exact(1, length(4096)?),
+        Op::Exact(1, len),
         Op::Show(1),
     ];
     let mut told = [Reply::Refused(Refusal::Syntax); 4];
     machine.run(&ops, &mut told);
-    assert!(rt; are_of_two_slots(&told));
-    assert!(rt; machine.slots() == 2);
+    are_of_two_slots(&told) && machine.slots() == 2
+}
+
+#[test]
+fn slots_run_out(rt: HostRuntime) -> Result<(), Fail> {
+    let mut machine = Machine::with_limit(rt.alloc(), 2)?;
+    assert!(rt; is_full_at_two(&mut machine));
     Ok(())
 }

@@ -1,13 +1,13 @@
 //! A machine whose pool has alignment 16.
-use super::{Ask, Told, length, replies};
-use cc_machine::{Align, Machine, Op, Reply};
+use super::{Ask, Look, Row, Told, check};
+use cc_machine::{Align, Op};
 use cc_word::Refusal;
-use std::alloc::Global;
-use std::process::Abort;
 use std::test::Fail;
 
+/// A pool of 64 kibibytes and alignment 16, and five objects: the fourth has 8,184 bytes, of granule 8, and is
+/// given 8,192, of granule 16.
 #[rattlefmt::skip]
-const PLANNED: [(Ask, Told); 9] = [
+const PLANNED: [Row; 9] = [
     (Ask::Op(Op::Addr(0, 0x10000)), Told::Whole(1, 0xffff0000000000000000000000010000)),
     (Ask::Exact(1, 0x10000), Told::Made(2, 0xffff0000000190000000000000010000, 0x10000, 0x20000)),
     (Ask::Op(Op::Pool(2, Align::Sixteen)), Told::PoolSet(2, 0x10000, 0x20000, Align::Sixteen)),
@@ -19,36 +19,21 @@ const PLANNED: [(Ask, Told); 9] = [
     (Ask::Op(Op::Pool(2, Align::One)), Told::Refused(Refusal::PoolAlreadySet)),
 ];
 
-/// A pool of 64 kibibytes and alignment 16, and five objects: the fourth has 8,184 bytes, of granule 8, and is
-/// given 8,192, of granule 16.
-fn planned(rt: &impl Abort, alloc: Global) -> Result<Machine, Fail> {
-    let mut machine = Machine::with_limit(alloc, 64)?;
-    replies(rt, &mut machine, &PLANNED);
-    Ok(machine)
-}
-
 #[test]
 fn objects_of_alignment_16(rt: HostRuntime) -> Result<(), Fail> {
-    let machine = planned(&rt, rt.alloc())?;
-    assert!(rt; machine.held_bytes() == 17424);
-    assert!(rt; machine.slots() == 8);
-    Ok(())
+    let looks = [Look::Held(17424), Look::Slots(8)];
+    check(&rt, rt.alloc(), 64, &[&PLANNED], &looks)
 }
+
+const ROUNDED: [Row; 1] = [(Ask::Round(100), Told::Rounded(100, 1, u64::MAX))];
 
 #[test]
 fn round_knows_no_alignment(rt: HostRuntime) -> Result<(), Fail> {
-    let mut machine = planned(&rt, rt.alloc())?;
-    let rounded = Reply::Rounded {
-        rounded: 100,
-        granule: 1,
-        mask: u64::MAX,
-    };
-    assert!(rt; machine.step(&Op::Round(length(100)?)) == rounded);
-    Ok(())
+    check(&rt, rt.alloc(), 64, &[&PLANNED, &ROUNDED], &[])
 }
 
 #[rattlefmt::skip]
-const SWEPT_BYTES_ARE_PLACED_AGAIN_IN_ALIGNMENT_16: [(Ask, Told); 3] = [
+const SWEPT: [Row; 3] = [
     (Ask::Op(Op::Free(2)), Told::Freed(2, 17424)),
     (Ask::Op(Op::Sweep), Told::Swept(1, 1, 12416)),
     (Ask::Alloc(5000), Told::Allocated(6, 8, 0xffff0000010180740000000000010070, 0x10070, 0x11400, 17424)),
@@ -56,11 +41,5 @@ const SWEPT_BYTES_ARE_PLACED_AGAIN_IN_ALIGNMENT_16: [(Ask, Told); 3] = [
 
 #[test]
 fn swept_bytes_are_placed_again_in_alignment_16(rt: HostRuntime) -> Result<(), Fail> {
-    let mut machine = planned(&rt, rt.alloc())?;
-    replies(
-        &rt,
-        &mut machine,
-        &SWEPT_BYTES_ARE_PLACED_AGAIN_IN_ALIGNMENT_16,
-    );
-    Ok(())
+    check(&rt, rt.alloc(), 64, &[&PLANNED, &SWEPT], &[])
 }

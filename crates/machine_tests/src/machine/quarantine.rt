@@ -1,15 +1,13 @@
 //! Freed objects are held until a sweep, which revokes their slots and no others.
-use super::objects::{are_revoked, are_usable, with_pool};
-use super::{Ask, END, Told, replies};
+use super::objects::POOL;
+use super::{Ask, END, Look, Row, Told, check};
 use cc_cap::Perms;
-use cc_machine::{Align, Machine, ObjectState, Op};
+use cc_machine::{Align, Object, ObjectState, Op};
 use cc_word::Refusal;
-use std::alloc::Global;
-use std::process::Abort;
 use std::test::Fail;
 
 #[rattlefmt::skip]
-const SLOTS_OF_A_FREED_OBJECT_STAY_USABLE: [(Ask, Told); 12] = [
+const SLOTS_OF_A_FREED_OBJECT_STAY_USABLE: [Row; 12] = [
     (Ask::Alloc(100), Told::Allocated(1, 3, 0xffff0000041880040000000000010000, 0x10000, 0x10064, 100)),
     (Ask::Alloc(5000), Told::Allocated(2, 4, 0xffff000000fd806c0000000000010068, 0x10068, 0x113f0, 5100)),
     (Ask::Bounds(4, 16), Told::Made(5, 0xffff0000041f806c0000000000010068, 0x10068, 0x10078)),
@@ -24,27 +22,40 @@ const SLOTS_OF_A_FREED_OBJECT_STAY_USABLE: [(Ask, Told); 12] = [
     (Ask::Op(Op::Sweep), Told::Swept(0, 0, 5104)),
 ];
 
-/// The object of this number is in this state.
-fn is_in_state(machine: &Machine, object: u32, state: ObjectState) -> bool {
-    match machine.object(object) {
-        Ok(found) => found.state == state,
-        Err(_) => false,
-    }
-}
+const SWEPT: Object = Object {
+    size: 5000,
+    slot: 4,
+    state: ObjectState::Swept,
+};
+
+const LIVE: Object = Object {
+    size: 5000,
+    slot: 7,
+    state: ObjectState::Live,
+};
+
+const ONE_OF_THREE_SWEPT: [Look; 11] = [
+    Look::Revoked(4),
+    Look::Revoked(5),
+    Look::Revoked(6),
+    Look::Usable(0),
+    Look::Usable(1),
+    Look::Usable(2),
+    Look::Usable(3),
+    Look::Usable(7),
+    Look::Usable(8),
+    Look::Object(2, SWEPT),
+    Look::Object(3, LIVE),
+];
 
 #[test]
 fn slots_of_a_freed_object_stay_usable(rt: HostRuntime) -> Result<(), Fail> {
-    let mut machine = with_pool(&rt, rt.alloc(), 0x10000, 0x10000)?;
-    replies(&rt, &mut machine, &SLOTS_OF_A_FREED_OBJECT_STAY_USABLE);
-    assert!(rt; are_revoked(&machine, &[4, 5, 6]));
-    assert!(rt; are_usable(&machine, &[0, 1, 2, 3, 7, 8]));
-    assert!(rt; is_in_state(&machine, 2, ObjectState::Swept));
-    assert!(rt; is_in_state(&machine, 3, ObjectState::Live));
-    Ok(())
+    let rows: [&[Row]; 2] = [&POOL, &SLOTS_OF_A_FREED_OBJECT_STAY_USABLE];
+    check(&rt, rt.alloc(), 4096, &rows, &ONE_OF_THREE_SWEPT)
 }
 
 #[rattlefmt::skip]
-const SWEEP_BEFORE_ANY_POOL: [(Ask, Told); 3] = [
+const SWEEP_BEFORE_ANY_POOL: [Row; 3] = [
     (Ask::Op(Op::Sweep), Told::Swept(0, 0, 0)),
     (Ask::Op(Op::Pool(0, Align::One)), Told::PoolSet(0, 0, END, Align::One)),
     (Ask::Op(Op::Sweep), Told::Swept(0, 0, 0)),
@@ -52,14 +63,17 @@ const SWEEP_BEFORE_ANY_POOL: [(Ask, Told); 3] = [
 
 #[test]
 fn sweep_before_any_pool(rt: HostRuntime) -> Result<(), Fail> {
-    let mut machine = Machine::with_limit(rt.alloc(), 1)?;
-    replies(&rt, &mut machine, &SWEEP_BEFORE_ANY_POOL);
-    assert!(rt; machine.slots() == 1);
-    Ok(())
+    check(
+        &rt,
+        rt.alloc(),
+        1,
+        &[&SWEEP_BEFORE_ANY_POOL],
+        &[Look::Slots(1)],
+    )
 }
 
 #[rattlefmt::skip]
-const TWO_OBJECTS: [(Ask, Told); 4] = [
+const TWO_OBJECTS: [Row; 4] = [
     (Ask::Alloc(100), Told::Allocated(1, 3, 0xffff0000041880040000000000010000, 0x10000, 0x10064, 100)),
     (Ask::Alloc(200), Told::Allocated(2, 4, 0xffff0000044a80600000000000010064, 0x10064, 0x1012c, 300)),
     (Ask::Op(Op::Inc(3, 1)), Told::Made(5, 0xffff0000041880040000000000010001, 0x10000, 0x10064)),
@@ -67,7 +81,7 @@ const TWO_OBJECTS: [(Ask, Told); 4] = [
 ];
 
 #[rattlefmt::skip]
-const SWEPT_AT_ONCE: [(Ask, Told); 9] = [
+const SWEPT_AT_ONCE: [Row; 9] = [
     (Ask::Op(Op::Sweep), Told::Swept(2, 4, 0)),
     (Ask::Op(Op::Free(1)), Told::Refused(Refusal::NoObject)),
     (Ask::Op(Op::Free(2)), Told::Refused(Refusal::NoObject)),
@@ -79,33 +93,27 @@ const SWEPT_AT_ONCE: [(Ask, Told); 9] = [
     (Ask::Alloc(300), Told::Allocated(3, 7, 0xffff0000044a80040000000000010000, 0x10000, 0x1012c, 300)),
 ];
 
-const FREED_UP: [(Ask, Told); 2] = [
+const FREED_UP: [Row; 2] = [
     (Ask::Op(Op::Free(1)), Told::Freed(1, 300)),
     (Ask::Op(Op::Free(2)), Told::Freed(2, 300)),
 ];
 
-const FREED_DOWN: [(Ask, Told); 2] = [
+const FREED_DOWN: [Row; 2] = [
     (Ask::Op(Op::Free(2)), Told::Freed(2, 300)),
     (Ask::Op(Op::Free(1)), Told::Freed(1, 300)),
 ];
 
-/// Two objects are freed in this order, and swept at once.
-fn swept_together(rt: &impl Abort, alloc: Global, frees: &[(Ask, Told)]) -> Result<(), Fail> {
-    let mut machine = with_pool(rt, alloc, 0x10000, 0x10000)?;
-    replies(rt, &mut machine, &TWO_OBJECTS);
-    replies(rt, &mut machine, frees);
-    replies(rt, &mut machine, &SWEPT_AT_ONCE);
-    Ok(())
-}
-
+/// Two objects are freed in either order, and swept at once.
 #[test]
 fn two_frees_and_one_sweep(rt: HostRuntime) -> Result<(), Fail> {
-    swept_together(&rt, rt.alloc(), &FREED_UP)?;
-    swept_together(&rt, rt.alloc(), &FREED_DOWN)
+    let up: [&[Row]; 4] = [&POOL, &TWO_OBJECTS, &FREED_UP, &SWEPT_AT_ONCE];
+    check(&rt, rt.alloc(), 4096, &up, &[])?;
+    let down: [&[Row]; 4] = [&POOL, &TWO_OBJECTS, &FREED_DOWN, &SWEPT_AT_ONCE];
+    check(&rt, rt.alloc(), 4096, &down, &[])
 }
 
 #[rattlefmt::skip]
-const SWEEP_LEAVES_LIVE_OBJECTS: [(Ask, Told); 10] = [
+const SWEEP_LEAVES_LIVE_OBJECTS: [Row; 10] = [
     (Ask::Alloc(16), Told::Allocated(1, 3, 0xffff0000040580040000000000010000, 0x10000, 0x10010, 16)),
     (Ask::Alloc(32), Told::Allocated(2, 4, 0xffff0000040d80140000000000010010, 0x10010, 0x10030, 48)),
     (Ask::Alloc(48), Told::Allocated(3, 5, 0xffff0000041980340000000000010030, 0x10030, 0x10060, 96)),
@@ -120,13 +128,17 @@ const SWEEP_LEAVES_LIVE_OBJECTS: [(Ask, Told); 10] = [
 
 #[test]
 fn sweep_leaves_live_objects(rt: HostRuntime) -> Result<(), Fail> {
-    let mut machine = with_pool(&rt, rt.alloc(), 0x10000, 0x10000)?;
-    replies(&rt, &mut machine, &SWEEP_LEAVES_LIVE_OBJECTS);
-    Ok(())
+    check(
+        &rt,
+        rt.alloc(),
+        4096,
+        &[&POOL, &SWEEP_LEAVES_LIVE_OBJECTS],
+        &[],
+    )
 }
 
 #[rattlefmt::skip]
-const FULL_MACHINE_STAYS_FULL_AFTER_A_SWEEP: [(Ask, Told); 10] = [
+const FULL_MACHINE_STAYS_FULL_AFTER_A_SWEEP: [Row; 10] = [
     (Ask::Op(Op::Pool(0, Align::One)), Told::PoolSet(0, 0, END, Align::One)),
     (Ask::Alloc(8), Told::Allocated(1, 1, 0xffff0000040380040000000000000000, 0, 8, 8)),
     (Ask::Alloc(8), Told::Allocated(2, 2, 0xffff00000405800c0000000000000008, 8, 16, 16)),
@@ -141,14 +153,12 @@ const FULL_MACHINE_STAYS_FULL_AFTER_A_SWEEP: [(Ask, Told); 10] = [
 
 #[test]
 fn full_machine_stays_full_after_a_sweep(rt: HostRuntime) -> Result<(), Fail> {
-    let mut machine = Machine::with_limit(rt.alloc(), 4)?;
-    replies(&rt, &mut machine, &FULL_MACHINE_STAYS_FULL_AFTER_A_SWEEP);
-    assert!(rt; machine.held_bytes() == 0);
-    Ok(())
+    let rows: [&[Row]; 1] = [&FULL_MACHINE_STAYS_FULL_AFTER_A_SWEEP];
+    check(&rt, rt.alloc(), 4, &rows, &[Look::Held(0)])
 }
 
 #[rattlefmt::skip]
-const SLOTS_OF_NO_OBJECT_STAY: [(Ask, Told); 6] = [
+const SLOTS_OF_NO_OBJECT_STAY: [Row; 6] = [
     (Ask::Alloc(100), Told::Allocated(1, 3, 0xffff0000041880040000000000010000, 0x10000, 0x10064, 100)),
     (Ask::Bounds(2, 100), Told::Made(4, 0xffff0000041880040000000000010000, 0x10000, 0x10064)),
     (Ask::Op(Op::Free(1)), Told::Freed(1, 100)),
@@ -159,7 +169,11 @@ const SLOTS_OF_NO_OBJECT_STAY: [(Ask, Told); 6] = [
 
 #[test]
 fn slots_of_no_object_stay(rt: HostRuntime) -> Result<(), Fail> {
-    let mut machine = with_pool(&rt, rt.alloc(), 0x10000, 0x10000)?;
-    replies(&rt, &mut machine, &SLOTS_OF_NO_OBJECT_STAY);
-    Ok(())
+    check(
+        &rt,
+        rt.alloc(),
+        4096,
+        &[&POOL, &SLOTS_OF_NO_OBJECT_STAY],
+        &[],
+    )
 }

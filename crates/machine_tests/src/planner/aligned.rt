@@ -1,14 +1,13 @@
 //! What an object takes and where it begins, in pools of both alignments.
 ghost use Rattle.std.specs.Prelude.{◌≤◌};
 
-use super::{code, pool, with_pool};
+use super::{code, with_pool};
 use cc_bounds::Span;
 use cc_cap::Cap;
 use cc_plan::{Align, BlockPlacer, ObjectId, Placer, Planner, ScanPlacer, SortedPlacer};
 use cc_word::Refusal;
 use std::alloc::Global;
 use std::process::Abort;
-use std::test::Fail;
 
 /// A size, the word of its object, the object's base and top, and how many bytes are held after it.
 type Row = (u128, u128, u64, u128, u128);
@@ -65,13 +64,25 @@ fn makes<P: Placer>(planner: &mut Planner<P>, row: &Row) -> bool {
     }
 }
 
-fn check_rows<P: Placer>(rt: &impl Abort, alloc: Global) -> Result<(), Fail> {
-    let mut planner: Planner<P> = with_pool(alloc, 16, pool(0x10000, 0x10000)?, Align::Sixteen)?;
+/// The objects of the rows are made in turn.
+fn makes_rows<P: Placer>(planner: &mut Planner<P>) -> bool {
     for row in &ALIGNED {
-        assert!(rt; makes(&mut planner, row), "{row:?}");
+        if !makes(planner, row) {
+            return false;
+        }
     }
-    assert!(rt; code(&planner.give_pool(Cap::root())) == Refusal::PoolAlreadySet.code());
-    Ok(())
+    true
+}
+
+/// They are in a new planner, which takes no other pool.
+fn makes_anew<P: Placer>(alloc: Global) -> bool {
+    match with_pool::<P>(alloc, 16, (0x10000, 0x10000, Align::Sixteen)) {
+        Some(mut planner) => {
+            makes_rows(&mut planner)
+                && code(&planner.give_pool(Cap::root())) == Refusal::PoolAlreadySet.code()
+        }
+        None => false,
+    }
 }
 
 /// The unit of so many bytes as a power of two: 0 below 4,096 bytes, else the first from 3 up of whose units the bytes
@@ -131,29 +142,33 @@ fn places_twice(planner: &mut Planner<BlockPlacer>, size: u128, align: Align) ->
 }
 
 /// A planner whose pool is the whole address space, of which the first byte is held.
-fn with_one_byte(alloc: Global, align: Align) -> Result<Planner<BlockPlacer>, Fail> {
-    let mut planner = with_pool(alloc, 16, Cap::root(), align)?;
-    planner.alloc(1)?;
-    Ok(planner)
+fn with_one_byte(alloc: Global, align: Align) -> Option<Planner<BlockPlacer>> {
+    let mut planner = with_pool(alloc, 16, (0, 1 << 64, align))?;
+    planner.alloc(1).ok()?;
+    Some(planner)
 }
 
-fn check_size(rt: &impl Abort, alloc: Global, size: u128, align: Align) -> Result<(), Fail> {
+/// An object of so many bytes, if it can be one, is placed so in a new planner.
+fn places_anew(alloc: Global, size: u128, align: Align) -> bool {
     if size == 0 || size > 1 << 64 {
-        return Ok(());
+        return true;
     }
-    let mut planner = with_one_byte(alloc, align)?;
-    assert!(rt; places_twice(&mut planner, size, align), "size {size}");
-    Ok(())
+    match with_one_byte(alloc, align) {
+        Some(mut planner) => places_twice(&mut planner, size, align),
+        None => false,
+    }
 }
 
 /// The sizes from 18 below this one to 18 above it, in both alignments.
-fn check_around(rt: &impl Abort, alloc: Global, size: u128) -> Result<(), Fail> {
+fn check_around(rt: &impl Abort, alloc: Global, size: u128) {
     for more in 0..37u32 {
         let near = size.saturating_add(u128::from(more)).saturating_sub(18);
-        check_size(rt, alloc, near, Align::One)?;
-        check_size(rt, alloc, near, Align::Sixteen)?;
+        assert!(rt; places_anew(alloc, near, Align::One), "size {near}");
+        assert!(rt;
+            places_anew(alloc, near, Align::Sixteen),
+            "size {near} in alignment 16"
+        );
     }
-    Ok(())
 }
 
 /// A size; its object's unit and how many bytes it takes, in a pool of alignment 1; and both in one of 16.
@@ -176,57 +191,45 @@ const SET_ASIDE: [SetAside; 13] = [
 ];
 
 /// Where the first byte is held, an object begins at its unit, and takes so many bytes.
-fn check_set_aside(
-    rt: &impl Abort,
-    alloc: Global,
-    size: u128,
-    align: Align,
-    place: (u64, u128),
-) -> Result<(), Fail> {
-    let (base, bytes) = place;
-    let mut planner = with_one_byte(alloc, align)?;
+fn sets_aside(alloc: Global, size: u128, align: Align, base: u64, bytes: u128) -> bool {
     let top = u128::from(base).saturating_add(bytes);
-    assert!(rt;
-        places(&mut planner, size, Some(Span { base, top })),
-        "size {size}"
-    );
-    Ok(())
-}
-
-#[test]
-fn set_aside_for_a_dozen_sizes(rt: HostRuntime) -> Result<(), Fail> {
-    for (size, unit, bytes, unit_16, bytes_16) in &SET_ASIDE {
-        check_set_aside(&rt, rt.alloc(), *size, Align::One, (*unit, *bytes))?;
-        check_set_aside(
-            &rt,
-            rt.alloc(),
-            *size,
-            Align::Sixteen,
-            (*unit_16, *bytes_16),
-        )?;
+    match with_one_byte(alloc, align) {
+        Some(mut planner) => places(&mut planner, size, Some(Span { base, top })),
+        None => false,
     }
-    Ok(())
+}
+
+/// So it does in both alignments.
+fn sets_aside_in_both(alloc: Global, row: &SetAside) -> bool {
+    let (size, unit, bytes, unit_16, bytes_16) = *row;
+    sets_aside(alloc, size, Align::One, unit, bytes)
+        && sets_aside(alloc, size, Align::Sixteen, unit_16, bytes_16)
 }
 
 #[test]
-fn rows_of_alignment_16(rt: HostRuntime) -> Result<(), Fail> {
-    check_rows::<ScanPlacer>(&rt, rt.alloc())?;
-    check_rows::<SortedPlacer>(&rt, rt.alloc())?;
-    check_rows::<BlockPlacer>(&rt, rt.alloc())
+fn set_aside_for_a_dozen_sizes(rt: HostRuntime) {
+    for row in &SET_ASIDE {
+        assert!(rt; sets_aside_in_both(rt.alloc(), row), "{row:?}");
+    }
 }
 
 #[test]
-fn sizes_around_powers_of_two(rt: HostRuntime) -> Result<(), Fail> {
+fn rows_of_alignment_16(rt: HostRuntime) {
+    assert!(rt; makes_anew::<ScanPlacer>(rt.alloc()));
+    assert!(rt; makes_anew::<SortedPlacer>(rt.alloc()));
+    assert!(rt; makes_anew::<BlockPlacer>(rt.alloc()));
+}
+
+#[test]
+fn sizes_around_powers_of_two(rt: HostRuntime) {
     for power in 0..65u32 {
-        check_around(&rt, rt.alloc(), 1 << power)?;
+        check_around(&rt, rt.alloc(), 1 << power);
     }
-    Ok(())
 }
 
 #[test]
-fn sizes_around_limits_of_granules(rt: HostRuntime) -> Result<(), Fail> {
+fn sizes_around_limits_of_granules(rt: HostRuntime) {
     for power in 3..55u32 {
-        check_around(&rt, rt.alloc(), 1023 << power)?;
+        check_around(&rt, rt.alloc(), 1023 << power);
     }
-    Ok(())
 }

@@ -2,16 +2,13 @@
 ghost use Rattle.std.specs.Prelude.{◌≤◌, ◌^◌};
 ghost use Rattle.cc_plan.specs.Replay.{IsWithinLimit};
 
-use super::{pool, with_pool};
+use super::{Pool, SMALL, WHOLE, with_pool};
 use PlanCall::{Alloc, Free, Sweep};
-use cc_cap::Cap;
 use cc_plan::{
     Align, BlockPlacer, ObjectId, Placer, PlanCall, PlanReply, Planner, ScanPlacer, SortedPlacer,
     plan_run,
 };
 use std::alloc::Global;
-use std::process::Abort;
-use std::test::Fail;
 
 /// A planner over each placer.
 #[derive(Drop)]
@@ -22,11 +19,11 @@ struct Planners {
 }
 
 impl Planners {
-    fn over(alloc: Global, pool: Cap, align: Align) -> Result<Planners, Fail> {
-        Ok(Planners {
-            scanning: with_pool(alloc, 400, pool, align)?,
-            sorted: with_pool(alloc, 400, pool, align)?,
-            blocks: with_pool(alloc, 400, pool, align)?,
+    fn over(alloc: Global, pool: Pool) -> Option<Planners> {
+        Some(Planners {
+            scanning: with_pool(alloc, 400, pool)?,
+            sorted: with_pool(alloc, 400, pool)?,
+            blocks: with_pool(alloc, 400, pool)?,
         })
     }
 
@@ -117,49 +114,42 @@ fn walks(planners: &mut Planners, first: u32, kinds: u32) -> bool {
     made > 100
 }
 
-fn check_walk(
-    rt: &impl Abort,
-    alloc: Global,
-    first: u32,
-    kinds: u32,
-    pool: Cap,
-    align: Align,
-) -> Result<(), Fail> {
-    let mut planners = Planners::over(alloc, pool, align)?;
-    assert!(rt; walks(&mut planners, first, kinds));
-    Ok(())
+fn walks_anew(alloc: Global, first: u32, kinds: u32, pool: Pool) -> bool {
+    match Planners::over(alloc, pool) {
+        Some(mut planners) => walks(&mut planners, first, kinds),
+        None => false,
+    }
 }
 
 #[test]
-fn same_replies_with_much_room(rt: HostRuntime) -> Result<(), Fail> {
-    check_walk(&rt, rt.alloc(), 1, 5, Cap::root(), Align::One)
+fn same_replies_with_much_room(rt: HostRuntime) {
+    assert!(rt; walks_anew(rt.alloc(), 1, 5, WHOLE));
 }
 
 #[test]
-fn same_replies_with_little_room(rt: HostRuntime) -> Result<(), Fail> {
-    check_walk(&rt, rt.alloc(), 7, 5, pool(0x10000, 0x10000)?, Align::One)
+fn same_replies_with_little_room(rt: HostRuntime) {
+    assert!(rt; walks_anew(rt.alloc(), 7, 5, SMALL));
 }
 
 #[test]
-fn same_replies_with_hardly_any_room(rt: HostRuntime) -> Result<(), Fail> {
-    check_walk(&rt, rt.alloc(), 99, 3, pool(0x10000, 0x800)?, Align::One)
+fn same_replies_with_hardly_any_room(rt: HostRuntime) {
+    assert!(rt; walks_anew(rt.alloc(), 99, 3, (0x10000, 0x800, Align::One)));
+}
+
+const LOW: Pool = (0, 0x400000000, Align::One);
+
+const HIGH: Pool = (0xfffffffc00000000, 0x400000000, Align::One);
+
+#[test]
+fn same_replies_at_both_ends_of_the_address_space(rt: HostRuntime) {
+    assert!(rt; walks_anew(rt.alloc(), 3, 7, LOW));
+    assert!(rt; walks_anew(rt.alloc(), 5, 7, HIGH));
 }
 
 #[test]
-fn same_replies_at_both_ends_of_the_address_space(rt: HostRuntime) -> Result<(), Fail> {
-    let low = Cap::root().set_bounds_exact(0x400000000)?;
-    check_walk(&rt, rt.alloc(), 3, 7, low, Align::One)?;
-    let high = Cap::root()
-        .set_address(0xfffffffc00000000)?
-        .set_bounds_exact(0x400000000)?;
-    check_walk(&rt, rt.alloc(), 5, 7, high, Align::One)
-}
-
-#[test]
-fn same_replies_in_alignment_16(rt: HostRuntime) -> Result<(), Fail> {
-    let uneven = Cap::root().set_address(0x10008)?.set_bounds_exact(0xff0)?;
-    check_walk(&rt, rt.alloc(), 11, 3, uneven, Align::Sixteen)?;
-    check_walk(&rt, rt.alloc(), 13, 7, Cap::root(), Align::Sixteen)
+fn same_replies_in_alignment_16(rt: HostRuntime) {
+    assert!(rt; walks_anew(rt.alloc(), 11, 3, (0x10008, 0xff0, Align::Sixteen)));
+    assert!(rt; walks_anew(rt.alloc(), 13, 7, (0, 1 << 64, Align::Sixteen)));
 }
 
 /// The orders of five, by a number from 0 to 119.
@@ -213,17 +203,25 @@ fn frees_last(planners: &mut Planners) -> bool {
     planners.sweep() && planners.blocks.held_bytes() == 5
 }
 
-#[test]
-fn freed_and_made_in_every_order(rt: HostRuntime) -> Result<(), Fail> {
-    for number in 0..120u32 {
-        let mut planners = Planners::over(rt.alloc(), pool(0x10000, 0x10000)?, Align::One)?;
-        let order = order_of(number);
-        assert!(rt; makes_ten(&mut planners), "{number}");
-        assert!(rt; sweeps_each(&mut planners, &order), "{number}");
-        assert!(rt; makes_again(&mut planners, &order), "{number}");
-        assert!(rt; frees_last(&mut planners), "{number}");
+/// Objects of five sizes are freed in this order and made again, alike.
+fn makes_in_order(alloc: Global, number: u32) -> bool {
+    let order = order_of(number);
+    match Planners::over(alloc, SMALL) {
+        Some(mut planners) => {
+            makes_ten(&mut planners)
+                && sweeps_each(&mut planners, &order)
+                && makes_again(&mut planners, &order)
+                && frees_last(&mut planners)
+        }
+        None => false,
     }
-    Ok(())
+}
+
+#[test]
+fn freed_and_made_in_every_order(rt: HostRuntime) {
+    for number in 0..120u32 {
+        assert!(rt; makes_in_order(rt.alloc(), number), "{number}");
+    }
 }
 
 fn makes_400(planner: &mut Planner<BlockPlacer>) -> bool {
@@ -265,12 +263,19 @@ fn sweeps_seven(planner: &mut Planner<BlockPlacer>) -> bool {
     planner.sweep() == 7 && planner.held_bytes() == 393
 }
 
+fn makes_many(alloc: Global) -> bool {
+    match with_pool(alloc, 800, WHOLE) {
+        Some(mut planner) => {
+            makes_400(&mut planner)
+                && sweeps_393(&mut planner)
+                && makes_393(&mut planner)
+                && sweeps_seven(&mut planner)
+        }
+        None => false,
+    }
+}
+
 #[test]
-fn many_objects_in_the_places_of_a_few(rt: HostRuntime) -> Result<(), Fail> {
-    let mut planner = with_pool(rt.alloc(), 800, Cap::root(), Align::One)?;
-    assert!(rt; makes_400(&mut planner));
-    assert!(rt; sweeps_393(&mut planner));
-    assert!(rt; makes_393(&mut planner));
-    assert!(rt; sweeps_seven(&mut planner));
-    Ok(())
+fn many_objects_in_the_places_of_a_few(rt: HostRuntime) {
+    assert!(rt; makes_many(rt.alloc()));
 }

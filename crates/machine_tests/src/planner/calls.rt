@@ -1,19 +1,20 @@
 //! Refusals in their order, the capability of an object, and what a new planner holds.
 use super::Answer::{Freed, Placed, Refused};
-use super::{Row, answers, code, pool, with_pool};
+use super::{Row, SMALL, answers, code, pool, with_pool};
 use PlanCall::{Alloc, Free};
 use cc_bounds::Span;
 use cc_cap::Cap;
 use cc_plan::{
-    Align, ObjectId, ObjectState, Placer, PlanCall, PlannedObject, Planner, ScanPlacer,
-    SortedPlacer,
+    ObjectId, ObjectState, Placer, PlanCall, PlannedObject, Planner, ScanPlacer, SortedPlacer,
 };
 use cc_word::Refusal;
 use std::alloc::{AllocError, Global};
-use std::test::Fail;
 
 /// The first capability that is not sealed becomes the pool, and none after it.
-fn takes_one_pool(planner: &mut Planner<ScanPlacer>, pool: Cap, sealed: Cap) -> bool {
+fn takes_one_pool(planner: &mut Planner<ScanPlacer>) -> bool {
+    let (Some(pool), Ok(sealed)) = (pool(0x1000, 32), Cap::root().seal(&Cap::root())) else {
+        return false;
+    };
     code(&planner.give_pool(sealed)) == Refusal::Sealed.code()
         && planner.give_pool(pool).is_ok()
         && code(&planner.give_pool(sealed)) == Refusal::Sealed.code()
@@ -35,15 +36,21 @@ const IN_ORDER: [Row; 10] = [
     (Free(ObjectId(3)), Refused(Refusal::NoObject), 32),
 ];
 
+/// A new planner for two objects refuses each call in its order.
+fn refuses_in_order(alloc: Global) -> bool {
+    match Planner::with_limit(alloc, 2) {
+        Ok(mut planner) => {
+            answers(&mut planner, &BEFORE_ANY_POOL)
+                && takes_one_pool(&mut planner)
+                && answers(&mut planner, &IN_ORDER)
+        }
+        Err(AllocError) => false,
+    }
+}
+
 #[test]
-fn refusals_in_order(rt: HostRuntime) -> Result<(), Fail> {
-    let mut planner: Planner<ScanPlacer> = Planner::with_limit(rt.alloc(), 2)?;
-    let small = pool(0x1000, 32)?;
-    let sealed = Cap::root().seal(&Cap::root())?;
-    answers(&rt, &mut planner, &BEFORE_ANY_POOL);
-    assert!(rt; takes_one_pool(&mut planner, small, sealed));
-    answers(&rt, &mut planner, &IN_ORDER);
-    Ok(())
+fn refusals_in_order(rt: HostRuntime) {
+    assert!(rt; refuses_in_order(rt.alloc()));
 }
 
 /// The next object, of so many bytes, has this number and this word.
@@ -86,32 +93,48 @@ fn is_swept_once(planner: &mut Planner<SortedPlacer>) -> bool {
         && planner.sweep() == 0
 }
 
-#[test]
-fn capability_of_an_object(rt: HostRuntime) -> Result<(), Fail> {
-    let mut planner = with_pool(rt.alloc(), 4, pool(0x10000, 0x10000)?, Align::One)?;
-    assert!(rt; allocates(&mut planner, 100, 1, 0xffff0000041880040000000000010000));
-    assert!(rt; allocates(&mut planner, 5000, 2, 0xffff000000fd806c0000000000010068));
-    assert!(rt; planner.free(ObjectId(1)).is_ok());
-    assert!(rt; has_two_objects(&planner));
-    assert!(rt; is_swept_once(&mut planner));
-    Ok(())
+/// Two objects get their words, one is freed and swept.
+fn has_capabilities(planner: &mut Planner<SortedPlacer>) -> bool {
+    allocates(planner, 100, 1, 0xffff0000041880040000000000010000)
+        && allocates(planner, 5000, 2, 0xffff000000fd806c0000000000010068)
+        && planner.free(ObjectId(1)).is_ok()
+        && has_two_objects(planner)
+        && is_swept_once(planner)
 }
 
-/// A new placer holds no span, and a new planner no byte.
-fn opens<P: Placer>(alloc: Global, limit: u32) -> Result<bool, AllocError> {
-    if limit == 0 || limit > 65536 {
-        return Ok(false);
+fn has_capabilities_anew(alloc: Global) -> bool {
+    match with_pool(alloc, 4, SMALL) {
+        Some(mut planner) => has_capabilities(&mut planner),
+        None => false,
     }
-    let placer = P::with_limit(alloc, limit)?;
-    let planner: Planner<P> = Planner::with_limit(alloc, limit)?;
-    Ok(placer.count() == 0 && planner.held_bytes() == 0)
 }
 
 #[test]
-fn opens_with_ample_memory(rt: HostRuntime) -> Result<(), Fail> {
+fn capability_of_an_object(rt: HostRuntime) {
+    assert!(rt; has_capabilities_anew(rt.alloc()));
+}
+
+/// A new placer and a new planner for so many objects.
+fn open<P: Placer>(alloc: Global, limit: u32) -> Result<(P, Planner<P>), AllocError> {
+    let limit = limit.clamp(1, 65_536);
+    Ok((
+        P::with_limit(alloc, limit)?,
+        Planner::with_limit(alloc, limit)?,
+    ))
+}
+
+/// The placer holds no span, and the planner no byte.
+fn opens<P: Placer>(alloc: Global, limit: u32) -> bool {
+    match open::<P>(alloc, limit) {
+        Ok((placer, planner)) => placer.count() == 0 && planner.held_bytes() == 0,
+        Err(AllocError) => false,
+    }
+}
+
+#[test]
+fn opens_with_ample_memory(rt: HostRuntime) {
     for limit in [1, 2, 4096, 65536u32] {
-        assert!(rt; opens::<ScanPlacer>(rt.alloc(), limit)?);
-        assert!(rt; opens::<SortedPlacer>(rt.alloc(), limit)?);
+        assert!(rt; opens::<ScanPlacer>(rt.alloc(), limit), "{limit}");
+        assert!(rt; opens::<SortedPlacer>(rt.alloc(), limit), "{limit}");
     }
-    Ok(())
 }

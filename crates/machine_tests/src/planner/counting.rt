@@ -1,12 +1,11 @@
 //! A planner does its work through its placer.
 use super::Answer::{Freed, Placed, Refused, Swept};
-use super::{Row, answers, pool, with_pool};
+use super::{Row, answers, with_pool};
 use PlanCall::{Alloc, Free, Sweep};
 use cc_bounds::Span;
 use cc_plan::{Align, ObjectId, Placer, PlanCall, Planner, SortedPlacer};
 use cc_word::Refusal;
 use std::alloc::{AllocError, Global};
-use std::test::Fail;
 
 /// A placer that counts how often it is asked to hold a span, and passes every call on.
 #[derive(Drop)]
@@ -69,19 +68,23 @@ fn has_held(planner: &Planner<CountingPlacer<SortedPlacer>>, holds: u32, count: 
     planner.placer().holds == holds && planner.placer().count() == count
 }
 
+fn holds_each_once(planner: &mut Planner<CountingPlacer<SortedPlacer>>) -> bool {
+    answers(planner, &FOUR)
+        && has_held(planner, 4, 4)
+        && answers(planner, &SWEPT)
+        && has_held(planner, 4, 3)
+        && answers(planner, &FIFTH)
+        && has_held(planner, 5, 4)
+}
+
+fn holds_each_once_anew(alloc: Global) -> bool {
+    match with_pool(alloc, 8, (0x10000, 64, Align::One)) {
+        Some(mut planner) => holds_each_once(&mut planner),
+        None => false,
+    }
+}
+
 #[test]
-fn one_hold_for_each_object(rt: HostRuntime) -> Result<(), Fail> {
-    let mut planner: Planner<CountingPlacer<SortedPlacer>> = with_pool(
-        rt.alloc(),
-        8,
-        pool(0x10000, 64)?,
-        Align::One,
-    )?;
-    answers(&rt, &mut planner, &FOUR);
-    assert!(rt; has_held(&planner, 4, 4));
-    answers(&rt, &mut planner, &SWEPT);
-    assert!(rt; has_held(&planner, 4, 3));
-    answers(&rt, &mut planner, &FIFTH);
-    assert!(rt; has_held(&planner, 5, 4));
-    Ok(())
+fn one_hold_for_each_object(rt: HostRuntime) {
+    assert!(rt; holds_each_once_anew(rt.alloc()));
 }

@@ -56,6 +56,43 @@ const LENGTHS: [u64; 8] = [
     1 << 42,
 ];
 
+/// Of each length one span stays, above a hole for 56, which begins at the lowest place for such a span.
+fn leaves_one_of_each(rt: &impl Abort, placer: &mut BlockPlacer) -> bool
+    requires pool { IsSome placer.old.pool }
+    requires limit { placer.old.limit ≡ 100 }
+    ensures pool { IsSome placer.new.pool }
+{
+    let mut end = 0u64;
+    for len in &LENGTHS {
+        if *len == 0 {
+            return false;
+        }
+        let kept = keep_last(rt, placer, *len, 56);
+        if kept.base != end.wrapping_add(len.wrapping_mul(56))
+            || placer.room(u128::from(*len), 1) != Some(end)
+        {
+            return false;
+        }
+        end = kept.base.wrapping_add(*len);
+    }
+    true
+}
+
+/// Each of these holes is the lowest place for a span of its length, and eight spans are held.
+fn has_holes(placer: &BlockPlacer) -> bool
+    requires pool { IsSome placer.now.pool }
+{
+    let mut end = 0u64;
+    for len in &LENGTHS {
+        let hole = len.wrapping_mul(56);
+        if hole == 0 || placer.room(u128::from(hole), 1) != Some(end) {
+            return false;
+        }
+        end = end.wrapping_add(len.wrapping_mul(57));
+    }
+    placer.count() == 8
+}
+
 /// There are six blocks for 100 spans, and each length leaves a block of one span: so the sixth length needs two of
 /// them joined.
 #[test]
@@ -65,21 +102,7 @@ fn blocks_of_one_span_are_joined(rt: HostRuntime) -> Result<(), Fail> {
         base: 0,
         top: 1 << 64,
     });
-    let mut end = 0u64;
-    for len in &LENGTHS {
-        assert!(rt; *len > 0);
-        let kept = keep_last(&rt, &mut placer, *len, 56);
-        assert_eq!(rt; kept.base, end.wrapping_add(len.wrapping_mul(56)));
-        assert_eq!(rt; placer.room(u128::from(*len), 1), Some(end));
-        end = kept.base.wrapping_add(*len);
-    }
-    let mut end = 0u64;
-    for len in &LENGTHS {
-        let hole = len.wrapping_mul(56);
-        assert!(rt; hole > 0);
-        assert_eq!(rt; placer.room(u128::from(hole), 1), Some(end));
-        end = end.wrapping_add(len.wrapping_mul(57));
-    }
-    assert_eq!(rt; placer.count(), 8);
+    assert!(rt; leaves_one_of_each(&rt, &mut placer));
+    assert!(rt; has_holes(&placer));
     Ok(())
 }

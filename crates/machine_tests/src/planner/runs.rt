@@ -1,14 +1,11 @@
 //! Runs of calls, the same for each placer.
-use super::{pool, with_pool};
+use super::{SMALL, with_pool};
 use PlanCall::{Alloc, Free, Sweep};
 use cc_plan::{
-    Align, BlockPlacer, ObjectId, Placer, PlanCall, PlanReply, Planner, ScanPlacer, SortedPlacer,
-    plan_run,
+    BlockPlacer, ObjectId, Placer, PlanCall, PlanReply, Planner, ScanPlacer, SortedPlacer, plan_run,
 };
 use cc_word::Refusal;
 use std::alloc::Global;
-use std::process::Abort;
-use std::test::Fail;
 
 /// The reply is an object of this number, which begins there.
 fn is_placed(reply: &PlanReply, number: u32, start: u64) -> bool {
@@ -42,26 +39,30 @@ fn are_replies(replies: &[PlanReply; 9]) -> bool {
         && matches!(replies[8], PlanReply::Refused(Refusal::Full))
 }
 
-fn check_run<P: Placer>(rt: &impl Abort, alloc: Global) -> Result<(), Fail> {
-    let mut planner: Planner<P> = with_pool(alloc, 6, pool(0x10000, 0x10000)?, Align::One)?;
+fn replies<P: Placer>(planner: &mut Planner<P>) -> bool {
     let mut replies = [PlanReply::Freed; 9];
-    plan_run(&mut planner, &CALLS, &mut replies);
-    assert!(rt; are_replies(&replies));
-    assert!(rt; planner.held_bytes() == 88);
-    Ok(())
+    plan_run(planner, &CALLS, &mut replies);
+    are_replies(&replies) && planner.held_bytes() == 88
+}
+
+fn replies_anew<P: Placer>(alloc: Global) -> bool {
+    match with_pool::<P>(alloc, 6, SMALL) {
+        Some(mut planner) => replies(&mut planner),
+        None => false,
+    }
 }
 
 #[test]
-fn run_by_scanning(rt: HostRuntime) -> Result<(), Fail> {
-    check_run::<ScanPlacer>(&rt, rt.alloc())
+fn run_by_scanning(rt: HostRuntime) {
+    assert!(rt; replies_anew::<ScanPlacer>(rt.alloc()));
 }
 
 #[test]
-fn run_in_order(rt: HostRuntime) -> Result<(), Fail> {
-    check_run::<SortedPlacer>(&rt, rt.alloc())
+fn run_in_order(rt: HostRuntime) {
+    assert!(rt; replies_anew::<SortedPlacer>(rt.alloc()));
 }
 
 #[test]
-fn run_in_blocks(rt: HostRuntime) -> Result<(), Fail> {
-    check_run::<BlockPlacer>(&rt, rt.alloc())
+fn run_in_blocks(rt: HostRuntime) {
+    assert!(rt; replies_anew::<BlockPlacer>(rt.alloc()));
 }

@@ -1,15 +1,13 @@
 //! Sweeps: what is held until one, and what it gives back.
 use super::Answer::{Placed, Refused, Swept};
-use super::{Row, answers, code, pool, with_pool};
+use super::{Row, SMALL, answers, code, with_pool};
 use PlanCall::{Alloc, Free, Sweep};
 use cc_bounds::Span;
 use cc_plan::{
     Align, BlockPlacer, ObjectId, ObjectState, Placer, PlanCall, Planner, ScanPlacer, SortedPlacer,
 };
 use cc_word::Refusal;
-use std::alloc::Global;
-use std::process::Abort;
-use std::test::Fail;
+use std::alloc::{AllocError, Global};
 
 /// The object of this number is in this state.
 fn is_in_state<P: Placer>(planner: &Planner<P>, number: u32, state: ObjectState) -> bool {
@@ -54,19 +52,20 @@ fn two_are_swept<P: Placer>(planner: &Planner<P>) -> bool {
 }
 
 /// Four objects fill a pool; the second and the third are freed in this order, and swept at once.
-fn two_freed_and_swept<P: Placer>(
-    rt: &impl Abort,
-    alloc: Global,
-    first: u32,
-    second: u32,
-) -> Result<(), Fail> {
-    let mut planner: Planner<P> = with_pool(alloc, 8, pool(0x10000, 256)?, Align::One)?;
-    answers(rt, &mut planner, &FOUR);
-    assert!(rt; frees(&mut planner, first) && frees(&mut planner, second));
-    answers(rt, &mut planner, &TWO_SWEPT);
-    assert!(rt; two_are_swept(&planner));
-    answers(rt, &mut planner, &PLACED_AGAIN);
-    Ok(())
+fn sweeps_two<P: Placer>(planner: &mut Planner<P>, first: u32, second: u32) -> bool {
+    answers(planner, &FOUR)
+        && frees(planner, first)
+        && frees(planner, second)
+        && answers(planner, &TWO_SWEPT)
+        && two_are_swept(planner)
+        && answers(planner, &PLACED_AGAIN)
+}
+
+fn sweeps_two_anew<P: Placer>(alloc: Global, first: u32, second: u32) -> bool {
+    match with_pool::<P>(alloc, 8, (0x10000, 256, Align::One)) {
+        Some(mut planner) => sweeps_two(&mut planner, first, second),
+        None => false,
+    }
 }
 
 const BEFORE_ANY_POOL: [Row; 2] = [
@@ -74,12 +73,18 @@ const BEFORE_ANY_POOL: [Row; 2] = [
     (Alloc(1), Refused(Refusal::NoPool), 0),
 ];
 
+fn sweeps_before_any_pool<P: Placer>(alloc: Global) -> bool {
+    match Planner::<P>::with_limit(alloc, 1) {
+        Ok(mut planner) => answers(&mut planner, &BEFORE_ANY_POOL),
+        Err(AllocError) => false,
+    }
+}
+
 /// A sweep before there is a pool, and a sweep of two objects, freed in either order.
-fn check_sweeps<P: Placer>(rt: &impl Abort, alloc: Global) -> Result<(), Fail> {
-    let mut planner: Planner<P> = Planner::with_limit(alloc, 1)?;
-    answers(rt, &mut planner, &BEFORE_ANY_POOL);
-    two_freed_and_swept::<P>(rt, alloc, 2, 3)?;
-    two_freed_and_swept::<P>(rt, alloc, 3, 2)
+fn sweeps<P: Placer>(alloc: Global) -> bool {
+    sweeps_before_any_pool::<P>(alloc)
+        && sweeps_two_anew::<P>(alloc, 2, 3)
+        && sweeps_two_anew::<P>(alloc, 3, 2)
 }
 
 /// What the plain list has of an object.
@@ -201,41 +206,47 @@ fn swept(known: &[Known]) -> u32 {
 }
 
 /// 400 calls, after each of which the bytes held are those of a plain list of objects.
-fn check_held<P: Placer>(rt: &impl Abort, alloc: Global) -> Result<(), Fail> {
-    let mut planner: Planner<P> = with_pool(alloc, 512, pool(0x10000, 0x10000)?, Align::One)?;
-    let mut known = Vec::with_capacity(alloc, 512)?;
+fn holds_alike<P: Placer>(planner: &mut Planner<P>, known: &mut Vec<Known>) -> bool {
     let mut seed = 1u32;
     for _ in 0..400u32 {
         seed = seed.wrapping_mul(1664525).wrapping_add(1013904223);
-        assert!(rt;
-            same_in_both(&mut planner, &mut known, next_call(seed)),
-            "{seed}"
-        );
-        let held = held_beside(&known, Span { base: 0, top: 0 });
-        assert!(rt; held == Some(planner.held_bytes()), "{seed}");
+        if !same_in_both(planner, known, next_call(seed))
+            || held_beside(known, Span { base: 0, top: 0 }) != Some(planner.held_bytes())
+        {
+            return false;
+        }
     }
-    assert!(rt; swept(&known) > 10);
-    Ok(())
+    swept(known) > 10
+}
+
+fn holds_alike_anew<P: Placer>(alloc: Global) -> bool {
+    let (Some(mut planner), Ok(mut known)) = (
+        with_pool::<P>(alloc, 512, SMALL),
+        Vec::with_capacity(alloc, 512),
+    ) else {
+        return false;
+    };
+    holds_alike(&mut planner, &mut known)
 }
 
 #[test]
-fn swept_by_scanning(rt: HostRuntime) -> Result<(), Fail> {
-    check_sweeps::<ScanPlacer>(&rt, rt.alloc())
+fn swept_by_scanning(rt: HostRuntime) {
+    assert!(rt; sweeps::<ScanPlacer>(rt.alloc()));
 }
 
 #[test]
-fn swept_in_order(rt: HostRuntime) -> Result<(), Fail> {
-    check_sweeps::<SortedPlacer>(&rt, rt.alloc())
+fn swept_in_order(rt: HostRuntime) {
+    assert!(rt; sweeps::<SortedPlacer>(rt.alloc()));
 }
 
 #[test]
-fn swept_in_blocks(rt: HostRuntime) -> Result<(), Fail> {
-    check_sweeps::<BlockPlacer>(&rt, rt.alloc())
+fn swept_in_blocks(rt: HostRuntime) {
+    assert!(rt; sweeps::<BlockPlacer>(rt.alloc()));
 }
 
 #[test]
-fn held_by_a_plain_list(rt: HostRuntime) -> Result<(), Fail> {
-    check_held::<ScanPlacer>(&rt, rt.alloc())?;
-    check_held::<SortedPlacer>(&rt, rt.alloc())?;
-    check_held::<BlockPlacer>(&rt, rt.alloc())
+fn held_by_a_plain_list(rt: HostRuntime) {
+    assert!(rt; holds_alike_anew::<ScanPlacer>(rt.alloc()));
+    assert!(rt; holds_alike_anew::<SortedPlacer>(rt.alloc()));
+    assert!(rt; holds_alike_anew::<BlockPlacer>(rt.alloc()));
 }

@@ -1,9 +1,8 @@
 //! Where objects are placed, and how many bytes are held, call by call and for each placer.
 use super::Answer::{Freed, Placed, Refused, Swept};
-use super::{Row, answers, pool, with_pool};
+use super::{Pool, Row, SMALL, WHOLE, with_pool, wrong_call};
 use PlanCall::{Alloc, Free, Sweep};
-use cc_cap::Cap;
-use cc_plan::{Align, BlockPlacer, ObjectId, Placer, PlanCall, Planner, ScanPlacer, SortedPlacer};
+use cc_plan::{Align, BlockPlacer, ObjectId, Placer, PlanCall, ScanPlacer, SortedPlacer};
 use cc_word::Refusal;
 use std::alloc::Global;
 use std::process::Abort;
@@ -148,50 +147,45 @@ const WHOLE_ADDRESS_SPACE_OF_16: [Row; 2] = [
     (Alloc(1), Refused(Refusal::NoRoom), 1 << 64),
 ];
 
-fn check_rows<P: Placer>(
-    rt: &impl Abort,
+/// A name, a pool, and the calls of a new planner with it.
+type Table<'a> = (&'a str, Pool, &'a [Row]);
+
+#[rattlefmt::skip]
+const TABLES: [Table; 16] = [
+    ("first fit", SMALL, &FIRST_FIT),
+    ("padded", SMALL, &PADDED),
+    ("between two objects", SMALL, &BETWEEN_TWO_OBJECTS),
+    ("long gap without a place", SMALL, &LONG_GAP_WITHOUT_A_PLACE),
+    ("long gap of finer objects", SMALL, &LONG_GAP_OF_FINER_OBJECTS),
+    ("same bytes", SMALL, &SAME_BYTES),
+    ("end of the address space", (0xffffffffffffe000, 0x2000, Align::One), &END_OF_ADDRESS_SPACE),
+    ("whole address space", WHOLE, &WHOLE_ADDRESS_SPACE),
+    ("no bytes", (0x1000, 0, Align::One), &NO_BYTES),
+    ("quarantine of 16", (0x10000, 64, Align::Sixteen), &QUARANTINE_OF_16),
+    ("uneven ends", (0x10001, 0x47, Align::Sixteen), &UNEVEN_ENDS),
+    ("16 bytes at no multiple of 16", (0x10008, 16, Align::Sixteen), &NO_MULTIPLE_OF_16),
+    ("15 bytes", (0x10000, 15, Align::Sixteen), &NO_MULTIPLE_OF_16),
+    ("no bytes of 16", (0x10000, 0, Align::Sixteen), &NO_MULTIPLE_OF_16),
+    ("16 bytes", (0x10000, 16, Align::Sixteen), &ONE_MULTIPLE_OF_16),
+    ("whole address space of 16", (0, 1 << 64, Align::Sixteen), &WHOLE_ADDRESS_SPACE_OF_16),
+];
+
+/// The first call that a new planner with this pool answers otherwise than its row says, if there is one.
+fn wrong_anew<P: Placer>(
     alloc: Global,
-    pool: Cap,
-    align: Align,
+    pool: Pool,
     rows: &[Row],
-) -> Result<(), Fail> {
-    let mut planner: Planner<P> = with_pool(alloc, 16, pool, align)?;
-    answers(rt, &mut planner, rows);
-    Ok(())
-}
-
-fn check_pools_of_1<P: Placer>(rt: &impl Abort, alloc: Global) -> Result<(), Fail> {
-    let small = pool(0x10000, 0x10000)?;
-    let end = pool(0xffffffffffffe000, 0x2000)?;
-    check_rows::<P>(rt, alloc, small, Align::One, &FIRST_FIT)?;
-    check_rows::<P>(rt, alloc, small, Align::One, &PADDED)?;
-    check_rows::<P>(rt, alloc, small, Align::One, &BETWEEN_TWO_OBJECTS)?;
-    check_rows::<P>(rt, alloc, small, Align::One, &LONG_GAP_WITHOUT_A_PLACE)?;
-    check_rows::<P>(rt, alloc, small, Align::One, &LONG_GAP_OF_FINER_OBJECTS)?;
-    check_rows::<P>(rt, alloc, small, Align::One, &SAME_BYTES)?;
-    check_rows::<P>(rt, alloc, end, Align::One, &END_OF_ADDRESS_SPACE)?;
-    check_rows::<P>(rt, alloc, Cap::root(), Align::One, &WHOLE_ADDRESS_SPACE)?;
-    check_rows::<P>(rt, alloc, pool(0x1000, 0)?, Align::One, &NO_BYTES)
-}
-
-fn check_pools_of_16<P: Placer>(rt: &impl Abort, alloc: Global) -> Result<(), Fail> {
-    let four = pool(0x10000, 64)?;
-    let uneven = pool(0x10001, 0x47)?;
-    let whole = Cap::root();
-    check_rows::<P>(rt, alloc, four, Align::Sixteen, &QUARANTINE_OF_16)?;
-    check_rows::<P>(rt, alloc, uneven, Align::Sixteen, &UNEVEN_ENDS)?;
-    for (base, length) in [(0x10008, 16), (0x10000, 15), (0x10000, 0)] {
-        let without = pool(base, length)?;
-        check_rows::<P>(rt, alloc, without, Align::Sixteen, &NO_MULTIPLE_OF_16)?;
-    }
-    let one = pool(0x10000, 16)?;
-    check_rows::<P>(rt, alloc, one, Align::Sixteen, &ONE_MULTIPLE_OF_16)?;
-    check_rows::<P>(rt, alloc, whole, Align::Sixteen, &WHOLE_ADDRESS_SPACE_OF_16)
+) -> Result<Option<PlanCall>, Fail> {
+    let mut planner = with_pool::<P>(alloc, 16, pool).ok_or("no planner")?;
+    Ok(wrong_call(&mut planner, rows))
 }
 
 fn check_table<P: Placer>(rt: &impl Abort, alloc: Global) -> Result<(), Fail> {
-    check_pools_of_1::<P>(rt, alloc)?;
-    check_pools_of_16::<P>(rt, alloc)
+    for (name, pool, rows) in &TABLES {
+        let wrong = wrong_anew::<P>(alloc, *pool, rows)?;
+        assert!(rt; wrong.is_none(), "{name}: {wrong:?}");
+    }
+    Ok(())
 }
 
 #[test]

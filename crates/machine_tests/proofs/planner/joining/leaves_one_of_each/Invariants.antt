@@ -1,5 +1,5 @@
 use Rattle.std.proofs.Common.{◌≡◌, IsSome}
-use Rattle.machine_tests.proofs.planner.joining.blocks_of_one_span_are_joined.Given as goal
+use Rattle.machine_tests.proofs.planner.joining.leaves_one_of_each.Given as goal
 
 -- the pool and the limit stay
 abbrev pub invariant-loop-len : goal.invariant-loop-len
