@@ -3,6 +3,7 @@ pub mod Lines
 pub mod Numbers
 pub mod Digits
 pub mod Commands
+pub mod Keywords
 pub mod Replies
 pub mod Output
 pub mod Laws

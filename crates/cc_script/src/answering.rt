@@ -5,12 +5,13 @@ ghost use Rattle.cc_word.specs.declared.refusal.Refusal.TheVariants.{OutOfRange}
 ghost use Rattle.cc_machine.specs.declared.op.Op.{Op as OpSpec};
 ghost use Rattle.cc_machine.specs.Step.{Step};
 ghost use Rattle.cc_script.specs.Commands.{command_in, command_of, operation_of, two_values, words_of};
+ghost use Rattle.cc_script.specs.Keywords.{command_alone};
 ghost use Rattle.cc_script.specs.Engine.{IsAnswered};
 
 use crate::keyword::Keyword;
 use crate::line::Line;
 use crate::numbers::split_number;
-use crate::parsing::{MOST_BYTES, parse_spaced, parse_two, parse_words, short_one, short_second};
+use crate::parsing::{MOST_BYTES, parse_alone, parse_spaced, parse_two, short_one, short_second};
 use crate::printing::{push_any_reply, push_reply};
 use cc_machine::{Machine, Op, Reply};
 use cc_word::Refusal;
@@ -38,7 +39,7 @@ fn answer_short(machine: &mut Machine, text: &mut Line, line: &[u8]) -> Result<(
 {
     match Keyword::split(line) {
         Some((keyword, values)) => answer_values(machine, text, keyword, values),
-        None => answer_words(machine, text, line),
+        None => answer_alone(machine, text, line),
     }
 }
 
@@ -192,13 +193,16 @@ fn answer_spaced(
     answer_parsed(machine, text, parse_spaced(keyword, values))
 }
 
-/// Answers a line, word by word.
-#[inline(never)]
-fn answer_words(machine: &mut Machine, text: &mut Line, line: &[u8]) -> Result<(), Refusal>
-    ensures { (command : Result OpSpec RefusalSpec) → command ≡ command_in (words_of line.now)
+/// Answers a line in which no keyword and space stand first.
+#[inline(always)]
+fn answer_alone(machine: &mut Machine, text: &mut Line, line: &[u8]) -> Result<(), Refusal>
+    ensures { (command : Result OpSpec RefusalSpec) → command ≡ command_alone line.now
         → IsAnswered machine.old command result text.new machine.new }
 {
-    answer_parsed(machine, text, parse_words(line))
+    match parse_alone(line) {
+        Ok(op) => answer_op(machine, text, &op),
+        Err(refusal) => Err(refusal),
+    }
 }
 
 /// Answers an operation, or the fault of a line.

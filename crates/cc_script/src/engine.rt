@@ -195,6 +195,7 @@ fn take_piece<W: Sink>(
 }
 
 /// Answers the line that ends with these bytes and a line feed.
+#[inline(always)]
 fn end_line<W: Sink>(
     machine: &mut Machine,
     start: &mut LineStart,
@@ -212,11 +213,36 @@ fn end_line<W: Sink>(
 {
     if start.is_empty() {
         // the line stands whole in the piece
-        return match answer_line(machine, text, end, sink) {
+        match answer_line(machine, text, end, sink) {
             Ok(is_error) => Ok(is_error),
             Err(Failed) => Err(Failed),
-        };
+        }
+    } else {
+        match end_begun_line(machine, start, text, end, sink) {
+            Ok(is_error) => Ok(is_error),
+            Err(Failed) => Err(Failed),
+        }
     }
+}
+
+/// The same of a line that began before the piece.
+#[cold]
+#[inline(never)]
+fn end_begun_line<W: Sink>(
+    machine: &mut Machine,
+    start: &mut LineStart,
+    text: &mut Line,
+    end: &[u8],
+    sink: &mut W,
+) -> Result<bool, Failed>
+    requires sink { W.has_failed sink.old ≡ false }
+    requires line { IsLine end.now }
+    ensures ok { (begun : List ℕ) → start.old ≡ take 129 begun → IfOk result (λ error.
+        Answers machine.old begun (end.now ++ 10 ∷ []) start.new (W.taken_bytes sink.old) (W.taken_bytes sink.new) error machine.new) }
+    ensures err { (begun : List ℕ) → start.old ≡ take 129 begun → OnErr result (
+        StopsInReply machine.old (commands_from begun (end.now ++ 10 ∷ [])) (Appends (W.taken_bytes sink.old) (W.taken_bytes sink.new)) machine.new) }
+    ensures fails { IsErr result ↔ (W.has_failed sink.new ≡ true) }
+{
     start.extend(end);
     match answer_line(machine, text, start.as_slice(), sink) {
         Ok(is_error) => {
@@ -228,6 +254,7 @@ fn end_line<W: Sink>(
 }
 
 /// Takes one line and writes its reply. Tells whether that is an error.
+#[inline(always)]
 fn answer_line<W: Sink>(
     machine: &mut Machine,
     text: &mut Line,

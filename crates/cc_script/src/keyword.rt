@@ -1,6 +1,7 @@
 //! The first words of commands.
-ghost use Rattle.std.specs.Prelude.{◌≡◌, None, IfSome, IfNone};
-ghost use Rattle.cc_script.specs.Commands.{keyword_of, words_of, command_in, command_of};
+ghost use Rattle.std.specs.Prelude.{◌≡◌, false, IfSome, IfNone};
+ghost use Rattle.cc_script.specs.Commands.{words_of, command_in, command_of};
+ghost use Rattle.cc_script.specs.Keywords.{begins_with, command_alone, keyword_at, spaced_name};
 
 /// The first word of a command, which says what the words after it are.
 #[derive(Clone, Copy)]
@@ -33,64 +34,24 @@ macro_rules! after {
 }
 
 impl Keyword {
-    /// The keyword that a word spells, in lower case.
-    pub fn read(word: &[u8]) -> Option<Keyword>
-        ensures { result ≡ keyword_of word.now }
-    {
-        // a word that begins as no keyword does is told by its first byte
-        if Keyword::guess(word).is_none() {
-            return None;
-        }
-        let keyword = if word == b"show".as_slice() {
-            Keyword::Show
-        } else if word == b"bounds".as_slice() {
-            Keyword::Bounds
-        } else if word == b"exact".as_slice() {
-            Keyword::Exact
-        } else if word == b"addr".as_slice() {
-            Keyword::Addr
-        } else if word == b"inc".as_slice() {
-            Keyword::Inc
-        } else if word == b"perms".as_slice() {
-            Keyword::Perms
-        } else if word == b"flag".as_slice() {
-            Keyword::Flag
-        } else if word == b"seal".as_slice() {
-            Keyword::Seal
-        } else if word == b"unseal".as_slice() {
-            Keyword::Unseal
-        } else if word == b"rebuild".as_slice() {
-            Keyword::Rebuild
-        } else if word == b"round".as_slice() {
-            Keyword::Round
-        } else if word == b"pool".as_slice() {
-            Keyword::Pool
-        } else if word == b"alloc".as_slice() {
-            Keyword::Alloc
-        } else if word == b"free".as_slice() {
-            Keyword::Free
-        } else if word == b"sweep".as_slice() {
-            Keyword::Sweep
-        } else {
-            return None;
-        };
-        Some(keyword)
-    }
-
-    /// The keyword of a line, and what stands after its space. `None` tells nothing of the line.
+    /// The keyword of a line, and what stands after its space. `None` where no keyword and space stand first: then the
+    /// line is a command only as a keyword alone.
     #[inline(always)]
     pub fn split(line: &[u8]) -> Option<(Keyword, &[u8])>
-        ensures { IfSome result (λ parts. command_in (words_of line.now) ≡ command_of parts.0 (words_of parts.1.now)) }
+        ensures some { IfSome result (λ parts. command_in (words_of line.now) ≡ command_of parts.0 (words_of parts.1.now)) }
+        ensures none { IfNone result (command_in (words_of line.now) ≡ command_alone line.now) }
     {
         let keyword = Keyword::guess(line)?;
-        let values = keyword.after(line)?;
-        Some((keyword, values))
+        match keyword.after(line) {
+            Some(values) => Some((keyword, values)),
+            None => None,
+        }
     }
 
     /// The one keyword that a line can begin with, going by its first two bytes.
     #[inline(always)]
     fn guess(line: &[u8]) -> Option<Keyword>
-        ensures { IfNone result (keyword_of line.now ≡ None) }
+        ensures { result ≡ keyword_at line.now }
     {
         let keyword = match line {
             [b'a', b'd', ..] => Keyword::Addr,
@@ -116,7 +77,8 @@ impl Keyword {
     /// What stands after this keyword and a space, where a line begins with them.
     #[inline(always)]
     fn after(self, line: &[u8]) -> Option<&[u8]>
-        ensures { IfSome result (λ values. command_in (words_of line.now) ≡ command_of self (words_of values.now)) }
+        ensures some { IfSome result (λ values. command_in (words_of line.now) ≡ command_of self (words_of values.now)) }
+        ensures none { IfNone result (begins_with (spaced_name self) line.now ≡ false) }
     {
         match self {
             Keyword::Show => after!(line, b's' b'h' b'o' b'w'),
