@@ -1,16 +1,14 @@
 -- What `explain` writes for a text.
-use Rattle.std.specs.Prelude.{◌≡◌, ◌⊎◌, ℕ, ◌+◌, ◌-◌, ◌*◌, ◌/◌, ◌%◌, ◌^◌, List, ◌++◌, codes, nat_le, if◌then◌else◌}
-use Rattle.std.specs.Str.Parse.{digits_value}
+use Rattle.std.specs.Prelude.{◌≡◌, ℕ, ◌+◌, ◌-◌, ◌*◌, ◌/◌, ◌%◌, ◌^◌, List, ◌++◌, codes, nat_le, if◌then◌else◌}
 use Rattle.cc_word.specs.Word.{word_of, bit_of}
 use Rattle.cc_word.specs.declared.fields.Fields.{Fields}
-use Rattle.cc_word.specs.declared.refusal.Refusal.TheVariants.{Syntax}
 use Rattle.cc_bounds.specs.declared.span.Span.{Span}
 use Rattle.cc_bounds.specs.Decoding.{DecodesTo, raised}
 use Rattle.cc_bounds.specs.Span.{span_from}
 use Rattle.cc_bounds.specs.Window.{section_of}
-use Rattle.cc_command.specs.Answer.{IsRefusalLine}
-use Rattle.cc_command.specs.Listing.{IsWordText}
-use Rattle.cc_command.specs.Numbered.{line_feed, line_of, line_with_decimal, line_with_hexadecimal, with_decimal, with_digits, with_hexadecimal}
+use Rattle.cc_script.specs.Output.{with_line_feed}
+use Rattle.cc_command.specs.Answer.{AnswersText}
+use Rattle.cc_command.specs.Numbered.{line_feed, line_with_decimal, line_with_hexadecimal, with_decimal, with_digits, with_hexadecimal}
 use Rattle.cc_command.specs.Picture.{IsRow}
 use Rattle.cc_command.specs.Standing.{IsStanding}
 use Rattle.cc_command.specs.Steps.{AreSteps}
@@ -54,13 +52,13 @@ exponent_text fields steps =
     if fields.ie then
     with_decimal (codes "exponent  E = ") steps.exponent ++ with_decimal (codes ": 8 * ") (fields.t % 8)
     ++ line_with_decimal (codes " + ") (fields.b % 8) (codes ", from the low 3 bits of the T field and of the B field; at most 52")
-    else line_of (codes "exponent  E = 0, as IE is 0")
+    else with_line_feed (codes "exponent  E = 0, as IE is 0")
 
 -- the granule: what the ends of bounds of this exponent are multiples of
 abbrev pub granule_text : Fields → Steps → List ℕ
 granule_text fields steps =
     if fields.ie then line_with_hexadecimal (codes "granule   ") (8 * 2 ^ steps.exponent) (codes " bytes, 2^(E+3)")
-    else line_of (codes "granule   1 byte")
+    else with_line_feed (codes "granule   1 byte")
 
 -- how the T or the B field counts as part of its mantissa
 abbrev pub stored_text : Fields → List ℕ
@@ -82,8 +80,8 @@ abbrev pub length_text : Fields → Steps → List ℕ
 length_text fields steps =
     with_hexadecimal (codes "T - B     ") ((steps.t + 2 ^ 14 - steps.b) % 2 ^ 14)
     ++ (
-    if fields.ie then line_of (codes " modulo 0x4000: the implied bits put it within 0x1000 to 0x1fff")
-    else line_of (codes " modulo 0x4000: the implied bits put it within 0x0 to 0xfff")
+    if fields.ie then with_line_feed (codes " modulo 0x4000: the implied bits put it within 0x1000 to 0x1fff")
+    else with_line_feed (codes " modulo 0x4000: the implied bits put it within 0x0 to 0xfff")
     )
 
 -- the lines of the exponent and of the mantissas
@@ -125,11 +123,11 @@ bounds_text bounds =
 
 -- whether the word is canonical, or why not
 abbrev pub standing_text : Standing → List ℕ
-standing_text Canonical = line_of (codes "canonical yes")
-standing_text ReservedBits = line_of (codes "canonical no: a reserved bit is set")
-standing_text ReservedType = line_of (codes "canonical no: the type is reserved")
-standing_text TopBelowBase = line_of (codes "canonical no: the top is below the base")
-standing_text TopPastEnd = line_of (codes "canonical no: the top is above 2^64")
+standing_text Canonical = with_line_feed (codes "canonical yes")
+standing_text ReservedBits = with_line_feed (codes "canonical no: a reserved bit is set")
+standing_text ReservedType = with_line_feed (codes "canonical no: the type is reserved")
+standing_text TopBelowBase = with_line_feed (codes "canonical no: the top is below the base")
+standing_text TopPastEnd = with_line_feed (codes "canonical no: the top is above 2^64")
 standing_text (StoredAs ie t b) =
     bounds_fields_text (codes "canonical no: setting these bounds stores IE ") (bit_of ie) t b ++ line_feed
 
@@ -158,7 +156,7 @@ ruler_text first =
     ++ with_decimal (codes "-------") ((first + 1) % 8) ++ with_decimal (codes "-------") ((first + 2) % 8)
     ++ with_decimal (codes "-------") ((first + 3) % 8) ++ with_decimal (codes "-------") ((first + 4) % 8)
     ++ with_decimal (codes "-------") ((first + 5) % 8) ++ with_decimal (codes "-------") ((first + 6) % 8)
-    ++ with_decimal (codes "-------") ((first + 7) % 8) ++ line_of (codes "-------")
+    ++ with_decimal (codes "-------") ((first + 7) % 8) ++ with_line_feed (codes "-------")
 
 -- a row and its name
 unfoldable pub row_text : (name row : List ℕ) → List ℕ
@@ -200,8 +198,6 @@ pub record IsWordExplanation (word : ℕ) (explanation : List ℕ) : Type 0 wher
   pub are_rows : AreRows fields steps rows
   pub lines : explanation ≡ explanation_of word fields steps bounds standing rows
 
--- the explanation of a text: of a word that of the word, and of any other text the line of a refusal
+-- the answer to a text: to a word its explanation
 abbrev pub IsExplanation : (text explanation : List ℕ) → Type 0
-IsExplanation text explanation =
-    (IsWordText text × IsWordExplanation (digits_value 16 text) explanation)
-    ⊎ ((¬ IsWordText text) × IsRefusalLine Syntax explanation)
+IsExplanation = AnswersText IsWordExplanation

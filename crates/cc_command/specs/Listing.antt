@@ -1,16 +1,14 @@
 -- What `show` writes for a text.
-use Rattle.std.specs.Prelude.{◌≡◌, ◌⊎◌, ℕ, List, ◌++◌, codes, decimal, Bool, IsTrue, ◌↔◌, if◌then◌else◌}
+use Rattle.std.specs.Prelude.{◌≡◌, ℕ, List, ◌++◌, codes, decimal, Bool, IsTrue, ◌↔◌, if◌then◌else◌}
 use Rattle.cc_word.specs.Word.{word_of, bit_of}
-use Rattle.std.specs.Str.Parse.{digits_value}
 use Rattle.cc_word.specs.WordText.{digits_of, hexadecimal}
 pub use Rattle.cc_word.specs.WordText.{IsWordText}
 use Rattle.cc_word.specs.declared.fields.Fields.{Fields}
-use Rattle.cc_word.specs.declared.refusal.Refusal.TheVariants.{Syntax}
 use Rattle.cc_bounds.specs.declared.span.Span.{Span}
 use Rattle.cc_bounds.specs.Decoding.{stored_exponent, DecodesTo}
 use Rattle.cc_cap.specs.Canonical.{IsCanonical}
 use Rattle.cc_script.specs.Output.{with_line_feed}
-use Rattle.cc_command.specs.Answer.{IsRefusalLine}
+use Rattle.cc_command.specs.Answer.{AnswersText}
 use Rattle.cc_command.specs.Permissions.{permissions_text}
 
 -- a name, one space, a value and the line feed
@@ -42,9 +40,9 @@ bounds_lines_of fields bounds canonical =
 abbrev pub listing_of : (word : ℕ) (fields : Fields) (bounds : Span) (canonical : Bool) → List ℕ
 listing_of word fields bounds canonical = field_lines_of word fields ++ bounds_lines_of fields bounds canonical
 
--- The listing of a word: its lines, made of the word's fields, of the span that they decode to, and of whether
--- the word is canonical. There are no other such fields, and there is no other such span.
-pub record IsWordListing (word : ℕ) (listing : List ℕ) : Type 0 where
+-- The text tells a word: `text_of` makes it of the word, of its fields, of the span that they decode to, and of whether the
+-- word is canonical. There are no other such fields, and there is no other such span.
+pub record TellsWord (text_of : ℕ → Fields → Span → Bool → List ℕ) (word : ℕ) (text : List ℕ) : Type 0 where
   pub fields : Fields
   pub bounds : Span
   pub canonical : Bool
@@ -53,10 +51,8 @@ pub record IsWordListing (word : ℕ) (listing : List ℕ) : Type 0 where
   pub decoded : DecodesTo fields bounds
   pub only_bounds : (other : Span) → DecodesTo fields other → other ≡ bounds
   pub is_canonical : IsTrue canonical ↔ IsCanonical word
-  pub lines : listing ≡ listing_of word fields bounds canonical
+  pub is_text : text ≡ text_of word fields bounds canonical
 
--- the answer to a text: to a word its listing, and to any other text the refusal `error 1 syntax`
+-- the answer to a text: to a word its listing
 abbrev pub IsListing : (text listing : List ℕ) → Type 0
-IsListing text listing =
-    (IsWordText text × IsWordListing (digits_value 16 text) listing)
-    ⊎ ((¬ IsWordText text) × IsRefusalLine Syntax listing)
+IsListing = AnswersText (TellsWord listing_of)

@@ -2,14 +2,11 @@
 -- not look at each byte.
 use Rattle.std.specs.Prelude.{ℕ, List, [], ◌∷◌, ◌++◌, decimal}
 use Rattle.cc_word.specs.WordText.{digits_of, hexadecimal}
+use Rattle.cc_script.specs.Output.{with_line_feed}
 
 -- the end of a line
 abbrev pub line_feed : List ℕ
 line_feed = 10 ∷ []
-
--- a text and its line feed
-abbrev pub line_of : List ℕ → List ℕ
-line_of text = text ++ line_feed
 
 -- a text, and then the last `count` digits of a number to base 16
 unfoldable pub with_digits : (before : List ℕ) (count number : ℕ) → List ℕ
@@ -25,8 +22,8 @@ with_hexadecimal before number = before ++ hexadecimal number
 
 -- a text, a number in decimal, another text and the line feed
 unfoldable pub line_with_decimal : (before : List ℕ) (number : ℕ) (after : List ℕ) → List ℕ
-line_with_decimal before number after = line_of (before ++ decimal number ++ after)
+line_with_decimal before number after = with_line_feed (before ++ decimal number ++ after)
 
 -- a text, a number to base 16 as above, another text and the line feed
 unfoldable pub line_with_hexadecimal : (before : List ℕ) (number : ℕ) (after : List ℕ) → List ℕ
-line_with_hexadecimal before number after = line_of (before ++ hexadecimal number ++ after)
+line_with_hexadecimal before number after = with_line_feed (before ++ hexadecimal number ++ after)

@@ -7,9 +7,10 @@ use Rattle.cc_bounds.specs.Span.{from_zero, length_of, span_from}
 use Rattle.cc_bounds.specs.Granule.{IsGranted, IsGranule, granule_count, granule_of, padded_size}
 use Rattle.cc_cap.specs.Capability.{Capability, at_address, root_capability, with_span}
 use Rattle.cc_cap.specs.Canonical.{IsWordOf}
-use Rattle.cc_command.specs.Answer.{IsRefusalLine}
+use Rattle.cc_script.specs.Output.{with_line_feed}
+use Rattle.cc_command.specs.Answer.{AnswersResult}
 use Rattle.cc_command.specs.Explanation.{word_text}
-use Rattle.cc_command.specs.Numbered.{line_of, line_with_decimal, line_with_hexadecimal, with_hexadecimal}
+use Rattle.cc_command.specs.Numbered.{line_with_decimal, line_with_hexadecimal, with_hexadecimal}
 use Rattle.cc_command.specs.Planning.{pool_of}
 use Rattle.cc_command.specs.declared.request.Grant.{Grant}
 
@@ -55,14 +56,14 @@ touched_text request granule =
 -- why half a granule is not enough: it is smaller than a granule can be, or the request touches too many of them
 abbrev pub half_text : (request : Span) (granule : ℕ) → List ℕ
 half_text request granule =
-    if granule == 8 then line_of (codes "half      none: from 4096 bytes up a granule has 8 bytes or more")
+    if granule == 8 then with_line_feed (codes "half      none: from 4096 bytes up a granule has 8 bytes or more")
     else with_hexadecimal (codes "half      ") (granule / 2)
     ++ line_with_decimal (codes " bytes: the request touches ") (granule_count request (granule / 2)) (codes " of them, and that is too many")
 
 -- the granule of a request, and why half of it is not enough
 abbrev pub unit_text : (request : Span) (granule : ℕ) → List ℕ
 unit_text request granule =
-    if nat_lt (length_of request) 4096 then line_of (codes "granule   1 byte: the request has less than 4096")
+    if nat_lt (length_of request) 4096 then with_line_feed (codes "granule   1 byte: the request has less than 4096")
     else touched_text request granule ++ half_text request granule
 
 -- how many bytes are granted before the request, and how many behind it
@@ -89,11 +90,6 @@ pub record IsRequestExplanation (request : Span) (explanation : List ℕ) : Type
   pub is_grant : IsGrant request grant
   pub lines : explanation ≡ grant_text request grant
 
--- the answer to a request, or to texts that spell none
-abbrev pub IsRequestAnswer : Result Span Refusal → (answer : List ℕ) → Type 0
-IsRequestAnswer (Ok request) answer = IsRequestExplanation request answer
-IsRequestAnswer (Err refusal) answer = IsRefusalLine refusal answer
-
 -- the answer to the texts of a base and of a length
 abbrev pub IsLengthExplanation : (base size answer : List ℕ) → Type 0
-IsLengthExplanation base size answer = IsRequestAnswer (request_in base size) answer
+IsLengthExplanation base size answer = AnswersResult IsRequestExplanation (request_in base size) answer

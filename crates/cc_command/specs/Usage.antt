@@ -1,5 +1,5 @@
 -- What the objects of a machine take of its pool, and what is left.
-use Rattle.std.specs.Prelude.{ℕ, Bool, true, false, ◌≡◌, ◌-◌, List, [], ◌∷◌, ◌++◌, count_by, filter, length, max, nat_lt, option_map, sum_by, unwrap_or}
+use Rattle.std.specs.Prelude.{ℕ, Bool, true, false, ◌≡◌, ◌-◌, List, [], ◌∷◌, ◌++◌, count_by, filter, length, map, max, nat_lt, option_map, sum_by, unwrap_or}
 use Rattle.std.specs.List.Sorted.{IsNonDecreasingBy, IsPermutation}
 use Rattle.cc_bounds.specs.declared.span.Span.{Span}
 use Rattle.cc_bounds.specs.Span.{from_zero, length_of}
@@ -27,15 +27,14 @@ is_swept Swept = true
 abbrev pub asked_bytes_of : List PlannedObject → ℕ
 asked_bytes_of objects = sum_by (λ object. object.size) (filter (λ object. is_held object.state) objects)
 
--- the highest top of all the objects, and 0 where there is none
-abbrev pub highest_top : List PlannedObject → ℕ
-highest_top [] = 0
-highest_top (object ∷ objects) = max object.span.top (highest_top objects)
-
 -- the greatest of some numbers, and 0 where there is none
 abbrev pub greatest : List ℕ → ℕ
 greatest [] = 0
 greatest (number ∷ numbers) = max number (greatest numbers)
+
+-- the highest top of all the objects, and 0 where there is none
+abbrev pub highest_top : List PlannedObject → ℕ
+highest_top objects = greatest (map (λ object. object.span.top) objects)
 
 -- the lengths of the holes in a gap of so many bytes: one hole of that length, and none where the gap has no byte
 abbrev pub hole : ℕ → List ℕ

@@ -9,10 +9,11 @@ use Rattle.cc_bounds.specs.Decoding.{DecodesTo}
 use Rattle.cc_bounds.proofs.DecodingLemmas.{DecodesTo-same}
 use Rattle.cc_cap.specs.LineText.{IsLine, line_of}
 use Rattle.cc_script.specs.Output.{rest_text}
+use Rattle.cc_command.specs.Listing.{TellsWord}
 use Rattle.cc_decode.specs.Correct.{WritesListing}
 use Rattle.cc_decode.specs.Input.{entries_of, left_of, word_in}
 use Rattle.cc_decode.specs.Output.{Answer, IsAnswer, AreAnswers, answers_text}
-use Rattle.cc_decode.specs.Row.{IsRow, IsWordRow, columns_text, csv_text, header_text}
+use Rattle.cc_decode.specs.Row.{IsWordRow, columns_text, csv_text, header_text}
 use Rattle.cc_decode.specs.declared.format.Format.{Format}
 use Rattle.cc_decode.specs.declared.format.Format.TheVariants.{Columns, Csv, Text}
 use Rattle.cc_decode.specs.declared.options.Options.{Options}
@@ -25,13 +26,13 @@ same_test true false p q = cc (q.1 (p.0 refl))
 same_test false true p q = cc (p.1 (q.0 refl))
 
 -- a word has one row of each kind
-one_row : (text_of : ℕ → Fields → Span → Bool → List ℕ) (word : ℕ) (one other : List ℕ) → IsRow text_of word one → IsRow text_of word other → one ≡ other
+one_row : (text_of : ℕ → Fields → Span → Bool → List ℕ) (word : ℕ) (one other : List ℕ) → TellsWord text_of word one → TellsWord text_of word other → one ≡ other
 one_row text_of word one other p q =
     let fields : q.fields ≡ p.fields = p.only_fields q.fields q.of_word in
     let bounds : q.bounds ≡ p.bounds = p.only_bounds q.bounds (subst (λ (f : Fields). DecodesTo f q.bounds) fields q.decoded) in
     let canonical : q.canonical ≡ p.canonical = same_test q.canonical p.canonical q.is_canonical p.is_canonical in
-    p.text
-    ∙ sym (q.text ∙ ap (λ (f : Fields). text_of word f q.bounds q.canonical) fields ∙ ap (λ (s : Span). text_of word p.fields s q.canonical) bounds
+    p.is_text
+    ∙ sym (q.is_text ∙ ap (λ (f : Fields). text_of word f q.bounds q.canonical) fields ∙ ap (λ (s : Span). text_of word p.fields s q.canonical) bounds
     ∙ ap (λ (b : Bool). text_of word p.fields p.bounds b) canonical)
 
 one_line : (word : ℕ) (one other : List ℕ) → IsLine word true one → IsLine word true other → one ≡ other

@@ -1,14 +1,14 @@
 -- The answer to one word, on one line.
-use Rattle.std.specs.Prelude.{◌≡◌, ℕ, List, [], ◌++◌, codes, decimal, Bool, true, IsTrue, ◌↔◌, if◌then◌else◌}
-use Rattle.cc_word.specs.Word.{word_of, bit_of}
+use Rattle.std.specs.Prelude.{ℕ, List, [], ◌++◌, codes, decimal, Bool, true, if◌then◌else◌}
+use Rattle.cc_word.specs.Word.{bit_of}
 use Rattle.cc_word.specs.WordText.{digits_of}
 use Rattle.cc_word.specs.declared.fields.Fields.{Fields}
 use Rattle.cc_bounds.specs.declared.span.Span.{Span}
-use Rattle.cc_bounds.specs.Decoding.{stored_exponent, DecodesTo}
-use Rattle.cc_cap.specs.Canonical.{IsCanonical}
+use Rattle.cc_bounds.specs.Decoding.{stored_exponent}
 use Rattle.cc_cap.specs.LineText.{IsLine}
 use Rattle.cc_script.specs.Output.{with_line_feed}
 use Rattle.cc_script.specs.Replies.{hexadecimal}
+use Rattle.cc_command.specs.Listing.{TellsWord}
 use Rattle.cc_command.specs.Permissions.{permissions_text}
 use Rattle.cc_decode.specs.declared.format.Format.{Format}
 use Rattle.cc_decode.specs.declared.format.Format.TheVariants.{Columns, Csv, Text}
@@ -30,24 +30,11 @@ csv_text word fields bounds canonical =
     values_text (codes ",") word fields bounds canonical
     ++ codes "," ++ hexadecimal fields.address ++ codes "," ++ permissions_text fields.perms
 
--- The row is the text of a word, made by `text_of` of the word's fields, of the span that they decode to, and of whether
--- the word is canonical. There are no other such fields, and there is no other such span.
-pub record IsRow (text_of : ℕ → Fields → Span → Bool → List ℕ) (word : ℕ) (row : List ℕ) : Type 0 where
-  pub fields : Fields
-  pub bounds : Span
-  pub canonical : Bool
-  pub of_word : word_of fields ≡ word
-  pub only_fields : (other : Fields) → word_of other ≡ word → other ≡ fields
-  pub decoded : DecodesTo fields bounds
-  pub only_bounds : (other : Span) → DecodesTo fields other → other ≡ bounds
-  pub is_canonical : IsTrue canonical ↔ IsCanonical word
-  pub text : row ≡ text_of word fields bounds canonical
-
 -- the answer to a word: its columns, the line that a tagged word has, or its comma-separated values
 abbrev pub IsWordRow : Format → (word : ℕ) (row : List ℕ) → Type 0
-IsWordRow Columns word row = IsRow columns_text word row
+IsWordRow Columns word row = TellsWord columns_text word row
 IsWordRow Text word row = IsLine word true row
-IsWordRow Csv word row = IsRow csv_text word row
+IsWordRow Csv word row = TellsWord csv_text word row
 
 -- the header of a format: for comma-separated values the names of the columns, and else nothing
 abbrev pub header_text : Format → List ℕ

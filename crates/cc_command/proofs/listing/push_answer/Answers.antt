@@ -15,7 +15,7 @@ returns-in-Some-clause-listing c =
         decoded = c.decode.ensures.decodes;
         only_bounds = c.decode.ensures.only;
         is_canonical = rw (← c.in-Some.ensures.value) c.is_canonical.ensures;
-        lines =
+        is_text =
             c.push_listing.ensures
             ∙ ap (λ (word : ℕ). listing_of word c.unpack-fields.result c.decode.result c.is_canonical.result) c.in-Some.ensures.value;
       },

@@ -14,7 +14,7 @@ returns-clause-row c = record {
     decoded = search rules;
     only_bounds = search rules;
     is_canonical = search rules;
-    text = refl;
+    is_text = refl;
   };
   written = search rules;
 }
