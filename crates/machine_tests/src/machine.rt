@@ -15,25 +15,50 @@ use std::test::Fail;
 /// The end of the address space.
 const END: u128 = 1 << 64;
 
-/// An operation whose length is a plain number, so that rows of them can be constants.
+/// The bits of two permissions.
+const LOAD: u16 = 0x4;
+
+const UNSEAL: u16 = 0x200;
+
+/// An operation of plain numbers, so that rows of them can be constants.
 #[derive(Clone, Copy)]
 enum Ask {
+    Show(u32),
     Bounds(u32, u128),
     Exact(u32, u128),
-    Alloc(u128),
+    Addr(u32, u64),
+    Inc(u32, u64),
+    Perms(u32, u16),
+    Flag(u32, bool),
+    Seal(u32, u32),
+    Unseal(u32, u32),
+    Rebuild(u32, u128),
     Round(u128),
-    Op(Op),
+    Pool(u32, Align),
+    Alloc(u128),
+    Free(u32),
+    Sweep,
 }
 
 impl Ask {
     /// The operation, if its length is one.
     fn op(self) -> Option<Op> {
         Some(match self {
+            Ask::Show(slot) => Op::Show(slot),
             Ask::Bounds(slot, bytes) => Op::Bounds(slot, Len::new(bytes)?),
             Ask::Exact(slot, bytes) => Op::Exact(slot, Len::new(bytes)?),
-            Ask::Alloc(bytes) => Op::Alloc(Len::new(bytes)?),
+            Ask::Addr(slot, address) => Op::Addr(slot, address),
+            Ask::Inc(slot, amount) => Op::Inc(slot, amount),
+            Ask::Perms(slot, bits) => Op::Perms(slot, Perms::from_bits(bits)?),
+            Ask::Flag(slot, flag) => Op::Flag(slot, flag),
+            Ask::Seal(slot, authority) => Op::Seal(slot, authority),
+            Ask::Unseal(slot, authority) => Op::Unseal(slot, authority),
+            Ask::Rebuild(slot, word) => Op::Rebuild(slot, word),
             Ask::Round(bytes) => Op::Round(Len::new(bytes)?),
-            Ask::Op(op) => op,
+            Ask::Pool(slot, align) => Op::Pool(slot, align),
+            Ask::Alloc(bytes) => Op::Alloc(Len::new(bytes)?),
+            Ask::Free(object) => Op::Free(object),
+            Ask::Sweep => Op::Sweep,
         })
     }
 }
@@ -137,12 +162,11 @@ fn reply(machine: &mut Machine, ask: Ask) -> Reply {
     }
 }
 
-/// The machine's first reply to these operations in turn that is not its row's, if there is one.
-fn wrong_reply(machine: &mut Machine, rows: &[Row]) -> Option<Reply> {
-    for (ask, told) in rows {
-        let reply = reply(machine, *ask);
-        if reply != told.reply() {
-            return Some(reply);
+/// The position of the first row to which the machine replies otherwise, of these rows in turn, if there is one.
+fn wrong_row(machine: &mut Machine, rows: &[Row]) -> Option<usize> {
+    for (position, (ask, told)) in rows.iter().enumerate() {
+        if reply(machine, *ask) != told.reply() {
+            return Some(position);
         }
     }
     None
@@ -223,78 +247,84 @@ fn wrong_look(machine: &Machine, looks: &[Look]) -> Option<usize> {
     None
 }
 
-/// What is wrong with a new machine of so many slots: its first reply that is not its row's, or the first look
-/// that is not seen after the last row.
-fn wrong_anew(
-    alloc: Global,
-    limit: u32,
-    rows: &[&[Row]],
-    looks: &[Look],
-) -> Result<(Option<Reply>, Option<usize>), AllocError> {
-    let mut machine = Machine::with_limit(alloc, limit.clamp(1, 65_536))?;
-    for part in rows {
-        if let Some(reply) = wrong_reply(&mut machine, part) {
-            return Ok((Some(reply), None));
+/// The most slots of a new machine, the rows to which it replies, part after part, and what is then seen of it.
+type Case<'a> = (u32, &'a [&'a [Row]], &'a [Look]);
+
+/// The part and the position in it of what is wrong first with this machine, if anything is: a row or, behind all
+/// parts, a look.
+fn wrong_in(machine: &mut Machine, parts: &[&[Row]], looks: &[Look]) -> Option<(usize, usize)> {
+    for (number, rows) in parts.iter().enumerate() {
+        if let Some(position) = wrong_row(machine, rows) {
+            return Some((number, position));
         }
     }
-    Ok((None, wrong_look(&machine, looks)))
+    let position = wrong_look(machine, looks)?;
+    Some((parts.len(), position))
 }
 
-/// A new machine of so many slots replies to each operation in turn as its row says, and then each look is seen.
-fn check(
-    rt: &impl Abort,
-    alloc: Global,
-    limit: u32,
-    rows: &[&[Row]],
-    looks: &[Look],
-) -> Result<(), Fail> {
-    let (reply, look) = wrong_anew(alloc, limit, rows, looks)?;
-    assert!(rt; reply.is_none(), "{reply:?}");
-    assert!(rt; look.is_none(), "{look:?}");
-    Ok(())
+/// The same of a new machine.
+fn wrong_anew(alloc: Global, case: &Case) -> Result<Option<(usize, usize)>, AllocError> {
+    let (limit, parts, looks) = *case;
+    let mut machine = Machine::with_limit(alloc, limit.clamp(1, 65_536))?;
+    Ok(wrong_in(&mut machine, parts, looks))
+}
+
+/// A new machine replies as the rows of the case say, and then each look is seen.
+fn check(rt: &impl Abort, alloc: Global, case: &Case) {
+    let wrong = wrong_anew(alloc, case);
+    assert!(rt; matches!(wrong, Ok(None)), "{wrong:?}");
 }
 
 /// Slot 2 has the bytes from 0x1000 up to 0x1200.
 #[rattlefmt::skip]
 const SMALL: [Row; 2] = [
-    (Ask::Op(Op::Addr(0, 0x1000)), Told::Whole(1, 0xffff0000000000000000000000001000)),
+    (Ask::Addr(0, 0x1000), Told::Whole(1, 0xffff0000000000000000000000001000)),
     (Ask::Bounds(1, 0x200), Told::Made(2, 0xffff0000048190040000000000001000, 0x1000, 0x1200)),
 ];
 
+const NEW: [Case; 4] = [
+    (1, &[], &[Look::Slots(1)]),
+    (2, &[], &[Look::Slots(1)]),
+    (4096, &[], &[Look::Slots(1)]),
+    (65536, &[], &[Look::Slots(1)]),
+];
+
 #[test]
-fn opens_with_ample_memory(rt: HostRuntime) -> Result<(), Fail> {
-    for limit in [1, 2, 4096, 65536] {
-        check(&rt, rt.alloc(), limit, &[], &[Look::Slots(1)])?;
+fn opens_with_ample_memory(rt: HostRuntime) {
+    for case in &NEW {
+        check(&rt, rt.alloc(), case);
     }
-    Ok(())
 }
 
 const ROOT_SHOWN: [Row; 1] = [(
-    Ask::Op(Op::Show(0)),
+    Ask::Show(0),
     Told::Shown(0xffff0000000000000000000000000000, 0, END, None),
 )];
 
+const ROOT_SHOWN_CASE: Case = (1, &[&ROOT_SHOWN], &[]);
+
 #[test]
-fn root_shown(rt: HostRuntime) -> Result<(), Fail> {
-    check(&rt, rt.alloc(), 1, &[&ROOT_SHOWN], &[])
+fn root_shown(rt: HostRuntime) {
+    check(&rt, rt.alloc(), &ROOT_SHOWN_CASE);
 }
 
 #[rattlefmt::skip]
 const SMALL_BOUNDS: [Row; 3] = [
-    (Ask::Op(Op::Addr(2, 0x1200)), Told::Made(3, 0xffff0000048190040000000000001200, 0x1000, 0x1200)),
+    (Ask::Addr(2, 0x1200), Told::Made(3, 0xffff0000048190040000000000001200, 0x1000, 0x1200)),
     (Ask::Exact(3, 0), Told::Made(4, 0xffff0000048192040000000000001200, 0x1200, 0x1200)),
-    (Ask::Op(Op::Rebuild(2, 0xffff0000048192040000000000001200)), Told::Made(5, 0xffff0000048192040000000000001200, 0x1200, 0x1200)),
+    (Ask::Rebuild(2, 0xffff0000048192040000000000001200), Told::Made(5, 0xffff0000048192040000000000001200, 0x1200, 0x1200)),
 ];
 
+const SMALL_BOUNDS_CASE: Case = (4096, &[&SMALL, &SMALL_BOUNDS], &[Look::Parent(5, Some(2))]);
+
 #[test]
-fn small_bounds(rt: HostRuntime) -> Result<(), Fail> {
-    let looks = [Look::Parent(5, Some(2))];
-    check(&rt, rt.alloc(), 4096, &[&SMALL, &SMALL_BOUNDS], &looks)
+fn small_bounds(rt: HostRuntime) {
+    check(&rt, rt.alloc(), &SMALL_BOUNDS_CASE);
 }
 
 #[rattlefmt::skip]
 const BOUNDS_AND_LENGTHS_EMPTY: [Row; 2] = [
-    (Ask::Op(Op::Addr(0, 0x1000)), Told::Whole(1, 0xffff0000000000000000000000001000)),
+    (Ask::Addr(0, 0x1000), Told::Whole(1, 0xffff0000000000000000000000001000)),
     (Ask::Bounds(1, 0), Told::Made(2, 0xffff0000040190040000000000001000, 0x1000, 0x1000)),
 ];
 
@@ -307,30 +337,38 @@ const BOUNDS_AND_LENGTHS_LENGTHS: [Row; 3] = [
 
 #[rattlefmt::skip]
 const BOUNDS_AND_LENGTHS_END: [Row; 3] = [
-    (Ask::Op(Op::Addr(0, 0xffffffffffffff00)), Told::Whole(1, 0xffff000000000000ffffffffffffff00)),
+    (Ask::Addr(0, 0xffffffffffffff00), Told::Whole(1, 0xffff000000000000ffffffffffffff00)),
     (Ask::Bounds(1, 0x100), Told::Made(2, 0xffff00000401bf04ffffffffffffff00, 0xffffffffffffff00, END)),
     (Ask::Bounds(1, 0x101), Told::Refused(Refusal::OutOfBounds)),
 ];
 
+const BOUNDS_AND_LENGTHS_CASES: [Case; 3] = [
+    (4096, &[&BOUNDS_AND_LENGTHS_EMPTY], &[]),
+    (4096, &[&BOUNDS_AND_LENGTHS_LENGTHS], &[]),
+    (4096, &[&BOUNDS_AND_LENGTHS_END], &[]),
+];
+
 #[test]
-fn bounds_and_lengths(rt: HostRuntime) -> Result<(), Fail> {
-    check(&rt, rt.alloc(), 4096, &[&BOUNDS_AND_LENGTHS_EMPTY], &[])?;
-    check(&rt, rt.alloc(), 4096, &[&BOUNDS_AND_LENGTHS_LENGTHS], &[])?;
-    check(&rt, rt.alloc(), 4096, &[&BOUNDS_AND_LENGTHS_END], &[])
+fn bounds_and_lengths(rt: HostRuntime) {
+    for case in &BOUNDS_AND_LENGTHS_CASES {
+        check(&rt, rt.alloc(), case);
+    }
 }
 
 #[rattlefmt::skip]
 const ROUNDED_AND_INEXACT: [Row; 5] = [
-    (Ask::Op(Op::Addr(0, 1)), Told::Whole(1, 0xffff0000000000000000000000000001)),
+    (Ask::Addr(0, 1), Told::Whole(1, 0xffff0000000000000000000000000001)),
     (Ask::Bounds(1, 4096), Told::Made(2, 0xffff0000000380040000000000000001, 0, 0x1008)),
     (Ask::Exact(1, 4096), Told::Refused(Refusal::Inexact)),
-    (Ask::Op(Op::Show(3)), Told::Refused(Refusal::NoSlot)),
+    (Ask::Show(3), Told::Refused(Refusal::NoSlot)),
     (Ask::Bounds(1, 0xffffffffffffffff), Told::Whole(3, 0xffff0000000000000000000000000001)),
 ];
 
+const ROUNDED_AND_INEXACT_CASE: Case = (4096, &[&ROUNDED_AND_INEXACT], &[]);
+
 #[test]
-fn rounded_and_inexact(rt: HostRuntime) -> Result<(), Fail> {
-    check(&rt, rt.alloc(), 4096, &[&ROUNDED_AND_INEXACT], &[])
+fn rounded_and_inexact(rt: HostRuntime) {
+    check(&rt, rt.alloc(), &ROUNDED_AND_INEXACT_CASE);
 }
 
 #[rattlefmt::skip]
@@ -360,58 +398,66 @@ fn are_lengths() -> bool {
         && !is_length(END + 1)
 }
 
+const LENGTHS_ROUNDED_CASE: Case = (1, &[&ROUNDINGS], &[]);
+
 #[test]
-fn lengths_rounded(rt: HostRuntime) -> Result<(), Fail> {
+fn lengths_rounded(rt: HostRuntime) {
     assert!(rt; are_lengths());
-    check(&rt, rt.alloc(), 1, &[&ROUNDINGS], &[])
+    check(&rt, rt.alloc(), &LENGTHS_ROUNDED_CASE);
 }
 
 #[rattlefmt::skip]
 const WINDOW_EDGES: [Row; 4] = [
-    (Ask::Op(Op::Addr(2, 0x800)), Told::Made(3, 0xffff0000048190040000000000000800, 0x1000, 0x1200)),
-    (Ask::Op(Op::Addr(2, 0x47ff)), Told::Made(4, 0xffff00000481900400000000000047ff, 0x1000, 0x1200)),
-    (Ask::Op(Op::Addr(2, 0x7ff)), Told::Refused(Refusal::Unrepresentable)),
-    (Ask::Op(Op::Addr(2, 0x4800)), Told::Refused(Refusal::Unrepresentable)),
+    (Ask::Addr(2, 0x800), Told::Made(3, 0xffff0000048190040000000000000800, 0x1000, 0x1200)),
+    (Ask::Addr(2, 0x47ff), Told::Made(4, 0xffff00000481900400000000000047ff, 0x1000, 0x1200)),
+    (Ask::Addr(2, 0x7ff), Told::Refused(Refusal::Unrepresentable)),
+    (Ask::Addr(2, 0x4800), Told::Refused(Refusal::Unrepresentable)),
 ];
 
 #[rattlefmt::skip]
 const WINDOW_EDGES_ROUND_ZERO: [Row; 4] = [
     (Ask::Bounds(0, 0x200), Told::Made(1, 0xffff0000048180040000000000000000, 0, 0x200)),
-    (Ask::Op(Op::Addr(1, 0xfffffffffffff800)), Told::Made(2, 0xffff000004818004fffffffffffff800, 0, 0x200)),
-    (Ask::Op(Op::Addr(1, 0xfffffffffffff7ff)), Told::Refused(Refusal::Unrepresentable)),
-    (Ask::Op(Op::Inc(2, 0x800)), Told::Made(3, 0xffff0000048180040000000000000000, 0, 0x200)),
+    (Ask::Addr(1, 0xfffffffffffff800), Told::Made(2, 0xffff000004818004fffffffffffff800, 0, 0x200)),
+    (Ask::Addr(1, 0xfffffffffffff7ff), Told::Refused(Refusal::Unrepresentable)),
+    (Ask::Inc(2, 0x800), Told::Made(3, 0xffff0000048180040000000000000000, 0, 0x200)),
 ];
 
 #[rattlefmt::skip]
 const WINDOW_EDGES_EVERYWHERE: [Row; 3] = [
-    (Ask::Op(Op::Addr(0, 0x8000000000000000)), Told::Whole(1, 0xffff0000000000008000000000000000)),
+    (Ask::Addr(0, 0x8000000000000000), Told::Whole(1, 0xffff0000000000008000000000000000)),
     (Ask::Bounds(1, 0x8000000000000000), Told::Made(2, 0xffff0000000010078000000000000000, 0x8000000000000000, END)),
-    (Ask::Op(Op::Addr(2, 0)), Told::Made(3, 0xffff0000000010070000000000000000, 0x8000000000000000, END)),
+    (Ask::Addr(2, 0), Told::Made(3, 0xffff0000000010070000000000000000, 0x8000000000000000, END)),
+];
+
+const WINDOW_EDGES_CASES: [Case; 3] = [
+    (4096, &[&SMALL, &WINDOW_EDGES], &[]),
+    (4096, &[&WINDOW_EDGES_ROUND_ZERO], &[]),
+    (4096, &[&WINDOW_EDGES_EVERYWHERE], &[]),
 ];
 
 #[test]
-fn window_edges(rt: HostRuntime) -> Result<(), Fail> {
-    check(&rt, rt.alloc(), 4096, &[&SMALL, &WINDOW_EDGES], &[])?;
-    check(&rt, rt.alloc(), 4096, &[&WINDOW_EDGES_ROUND_ZERO], &[])?;
-    check(&rt, rt.alloc(), 4096, &[&WINDOW_EDGES_EVERYWHERE], &[])
+fn window_edges(rt: HostRuntime) {
+    for case in &WINDOW_EDGES_CASES {
+        check(&rt, rt.alloc(), case);
+    }
 }
 
 #[rattlefmt::skip]
 const SEALING: [Row; 14] = [
-    (Ask::Op(Op::Addr(0, 7)), Told::Whole(3, 0xffff0000000000000000000000000007)),
-    (Ask::Op(Op::Seal(2, 3)), Told::Made(4, 0xffff1fffc48190040000000000001000, 0x1000, 0x1200)),
+    (Ask::Addr(0, 7), Told::Whole(3, 0xffff0000000000000000000000000007)),
+    (Ask::Seal(2, 3), Told::Made(4, 0xffff1fffc48190040000000000001000, 0x1000, 0x1200)),
     (Ask::Bounds(4, 16), Told::Refused(Refusal::Sealed)),
-    (Ask::Op(Op::Addr(0, 0x3fff0)), Told::Whole(5, 0xffff000000000000000000000003fff0)),
-    (Ask::Op(Op::Seal(2, 5)), Told::Refused(Refusal::ReservedType)),
-    (Ask::Op(Op::Unseal(4, 3)), Told::Made(6, 0xffff0000048190040000000000001000, 0x1000, 0x1200)),
-    (Ask::Op(Op::Perms(3, Perms::UNSEAL)), Told::Whole(7, 0x02000000000000000000000000000007)),
-    (Ask::Op(Op::Unseal(4, 7)), Told::Made(8, 0xfffe0000048190040000000000001000, 0x1000, 0x1200)),
-    (Ask::Op(Op::Seal(2, 7)), Told::Refused(Refusal::MissingPermission)),
-    (Ask::Op(Op::Unseal(2, 3)), Told::Refused(Refusal::Unsealed)),
-    (Ask::Op(Op::Unseal(4, 0)), Told::Refused(Refusal::TypeMismatch)),
-    (Ask::Op(Op::Seal(4, 9)), Told::Refused(Refusal::NoSlot)),
-    (Ask::Op(Op::Unseal(2, 4)), Told::Refused(Refusal::Unsealed)),
-    (Ask::Op(Op::Show(4)), Told::ShownSealed(0xffff1fffc48190040000000000001000, 0x1000, 0x1200, 7, Some(2))),
+    (Ask::Addr(0, 0x3fff0), Told::Whole(5, 0xffff000000000000000000000003fff0)),
+    (Ask::Seal(2, 5), Told::Refused(Refusal::ReservedType)),
+    (Ask::Unseal(4, 3), Told::Made(6, 0xffff0000048190040000000000001000, 0x1000, 0x1200)),
+    (Ask::Perms(3, UNSEAL), Told::Whole(7, 0x02000000000000000000000000000007)),
+    (Ask::Unseal(4, 7), Told::Made(8, 0xfffe0000048190040000000000001000, 0x1000, 0x1200)),
+    (Ask::Seal(2, 7), Told::Refused(Refusal::MissingPermission)),
+    (Ask::Unseal(2, 3), Told::Refused(Refusal::Unsealed)),
+    (Ask::Unseal(4, 0), Told::Refused(Refusal::TypeMismatch)),
+    (Ask::Seal(4, 9), Told::Refused(Refusal::NoSlot)),
+    (Ask::Unseal(2, 4), Told::Refused(Refusal::Unsealed)),
+    (Ask::Show(4), Told::ShownSealed(0xffff1fffc48190040000000000001000, 0x1000, 0x1200, 7, Some(2))),
 ];
 
 const SEALED: [Look; 6] = [
@@ -423,26 +469,30 @@ const SEALED: [Look; 6] = [
     Look::Word(4, 0xffff1fffc48190040000000000001000),
 ];
 
+const SEALING_CASE: Case = (4096, &[&SMALL, &SEALING], &SEALED);
+
 #[test]
-fn sealing(rt: HostRuntime) -> Result<(), Fail> {
-    check(&rt, rt.alloc(), 4096, &[&SMALL, &SEALING], &SEALED)
+fn sealing(rt: HostRuntime) {
+    check(&rt, rt.alloc(), &SEALING_CASE);
 }
 
 #[rattlefmt::skip]
 const REBUILDING: [Row; 8] = [
-    (Ask::Op(Op::Rebuild(0, 0)), Told::Whole(1, 0)),
-    (Ask::Op(Op::Rebuild(0, 0xffff0000000000010000000000000000)), Told::Refused(Refusal::NotCanonical)),
-    (Ask::Op(Op::Rebuild(0, 0xffff0000000020000000000000000000)), Told::Refused(Refusal::NotCanonical)),
-    (Ask::Op(Op::Rebuild(0, 0xffff4000000000000000000000000000)), Told::Refused(Refusal::NotCanonical)),
-    (Ask::Op(Op::Rebuild(0, 0xffff00000441bf04ffffffffffffff00)), Told::Refused(Refusal::NotCanonical)),
-    (Ask::Op(Op::Rebuild(0, 0xffff1fffc48190040000000000001000)), Told::Refused(Refusal::ExceedsAuthority)),
-    (Ask::Op(Op::Rebuild(1, 0xffff0000048190040000000000001000)), Told::Refused(Refusal::ExceedsAuthority)),
-    (Ask::Op(Op::Flag(0, true)), Told::Whole(2, 0xffff2000000000000000000000000000)),
+    (Ask::Rebuild(0, 0), Told::Whole(1, 0)),
+    (Ask::Rebuild(0, 0xffff0000000000010000000000000000), Told::Refused(Refusal::NotCanonical)),
+    (Ask::Rebuild(0, 0xffff0000000020000000000000000000), Told::Refused(Refusal::NotCanonical)),
+    (Ask::Rebuild(0, 0xffff4000000000000000000000000000), Told::Refused(Refusal::NotCanonical)),
+    (Ask::Rebuild(0, 0xffff00000441bf04ffffffffffffff00), Told::Refused(Refusal::NotCanonical)),
+    (Ask::Rebuild(0, 0xffff1fffc48190040000000000001000), Told::Refused(Refusal::ExceedsAuthority)),
+    (Ask::Rebuild(1, 0xffff0000048190040000000000001000), Told::Refused(Refusal::ExceedsAuthority)),
+    (Ask::Flag(0, true), Told::Whole(2, 0xffff2000000000000000000000000000)),
 ];
 
+const REBUILDING_CASE: Case = (4096, &[&REBUILDING], &[]);
+
 #[test]
-fn rebuilding(rt: HostRuntime) -> Result<(), Fail> {
-    check(&rt, rt.alloc(), 4096, &[&REBUILDING], &[])
+fn rebuilding(rt: HostRuntime) {
+    check(&rt, rt.alloc(), &REBUILDING_CASE);
 }
 
 /// The second of two slots is made, and a third has no room; that bounds are inexact is told before that; and slots are
