@@ -6,18 +6,17 @@ use Rattle.cc_bounds.specs.declared.span.Span.{Span}
 use Rattle.cc_cap.specs.Capability.{Capability}
 use Rattle.cc_cap.specs.Canonical.{IsWordOf}
 use Rattle.cc_plan.specs.Plan.{Plan}
-use Rattle.cc_machine.specs.declared.op.Op.{Op}
 use Rattle.cc_machine.specs.declared.slot.Slot.{Slot}
 use Rattle.cc_machine.specs.declared.reply.Reply.{Reply}
 use Rattle.cc_machine.specs.declared.reply.Reply.TheVariants.{Made}
 use Rattle.cc_machine.specs.State.{State, SlotState, with_slot}
-use Rattle.cc_machine.specs.Step.{Adds, Step}
+use Rattle.cc_machine.specs.Step.{Adds}
 use Rattle.cc_machine.specs.Run.{IsReached}
-use Rattle.cc_machine.specs.Making.{Makes}
+use Rattle.cc_machine.specs.Making.{IsMade}
 use Rattle.cc_machine.specs.Owners.{is_swept_at, slot_state, TellsOwners}
 use Rattle.cc_machine.specs.Planned.{plan_of, planned_object}
 use Rattle.cc_machine.proofs.SlotLemmas.{IsSlot-within}
-use Rattle.cc_machine.proofs.StepLemmas.{Makes-Step, Makes-tagged}
+use Rattle.cc_machine.proofs.StepLemmas.{IsMade-tagged}
 use Rattle.cc_machine.proofs.RunLemmas.{IsReached-step}
 use Rattle.cc_machine.proofs.TreeLemmas.{Keeps, Keeps-reached}
 use Rattle.cc_machine.proofs.ObjectTreeLemmas.{KeepsObjects}
@@ -31,14 +30,14 @@ module _ (limit : ℕ) (slots : List Slot) (pool : Option ℕ) (plan : Plan) (ow
     (planned : plan ≡ plan_of (state_with limit (map (slot_state plan.objects) slots) pool plan own))
     (reached : IsReached (state_with limit (map (slot_state plan.objects) slots) pool plan own))
     (owned : TellsOwners (map (λ (s : Slot). s.owner) slots) (state_with limit (map (slot_state plan.objects) slots) pool plan own))
-    (op : Op) (parent : ℕ) (cap : Capability)
-    (makes : Makes (map (slot_state plan.objects) slots) op parent (Ok cap)) where
+    (parent : ℕ) (cap : Capability)
+    (made : IsMade (state_with limit (map (slot_state plan.objects) slots) pool plan own) parent (Ok cap)) where
   abbrev state : State
   state = state_with limit (map (slot_state plan.objects) slots) pool plan own
 
   -- the parent is there
   pub parent-within : parent < length slots
-  parent-within = omega (arith, IsSlot-within (Makes-tagged state op parent cap makes).is_slot, length-map slots (slot_state plan.objects))
+  parent-within = omega (arith, IsSlot-within (IsMade-tagged state parent cap made).is_slot, length-map slots (slot_state plan.objects))
 
   -- its owner fits
   pub owner-fits : (up : Slot) → slice_get slots parent ≡ Some up → up.owner ≤ length plan.objects
@@ -50,7 +49,7 @@ module _ (limit : ℕ) (slots : List Slot) (pool : Option ℕ) (plan : Plan) (ow
   -- and was not swept
   not-swept : (up : Slot) → slice_get slots parent ≡ Some up → is_swept_at plan.objects up.owner ≡ false
   not-swept up found =
-      let above = Makes-tagged state op parent cap makes in
+      let above = IsMade-tagged state parent cap made in
       let kept = kept-slot plan.objects slots parent above.slot above.is_slot.found in
       let same : kept.kept ≡ up = (let e : Some kept.kept ≡ Some up = sym kept.found ∙ found in cc) in
       sym (ap (λ (s : Slot). is_swept_at plan.objects s.owner) same) ∙ sym (ap (λ (s : SlotState). s.revoked) kept.is) ∙ above.tagged
@@ -60,8 +59,7 @@ module _ (limit : ℕ) (slots : List Slot) (pool : Option ℕ) (plan : Plan) (ow
   with_more up = slots ++ record { capability = cap; parent = Some parent; owner = up.owner } ∷ []
 
   pub record AddsTo (up : Slot) (reply : Reply) : Type 0 where
-    pub steps : (other : Op) → Makes (map (slot_state plan.objects) slots) other parent (Ok cap)
-        → Step state other reply (state_with limit (map (slot_state plan.objects) (with_more up)) pool plan own)
+    pub adds : Adds state parent (Ok cap) reply (state_with limit (map (slot_state plan.objects) (with_more up)) pool plan own)
     pub is_plan : plan ≡ plan_of (state_with limit (map (slot_state plan.objects) (with_more up)) pool plan own)
     pub owned_now :
         TellsOwners (map (λ (s : Slot). s.owner) (with_more up))
@@ -88,18 +86,16 @@ module _ (limit : ℕ) (slots : List Slot) (pool : Option ℕ) (plan : Plan) (ow
           added = same;
         },
       ) in
-      let steps : (other : Op) → Makes (map (slot_state plan.objects) slots) other parent (Ok cap) → Step state other (Made number word span) new =
-      λ other made. Makes-Step state other parent (Ok cap) (Made number word span) new made adds in
       let owners : map (λ (s : Slot). s.owner) (with_more up) ≡ map (λ (s : Slot). s.owner) slots ++ slice_index (map (λ (s : Slot). s.owner) slots) parent ∷ [] =
       map_push (λ (s : Slot). s.owner) slots (record { capability = cap; parent = Some parent; owner = up.owner })
       ∙ ap (λ (n : ℕ). map (λ (s : Slot). s.owner) slots ++ n ∷ []) (sym (owner-of slots parent up found)) in
       let within : parent < length state.slots = omega (arith, parent-within, long) in
       let next = TellsOwners-next (map (λ (s : Slot). s.owner) slots) state cap parent owned within keeps.parent_first objects in
       record {
-        steps = steps;
+        adds = adds;
         is_plan = planned ∙ sym (plan_of-adds state new parent (Ok cap) (Made number word span) keeps objects adds);
         owned_now =
             subst (λ (s : State). TellsOwners (map (λ (k : Slot). k.owner) (with_more up)) s) (sym same)
             (subst (λ (list : List ℕ). TellsOwners list (with_slot state cap parent)) (sym owners) next);
-        reached_now = IsReached-step state new op (Made number word span) reached (steps op makes);
+        reached_now = IsReached-step state new made.op (Made number word span) reached (made.makes.step (Made number word span) new adds);
       }

@@ -1,18 +1,21 @@
--- A step from what its operation makes.
+-- What operations make, and the slots that they look up.
 use Rattle.std.specs.List.{slice_get}
 use Rattle.std.specs.Result.{result_map_both}
+use Rattle.std.specs.Prelude.{⊤}
 use Rattle.std.proofs.Common.{ℕ, Bool, true, false, ap, ◌≡◌, ◌∙◌, List, Option, Some, None, Result, Ok, Err, MatchResult, sym, subst}
 use Rattle.cc_word.specs.declared.refusal.Refusal.{Refusal}
 use Rattle.cc_cap.specs.Permissions.{bits_of}
 use Rattle.cc_cap.specs.Capability.{Capability}
+use Rattle.cc_cap.specs.declared.perms.Perms.{Perms}
 use Rattle.cc_cap.specs.Derivation.{SetsAddress, Increments, SetsBounds, SetsExactBounds, MasksPermissions, SetsFlag, Seals, Unseals, Rebuilds}
 use Rattle.cc_machine.specs.declared.op.Op.{Op}
-use Rattle.cc_machine.specs.declared.op.Op.TheVariants.{Show, Bounds, Exact, Addr, Inc, Perms, Flag, Seal, Unseal, Rebuild, Round, Pool, Alloc, Free, Sweep}
+use Rattle.cc_machine.specs.declared.op.Op.TheVariants.{Bounds, Exact, Addr, Inc, Flag, Seal, Unseal, Rebuild}
+use Rattle.cc_machine.specs.declared.op.Op.TheVariants as op
 use Rattle.cc_machine.specs.declared.reply.Reply.{Reply}
 use Rattle.cc_machine.specs.declared.slot.Slot.{Slot}
 use Rattle.cc_machine.specs.State.{State, SlotState, tagged_slot, IsSlot}
-use Rattle.cc_machine.specs.Step.{usable, usable_slot, OnSlot, Adds, Step}
-use Rattle.cc_machine.specs.Making.{Makes}
+use Rattle.cc_machine.specs.Step.{usable, usable_slot, OnSlot, Derives, Step}
+use Rattle.cc_machine.specs.Making.{IsMade, Makes}
 use Rattle.cc_machine.proofs.GrowthLemmas.{OnSlot-usable_slot}
 
 -- a rule that holds of the capability of a usable slot
@@ -44,50 +47,71 @@ usable-is slots number slot is = by_found (slice_get slots number) is
     by_found (Some found) is = ap (λ (s : SlotState). Some s) (by_tag found found.revoked is)
 
 -- the same, of what equals them
-pub Makes-along : {slots slots' : List SlotState} {op op' : Op} {pair pair' : ℕ × Result Capability Refusal}
-    → slots' ≡ slots → op ≡ op' → pair ≡ pair' → Makes slots' op' pair'.0 pair'.1 → Makes slots op pair.0 pair.1
-Makes-along {slots} {slots'} {op} {op'} {pair} {pair'} same_slots same_op same_pair makes =
-    let P : List SlotState → Type 0 = λ s. Makes s op pair.0 pair.1 in
-    let Q : Op → Type 0 = λ o. Makes slots' o pair.0 pair.1 in
-    let R : (ℕ × Result Capability Refusal) → Type 0 = λ p. Makes slots' op' p.0 p.1 in
-    subst P same_slots (subst Q (sym same_op) (subst R (sym same_pair) makes))
+pub Makes-along : {old : State} {op op' : Op} {pair pair' : ℕ × Result Capability Refusal}
+    → op ≡ op' → pair ≡ pair' → Makes old op' pair'.0 pair'.1 → Makes old op pair.0 pair.1
+Makes-along {old} {op} {op'} {pair} {pair'} same_op same_pair makes =
+    let Q : Op → Type 0 = λ o. Makes old o pair.0 pair.1 in
+    let R : (ℕ × Result Capability Refusal) → Type 0 = λ p. Makes old op' p.0 p.1 in
+    subst Q (sym same_op) (subst R (sym same_pair) makes)
 
--- adding what is made is a step
-pub Makes-Step : (old : State) (op : Op) (parent : ℕ) (result : Result Capability Refusal) (reply : Reply) (new : State)
-    → Makes old.slots op parent result → Adds old parent result reply new → Step old op reply new
-Makes-Step old (Show number) parent result reply new makes adds = absurd makes
-Makes-Step old (Round size) parent result reply new makes adds = absurd makes
-Makes-Step old (Pool number align) parent result reply new makes adds = absurd makes
-Makes-Step old (Alloc size) parent result reply new makes adds = absurd makes
-Makes-Step old (Free number) parent result reply new makes adds = absurd makes
-Makes-Step old Sweep parent result reply new makes adds = absurd makes
-Makes-Step old (Bounds number size) parent result reply new makes adds =
-    let P : ℕ → Type 0 = λ n. Adds old n result reply new in
-    record { result = result; made = makes.1; added = subst P makes.0 adds }
-Makes-Step old (Exact number size) parent result reply new makes adds =
-    let P : ℕ → Type 0 = λ n. Adds old n result reply new in
-    record { result = result; made = makes.1; added = subst P makes.0 adds }
-Makes-Step old (Addr number address) parent result reply new makes adds =
-    let P : ℕ → Type 0 = λ n. Adds old n result reply new in
-    record { result = result; made = makes.1; added = subst P makes.0 adds }
-Makes-Step old (Inc number amount) parent result reply new makes adds =
-    let P : ℕ → Type 0 = λ n. Adds old n result reply new in
-    record { result = result; made = makes.1; added = subst P makes.0 adds }
-Makes-Step old (Perms number mask) parent result reply new makes adds =
-    let P : ℕ → Type 0 = λ n. Adds old n result reply new in
-    record { result = result; made = makes.1; added = subst P makes.0 adds }
-Makes-Step old (Flag number flag) parent result reply new makes adds =
-    let P : ℕ → Type 0 = λ n. Adds old n result reply new in
-    record { result = result; made = makes.1; added = subst P makes.0 adds }
-Makes-Step old (Seal number authority) parent result reply new makes adds =
-    let P : ℕ → Type 0 = λ n. Adds old n result reply new in
-    record { result = result; made = makes.1; added = subst P makes.0 adds }
-Makes-Step old (Unseal number authority) parent result reply new makes adds =
-    let P : ℕ → Type 0 = λ n. Adds old n result reply new in
-    record { result = result; made = makes.1; added = subst P makes.0 adds }
-Makes-Step old (Rebuild authority word) parent result reply new makes adds =
-    let P : ℕ → Type 0 = λ n. Adds old n result reply new in
-    record { result = result; made = makes.1; added = subst P makes.0 adds }
+-- whatever rule decided, the slot was looked up
+looked-up : (slots : List SlotState) (number : ℕ) (result : Result Capability Refusal) (Rule : Capability → Type 0) → OnSlot slots number result Rule
+    → OnSlot slots number result (λ cap. ⊤)
+looked-up slots number result Rule on = by_used (usable_slot slots number) on
+  where
+    by_used : (used : Result SlotState Refusal) → MatchResult used (λ slot. Rule slot.capability) (λ refusal. result ≡ Err refusal)
+        → MatchResult used (λ slot. ⊤) (λ refusal. result ≡ Err refusal)
+    by_used (Ok slot) holds = tt
+    by_used (Err refusal) is = is
+
+-- an operation makes what a rule makes of a slot, where its step is to derive by the rule
+derived : (old : State) (op : Op) (number : ℕ) (Rule : Capability → Result Capability Refusal → Type 0) (result : Result Capability Refusal)
+    → OnSlot old.slots number result (λ cap. Rule cap result) → ((reply : Reply) (new : State) → Derives old number Rule reply new → Step old op reply new)
+    → Makes old op number result
+derived old op number Rule result made is_step = record {
+  used = looked-up old.slots number result (λ cap. Rule cap result) made;
+  step = λ reply new added. is_step reply new (record { result = result; made = made; added = added });
+}
+
+pub makes-bounds : (old : State) (number size : ℕ) (result : Result Capability Refusal)
+    → OnSlot old.slots number result (λ cap. SetsBounds cap size result) → Makes old (Bounds number size) number result
+makes-bounds old number size result made = derived old (Bounds number size) number (λ cap made. SetsBounds cap size made) result made (λ reply new step. step)
+
+pub makes-exact : (old : State) (number size : ℕ) (result : Result Capability Refusal)
+    → OnSlot old.slots number result (λ cap. SetsExactBounds cap size result) → Makes old (Exact number size) number result
+makes-exact old number size result made = derived old (Exact number size) number (λ cap made. SetsExactBounds cap size made) result made (λ reply new step. step)
+
+pub makes-addr : (old : State) (number address : ℕ) (result : Result Capability Refusal)
+    → OnSlot old.slots number result (λ cap. SetsAddress cap address result) → Makes old (Addr number address) number result
+makes-addr old number address result made = derived old (Addr number address) number (λ cap made. SetsAddress cap address made) result made (λ reply new step. step)
+
+pub makes-inc : (old : State) (number amount : ℕ) (result : Result Capability Refusal)
+    → OnSlot old.slots number result (λ cap. Increments cap amount result) → Makes old (Inc number amount) number result
+makes-inc old number amount result made = derived old (Inc number amount) number (λ cap made. Increments cap amount made) result made (λ reply new step. step)
+
+pub makes-perms : (old : State) (number : ℕ) (mask : Perms) (result : Result Capability Refusal)
+    → OnSlot old.slots number result (λ cap. MasksPermissions cap (bits_of mask) result) → Makes old (op.Perms number mask) number result
+makes-perms old number mask result made =
+    derived old (op.Perms number mask) number (λ cap made. MasksPermissions cap (bits_of mask) made) result made (λ reply new step. step)
+
+pub makes-flag : (old : State) (number : ℕ) (flag : Bool) (result : Result Capability Refusal)
+    → OnSlot old.slots number result (λ cap. SetsFlag cap flag result) → Makes old (Flag number flag) number result
+makes-flag old number flag result made = derived old (Flag number flag) number (λ cap made. SetsFlag cap flag made) result made (λ reply new step. step)
+
+pub makes-seal : (old : State) (number authority : ℕ) (result : Result Capability Refusal)
+    → OnSlot old.slots number result (λ cap. OnSlot old.slots authority result (λ by. Seals cap by result)) → Makes old (Seal number authority) number result
+makes-seal old number authority result made =
+    derived old (Seal number authority) number (λ cap made. OnSlot old.slots authority made (λ by. Seals cap by made)) result made (λ reply new step. step)
+
+pub makes-unseal : (old : State) (number authority : ℕ) (result : Result Capability Refusal)
+    → OnSlot old.slots number result (λ cap. OnSlot old.slots authority result (λ by. Unseals cap by result))
+    → Makes old (Unseal number authority) number result
+makes-unseal old number authority result made =
+    derived old (Unseal number authority) number (λ cap made. OnSlot old.slots authority made (λ by. Unseals cap by made)) result made (λ reply new step. step)
+
+pub makes-rebuild : (old : State) (authority word : ℕ) (result : Result Capability Refusal)
+    → OnSlot old.slots authority result (λ by. Rebuilds by word result) → Makes old (Rebuild authority word) authority result
+makes-rebuild old authority word result made = derived old (Rebuild authority word) authority (λ by made. Rebuilds by word made) result made (λ reply new step. step)
 
 -- a slot that is there, and tagged
 pub record IsTagged (state : State) (number : ℕ) : Type 0 where
@@ -95,36 +119,8 @@ pub record IsTagged (state : State) (number : ℕ) : Type 0 where
   pub is_slot : IsSlot state number slot
   pub tagged : slot.revoked ≡ false
 
--- a rule makes something only of a tagged slot
-of-tagged : (state : State) (number parent : ℕ) (cap : Capability) (Rule : Capability → Type 0) → parent ≡ number
-    → OnSlot state.slots number (Ok cap) Rule → IsTagged state parent
-of-tagged state number parent cap Rule same on =
-    let used = OnSlot-usable_slot state number cap Rule on in
-    subst (λ (n : ℕ). IsTagged state n) (sym same) (record { slot = used.slot; is_slot = used.is_slot; tagged = used.tagged })
-
--- the parent of what is made is tagged
-pub Makes-tagged : (state : State) (op : Op) (parent : ℕ) (cap : Capability) → Makes state.slots op parent (Ok cap) → IsTagged state parent
-Makes-tagged state (Show number) parent cap makes = absurd makes
-Makes-tagged state (Round size) parent cap makes = absurd makes
-Makes-tagged state (Pool number align) parent cap makes = absurd makes
-Makes-tagged state (Alloc size) parent cap makes = absurd makes
-Makes-tagged state (Free number) parent cap makes = absurd makes
-Makes-tagged state Sweep parent cap makes = absurd makes
-Makes-tagged state (Bounds number size) parent cap makes =
-    of-tagged state number parent cap (λ c. SetsBounds c size (Ok cap)) makes.0 makes.1
-Makes-tagged state (Exact number size) parent cap makes =
-    of-tagged state number parent cap (λ c. SetsExactBounds c size (Ok cap)) makes.0 makes.1
-Makes-tagged state (Addr number address) parent cap makes =
-    of-tagged state number parent cap (λ c. SetsAddress c address (Ok cap)) makes.0 makes.1
-Makes-tagged state (Inc number amount) parent cap makes =
-    of-tagged state number parent cap (λ c. Increments c amount (Ok cap)) makes.0 makes.1
-Makes-tagged state (Perms number mask) parent cap makes =
-    of-tagged state number parent cap (λ c. MasksPermissions c (bits_of mask) (Ok cap)) makes.0 makes.1
-Makes-tagged state (Flag number flag) parent cap makes =
-    of-tagged state number parent cap (λ c. SetsFlag c flag (Ok cap)) makes.0 makes.1
-Makes-tagged state (Seal number authority) parent cap makes =
-    of-tagged state number parent cap (λ c. OnSlot state.slots authority (Ok cap) (λ by. Seals c by (Ok cap))) makes.0 makes.1
-Makes-tagged state (Unseal number authority) parent cap makes =
-    of-tagged state number parent cap (λ c. OnSlot state.slots authority (Ok cap) (λ by. Unseals c by (Ok cap))) makes.0 makes.1
-Makes-tagged state (Rebuild number word) parent cap makes =
-    of-tagged state number parent cap (λ c. Rebuilds c word (Ok cap)) makes.0 makes.1
+-- what is made is made of a tagged slot
+pub IsMade-tagged : (old : State) (parent : ℕ) (cap : Capability) → IsMade old parent (Ok cap) → IsTagged old parent
+IsMade-tagged old parent cap made =
+    let used = OnSlot-usable_slot old parent cap (λ c. ⊤) made.makes.used in
+    record { slot = used.slot; is_slot = used.is_slot; tagged = used.tagged }

@@ -1,28 +1,19 @@
--- What an operation that derives makes of the slots, before it is added. No public clause cites this.
-use Rattle.std.specs.Prelude.{ℕ, ◌≡◌, List, Result}
+-- What an operation makes before it is added to the slots. No public clause cites this.
+use Rattle.std.specs.Prelude.{ℕ, ⊤, Result}
 use Rattle.cc_word.specs.declared.refusal.Refusal.{Refusal}
-use Rattle.cc_cap.specs.Permissions.{bits_of}
 use Rattle.cc_cap.specs.Capability.{Capability}
-use Rattle.cc_cap.specs.Derivation.{SetsAddress, Increments, SetsBounds, SetsExactBounds, MasksPermissions, SetsFlag, Seals, Unseals, Rebuilds}
 use Rattle.cc_machine.specs.declared.op.Op.{Op}
-use Rattle.cc_machine.specs.declared.op.Op.TheVariants.{Bounds, Exact, Addr, Inc, Perms, Flag, Seal, Unseal, Rebuild}
-use Rattle.cc_machine.specs.State.{SlotState}
-use Rattle.cc_machine.specs.Step.{OnSlot}
+use Rattle.cc_machine.specs.declared.reply.Reply.{Reply}
+use Rattle.cc_machine.specs.State.{State}
+use Rattle.cc_machine.specs.Step.{OnSlot, Adds, Step}
 
--- on these slots the operation that derives has this result, whose parent is this slot; no other operation has one
-abbrev pub Makes : List SlotState → Op → ℕ → Result Capability Refusal → Type 0
-Makes slots (Bounds number size) parent result = (parent ≡ number) × OnSlot slots number result (λ cap. SetsBounds cap size result)
-Makes slots (Exact number size) parent result = (parent ≡ number) × OnSlot slots number result (λ cap. SetsExactBounds cap size result)
-Makes slots (Addr number address) parent result = (parent ≡ number) × OnSlot slots number result (λ cap. SetsAddress cap address result)
-Makes slots (Inc number amount) parent result = (parent ≡ number) × OnSlot slots number result (λ cap. Increments cap amount result)
-Makes slots (Perms number mask) parent result = (parent ≡ number) × OnSlot slots number result (λ cap. MasksPermissions cap (bits_of mask) result)
-Makes slots (Flag number flag) parent result = (parent ≡ number) × OnSlot slots number result (λ cap. SetsFlag cap flag result)
-Makes slots (Seal number authority) parent result = (parent ≡ number) × OnSlot slots number result (λ cap. OnSlot slots authority result (λ by. Seals cap by result))
-Makes slots (Unseal number authority) parent result = (parent ≡ number) × OnSlot slots number result (λ cap. OnSlot slots authority result (λ by. Unseals cap by result))
-Makes slots (Rebuild authority word) parent result = (parent ≡ authority) × OnSlot slots authority result (λ by. Rebuilds by word result)
-Makes slots op parent result = ⊥
+-- the operation makes this of this slot: the slot can be used, or the result says why not, and adding the result below it
+-- is the operation's step
+pub record Makes (old : State) (op : Op) (parent : ℕ) (result : Result Capability Refusal) : Type 0 where
+  pub used : OnSlot old.slots parent result (λ cap. ⊤)
+  pub step : (reply : Reply) (new : State) → Adds old parent result reply new → Step old op reply new
 
--- some operation makes this, below this parent
-pub record IsMade (slots : List SlotState) (parent : ℕ) (result : Result Capability Refusal) : Type 0 where
+-- some operation makes this of this slot
+pub record IsMade (old : State) (parent : ℕ) (result : Result Capability Refusal) : Type 0 where
   pub op : Op
-  pub makes : Makes slots op parent result
+  pub makes : Makes old op parent result

@@ -60,8 +60,8 @@ impl Machine {
     ghost use Rattle.cc_machine.specs.State.{initial_state, tagged_slot};
     ghost use Rattle.cc_machine.specs.Objects.{object_at, held_bytes_of, held_spans};
     ghost use Rattle.cc_machine.specs.Planned.{plan_of};
-    ghost use Rattle.cc_machine.specs.Step.{capability_at, parent_at, usable_slot, Shows, Step};
-    ghost use Rattle.cc_machine.specs.Making.{IsMade, Makes};
+    ghost use Rattle.cc_machine.specs.Step.{capability_at, parent_at, usable_slot, Adds, Shows, Step};
+    ghost use Rattle.cc_machine.specs.Making.{IsMade};
     ghost use Rattle.cc_machine.specs.Run.{Run, IsReached};
     ghost use Rattle.cc_machine.specs.Laws.{IsMonotonicTree, HasSealingAuthority};
     ghost use Rattle.cc_machine.specs.ObjectLaws.{KeepsObjectLaws};
@@ -240,8 +240,8 @@ impl Machine {
     /// limit. The new slot belongs to its parent's object, where the parent has one.
     #[inline(always)]
     fn add(&mut self, parent: u32, made: Result<Cap, Refusal>) -> Reply
-        requires { IsMade self.old.slots parent made }
-        ensures { (op : Op) → Makes self.old.slots op parent made → Step self.old op result self.new }
+        requires { IsMade self.old parent made }
+        ensures { Adds self.old parent made result self.new }
     {
         let capability = match made {
             Ok(capability) => capability,

@@ -1,4 +1,3 @@
-use Rattle.std.proofs.Common.{refl}
 use Rattle.cc_machine.specs.declared.op.Op.{Op}
 use Rattle.cc_machine.specs.declared.op.Op.TheVariants.{Pool, Alloc, Free, Sweep}
 use Rattle.cc_machine.specs.declared.reply.Reply.{Reply}
@@ -12,43 +11,43 @@ use Rattle.cc_machine.proofs.RunLemmas.{IsReached-step}
 use Rattle.cc_machine.proofs.TreeLemmas.{Keeps-reached, IsMonotonicTree-reached, HasSealingAuthority-reached}
 use Rattle.cc_machine.proofs.ObjectLawLemmas.{KeepsObjectLaws-reached}
 use Rattle.cc_machine.proofs.GrowthLemmas.{refused-same}
-use Rattle.cc_machine.proofs.StepLemmas.{Makes-along}
+use Rattle.cc_machine.proofs.StepLemmas.{Makes-along, makes-addr, makes-bounds, makes-exact, makes-flag, makes-inc, makes-perms, makes-rebuild, makes-seal, makes-unseal}
 use Rattle.cc_machine.proofs.machine.Machine.step.Goals as goal
 use Rattle.cc_machine.proofs.machine.Machine.step.Goals.{in-Bounds, in-Exact, in-Addr, in-Inc, in-Perms, in-Flag, in-Seal, in-Unseal, in-Rebuild}
 
 -- ---- what derives
 
-makes : (c : goal.After-add) → Makes c.args.self.now.slots c.args.op.now c.match-op.parent.0 c.match-op.parent.1
+makes : (c : goal.After-add) → Makes c.args.self.now c.args.op.now c.match-op.parent.0 c.match-op.parent.1
 makes c = elim c.match-op.branch [
-  | in-Bounds w ↦ Makes-along refl w.in-Bounds.is w.parent-is (refl, w.with_bounds.ensures)
-  | in-Exact w ↦ Makes-along refl w.in-Exact.is w.parent-is (refl, w.with_exact_bounds.ensures)
-  | in-Addr w ↦ Makes-along refl w.in-Addr.is w.parent-is (refl, w.with_address.ensures)
-  | in-Inc w ↦ Makes-along refl w.in-Inc.is w.parent-is (refl, w.with_increment.ensures)
-  | in-Perms w ↦ Makes-along refl w.in-Perms.is w.parent-is (refl, w.with_perms.ensures)
-  | in-Flag w ↦ Makes-along refl w.in-Flag.is w.parent-is (refl, w.with_flag.ensures)
-  | in-Seal w ↦ Makes-along refl w.in-Seal.is w.parent-is (refl, w.sealed.ensures)
-  | in-Unseal w ↦ Makes-along refl w.in-Unseal.is w.parent-is (refl, w.unsealed.ensures)
-  | in-Rebuild w ↦ Makes-along refl w.in-Rebuild.is w.parent-is (refl, w.rebuilt.ensures)
+  | in-Bounds w ↦ Makes-along w.in-Bounds.is w.parent-is (makes-bounds _ _ _ _ w.with_bounds.ensures)
+  | in-Exact w ↦ Makes-along w.in-Exact.is w.parent-is (makes-exact _ _ _ _ w.with_exact_bounds.ensures)
+  | in-Addr w ↦ Makes-along w.in-Addr.is w.parent-is (makes-addr _ _ _ _ w.with_address.ensures)
+  | in-Inc w ↦ Makes-along w.in-Inc.is w.parent-is (makes-inc _ _ _ _ w.with_increment.ensures)
+  | in-Perms w ↦ Makes-along w.in-Perms.is w.parent-is (makes-perms _ _ _ _ w.with_perms.ensures)
+  | in-Flag w ↦ Makes-along w.in-Flag.is w.parent-is (makes-flag _ _ _ _ w.with_flag.ensures)
+  | in-Seal w ↦ Makes-along w.in-Seal.is w.parent-is (makes-seal _ _ _ _ w.sealed.ensures)
+  | in-Unseal w ↦ Makes-along w.in-Unseal.is w.parent-is (makes-unseal _ _ _ _ w.unsealed.ensures)
+  | in-Rebuild w ↦ Makes-along w.in-Rebuild.is w.parent-is (makes-rebuild _ _ _ _ w.rebuilt.ensures)
 ]
 
 pub add-requires : goal.add-requires
 add-requires c = record {
   op = c.args.op.now;
   makes = elim c.match-op.branch [
-    | in-Bounds w ↦ Makes-along refl w.in-Bounds.is w.parent-is (refl, w.with_bounds.ensures)
-    | in-Exact w ↦ Makes-along refl w.in-Exact.is w.parent-is (refl, w.with_exact_bounds.ensures)
-    | in-Addr w ↦ Makes-along refl w.in-Addr.is w.parent-is (refl, w.with_address.ensures)
-    | in-Inc w ↦ Makes-along refl w.in-Inc.is w.parent-is (refl, w.with_increment.ensures)
-    | in-Perms w ↦ Makes-along refl w.in-Perms.is w.parent-is (refl, w.with_perms.ensures)
-    | in-Flag w ↦ Makes-along refl w.in-Flag.is w.parent-is (refl, w.with_flag.ensures)
-    | in-Seal w ↦ Makes-along refl w.in-Seal.is w.parent-is (refl, w.sealed.ensures)
-    | in-Unseal w ↦ Makes-along refl w.in-Unseal.is w.parent-is (refl, w.unsealed.ensures)
-    | in-Rebuild w ↦ Makes-along refl w.in-Rebuild.is w.parent-is (refl, w.rebuilt.ensures)
+    | in-Bounds w ↦ Makes-along w.in-Bounds.is w.parent-is (makes-bounds _ _ _ _ w.with_bounds.ensures)
+    | in-Exact w ↦ Makes-along w.in-Exact.is w.parent-is (makes-exact _ _ _ _ w.with_exact_bounds.ensures)
+    | in-Addr w ↦ Makes-along w.in-Addr.is w.parent-is (makes-addr _ _ _ _ w.with_address.ensures)
+    | in-Inc w ↦ Makes-along w.in-Inc.is w.parent-is (makes-inc _ _ _ _ w.with_increment.ensures)
+    | in-Perms w ↦ Makes-along w.in-Perms.is w.parent-is (makes-perms _ _ _ _ w.with_perms.ensures)
+    | in-Flag w ↦ Makes-along w.in-Flag.is w.parent-is (makes-flag _ _ _ _ w.with_flag.ensures)
+    | in-Seal w ↦ Makes-along w.in-Seal.is w.parent-is (makes-seal _ _ _ _ w.sealed.ensures)
+    | in-Unseal w ↦ Makes-along w.in-Unseal.is w.parent-is (makes-unseal _ _ _ _ w.unsealed.ensures)
+    | in-Rebuild w ↦ Makes-along w.in-Rebuild.is w.parent-is (makes-rebuild _ _ _ _ w.rebuilt.ensures)
   ];
 }
 
 steps : (c : goal.After-add) → Step c.args.self.now c.args.op.now c.add.result c.add.new.self
-steps c = c.add.ensures c.args.op.now (makes c)
+steps c = (makes c).step c.add.result c.add.new.self c.add.ensures
 
 pub returns-clause-step : goal.returns-clause-step
 returns-clause-step c = steps c
