@@ -3,6 +3,7 @@ mod aligned;
 mod memory;
 mod objects;
 mod quarantine;
+mod values;
 
 use cc_bounds::Span;
 use cc_cap::{ObjType, Perms};

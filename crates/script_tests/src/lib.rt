@@ -8,5 +8,3 @@ mod bulk;
 mod commands;
 #[cfg(test)]
 mod scripts;
-#[cfg(test)]
-mod values;

@@ -1,8 +1,6 @@
-//! `==` and `clone` have no contract: unequal values of a machine or a run are told apart, and a clone equals its
-//! original.
+//! `==` and `clone` have no contract: unequal values of a machine are told apart, and a clone equals its original.
 use cc_bounds::Span;
 use cc_machine::{Align, Len, Object, ObjectState, Op, Reply};
-use cc_script::{ScriptFault, Summary};
 use cc_word::Refusal;
 
 /// The other reply equals its clone, and not this one.
@@ -143,10 +141,4 @@ fn operations_are_told_apart(rt: HostRuntime) {
     for (one, other) in &OPS {
         assert!(rt; op_is_told_apart(one, other));
     }
-}
-
-#[test]
-fn answers_of_a_run_are_told_apart(rt: HostRuntime) {
-    assert!(rt; ScriptFault::Read != ScriptFault::Write);
-    assert!(rt; Summary { any_error: false } != Summary { any_error: true });
 }
