@@ -42,8 +42,8 @@ fn is_rounded(len: u128, rounded: u128, unit: u64, mask: u64) -> bool {
 
 #[test]
 fn lengths(rt: HostRuntime) {
-    for (len, rounded, unit, mask) in LENGTHS {
-        assert!(rt; is_rounded(len, rounded, unit, mask), "length {len}");
+    for (len, rounded, unit, mask) in &LENGTHS {
+        assert!(rt; is_rounded(*len, *rounded, *unit, *mask), "length {len}");
     }
 }
 
@@ -312,6 +312,17 @@ fn set_is_told_apart(set: &Set, other: Set) -> bool {
     *set != other && other.clone().is_ok_and(|copy| copy == other)
 }
 
+/// Bounds that were rounded equal their clone; they are told from the same bounds without rounding, and from others.
+fn rounded_is_told_apart() -> bool {
+    let rounded = set_bounds(1, 8184);
+    set_is_told_apart(&rounded, set_bounds(0, 8192))
+        && set_is_told_apart(&rounded, set_bounds(0, 8200))
+        && set_is_told_apart(&rounded, set_bounds(16, 8192))
+        && set_is_told_apart(&rounded, set_bounds(0, 0))
+        && rounded.granted() == set_bounds(0, 8192).granted()
+        && rounded.clone().is_ok_and(|copy| copy == rounded)
+}
+
 #[test]
 fn values_are_told_apart(rt: HostRuntime) {
     let span = Span { base: 1, top: 3 };
@@ -321,12 +332,5 @@ fn values_are_told_apart(rt: HostRuntime) {
             "{base} {top}"
         );
     }
-    // the same span granted, with and without rounding, and other spans
-    let rounded = set_bounds(1, 8184);
-    assert!(rt; set_is_told_apart(&rounded, set_bounds(0, 8192)));
-    assert!(rt; set_is_told_apart(&rounded, set_bounds(0, 8200)));
-    assert!(rt; set_is_told_apart(&rounded, set_bounds(16, 8192)));
-    assert!(rt; set_is_told_apart(&rounded, set_bounds(0, 0)));
-    assert!(rt; rounded.granted() == set_bounds(0, 8192).granted());
-    assert!(rt; rounded.clone().is_ok_and(|copy| copy == rounded));
+    assert!(rt; rounded_is_told_apart());
 }

@@ -26,13 +26,29 @@ const OVER_THE_TOP: Span = Span {
     top: 0x1201,
 };
 
+fn are_told() -> bool {
+    SMALL.len() == 0x200
+        && WHOLE.len() == ADDRESS_SPACE
+        && NOTHING.len() == 0
+        && SMALL.contains(0x1000)
+        && SMALL.contains(0x11ff)
+        && !SMALL.contains(0xfff)
+        && !SMALL.contains(0x1200)
+}
+
+fn are_compared() -> bool {
+    SMALL.is_within(&WHOLE)
+        && NOTHING.is_within(&SMALL)
+        && !WHOLE.is_within(&SMALL)
+        && !OVER_THE_TOP.is_within(&SMALL)
+        && SMALL.shares_byte(&WHOLE)
+        && SMALL.shares_byte(&OVER_THE_TOP)
+        && !SMALL.shares_byte(&NOTHING)
+        && !NOTHING.shares_byte(&NOTHING)
+}
+
 #[test]
 fn spans(rt: HostRuntime) {
-    assert!(rt; SMALL.len() == 0x200 && WHOLE.len() == ADDRESS_SPACE && NOTHING.len() == 0);
-    assert!(rt; SMALL.contains(0x1000) && SMALL.contains(0x11ff));
-    assert!(rt; !SMALL.contains(0xfff) && !SMALL.contains(0x1200));
-    assert!(rt; SMALL.is_within(&WHOLE) && NOTHING.is_within(&SMALL));
-    assert!(rt; !WHOLE.is_within(&SMALL) && !OVER_THE_TOP.is_within(&SMALL));
-    assert!(rt; SMALL.shares_byte(&WHOLE) && SMALL.shares_byte(&OVER_THE_TOP));
-    assert!(rt; !SMALL.shares_byte(&NOTHING) && !NOTHING.shares_byte(&NOTHING));
+    assert!(rt; are_told());
+    assert!(rt; are_compared());
 }

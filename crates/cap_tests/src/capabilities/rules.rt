@@ -214,6 +214,16 @@ fn capability(word: u128) -> Result<Cap, Refusal> {
     unsealed.seal(&Cap::root().set_address(u64::from(otype))?)
 }
 
+/// The capability, sealed by that of another word.
+fn sealed(cap: Cap, authority: u128) -> Result<Cap, Refusal> {
+    cap.seal(&capability(authority)?)
+}
+
+/// The capability, unsealed by that of another word.
+fn unsealed(cap: Cap, authority: u128) -> Result<Cap, Refusal> {
+    cap.unseal(&capability(authority)?)
+}
+
 /// What the call of a capability makes; a longer length than that of the address space is cut to it.
 fn made(word: u128, rule: Rule) -> Result<Cap, Refusal> {
     let cap = capability(word)?;
@@ -224,8 +234,8 @@ fn made(word: u128, rule: Rule) -> Result<Cap, Refusal> {
         SetBoundsExact(len) => cap.set_bounds_exact(len.min(END)),
         AndPerms(mask) => cap.and_perms(mask),
         SetFlag(flag) => cap.set_flag(flag),
-        Seal(authority) => cap.seal(&capability(authority)?),
-        Unseal(authority) => cap.unseal(&capability(authority)?),
+        Seal(authority) => sealed(cap, authority),
+        Unseal(authority) => unsealed(cap, authority),
         Rebuild(of) => Cap::rebuild(&cap, of),
     }
 }
@@ -255,25 +265,28 @@ fn makes(word: u128, rule: Rule, wanted: (u128, u64, u128)) -> bool {
 
 #[test]
 fn each_rule_makes_its_word(rt: HostRuntime) {
-    for (word, rule, wanted) in MADE {
-        assert!(rt; makes(word, rule, wanted), "{word:x}");
+    for (word, rule, wanted) in &MADE {
+        assert!(rt; makes(*word, *rule, *wanted), "{word:x}");
+    }
+}
+
+/// The answer is this refusal, by its code, by which it is told from all others.
+fn is_refused<T: Copy>(answer: &Result<T, Refusal>, refusal: Refusal) -> bool {
+    match answer {
+        Ok(_) => false,
+        Err(found) => found.code() == refusal.code(),
     }
 }
 
 /// Both calls refuse the word so.
 fn refuses(word: u128, rule: Rule, refusal: Refusal) -> bool {
-    match (made(word, rule), made_word(word, rule)) {
-        (Err(found), Err(again)) => {
-            found.code() == refusal.code() && again.code() == refusal.code()
-        }
-        _ => false,
-    }
+    is_refused(&made(word, rule), refusal) && is_refused(&made_word(word, rule), refusal)
 }
 
 #[test]
 fn each_rule_refuses_in_order(rt: HostRuntime) {
-    for (word, rule, refusal) in REFUSED {
-        assert!(rt; refuses(word, rule, refusal), "{word:x}");
+    for (word, rule, refusal) in &REFUSED {
+        assert!(rt; refuses(*word, *rule, *refusal), "{word:x}");
     }
     assert!(rt; words::set_bounds(root!(0), END + 1) == Err(OutOfBounds));
 }
@@ -290,7 +303,7 @@ const WITHIN: [(u128, u128, bool); 6] = [
 
 #[test]
 fn words_within_words(rt: HostRuntime) {
-    for (word, of, within) in WITHIN {
-        assert!(rt; words::is_subset(word, of) == within, "{word:x} {of:x}");
+    for (word, of, within) in &WITHIN {
+        assert!(rt; words::is_subset(*word, *of) == *within, "{word:x} {of:x}");
     }
 }

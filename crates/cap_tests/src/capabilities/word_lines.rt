@@ -75,7 +75,7 @@ fn has_line(word: u128, tagged: bool, text: &str) -> bool {
 
 #[test]
 fn lines_of_words(rt: HostRuntime) {
-    for (word, tagged, text) in ROWS {
-        assert!(rt; has_line(word, tagged, text), "{word:032x}");
+    for (word, tagged, text) in &ROWS {
+        assert!(rt; has_line(*word, *tagged, text), "{word:032x}");
     }
 }
