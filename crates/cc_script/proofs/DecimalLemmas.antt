@@ -1,6 +1,8 @@
 -- The decimal digits of numbers of few digits, two by two as they are printed.
-use Rattle.std.proofs.Common.{◌≡◌, ℕ, ◌+◌, ◌*◌, ◌/◌, ◌%◌, ◌^◌, ◌<◌, ◌≤◌, ◌==◌, true, refl, slice_index, List, [], ◌∷◌, ◌++◌, decimal, ap, ◌∙◌, arith}
+use Rattle.std.proofs.Common.{◌≡◌, Bool, false, ℕ, ◌+◌, ◌*◌, ◌/◌, ◌%◌, ◌^◌, ◌<◌, ◌≤◌, ◌==◌, true, refl, slice_index, List, [], ◌∷◌, ◌++◌, decimal, ap, ◌∙◌, arith}
 use Rattle.std.proofs.lemmas.Bool.{eqb-true, agree_below_at}
+use mir.Val.{bool_byte}
+use Rattle.cc_word.specs.Word.{bit_of}
 use Rattle.cc_script.specs.declared.line.TheConstants.{PAIRS}
 use Rattle.std.proofs.lemmas.Fmt.{decimal_digit, decimal_step}
 
@@ -10,6 +12,10 @@ more n digits some small tenth = decimal_step n some small ∙ ap (λ (l : List 
 
 pub one_digit : (n : ℕ) → n < 10 → decimal n ≡ (48 + n % 10) ∷ []
 one_digit n h = let same : n % 10 ≡ n = omega (arith, h) in rw same (decimal_digit n h)
+
+pub flag_digit : (flag : Bool) → decimal (bit_of flag) ≡ (48 + bool_byte flag) ∷ []
+flag_digit true = one_digit 1 (omega arith)
+flag_digit false = one_digit 0 (omega arith)
 
 pub two_digits : (n : ℕ) → 10 ≤ n → n < 100 → decimal n ≡ (48 + n / 10 % 10) ∷ (48 + n % 10) ∷ []
 two_digits n low high = more n _ low (omega (arith, high)) (one_digit (n / 10) (omega (arith, high)))

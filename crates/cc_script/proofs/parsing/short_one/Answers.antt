@@ -1,4 +1,3 @@
-use Rattle.std.proofs.Common.{sym}
 use Rattle.cc_script.proofs.SpaceLemmas.{shown, rounded, allocated, freed}
 use Rattle.cc_script.proofs.parsing.short_one.Goals as goal
 
