@@ -44,13 +44,15 @@ fn counted_sink_is_not_flushed_before_a_read(rt: HostRuntime) {
     assert!(rt; is_only_told(&mut Counted::new(behind)));
 }
 
+/// The listing goes into this list.
+fn is_listed(bytes: &mut Vec<u8>) -> bool {
+    let ended = show_word(NULL_WORD.as_bytes(), &mut FromWriter::new(&mut *bytes));
+    ended == Ok(Summary { any_error: false }) && bytes.as_slice() == NULL_LISTING.as_bytes()
+}
+
 #[test]
 fn vec_as_writer(rt: HostRuntime) {
-    let mut bytes = Vec::new(rt.alloc());
-    let mut sink = FromWriter::new(&mut bytes);
-    let ended = show_word(NULL_WORD.as_bytes(), &mut sink);
-    assert!(rt; ended == Ok(Summary { any_error: false }));
-    assert!(rt; bytes.as_slice() == NULL_LISTING.as_bytes());
+    assert!(rt; is_listed(&mut Vec::new(rt.alloc())));
 }
 
 /// A writer that answers its calls as it is told to, and counts the flushes.
@@ -122,14 +124,20 @@ fn errors_of_writers_are_failures(rt: HostRuntime) {
     }
 }
 
+/// A writer that is interrupted is not flushed.
+fn is_not_flushed(writer: &mut Faulty) -> bool {
+    let mut sink = FromWriter::new(&mut *writer);
+    let has_failed = sink.write(b"a").is_err() && sink.flush().is_err();
+    has_failed && writer.flushes == 0
+}
+
 #[test]
 fn failed_writer_is_asked_no_more(rt: HostRuntime) {
-    let mut writer = Faulty {
-        write: Answer::Interrupted,
-        flush: Answer::All,
-        flushes: 0,
-    };
-    let mut sink = FromWriter::new(&mut writer);
-    assert!(rt; sink.write(b"a").is_err() && sink.flush().is_err());
-    assert!(rt; writer.flushes == 0);
+    assert!(rt;
+        is_not_flushed(&mut Faulty {
+            write: Answer::Interrupted,
+            flush: Answer::All,
+            flushes: 0,
+        })
+    );
 }

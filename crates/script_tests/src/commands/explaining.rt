@@ -94,8 +94,8 @@ fn is_explained(text: &str, answer: &str, any_error: bool) -> bool {
 
 #[test]
 fn words_are_explained(rt: HostRuntime) {
-    for (text, answer, any_error) in EXPLAINED {
-        assert!(rt; is_explained(text, answer, any_error), "at {text}");
+    for (text, answer, any_error) in &EXPLAINED {
+        assert!(rt; is_explained(text, answer, *any_error), "at {text}");
     }
 }
 
@@ -134,7 +134,7 @@ fn has_reason(text: &str, reason: &str) -> bool {
 
 #[test]
 fn words_of_no_capability_are_told_why(rt: HostRuntime) {
-    for (text, reason) in FAULTY {
+    for (text, reason) in &FAULTY {
         assert!(rt; has_reason(text, reason), "at {text}");
     }
 }
@@ -167,9 +167,9 @@ fn length_is_explained(base: &str, length: &str, answer: &str, any_error: bool) 
 
 #[test]
 fn lengths_are_explained(rt: HostRuntime) {
-    for (base, length, answer, any_error) in REQUESTS {
+    for (base, length, answer, any_error) in &REQUESTS {
         assert!(rt;
-            length_is_explained(base, length, answer, any_error),
+            length_is_explained(base, length, answer, *any_error),
             "{base} {length}"
         );
     }

@@ -3,7 +3,7 @@ use cc_bounds::Span;
 use cc_command::{cells_of, map_row, plan_script, show_drawing, show_map};
 use cc_machine::{Align, Len, Machine, ObjectState, PlannedObject};
 use cc_script::{SliceSink, SliceSource, Summary};
-use std::test::Fail;
+use std::alloc::Global;
 
 /// A live object, a freed one behind it, a freed one of one byte, and one that is swept.
 #[rattlefmt::skip]
@@ -72,12 +72,16 @@ fn is_drawn_on_a_page(machine: &Machine) -> bool {
             .is_some_and(|page| page.ends_with(RECTANGLES))
 }
 
+fn is_planned_and_drawn(alloc: Global) -> bool {
+    match (Machine::with_limit(alloc, 16), Len::new(70)) {
+        (Ok(mut machine), Some(length)) => {
+            is_planned(&mut machine, length) && is_drawn(&machine) && is_drawn_on_a_page(&machine)
+        }
+        _ => false,
+    }
+}
+
 #[test]
-fn pool_of_a_plan_is_drawn(rt: HostRuntime) -> Result<(), Fail> {
-    let mut machine = Machine::with_limit(rt.alloc(), 16)?;
-    let length = Len::new(70).ok_or("no length")?;
-    assert!(rt; is_planned(&mut machine, length));
-    assert!(rt; is_drawn(&machine));
-    assert!(rt; is_drawn_on_a_page(&machine));
-    Ok(())
+fn pool_of_a_plan_is_drawn(rt: HostRuntime) {
+    assert!(rt; is_planned_and_drawn(rt.alloc()));
 }

@@ -180,9 +180,9 @@ fn are_numbers(base: &str, length: &str, address: u64, bytes: u128) -> bool {
 
 #[test]
 fn numbers_of_a_pool(rt: HostRuntime) {
-    for (base, length, address, bytes) in NUMBERS {
+    for (base, length, address, bytes) in &NUMBERS {
         assert!(rt;
-            are_numbers(base, length, address, bytes),
+            are_numbers(base, length, *address, *bytes),
             "{base} {length}"
         );
     }

@@ -41,7 +41,7 @@ const ROUNDED: [(&str, &str); 13] = [
 
 #[test]
 fn lengths_are_rounded(rt: HostRuntime) {
-    for (text, answer) in ROUNDED {
+    for (text, answer) in &ROUNDED {
         assert_rounded(&rt, text, answer, false);
     }
 }

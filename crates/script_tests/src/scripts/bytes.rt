@@ -29,7 +29,7 @@ const TEXTS: [(&str, &str); 8] = [
 
 #[test]
 fn hostile_lines(rt: HostRuntime) {
-    for (text, error) in TEXTS {
+    for (text, error) in &TEXTS {
         assert!(rt; is_refused(rt.alloc(), text.as_bytes(), error), "{text}");
     }
 }

@@ -4,7 +4,6 @@ use super::{End, Fails, Pieces, is_end, run_between};
 use cc_machine::Machine;
 use cc_script::{Buffered, ScriptFault, SliceSink, SliceSource, Summary, run_script};
 use std::alloc::{AllocError, Global};
-use std::test::Fail;
 
 const SCRIPT: &[u8] =
     b"addr 0 0x10000\nexact 1 0x10000\npool 2\nalloc 100\nalloc 5000\nalloc 4\nalloc 8191\nfree 2\nsweep\nalloc 4097\nalloc 65537\nalloc 0\nbounds 3 16\nfree 1\nsweep\nshow 8\nfree 1\nshow 0";
@@ -143,10 +142,14 @@ fn writes(
 }
 
 /// The machine took the first `lines` lines of the script, and no more: it gives the replies to all the others.
-fn stands_after(alloc: Global, machine: &mut Machine, lines: usize) -> Result<bool, AllocError> {
+fn stands_after(alloc: Global, machine: &mut Machine, lines: usize) -> bool {
     let text = after_lines(lines);
-    let (output, any_error) = output_of(alloc, lines, text, true)?;
-    Ok(writes(machine, text, &SOUND, Ok(Summary { any_error }), &output))
+    match output_of(alloc, lines, text, true) {
+        Ok((output, any_error)) => {
+            writes(machine, text, &SOUND, Ok(Summary { any_error }), &output)
+        }
+        Err(AllocError) => false,
+    }
 }
 
 /// The run of a text on a new machine ends so and has this output, and the machine took so many lines.
@@ -157,10 +160,14 @@ fn runs(
     wanted: End,
     output: &[u8],
     lines: usize,
-) -> Result<bool, AllocError> {
-    let mut machine = Machine::with_limit(alloc, 16)?;
-    let is_written = writes(&mut machine, text, devices, wanted, output);
-    Ok(is_written && stands_after(alloc, &mut machine, lines)?)
+) -> bool {
+    match Machine::with_limit(alloc, 16) {
+        Ok(mut machine) => {
+            writes(&mut machine, text, devices, wanted, output)
+                && stands_after(alloc, &mut machine, lines)
+        }
+        Err(AllocError) => false,
+    }
 }
 
 /// The same with each room.
@@ -171,75 +178,75 @@ fn runs_in_all(
     wanted: End,
     output: &[u8],
     lines: usize,
-) -> Result<bool, AllocError> {
+) -> bool {
     for room in &ROOMS {
         let devices = Devices {
             room: *room,
             ..*devices
         };
-        if !runs(alloc, text, &devices, wanted, output, lines)? {
-            return Ok(false);
+        if !runs(alloc, text, &devices, wanted, output, lines) {
+            return false;
         }
     }
-    Ok(true)
+    true
 }
 
 /// The first `cut` bytes of the script, read in pieces of this size, are answered as a script of their own.
-fn is_cut(alloc: Global, cut: usize, size: usize) -> Result<bool, AllocError> {
+fn is_cut(alloc: Global, cut: usize, size: usize) -> bool {
     let text = &SCRIPT[..cut.min(SCRIPT.len())];
-    let (output, any_error) = output_of(alloc, 0, text, true)?;
     let devices = Devices {
         pieces: (size, 200),
         ..SOUND
     };
-    let answer = Ok(Summary { any_error });
-    runs_in_all(alloc, text, &devices, answer, &output, line_feeds(text))
+    match output_of(alloc, 0, text, true) {
+        Ok((output, any_error)) => {
+            let answer = Ok(Summary { any_error });
+            runs_in_all(alloc, text, &devices, answer, &output, line_feeds(text))
+        }
+        Err(AllocError) => false,
+    }
 }
 
 #[test]
-fn script_cut_after_each_byte(rt: HostRuntime) -> Result<(), Fail> {
+fn script_cut_after_each_byte(rt: HostRuntime) {
     for cut in 0..=SCRIPT.len() {
         for size in [1usize, 2, 3, 7, 128] {
-            assert!(rt; is_cut(rt.alloc(), cut, size)?, "{cut} {size}");
+            assert!(rt; is_cut(rt.alloc(), cut, size), "{cut} {size}");
         }
     }
-    Ok(())
 }
 
 /// Where this call of the source fails, in pieces of this size, the lines that came whole before it are answered.
-fn read_fails(alloc: Global, size: usize, call: u32) -> Result<bool, AllocError> {
+fn read_fails(alloc: Global, size: usize, call: u32) -> bool {
     let given = (call as usize).saturating_sub(1).saturating_mul(size);
     let text = &SCRIPT[..given.min(SCRIPT.len())];
-    let (output, _) = output_of(alloc, 0, text, false)?;
     let devices = Devices {
         pieces: (size, 200),
         fails: (Some(call), None),
         ..SOUND
     };
-    let answer = Err(ScriptFault::Read);
-    runs_in_all(alloc, SCRIPT, &devices, answer, &output, line_feeds(text))
+    match output_of(alloc, 0, text, false) {
+        Ok((output, _)) => {
+            let answer = Err(ScriptFault::Read);
+            runs_in_all(alloc, SCRIPT, &devices, answer, &output, line_feeds(text))
+        }
+        Err(AllocError) => false,
+    }
 }
 
 #[test]
-fn each_read_fails(rt: HostRuntime) -> Result<(), Fail> {
+fn each_read_fails(rt: HostRuntime) {
     for size in [1usize, 2, 3, 7, 128] {
         let calls = SCRIPT.len().div_ceil(size) as u32;
         for call in 1..=calls.saturating_add(1) {
-            assert!(rt; read_fails(rt.alloc(), size, call)?, "{size} {call}");
+            assert!(rt; read_fails(rt.alloc(), size, call), "{size} {call}");
         }
     }
-    Ok(())
 }
 
 /// Where this call of the sink fails, it had taken this output, and the machine so many lines, whatever the room: a
 /// piece of six bytes ends one line at most, whose reply is passed on before the next piece.
-fn write_fails(
-    alloc: Global,
-    size: usize,
-    call: u32,
-    output: &[u8],
-    lines: usize,
-) -> Result<bool, AllocError> {
+fn write_fails(alloc: Global, size: usize, call: u32, output: &[u8], lines: usize) -> bool {
     let devices = Devices {
         pieces: (6, size),
         fails: (None, Some(call)),
@@ -250,8 +257,7 @@ fn write_fails(
 }
 
 /// Each write fails in turn, in pieces of this size; then the flush; and then no call does.
-fn all_writes_fail(alloc: Global, size: usize) -> Result<bool, AllocError> {
-    let (whole, any_error) = output_of(alloc, 0, SCRIPT, true)?;
+fn all_writes_fail(alloc: Global, size: usize, whole: &[u8]) -> bool {
     let mut call = 0u32;
     let mut before = 0usize;
     for (line, reply) in REPLIES.iter().enumerate() {
@@ -260,20 +266,25 @@ fn all_writes_fail(alloc: Global, size: usize) -> Result<bool, AllocError> {
             let output = whole
                 .get(..before.saturating_add(taken))
                 .unwrap_or(b"no output");
-            if !write_fails(alloc, size, call, output, line.saturating_add(1))? {
-                return Ok(false);
+            if !write_fails(alloc, size, call, output, line.saturating_add(1)) {
+                return false;
             }
         }
         before = before.saturating_add(reply.len());
     }
-    Ok(
-        any_error
-            && write_fails(alloc, size, call.saturating_add(1), &whole, 18)?
-            && no_write_fails(alloc, size, call.saturating_add(2), &whole)?,
-    )
+    write_fails(alloc, size, call.saturating_add(1), whole, 18)
+        && no_write_fails(alloc, size, call.saturating_add(2), whole)
 }
 
-fn no_write_fails(alloc: Global, size: usize, call: u32, whole: &[u8]) -> Result<bool, AllocError> {
+/// The same with the output of the whole script.
+fn all_writes_of_the_output_fail(alloc: Global, size: usize) -> bool {
+    match output_of(alloc, 0, SCRIPT, true) {
+        Ok((whole, any_error)) => any_error && all_writes_fail(alloc, size, &whole),
+        Err(AllocError) => false,
+    }
+}
+
+fn no_write_fails(alloc: Global, size: usize, call: u32, whole: &[u8]) -> bool {
     let devices = Devices {
         pieces: (6, size),
         fails: (None, Some(call)),
@@ -284,11 +295,10 @@ fn no_write_fails(alloc: Global, size: usize, call: u32, whole: &[u8]) -> Result
 }
 
 #[test]
-fn each_write_and_the_flush_fail(rt: HostRuntime) -> Result<(), Fail> {
+fn each_write_and_the_flush_fail(rt: HostRuntime) {
     for size in [1usize, 5, 200] {
-        assert!(rt; all_writes_fail(rt.alloc(), size)?, "{size}");
+        assert!(rt; all_writes_of_the_output_fail(rt.alloc(), size), "{size}");
     }
-    Ok(())
 }
 
 /// How a run ends where this call of the sink fails, and how many bytes of the output it took before; `None` where it
@@ -342,20 +352,29 @@ fn more_and_more_is_taken(alloc: Global, whole: &[u8], size: usize, room: Option
 }
 
 /// The same for each room.
-fn more_and_more_is_taken_in_all(alloc: Global, size: usize) -> Result<bool, AllocError> {
-    let (whole, any_error) = output_of(alloc, 0, SCRIPT, true)?;
-    for room in ROOMS {
-        if !more_and_more_is_taken(alloc, &whole, size, room) {
-            return Ok(false);
+fn more_and_more_is_taken_in_all(alloc: Global, whole: &[u8], size: usize) -> bool {
+    for room in &ROOMS {
+        if !more_and_more_is_taken(alloc, whole, size, *room) {
+            return false;
         }
     }
-    Ok(any_error)
+    true
+}
+
+/// The same with the output of the whole script.
+fn more_and_more_of_the_output_is_taken(alloc: Global, size: usize) -> bool {
+    match output_of(alloc, 0, SCRIPT, true) {
+        Ok((whole, any_error)) => any_error && more_and_more_is_taken_in_all(alloc, &whole, size),
+        Err(AllocError) => false,
+    }
 }
 
 #[test]
-fn each_call_fails_where_many_replies_wait(rt: HostRuntime) -> Result<(), Fail> {
+fn each_call_fails_where_many_replies_wait(rt: HostRuntime) {
     for size in [1usize, 5, 200] {
-        assert!(rt; more_and_more_is_taken_in_all(rt.alloc(), size)?, "{size}");
+        assert!(rt;
+            more_and_more_of_the_output_is_taken(rt.alloc(), size),
+            "{size}"
+        );
     }
-    Ok(())
 }

@@ -100,18 +100,25 @@ fn gives_three(source: &mut FromReader<&[u8]>) -> bool {
     reads(source, 8, b"abc") && reads(source, 8, b"")
 }
 
+/// The bytes go into this list.
+fn takes_three(taken: &mut Vec<u8>) -> bool {
+    let mut sink = FromWriter::new(&mut *taken);
+    let is_taken = write_all(&mut sink, b"abc").is_ok() && sink.flush().is_ok();
+    is_taken && taken.as_slice() == b"abc".as_slice()
+}
+
 #[test]
 fn reader_and_writer_move_bytes(rt: HostRuntime) {
     assert!(rt; gives_three(&mut FromReader::new(b"abc".as_slice())));
-    let mut taken = Vec::new(rt.alloc());
-    let mut sink = FromWriter::new(&mut taken);
-    assert!(rt; write_all(&mut sink, b"abc").is_ok() && sink.flush().is_ok());
-    assert!(rt; taken.as_slice() == b"abc".as_slice());
+    assert!(rt; takes_three(&mut Vec::new(rt.alloc())));
+}
+
+fn takes_nothing(taken: &mut Vec<u8>) -> bool {
+    let mut sink = FromWriter::new(taken);
+    matches!(sink.write(b""), Ok(0))
 }
 
 #[test]
 fn writer_takes_an_empty_piece(rt: HostRuntime) {
-    let mut taken = Vec::new(rt.alloc());
-    let mut sink = FromWriter::new(&mut taken);
-    assert!(rt; matches!(sink.write(b""), Ok(0)));
+    assert!(rt; takes_nothing(&mut Vec::new(rt.alloc())));
 }

@@ -46,7 +46,7 @@ fn is_read(text: &str, wanted: Result<u128, Refusal>) -> bool {
 
 #[test]
 fn numbers_read_as_they_are_spelled(rt: HostRuntime) {
-    for (text, number) in NUMBERS {
-        assert!(rt; is_read(text, number), "{text}");
+    for (text, number) in &NUMBERS {
+        assert!(rt; is_read(text, *number), "{text}");
     }
 }

@@ -8,8 +8,9 @@ use std::process::Abort;
 /// A name, the most slots of the machine, a script, and its output.
 type Row<'a> = (&'a str, u32, &'a str, &'a str);
 
+/// Sizes of bounds, and windows.
 #[rattlefmt::skip]
-const ROWS: [Row; 27] = [
+const BOUNDS: [Row; 13] = [
     ("empty_script", 4096, "", ""),
     ("root_shown", 4096, "show 0\n", "cap ffff0000000000000000000000000000 0x0 0x10000000000000000 ffff 0 3ffff -\n"),
     ("small_bounds", 4096, "addr 0 0x1000\nbounds 1 0x200\n",
@@ -32,6 +33,11 @@ const ROWS: [Row; 27] = [
         "slot 1 ffff0000048180040000000000000000 0x0 0x200\nslot 2 ffff000004818004fffffffffffff800 0x0 0x200\nerror 11 unrepresentable\nslot 3 ffff0000048180040000000000000000 0x0 0x200\n"),
     ("every_address_representable", 4096, "addr 0 0x8000000000000000\nbounds 1 0x8000000000000000\naddr 2 0\n",
         "slot 1 ffff0000000000008000000000000000 0x0 0x10000000000000000\nslot 2 ffff0000000010078000000000000000 0x8000000000000000 0x10000000000000000\nslot 3 ffff0000000010070000000000000000 0x8000000000000000 0x10000000000000000\n"),
+];
+
+/// Seals, words rebuilt, full machines, and lines that are no operation.
+#[rattlefmt::skip]
+const SLOTS: [Row; 5] = [
     ("sealing", 4096, "addr 0 0x1000\nbounds 1 0x200\naddr 0 7\nseal 2 3\nshow 4\nbounds 4 16\naddr 0 0x3fff0\nseal 2 5\nunseal 4 3\nperms 3 UNSEAL\nunseal 4 7\nseal 2 7\nunseal 2 3\nunseal 4 0\n",
         "slot 1 ffff0000000000000000000000001000 0x0 0x10000000000000000\nslot 2 ffff0000048190040000000000001000 0x1000 0x1200\nslot 3 ffff0000000000000000000000000007 0x0 0x10000000000000000\nslot 4 ffff1fffc48190040000000000001000 0x1000 0x1200\ncap ffff1fffc48190040000000000001000 0x1000 0x1200 ffff 0 00007 2\nerror 7 sealed\nslot 5 ffff000000000000000000000003fff0 0x0 0x10000000000000000\nerror 13 type\nslot 6 ffff0000048190040000000000001000 0x1000 0x1200\nslot 7 02000000000000000000000000000007 0x0 0x10000000000000000\nslot 8 fffe0000048190040000000000001000 0x1000 0x1200\nerror 12 permission\nerror 8 unsealed\nerror 14 mismatch\n"),
     ("rebuilding", 4096, "rebuild 0 00000000000000000000000000000000\nrebuild 0 ffff0000000000010000000000000000\nrebuild 0 ffff0000000020000000000000000000\nrebuild 0 ffff4000000000000000000000000000\nrebuild 0 ffff00000441bf04ffffffffffffff00\nrebuild 0 ffff1fffc48190040000000000001000\nrebuild 1 ffff0000048190040000000000001000\nflag 0 1\n",
@@ -42,10 +48,21 @@ const ROWS: [Row; 27] = [
         "error 1 syntax\nerror 1 syntax\nerror 4 range\nerror 5 slot\nerror 1 syntax\nslot 1 00040000000000000000000000000000 0x0 0x10000000000000000\nslot 2 00000000000000000000000000000000 0x0 0x10000000000000000\n"),
     ("long_lines", 4096, "show 000000000000000000000000000000000000000000000000000000000000000000000000000000000000000000000000000000000000000000000000000\nshow 0000000000000000000000000000000000000000000000000000000000000000000000000000000000000000000000000000000000000000000000000000\n",
         "cap ffff0000000000000000000000000000 0x0 0x10000000000000000 ffff 0 3ffff -\nerror 3 long\n"),
-    ("first_fit_plan_and_revocation", 4096, "addr 0 0x10000\nexact 1 0x10000\npool 2\nalloc 100\nalloc 5000\nalloc 4\nalloc 8191\nfree 2\nsweep\nalloc 4097\nalloc 65537\nalloc 0\nbounds 3 16\nfree 1\nsweep\nshow 8\nfree 1\nshow 0",
-        "slot 1 ffff0000000000000000000000010000 0x0 0x10000000000000000\nslot 2 ffff0000000190000000000000010000 0x10000 0x20000\npool 2 0x10000 0x20000\nobject 1 slot 3 ffff0000041880040000000000010000 0x10000 0x10064 held 100\nobject 2 slot 4 ffff000000fd806c0000000000010068 0x10068 0x113f0 held 5100\nobject 3 slot 5 ffff0000041b80600000000000010064 0x10064 0x10068 held 5104\nobject 4 slot 6 ffff0000027f89fd00000000000113f0 0x113f0 0x133f0 held 13296\nfreed 2 revoked 0 held 13296\nswept 1 revoked 1 held 8296\nobject 5 slot 7 ffff0000001d806c0000000000010068 0x10068 0x11070 held 12400\nerror 20 noroom\nerror 19 zero\nslot 8 ffff0000040580040000000000010000 0x10000 0x10010\nfreed 1 revoked 0 held 12400\nswept 1 revoked 2 held 12300\nerror 6 revoked\nerror 21 object\nerror 2 unfinished\n"),
-    ("pool_of_everything", 4096, "alloc 1\npool 0\npool 0\nalloc 0x10000000000000000\nalloc 1\n",
-        "error 17 nopool\npool 0 0x0 0x10000000000000000\nerror 18 poolset\nobject 1 slot 1 ffff0000000000000000000000000000 0x0 0x10000000000000000 held 18446744073709551616\nerror 20 noroom\n"),
+];
+
+#[rattlefmt::skip]
+const PLAN: Row = ("first_fit_plan_and_revocation", 4096, "addr 0 0x10000\nexact 1 0x10000\npool 2\nalloc 100\nalloc 5000\nalloc 4\nalloc 8191\nfree 2\nsweep\nalloc 4097\nalloc 65537\nalloc 0\nbounds 3 16\nfree 1\nsweep\nshow 8\nfree 1\nshow 0",
+        "slot 1 ffff0000000000000000000000010000 0x0 0x10000000000000000\nslot 2 ffff0000000190000000000000010000 0x10000 0x20000\npool 2 0x10000 0x20000\nobject 1 slot 3 ffff0000041880040000000000010000 0x10000 0x10064 held 100\nobject 2 slot 4 ffff000000fd806c0000000000010068 0x10068 0x113f0 held 5100\nobject 3 slot 5 ffff0000041b80600000000000010064 0x10064 0x10068 held 5104\nobject 4 slot 6 ffff0000027f89fd00000000000113f0 0x113f0 0x133f0 held 13296\nfreed 2 revoked 0 held 13296\nswept 1 revoked 1 held 8296\nobject 5 slot 7 ffff0000001d806c0000000000010068 0x10068 0x11070 held 12400\nerror 20 noroom\nerror 19 zero\nslot 8 ffff0000040580040000000000010000 0x10000 0x10010\nfreed 1 revoked 0 held 12400\nswept 1 revoked 2 held 12300\nerror 6 revoked\nerror 21 object\nerror 2 unfinished\n");
+
+#[rattlefmt::skip]
+const POOL_OF_EVERYTHING: Row = ("pool_of_everything", 4096, "alloc 1\npool 0\npool 0\nalloc 0x10000000000000000\nalloc 1\n",
+        "error 17 nopool\npool 0 0x0 0x10000000000000000\nerror 18 poolset\nobject 1 slot 1 ffff0000000000000000000000000000 0x0 0x10000000000000000 held 18446744073709551616\nerror 20 noroom\n");
+
+/// Pools and their objects.
+#[rattlefmt::skip]
+const OBJECTS: [Row; 9] = [
+    PLAN,
+    POOL_OF_EVERYTHING,
     ("quarantine", 4096, "addr 0 0x10000\nexact 1 0x10000\npool 2\nalloc 100\nalloc 5000\nbounds 4 16\nfree 2\nshow 5\naddr 5 0x10070\nalloc 5000\nfree 2\nsweep\nshow 6\nalloc 4\nsweep\nsweep 0\n",
         "slot 1 ffff0000000000000000000000010000 0x0 0x10000000000000000\nslot 2 ffff0000000190000000000000010000 0x10000 0x20000\npool 2 0x10000 0x20000\nobject 1 slot 3 ffff0000041880040000000000010000 0x10000 0x10064 held 100\nobject 2 slot 4 ffff000000fd806c0000000000010068 0x10068 0x113f0 held 5100\nslot 5 ffff0000041f806c0000000000010068 0x10068 0x10078\nfreed 2 revoked 0 held 5100\ncap ffff0000041f806c0000000000010068 0x10068 0x10078 ffff 0 3ffff 4\nslot 6 ffff0000041f806c0000000000010070 0x10068 0x10078\nobject 3 slot 7 ffff000001df93f400000000000113f0 0x113f0 0x12778 held 10100\nerror 21 object\nswept 1 revoked 3 held 5100\nerror 6 revoked\nobject 4 slot 8 ffff0000041b80600000000000010064 0x10064 0x10068 held 5104\nswept 0 revoked 0 held 5104\nerror 1 syntax\n"),
     ("sweep_before_any_pool", 4096, "sweep\naddr 0 0x10000\nexact 1 0x10000\npool 2\nsweep\n",
@@ -91,19 +108,21 @@ fn run_all(rt: &impl Abort, alloc: Global, rows: &[Row]) {
 
 #[test]
 fn worked_scripts_have_their_outputs(rt: HostRuntime) {
-    run_all(&rt, rt.alloc(), &ROWS);
+    run_all(&rt, rt.alloc(), &BOUNDS);
+    run_all(&rt, rt.alloc(), &SLOTS);
+    run_all(&rt, rt.alloc(), &OBJECTS);
 }
 
 /// `tests/opening` refuses each request for memory that this test makes after the machine was opened.
 #[test]
 fn no_memory_after_opening(rt: HostRuntime) {
-    assert!(rt; answers(rt.alloc(), 64, &ROWS[18], (7, 5)));
+    assert!(rt; answers(rt.alloc(), 64, &PLAN, (7, 5)));
 }
 
 /// The same on a machine whose pool is the whole address space.
 #[test]
 fn no_memory_after_opening_for_a_whole_pool(rt: HostRuntime) {
-    assert!(rt; answers(rt.alloc(), 64, &ROWS[19], (7, 5)));
+    assert!(rt; answers(rt.alloc(), 64, &POOL_OF_EVERYTHING, (7, 5)));
 }
 
 const SHOWN: &[u8] =
