@@ -11,11 +11,7 @@ fn makes_slots(machine: &mut Machine, limit: u32) -> bool {
             return false;
         }
     }
-    machine.slots() == limit
-        && matches!(
-            machine.step(&Op::Flag(0, true)),
-            Reply::Refused(Refusal::Full)
-        )
+    machine.slots() == limit && machine.step(&Op::Flag(0, true)) == Reply::Refused(Refusal::Full)
 }
 
 /// A machine opens, at the latest at the second attempt, and makes slots up to its limit.

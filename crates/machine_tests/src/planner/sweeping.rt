@@ -178,6 +178,17 @@ fn made_in_both<P: Placer>(planner: &mut Planner<P>, known: &mut Vec<Known>, siz
     }
 }
 
+/// Frees the object, or there is none of this number that is live.
+fn freed_in_both<P: Placer>(planner: &mut Planner<P>, known: &mut [Known], id: ObjectId) -> bool {
+    let freed = planner.free(id);
+    let is_live = free_known(known, id);
+    if is_live {
+        freed.is_ok()
+    } else {
+        code(&freed) == Refusal::NoObject.code()
+    }
+}
+
 /// The planner and the list answer alike.
 fn same_in_both<P: Placer>(
     planner: &mut Planner<P>,
@@ -186,10 +197,7 @@ fn same_in_both<P: Placer>(
 ) -> bool {
     match call {
         Alloc(size) => made_in_both(planner, known, size),
-        Free(id) => match planner.free(id) {
-            Ok(()) => free_known(known, id),
-            Err(refusal) => refusal.code() == Refusal::NoObject.code() && !free_known(known, id),
-        },
+        Free(id) => freed_in_both(planner, known, id),
         Sweep => planner.sweep() == sweep_known(known),
     }
 }
