@@ -11,31 +11,23 @@ use Rattle.cc_plan.specs.declared.object.PlannedObject.{PlannedObject}
 use Rattle.cc_plan.specs.Plan.{Plan, is_freed}
 use Rattle.cc_script.specs.Output.{with_line_feed}
 use Rattle.cc_command.specs.Numbered.{line_with_decimal, line_with_hexadecimal, with_hexadecimal}
-use Rattle.cc_command.specs.Picture.{cell_of}
+use Rattle.cc_command.specs.Picture.{cell_bytes, cell_count, cell_of}
 use Rattle.cc_command.specs.Usage.{is_live, is_swept, pool_span}
 use Rattle.cc_command.specs.declared.layout.Layout.{Layout}
 
 -- ---- the layout
 
--- how many bytes a cell stands for: the least number, from 1 up, with which 16,384 cells cover a pool of so many bytes
-abbrev pub drawn_cell : (bytes : ℕ) → ℕ
-drawn_cell bytes = max (div_ceil bytes 16384) 1
-
--- how many cells cover a pool of so many bytes; the last may reach past its top
-abbrev pub drawn_cells : (bytes : ℕ) → ℕ
-drawn_cells bytes = div_ceil bytes (drawn_cell bytes)
-
 -- how wide a cell is drawn: 1,024 divided by the number of cells, rounded down, and at least 1
 abbrev pub cell_width : (cells : ℕ) → ℕ
 cell_width cells = max (1024 / max cells 1) 1
 
--- how a pool is laid out
+-- how a pool is laid out: in at most 16,384 cells
 abbrev pub layout_of : Span → Layout
 layout_of pool = record {
   start = pool.base;
-  size = drawn_cell (length_of pool);
-  cells = drawn_cells (length_of pool);
-  width = cell_width (drawn_cells (length_of pool));
+  size = cell_bytes 16384 (length_of pool);
+  cells = cell_count 16384 (length_of pool);
+  width = cell_width (cell_count 16384 (length_of pool));
 }
 
 -- how many rows of 1,024 cells there are

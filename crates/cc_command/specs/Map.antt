@@ -1,5 +1,5 @@
 -- A map of a pool: rows of cells, which all stand for the same number of bytes, and say what holds them.
-use Rattle.std.specs.Prelude.{ℕ, zero, suc, ◌≡◌, ◌<◌, ◌+◌, ◌-◌, ◌*◌, List, [], ◌++◌, Contains, codes, max, min, slice_index, take}
+use Rattle.std.specs.Prelude.{ℕ, zero, suc, ◌≡◌, ◌<◌, ◌+◌, ◌-◌, ◌*◌, List, [], ◌++◌, Contains, codes, min, slice_index, take}
 use Rattle.std.specs.Int.{div_ceil}
 use Rattle.cc_word.specs.WordText.{hexadecimal}
 use Rattle.cc_bounds.specs.declared.span.Span.{Span}
@@ -10,7 +10,7 @@ use Rattle.cc_plan.specs.declared.object.PlannedObject.{PlannedObject}
 use Rattle.cc_plan.specs.Plan.{Plan}
 use Rattle.cc_script.specs.Output.{with_line_feed}
 use Rattle.cc_command.specs.Numbered.{line_with_hexadecimal}
-use Rattle.cc_command.specs.Picture.{cell_of}
+use Rattle.cc_command.specs.Picture.{cell_bytes, cell_count, cell_of}
 use Rattle.cc_command.specs.Usage.{pool_span}
 
 -- a byte of the span is one of an object in this state
@@ -32,14 +32,6 @@ pub record TellsCell (objects : List PlannedObject) (cell : Span) (mark : ℕ) :
 pub record IsMapRow (objects : List PlannedObject) (start size : ℕ) (row : List ℕ) : Type 0 where
   pub tells : (index : ℕ) → index < 64 → TellsCell objects (cell_of start size index) (slice_index row index)
 
--- how many bytes a cell stands for: the least number, from 1 up, with which 1,024 cells cover a pool of so many bytes
-abbrev pub map_cell : (bytes : ℕ) → ℕ
-map_cell bytes = max (div_ceil bytes 1024) 1
-
--- how many cells cover a pool of so many bytes; the last may reach past its top
-abbrev pub map_cells : (bytes : ℕ) → ℕ
-map_cells bytes = div_ceil bytes (map_cell bytes)
-
 -- a row: the address of its first cell, and its cells
 abbrev pub map_row_text : (start : ℕ) (cells : List ℕ) → List ℕ
 map_row_text start cells = with_line_feed (hexadecimal start ++ codes " " ++ cells)
@@ -56,11 +48,12 @@ AreMapRows objects size (suc rows) start cells text =
 abbrev pub legend_text : (size : ℕ) → List ℕ
 legend_text size = line_with_hexadecimal (codes "cells of ") size (codes " bytes: # live, ~ quarantined, * both, . free")
 
--- the map of these objects in this pool: the legend, and as many rows as its cells fill
+-- the map of these objects in this pool, in at most 1,024 cells: the legend, and as many rows as they fill
 pub record IsMapOf (objects : List PlannedObject) (pool : Span) (text : List ℕ) : Type 0 where
   pub rows : List ℕ
-  pub are_rows : AreMapRows objects (map_cell (length_of pool)) (div_ceil (map_cells (length_of pool)) 64) pool.base (map_cells (length_of pool)) rows
-  pub lines : text ≡ legend_text (map_cell (length_of pool)) ++ rows
+  pub are_rows :
+      AreMapRows objects (cell_bytes 1024 (length_of pool)) (div_ceil (cell_count 1024 (length_of pool)) 64) pool.base (cell_count 1024 (length_of pool)) rows
+  pub lines : text ≡ legend_text (cell_bytes 1024 (length_of pool)) ++ rows
 
 -- the map of a plan's pool; without a pool it has no row
 abbrev pub IsMap : Plan → (text : List ℕ) → Type 0

@@ -2,7 +2,8 @@
 ghost use Rattle.std.specs.Prelude.{◌≡◌, ◌<◌, ◌≤◌, ◌+◌, ◌^◌};
 ghost use Rattle.std.specs.Int.{div_ceil};
 ghost use Rattle.cc_bounds.specs.Span.{length_of};
-ghost use Rattle.cc_command.specs.Drawing.{AreCellsOf, cell_width, drawn_cell, drawn_cells, end_cell, first_cell, layout_of, row_count};
+ghost use Rattle.cc_command.specs.Drawing.{AreCellsOf, cell_width, end_cell, first_cell, layout_of, row_count};
+ghost use Rattle.cc_command.specs.Picture.{cell_bytes, cell_count};
 
 use cc_bounds::Span;
 
@@ -38,8 +39,8 @@ impl Layout {
         ensures width { result.width ≤ 1024 }
     {
         let bytes = pool.len();
-        let size = drawn_cell(bytes);
-        let cells = drawn_cells(bytes, size);
+        let size = cell_size(bytes);
+        let cells = cell_count(bytes, size);
         Layout {
             start: u128::from(pool.base),
             size,
@@ -59,18 +60,18 @@ impl Layout {
 }
 
 /// How many bytes a cell stands for: the least, from 1 up, with which 16,384 cells cover so many bytes.
-fn drawn_cell(bytes: u128) -> u128
+fn cell_size(bytes: u128) -> u128
     requires { bytes ≤ 2 ^ 64 }
-    ensures value { result ≡ drawn_cell bytes }
+    ensures value { result ≡ cell_bytes 16384 bytes }
     ensures fits { result ≤ 2 ^ 50 }
 {
     bytes.div_ceil(MOST_CELLS).max(1)
 }
 
 /// How many cells of this size cover so many bytes. The last may reach past their end.
-fn drawn_cells(bytes: u128, size: u128) -> u32
-    requires { size ≡ drawn_cell bytes }
-    ensures value { result ≡ drawn_cells bytes }
+fn cell_count(bytes: u128, size: u128) -> u32
+    requires { size ≡ cell_bytes 16384 bytes }
+    ensures value { result ≡ cell_count 16384 bytes }
     ensures few { result ≤ 16384 }
 {
     bytes.div_ceil(size) as u32

@@ -3,7 +3,8 @@ ghost use Rattle.std.specs.Prelude.{◌≡◌, ◌<◌, ◌≤◌, ◌+◌, ◌^
 ghost use Rattle.std.specs.Int.{div_ceil};
 ghost use Rattle.cc_machine.specs.Planned.{plan_of};
 ghost use Rattle.cc_command.specs.Answer.{WritesAnswer};
-ghost use Rattle.cc_command.specs.Map.{AreMapRows, HoldsByte, IsMap, IsMapOf, IsMapRow, TellsCell, map_cell, map_row_text};
+ghost use Rattle.cc_command.specs.Map.{AreMapRows, HoldsByte, IsMap, IsMapOf, IsMapRow, TellsCell, map_row_text};
+ghost use Rattle.cc_command.specs.Picture.{cell_bytes, cell_count};
 
 use crate::answers::write_answer;
 use crate::numbered::end_with_hexadecimal;
@@ -69,7 +70,7 @@ fn push_map(text: &mut Text, objects: &[PlannedObject], pool: &Span)
 /// How many bytes a cell stands for: the least, from 1 up, with which 1,024 cells cover so many bytes.
 fn cell_size(bytes: u128) -> u128
     requires { bytes ≤ 2 ^ 64 }
-    ensures value { result ≡ map_cell bytes }
+    ensures value { result ≡ cell_bytes 1024 bytes }
     ensures fits { result ≤ 2 ^ 54 }
 {
     bytes.div_ceil(MOST_CELLS).max(1)
@@ -77,8 +78,8 @@ fn cell_size(bytes: u128) -> u128
 
 /// How many cells of this size cover so many bytes. The last may reach past their end.
 fn cell_count(bytes: u128, size: u128) -> usize
-    requires { size ≡ map_cell bytes }
-    ensures value { result ≡ div_ceil bytes size }
+    requires { size ≡ cell_bytes 1024 bytes }
+    ensures value { result ≡ cell_count 1024 bytes }
     ensures few { result ≤ 1024 }
 {
     bytes.div_ceil(size) as usize
