@@ -2,3 +2,4 @@ mod GivenLemmas
 mod InvocationLemmas
 mod OutcomeLemmas
 mod ChoiceLemmas
+mod TellingLemmas

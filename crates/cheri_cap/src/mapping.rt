@@ -1,8 +1,9 @@
 //! `map`: draws a pool as it is at the end of its script.
-ghost use Rattle.std.specs.Prelude.{◌≡◌, ◌≢◌, ◌≤◌, ◌↔◌, [], false, true, Err, IfOk, OnOk, option_map};
+ghost use Rattle.std.specs.Prelude.{◌≡◌, ◌≢◌, ◌≤◌, ◌↔◌, [], false, true, Err, IfOk, OnOk, Some, option_map};
 ghost use Rattle.cc_command.specs.Planning.{plan_opening};
 ghost use Rattle.cheri_cap.specs.Running.{DrawsMap, DrawsPage, RanToEnd};
 ghost use Rattle.cheri_cap.specs.Script.{NamesFile, RefusesPool};
+ghost use Rattle.cheri_cap.specs.Telling.{replies_before};
 
 use crate::outcome::Fault;
 use crate::pool::{OPENING, Pool};
@@ -88,7 +89,7 @@ fn draw_map<R: AllocGlobal, S: Source, V: Sink, W: Sink>(
     requires sink { W.has_failed sink.old ≡ false }
     ensures open { result ≢ Err Fault.Open }
     ensures ran { IfOk result (λ summary. RanToEnd machine.old (plan_opening pool.base pool.length pool.align) (S.to_come source.old) (S.to_come source.new) (V.taken_bytes counted.old.inner) (V.taken_bytes counted.new.inner) summary machine.new) }
-    ensures drawn { OnOk result (DrawsMap machine.new counted.new.tally OPENING (W.taken_bytes sink.old) (W.taken_bytes sink.new)) }
+    ensures drawn { OnOk result (DrawsMap machine.new counted.new.tally (replies_before (Some pool.length)) (W.taken_bytes sink.old) (W.taken_bytes sink.new)) }
     ensures passed { OnOk result (W.waiting_bytes sink.new ≡ []) }
     ensures read { (result ≡ Err Fault.Read) ↔ (S.has_failed source.new ≡ true) }
     ensures write { W.has_failed sink.new ≡ true → result ≡ Err Fault.Write }

@@ -1,14 +1,13 @@
 //! What is told of a run on standard error: a summary, hints, and that a script is waited for.
-ghost use Rattle.std.specs.Prelude.{◌≡◌, List, ℕ};
+ghost use Rattle.std.specs.Prelude.{◌≡◌, List, ℕ, OnErr, OnOk, false};
 ghost use Rattle.cc_word.specs.declared.refusal.Refusal.TheVariants as refusal;
-ghost use Rattle.cc_script.specs.Lines.{lines_of};
-ghost use Rattle.cc_command.specs.Tally.{IsTally, counted, first_from, is_refusal};
-ghost use Rattle.cheri_cap.specs.Telling.{hints_of, telling_of};
+ghost use Rattle.cc_command.specs.Tally.{IsTally};
+ghost use Rattle.cheri_cap.specs.Telling.{TellsRun, first_refused, hints_of, replies_before, telling_of};
 
-use crate::error_writer::ErrorWriter;
+use crate::pool::OPENING;
 use cc_command::{Hints, Tally, Watch, show_hints, show_statistics, usage_of};
 use cc_machine::{Len, Machine};
-use cc_script::FromWriter;
+use cc_script::Sink;
 use std::alloc::AllocError;
 
 /// Which standard streams are terminals.
@@ -61,14 +60,14 @@ const FULL: usize = 21;
 
 /// The number of the first reply that is `Inexact`, from 1 up; 0 where none is.
 fn first_inexact(tally: &Tally) -> u64
-    ensures { (text : List ℕ) → IsTally text tally.now → result ≡ counted (first_from (is_refusal refusal.Inexact) 1 (lines_of text)) }
+    ensures { (text : List ℕ) → IsTally text tally.now → result ≡ first_refused refusal.Inexact text }
 {
     tally.counts[INEXACT].first
 }
 
 /// The number of the first reply that is `Full`, from 1 up; 0 where none is.
 fn first_full(tally: &Tally) -> u64
-    ensures { (text : List ℕ) → IsTally text tally.now → result ≡ counted (first_from (is_refusal refusal.Full) 1 (lines_of text)) }
+    ensures { (text : List ℕ) → IsTally text tally.now → result ≡ first_refused refusal.Full text }
 {
     tally.counts[FULL].first
 }
@@ -90,18 +89,37 @@ fn hints_of(inexact: u64, full: u64, watch: &Watch, opening: u64, pool: Option<L
     }
 }
 
-/// Sums up a run, and gives hints, as `telling` says.
-pub fn tell<R: AllocGlobal + Eprint>(
+/// How many replies stand before those to a script: those that make the pool, where it has one.
+fn replies_before(pool: &Option<Len>) -> u64
+    ensures { result ≡ replies_before pool.now }
+{
+    match pool {
+        Some(_) => OPENING,
+        None => 0,
+    }
+}
+
+/// Sums up a run, and gives hints, where that is asked for: of a script, or of one on a pool of this length. Where standard
+/// error takes no more bytes, nobody is told.
+pub fn tell<R: AllocGlobal, E: Sink>(
     rt: &R,
     machine: &Machine,
     tally: &Tally,
     watch: &Watch,
-    opening: u64,
     pool: Option<Len>,
     telling: Telling,
-) -> Result<(), AllocError> {
+    errors: &mut E,
+) -> Result<(), AllocError>
+    requires { E.has_failed errors.old ≡ false }
+    ensures told { OnOk result (E.has_failed errors.new ≡ false → TellsRun telling machine.now tally.now watch.now pool (E.taken_bytes errors.old) (E.taken_bytes errors.new)) }
+    ensures untold { OnErr result (E.taken_bytes errors.new ≡ E.taken_bytes errors.old) }
+{
+    let opening = replies_before(&pool);
     if telling.stats {
-        sum_up(rt, machine, tally, opening)?;
+        let usage = usage_of(rt.alloc(), machine)?;
+        if show_statistics(&usage, tally, opening, errors).is_err() {
+            return Ok(());
+        }
     }
     if telling.hints {
         let hints = hints_of(
@@ -111,20 +129,7 @@ pub fn tell<R: AllocGlobal + Eprint>(
             opening,
             pool,
         );
-        let _ = show_hints(&hints, &mut FromWriter::new(ErrorWriter { to: rt }));
+        let _ = show_hints(&hints, errors);
     }
-    Ok(())
-}
-
-/// Sums up a run on standard error. That a write there failed is told nowhere.
-fn sum_up<R: AllocGlobal + Eprint>(
-    rt: &R,
-    machine: &Machine,
-    tally: &Tally,
-    opening: u64,
-) -> Result<(), AllocError> {
-    let usage = usage_of(rt.alloc(), machine)?;
-    let mut sink = FromWriter::new(ErrorWriter { to: rt });
-    let _ = show_statistics(&usage, tally, opening, &mut sink);
     Ok(())
 }
