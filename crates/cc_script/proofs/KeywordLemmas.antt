@@ -1,13 +1,9 @@
 -- A line in which no keyword and space stand first is a keyword alone, or no command.
-use Rattle.std.proofs.Common.{true≢false, ◌≡◌, ℕ, ◌++◌, Bool, true, false, ◌==◌, List, [], ◌∷◌, Option, Some, None, Result, Ok, Err, refl, sym, ◌∙◌, ap, if◌then◌else◌, codes, inl, inr, ◌⊎◌}
+use Rattle.std.proofs.Common.{true≢false, ◌≡◌, ℕ, ◌++◌, Bool, true, false, ◌==◌, List, [], ◌∷◌, Option, Some, None, refl, sym, ◌∙◌, ap, if◌then◌else◌, codes, inl, inr, ◌⊎◌}
 use Rattle.std.proofs.lemmas.Bool.{eqb-true}
 use Rattle.std.proofs.lemmas.Slice.Eq.{bytes_eq-Decides}
 use Rattle.std.specs.List.{onto_first}
 use Rattle.std.specs.Str.{bytes_eq}
-use Rattle.cc_word.specs.declared.refusal.Refusal.{Refusal}
-use Rattle.cc_word.specs.declared.refusal.Refusal.TheVariants.{Syntax}
-use Rattle.cc_machine.specs.declared.op.Op.{Op}
-use Rattle.cc_machine.specs.declared.op.Op.TheVariants.{Sweep}
 use Rattle.cc_script.specs.declared.keyword.Keyword.{Keyword}
 use Rattle.cc_script.specs.declared.keyword.Keyword.TheVariants as keyword
 use Rattle.cc_script.specs.Commands.{words_of, keyword_of, command_of, command_in}

@@ -20,7 +20,7 @@ use Rattle.cc_machine.specs.declared.op.Op.TheVariants as op
 use Rattle.cc_script.specs.declared.keyword.Keyword.{Keyword}
 use Rattle.cc_script.specs.declared.keyword.Keyword.TheVariants as keyword
 use Rattle.cc_script.specs.Numbers.{numeral_of, number_of, within_limit}
-use Rattle.cc_script.specs.Commands.{words_of, permissions_in, with_names, align_in, flag_in, word_in, index_in, length_in, one, two, one_value, two_values, command_of, BeginsWithNumber}
+use Rattle.cc_script.specs.Commands.{words_of, permissions_in, with_names, align_in, flag_in, word_in, index_in, one, two, one_value, two_values, command_of, BeginsWithNumber}
 use Rattle.cc_script.proofs.CommandLemmas.{three_values, index_fits, index_over}
 
 -- no byte of the text is a space
@@ -64,7 +64,7 @@ no_number (x ∷ y ∷ text) spaced = by (bytes_eq (x ∷ y ∷ []) (48 ∷ 120 
       none_of 16 text refl (rw (first, second) at spaced)
   by false is = none_of 10 (x ∷ y ∷ text) refl spaced
 
-limited : (limit : ℕ) (text : List ℕ) → is_word text ≡ false → within_limit limit (number_of text) ≡ Err Syntax
+pub limited : (limit : ℕ) (text : List ℕ) → is_word text ≡ false → within_limit limit (number_of text) ≡ Err Syntax
 limited limit text spaced = rw (no_number text spaced) refl
 
 -- ---- the other values
@@ -207,27 +207,6 @@ one_or_more k value spaced two_none = by (is_word value) refl where
   by : (word : Bool) → is_word value ≡ word → one_value k value ≡ command_of k (words_of value)
   by true is = rw (alone value is) refl
   by false is = spaced is ∙ fewer (words_of value) (many value is)
-
--- the four commands whose one value is a number, where that is within its limit
-pub shown : (k : Keyword) (value : List ℕ) (number : ℕ) → k ≡ keyword.Show → index_in value ≡ Ok number → Ok (op.Show number) ≡ command_of k (words_of value)
-shown k value number is e =
-    rw is
-    (ap (one op.Show) (sym e) ∙ one_or_more keyword.Show value (λ spaced. rw (limited (2 ^ 32 - 1) value spaced) refl) (λ first second. refl))
-
-pub rounded : (k : Keyword) (value : List ℕ) (number : ℕ) → k ≡ keyword.Round → length_in value ≡ Ok number → Ok (op.Round number) ≡ command_of k (words_of value)
-rounded k value number is e =
-    rw is
-    (ap (one op.Round) (sym e) ∙ one_or_more keyword.Round value (λ spaced. rw (limited (2 ^ 64) value spaced) refl) (λ first second. refl))
-
-pub allocated : (k : Keyword) (value : List ℕ) (number : ℕ) → k ≡ keyword.Alloc → length_in value ≡ Ok number → Ok (op.Alloc number) ≡ command_of k (words_of value)
-allocated k value number is e =
-    rw is
-    (ap (one op.Alloc) (sym e) ∙ one_or_more keyword.Alloc value (λ spaced. rw (limited (2 ^ 64) value spaced) refl) (λ first second. refl))
-
-pub freed : (k : Keyword) (value : List ℕ) (number : ℕ) → k ≡ keyword.Free → index_in value ≡ Ok number → Ok (op.Free number) ≡ command_of k (words_of value)
-freed k value number is e =
-    rw is
-    (ap (one op.Free) (sym e) ∙ one_or_more keyword.Free value (λ spaced. rw (limited (2 ^ 32 - 1) value spaced) refl) (λ first second. refl))
 
 -- ---- a number that stands first
 

@@ -1,17 +1,23 @@
 //! The reply to one line, before it is written.
-ghost use Rattle.std.specs.Prelude.{◌≡◌, Result, Ok, Err};
+ghost use Rattle.std.specs.Prelude.{◌≡◌, true, Result, Ok, Err};
 ghost use Rattle.cc_word.specs.declared.refusal.Refusal.{Refusal as RefusalSpec};
 ghost use Rattle.cc_word.specs.declared.refusal.Refusal.TheVariants.{OutOfRange};
 ghost use Rattle.cc_machine.specs.declared.op.Op.{Op as OpSpec};
 ghost use Rattle.cc_machine.specs.Step.{Step};
 ghost use Rattle.cc_script.specs.Commands.{command_in, command_of, operation_of, two_values, words_of};
+ghost use Rattle.cc_script.specs.declared.keyword.Keyword.TheVariants as keywords;
 ghost use Rattle.cc_script.specs.Keywords.{command_alone};
+ghost use Rattle.cc_script.specs.Looks.{takes_number, takes_second_number};
 ghost use Rattle.cc_script.specs.Engine.{IsAnswered};
 
+use crate::digits::Look;
 use crate::keyword::Keyword;
 use crate::line::Line;
-use crate::numbers::split_number;
-use crate::parsing::{MOST_BYTES, parse_alone, parse_spaced, parse_two, short_one, short_second};
+use crate::numbers::{look_at_number, split_number};
+use crate::parsing::{
+    MOST_BYTES, flag_of, one_of_number, parse_alone, parse_spaced, parse_two, perms_of,
+    two_of_number,
+};
 use crate::printing::{push_any_reply, push_reply};
 use cc_machine::{Machine, Op, Reply};
 use cc_word::Refusal;
@@ -63,7 +69,7 @@ fn answer_values(
     }
 }
 
-/// Answers a keyword that the compiler knows, and one value.
+/// Answers a keyword that the compiler knows, and one value, which is a number.
 #[inline(always)]
 fn answer_one(
     machine: &mut Machine,
@@ -71,12 +77,14 @@ fn answer_one(
     keyword: Keyword,
     value: &[u8],
 ) -> Result<(), Refusal>
+    requires { takes_number keyword ≡ true }
     ensures { (command : Result OpSpec RefusalSpec) → command ≡ command_of keyword (words_of value.now)
         → IsAnswered machine.old command result text.new machine.new }
 {
-    match short_one(keyword, value) {
-        Some(op) => answer_op(machine, text, &op),
-        None => answer_spaced(machine, text, keyword, value),
+    match look_at_number(value) {
+        Look::Number(number) => answer_read(machine, text, one_of_number(keyword, number)),
+        Look::NoNumber => Err(Refusal::Syntax),
+        Look::Long => answer_spaced(machine, text, keyword, value),
     }
 }
 
@@ -120,15 +128,15 @@ fn answer_second(
         Keyword::Exact => answer_known(machine, text, Keyword::Exact, slot, second),
         Keyword::Addr => answer_known(machine, text, Keyword::Addr, slot, second),
         Keyword::Inc => answer_known(machine, text, Keyword::Inc, slot, second),
-        Keyword::Perms => answer_known(machine, text, Keyword::Perms, slot, second),
-        Keyword::Flag => answer_known(machine, text, Keyword::Flag, slot, second),
+        Keyword::Perms => answer_perms(machine, text, slot, second),
+        Keyword::Flag => answer_flag(machine, text, slot, second),
         Keyword::Seal => answer_known(machine, text, Keyword::Seal, slot, second),
         Keyword::Unseal => answer_known(machine, text, Keyword::Unseal, slot, second),
         _ => answer_any_second(machine, text, keyword, slot, second),
     }
 }
 
-/// Answers a keyword that the compiler knows, a slot and a second value.
+/// Answers a keyword that the compiler knows, a slot and a second value, which is a number.
 #[inline(always)]
 fn answer_known(
     machine: &mut Machine,
@@ -137,13 +145,43 @@ fn answer_known(
     slot: u32,
     second: &[u8],
 ) -> Result<(), Refusal>
+    requires { takes_second_number keyword ≡ true }
     ensures { (command : Result OpSpec RefusalSpec) → command ≡ two_values keyword (Ok slot) second.now
         → IsAnswered machine.old command result text.new machine.new }
 {
-    match short_second(keyword, slot, second) {
-        Some(op) => answer_op(machine, text, &op),
-        None => answer_any_second(machine, text, keyword, slot, second),
+    match look_at_number(second) {
+        Look::Number(number) => answer_read(machine, text, two_of_number(keyword, slot, number)),
+        Look::NoNumber => Err(Refusal::Syntax),
+        Look::Long => answer_any_second(machine, text, keyword, slot, second),
     }
+}
+
+/// Answers `perms`, a slot and a second value.
+#[inline(always)]
+fn answer_perms(
+    machine: &mut Machine,
+    text: &mut Line,
+    slot: u32,
+    second: &[u8],
+) -> Result<(), Refusal>
+    ensures { (command : Result OpSpec RefusalSpec) → command ≡ two_values keywords.Perms (Ok slot) second.now
+        → IsAnswered machine.old command result text.new machine.new }
+{
+    answer_read(machine, text, perms_of(slot, second))
+}
+
+/// Answers `flag`, a slot and a second value.
+#[inline(always)]
+fn answer_flag(
+    machine: &mut Machine,
+    text: &mut Line,
+    slot: u32,
+    second: &[u8],
+) -> Result<(), Refusal>
+    ensures { (command : Result OpSpec RefusalSpec) → command ≡ two_values keywords.Flag (Ok slot) second.now
+        → IsAnswered machine.old command result text.new machine.new }
+{
+    answer_read(machine, text, flag_of(slot, second))
 }
 
 /// Answers a keyword, a slot and a second value, whatever that is.
@@ -199,7 +237,20 @@ fn answer_alone(machine: &mut Machine, text: &mut Line, line: &[u8]) -> Result<(
     ensures { (command : Result OpSpec RefusalSpec) → command ≡ command_alone line.now
         → IsAnswered machine.old command result text.new machine.new }
 {
-    match parse_alone(line) {
+    answer_read(machine, text, parse_alone(line))
+}
+
+/// Answers an operation that the compiler knows, or the fault of a line.
+#[inline(always)]
+fn answer_read(
+    machine: &mut Machine,
+    text: &mut Line,
+    parsed: Result<Op, Refusal>,
+) -> Result<(), Refusal>
+    ensures { (command : Result OpSpec RefusalSpec) → command ≡ parsed
+        → IsAnswered machine.old command result text.new machine.new }
+{
+    match parsed {
         Ok(op) => answer_op(machine, text, &op),
         Err(refusal) => Err(refusal),
     }

@@ -1,8 +1,9 @@
 //! Digits, and the numbers that they spell.
-ghost use Rattle.std.specs.Prelude.{◌≡◌, ◌⊎◌, ◌↔◌, ◌+◌, ◌*◌, ◌%◌, ◌<◌, ◌≤◌, ◌^◌, length, min, Some, IfSome, SomeIff, IsSome, IsTrue};
+ghost use Rattle.std.specs.Prelude.{◌≡◌, ◌⊎◌, ◌↔◌, ◌+◌, ◌*◌, ◌%◌, ◌<◌, ◌≤◌, ◌^◌, length, min, SomeIff, IsSome, IsTrue};
 ghost use Rattle.std.specs.Char.{digit_value};
 ghost use Rattle.cc_script.specs.Numbers.{numeral_of, capped};
 ghost use Rattle.cc_script.specs.Digits.{number_further};
+ghost use Rattle.cc_script.specs.Looks.{Tells};
 
 use cc_word::read_quarter;
 
@@ -30,16 +31,32 @@ const DIGIT_VALUES: [u8; 256] = [
     36, 36, 36, 36, 36, 36, 36, 36, 36, 36, 36, 36, 36, 36, 36, 36,
 ];
 
-/// The number that some digits spell. `None` tells nothing of the digits.
+/// What a first look at a text tells of the number that it spells.
+#[derive(Clone, Copy)]
+pub enum Look {
+    /// It spells this one.
+    Number(u64),
+    /// It spells none.
+    NoNumber,
+    /// Nothing: it is long.
+    Long,
+}
+
+/// The number that some digits spell.
 #[inline(always)]
-pub fn read_few(digits: &[u8], radix: u8) -> Option<u64>
+pub fn read_few(digits: &[u8], radix: u8) -> Look
     requires radix { (radix ≡ 10) ⊎ (radix ≡ 16) }
-    ensures { IfSome result (λ number. numeral_of radix digits.now ≡ Some number) }
+    ensures { Tells result (numeral_of radix digits.now) }
 {
-    if digits.is_empty() || !are_few(digits, radix) {
-        None
-    } else {
-        read_short(digits, radix)
+    if !are_few(digits, radix) {
+        return Look::Long;
+    }
+    if digits.is_empty() {
+        return Look::NoNumber;
+    }
+    match read_short(digits, radix) {
+        Some(number) => Look::Number(number),
+        None => Look::NoNumber,
     }
 }
 
