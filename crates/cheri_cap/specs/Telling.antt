@@ -1,5 +1,5 @@
 -- What is told of a run on standard error beside a fault.
-use Rattle.std.specs.Prelude.{ℕ, zero, suc, Bool, true, false, ◌≡◌, ◌||◌, ◌&&◌, ◌-◌, nat_lt, List, [], ◌++◌, Option, Some, None, if◌then◌else◌}
+use Rattle.std.specs.Prelude.{ℕ, zero, suc, Bool, true, false, ◌≡◌, ◌||◌, ◌&&◌, ◌-◌, nat_lt, List, [], ◌++◌, Option, Some, None, codes, if◌then◌else◌}
 use Rattle.std.specs.Io.KnownBytes.{Appends}
 use Rattle.cc_word.specs.declared.refusal.Refusal.{Refusal}
 use Rattle.cc_word.specs.declared.refusal.Refusal.TheVariants.{Inexact, Full}
@@ -24,6 +24,10 @@ telling_of stats terminals = record {
   hints = stats || terminals.errors;
   waits = terminals.input && terminals.errors;
 }
+
+-- what is told before a script is read from a terminal
+abbrev pub waiting_text : List ℕ
+waiting_text = codes "hint: reading a script from the terminal, a command on each line; Control-D ends it\n"
 
 -- the length of the pool, where one of the replies that make it is `Inexact`: the first that is has the number `inexact`,
 -- which is 0 where none is

@@ -1,13 +1,15 @@
 //! What is told of a run on standard error: a summary, hints, and that a script is waited for.
-ghost use Rattle.std.specs.Prelude.{◌≡◌, List, ℕ, OnErr, OnOk, false};
+ghost use Rattle.std.specs.Prelude.{◌≡◌, List, ℕ, OnErr, OnOk, false, option_map, true};
+ghost use Rattle.std.specs.Io.KnownBytes.{Appends};
 ghost use Rattle.cc_word.specs.declared.refusal.Refusal.TheVariants as refusal;
 ghost use Rattle.cc_command.specs.Tally.{IsTally};
-ghost use Rattle.cheri_cap.specs.Telling.{TellsRun, first_refused, hints_of, replies_before, telling_of};
+ghost use Rattle.cheri_cap.specs.Script.{NamesFile};
+ghost use Rattle.cheri_cap.specs.Telling.{TellsRun, first_refused, hints_of, replies_before, telling_of, waiting_text};
 
 use crate::pool::OPENING;
 use cc_command::{Hints, Tally, Watch, show_hints, show_statistics, usage_of};
 use cc_machine::{Len, Machine};
-use cc_script::Sink;
+use cc_script::{Sink, write_all};
 use std::alloc::AllocError;
 
 /// Which standard streams are terminals.
@@ -43,11 +45,17 @@ impl Telling {
     }
 }
 
-/// Tells the user at a terminal that the script is waited for.
-pub fn tell_waiting<R: Eprint>(rt: &R, telling: Telling, file: Option<&str>) {
+/// Tells the user at a terminal that the script is waited for. Where standard error takes no bytes, nobody is told.
+pub fn tell_waiting<E: Sink>(telling: Telling, file: Option<&str>, errors: &mut E)
+    requires { E.has_failed errors.old ≡ false }
+    ensures told { E.has_failed errors.new ≡ false → telling.waits ≡ true → ¬ NamesFile (option_map (λ text. text.now) file.entry) → Appends (E.taken_bytes errors.old) (E.taken_bytes errors.new) waiting_text }
+    ensures named { NamesFile (option_map (λ text. text.now) file.entry) → E.taken_bytes errors.new ≡ E.taken_bytes errors.old }
+    ensures untold { telling.waits ≡ false → E.taken_bytes errors.new ≡ E.taken_bytes errors.old }
+{
     if telling.waits && matches!(file, None | Some("-")) {
-        let _ = eprintln!(rt;
-            "hint: reading a script from the terminal, a command on each line; Control-D ends it"
+        let _ = write_all(
+            errors,
+            b"hint: reading a script from the terminal, a command on each line; Control-D ends it\n",
         );
     }
 }
