@@ -444,16 +444,21 @@ met_is (Some p) name rows named told =
     ap₂ (λ (n : Text) (l : List Row). Some (n, l)) (sym same_name) (sym same_rows)
 
 -- a command's name and its rows, as they are told apart
-pub command_is : (m : ArgMatches) (name : Text) (rows : List Row) → Some name ≡ subcommand_name_of m → Some rows ≡ option_map (λ p. p.1) (subcommand_rows_of m)
+command_is : (m : ArgMatches) (name : Text) (rows : List Row) → Some name ≡ subcommand_name_of m → Some rows ≡ option_map (λ p. p.1) (subcommand_rows_of m)
     → subcommand_rows_of m ≡ Some (name, rows)
 command_is m name rows named told = met_is (subcommand_rows_of m) name rows (named ∙ named_rows (out-ArgMatches m).subcommand) told
 
 -- what was found has what its command wants
-pub wanted_of : (met : Option (Text × List Row)) (name : Text) (rows : List Row) → met ≡ Some (name, rows) → HasItsTexts met → HasWanted name rows
+wanted_of : (met : Option (Text × List Row)) (name : Text) (rows : List Row) → met ≡ Some (name, rows) → HasItsTexts met → HasWanted name rows
 wanted_of met name rows is (named, given, told, has) =
     let both : Some (named, given) ≡ Some (name, rows) = sym told ∙ is in
     let same : (named, given) ≡ (name, rows) = cc both in
     subst (λ (p : Text × List Row). HasWanted p.0 p.1) same has
+
+-- the same of a command's name and its rows, as they are told apart
+pub command_wanted : (m : ArgMatches) (name : Text) (rows : List Row) → Some name ≡ subcommand_name_of m → Some rows ≡ option_map (λ p. p.1) (subcommand_rows_of m)
+    → HasItsTexts (subcommand_rows_of m) → HasWanted name rows
+command_wanted m name rows named told has = wanted_of (subcommand_rows_of m) name rows (command_is m name rows named told) has
 
 abbrev command_names : List Text
 command_names = codes "show" ∷ codes "round" ∷ codes "run" ∷ codes "plan" ∷ codes "map" ∷ codes "decode" ∷ codes "explain" ∷ []
@@ -486,9 +491,11 @@ known met name (named, rows, is, has) told others =
     none_wanted named rows (subst (IsNone command_names) name_is others) has
 
 -- what was read is what was found
-pub invocation_is : (met : Option (Text × List Row)) (name : Text) (rows : List Row) (invocation : Invocation) → met ≡ Some (name, rows) → command_of invocation ≡ name
-    → HasValues rows invocation → IsInvocation met invocation
-invocation_is met name rows invocation is command values = (rows, is ∙ ap (λ (n : Text). Some (n, rows)) (sym command), values)
+pub invocation_is : (m : ArgMatches) (name : Text) (rows : List Row) (invocation : Invocation)
+    → Some name ≡ subcommand_name_of m → Some rows ≡ option_map (λ p. p.1) (subcommand_rows_of m)
+    → command_of invocation ≡ name → HasValues rows invocation → IsInvocation (subcommand_rows_of m) invocation
+invocation_is m name rows invocation named told command values =
+    (rows, command_is m name rows named told ∙ ap (λ (n : Text). Some (n, rows)) (sym command), values)
 
 -- the name that was found, with its rows
 pub found_name : (m : ArgMatches) (name : Text) → Some name ≡ subcommand_name_of m → Some name ≡ option_map (λ p. p.0) (subcommand_rows_of m)

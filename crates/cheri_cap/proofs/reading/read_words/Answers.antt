@@ -1,4 +1,5 @@
-use Rattle.std.proofs.Common.{◌≡◌, ◌∙◌, ap, inl, refl, sym, subst, true, [], List, Option}
+use Rattle.std.proofs.Common.{◌≡◌, ◌∙◌, ◌∷◌, ap, codes, inl, refl, sym, subst, true, [], List, Option}
+use Rattle.std.specs.Borrow.{Bor}
 use Rattle.std.specs.Result.{IfErr}
 use Rattle.std.proofs.lemmas.Result.{IfOk-weaker, err_from_is_err_and}
 use Rattle.clap.specs.Faults.{fault_of, is_simple_and_free}
@@ -6,10 +7,16 @@ use Rattle.clap.specs.Walk.{Row, Text, texts}
 use Rattle.clap.specs.Words.{App, FailsBy, HasKind, is_simple, kind_of, subcommand_of, subcommand_rows_of, takes}
 use Rattle.clap.specs.declared.error.Error.{Error}
 use Rattle.clap.specs.declared.error.kind.ErrorKind.TheVariants.{OutOfMemory}
-use Rattle.cheri_cap.specs.Invocation.{HasItsTexts, IsInvocation, IsProgram, choice_fault_in, faults_of, is_taken, kinds_in, program}
+use Rattle.cheri_cap.specs.Invocation.{HasItsTexts, IsInvocation, IsProgram, choice_fault_in, faults_of, format_names, is_taken, kinds_in, order_names, program}
 use Rattle.cheri_cap.proofs.ChoiceLemmas.{choice_fails, choice_refuses, clap_fails, taken_parts}
 use Rattle.cheri_cap.proofs.InvocationLemmas.{found}
 use Rattle.cheri_cap.proofs.reading.read_words.Goals as goal
+
+-- the program of these texts
+is_program_of : (aligns formats orders : Bor (List (Bor Text))) → texts aligns.now ≡ codes "1" ∷ codes "16" ∷ [] → texts formats.now ≡ format_names
+    → texts orders.now ≡ order_names → IsProgram (program aligns formats orders)
+is_program_of aligns formats orders are are_formats are_orders =
+    record { aligns = aligns; are = are; formats = formats; are_formats = are_formats; orders = orders; are_orders = are_orders; is = refl }
 
 pub chosen-requires : goal.chosen-requires
 chosen-requires c =
@@ -26,7 +33,7 @@ returns-in-Ok-clause-read c =
     let words : List Text = texts c.args.words.now in
     let is = c.in_ok-command.ensures in
     let app : App = program c.aligns.result c.formats.result c.orders.result in
-    let is_program : IsProgram app = record { aligns = c.aligns.result; are = c.aligns.ensures; formats = c.formats.result; are_formats = c.formats.ensures; orders = c.orders.result; are_orders = c.orders.ensures; is = refl } in
+    let is_program = is_program_of c.aligns.result c.formats.result c.orders.result c.aligns.ensures c.formats.ensures c.orders.ensures in
     let matches : subcommand_rows_of c.in-Ok.matches ≡ subcommand_of app words =
     (c.in-Ok.ensures.ok.2 (ap is_simple is)).1 ∙ ap (λ (a : App). subcommand_of a words) is in
     IfOk-weaker c.chosen.result _ _ (λ invocation told. (app, is_program, subst (λ found. IsInvocation found invocation) matches told)) c.chosen.ensures.read
@@ -36,7 +43,7 @@ returns-in-Ok-clause-refused c =
     let words : List Text = texts c.args.words.now in
     let is = c.in_ok-command.ensures in
     let app : App = program c.aligns.result c.formats.result c.orders.result in
-    let is_program : IsProgram app = record { aligns = c.aligns.result; are = c.aligns.ensures; formats = c.formats.result; are_formats = c.formats.ensures; orders = c.orders.result; are_orders = c.orders.ensures; is = refl } in
+    let is_program = is_program_of c.aligns.result c.formats.result c.orders.result c.aligns.ensures c.formats.ensures c.orders.ensures in
     let matches : subcommand_rows_of c.in-Ok.matches ≡ subcommand_of app words =
     (c.in-Ok.ensures.ok.2 (ap is_simple is)).1 ∙ ap (λ (a : App). subcommand_of a words) is in
     choice_refuses (choice_fault_in (subcommand_rows_of c.in-Ok.matches)) c.chosen.result
@@ -47,7 +54,7 @@ pub returns-clause-refused : goal.returns-clause-refused
 returns-clause-refused c =
     let words : List Text = texts c.args.words.now in
     let app : App = program c.aligns.result c.formats.result c.orders.result in
-    let is_program : IsProgram app = record { aligns = c.aligns.result; are = c.aligns.ensures; formats = c.formats.result; are_formats = c.formats.ensures; orders = c.orders.result; are_orders = c.orders.ensures; is = refl } in
+    let is_program = is_program_of c.aligns.result c.formats.result c.orders.result c.aligns.ensures c.formats.ensures c.orders.ensures in
     (app, is_program, λ taken. c.in-Err.ensures.passes (ap (λ (a : App). takes a words) c.in_ok-command.ensures ∙ (taken_parts app words taken).0))
 
 pub returns-in_err-command-clause-refused : goal.returns-in_err-command-clause-refused
@@ -55,7 +62,7 @@ returns-in_err-command-clause-refused c =
     let words : List Text = texts c.args.words.now in
     let Q : Error → Type 0 = λ error. (app : App) × IsProgram app × (is_taken app words ≡ true → kind_of error ≡ OutOfMemory) in
     let app : App = program c.aligns.result c.formats.result c.orders.result in
-    let is_program : IsProgram app = record { aligns = c.aligns.result; are = c.aligns.ensures; formats = c.formats.result; are_formats = c.formats.ensures; orders = c.orders.result; are_orders = c.orders.ensures; is = refl } in
+    let is_program = is_program_of c.aligns.result c.formats.result c.orders.result c.aligns.ensures c.formats.ensures c.orders.ensures in
     let told = err_from_is_err_and c.from_residual.result c.from_residual.ensures.1 in
     let holds : Q told.0 = (app, is_program, λ taken. told.2) in
     subst (λ r. IfErr r Q) (sym told.1) holds
@@ -65,7 +72,7 @@ returns-in-Ok-clause-kinds c =
     let words : List Text = texts c.args.words.now in
     let is = c.in_ok-command.ensures in
     let app : App = program c.aligns.result c.formats.result c.orders.result in
-    let is_program : IsProgram app = record { aligns = c.aligns.result; are = c.aligns.ensures; formats = c.formats.result; are_formats = c.formats.ensures; orders = c.orders.result; are_orders = c.orders.ensures; is = refl } in
+    let is_program = is_program_of c.aligns.result c.formats.result c.orders.result c.aligns.ensures c.formats.ensures c.orders.ensures in
     let faultless : fault_of app words ≡ [] = ap (λ (a : App). fault_of a words) (sym is) ∙ c.in-Ok.ensures.kinds (ap is_simple_and_free is) in
     let matches : subcommand_rows_of c.in-Ok.matches ≡ subcommand_of app words =
     (c.in-Ok.ensures.ok.2 (ap is_simple is)).1 ∙ ap (λ (a : App). subcommand_of a words) is in
@@ -77,13 +84,13 @@ returns-clause-kinds c =
     let words : List Text = texts c.args.words.now in
     let is = c.in_ok-command.ensures in
     let app : App = program c.aligns.result c.formats.result c.orders.result in
-    let is_program : IsProgram app = record { aligns = c.aligns.result; are = c.aligns.ensures; formats = c.formats.result; are_formats = c.formats.ensures; orders = c.orders.result; are_orders = c.orders.ensures; is = refl } in
+    let is_program = is_program_of c.aligns.result c.formats.result c.orders.result c.aligns.ensures c.formats.ensures c.orders.ensures in
     (app, is_program, clap_fails app words c.in-Err.error (subst (λ (a : App). HasKind (fault_of a words) c.in-Err.error) is (c.in-Err.ensures.kinds (ap is_simple_and_free is))))
 
 pub returns-in_err-command-clause-kinds : goal.returns-in_err-command-clause-kinds
 returns-in_err-command-clause-kinds c =
     let words : List Text = texts c.args.words.now in
     let app : App = program c.aligns.result c.formats.result c.orders.result in
-    let is_program : IsProgram app = record { aligns = c.aligns.result; are = c.aligns.ensures; formats = c.formats.result; are_formats = c.formats.ensures; orders = c.orders.result; are_orders = c.orders.ensures; is = refl } in
+    let is_program = is_program_of c.aligns.result c.formats.result c.orders.result c.aligns.ensures c.formats.ensures c.orders.ensures in
     let told = err_from_is_err_and c.from_residual.result c.from_residual.ensures.1 in
     (app, is_program, subst (λ r. FailsBy (faults_of app words) r) (sym told.1) (inl told.2))
