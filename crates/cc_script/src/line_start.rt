@@ -73,6 +73,7 @@ impl LineStart {
 }
 
 /// What stands before the first line feed, and what stands after it.
+#[inline(always)]
 pub fn split_at_line_feed(text: &[u8]) -> Option<(&[u8], &[u8])>
     ensures whole { IfSome result (λ parts. text.now ≡ parts.0.now ++ 10 ∷ parts.1.now) }
     ensures line { IfSome result (λ parts. IsLine parts.0.now) }
@@ -96,6 +97,14 @@ fn first_line_feed(text: &[u8]) -> Option<usize>
             return Some(near);
         }
     }
+    first_line_feed_of_any(text)
+}
+
+/// The same, wherever it stands.
+#[inline(never)]
+fn first_line_feed_of_any(text: &[u8]) -> Option<usize>
+    ensures { IsFirstByte (is_byte 10) text.now result }
+{
     memchr(b'\n', text)
 }
 
