@@ -1,4 +1,5 @@
 //! Worked answers of `explain`.
+use super::is_answered;
 use cc_command::{explain_length, explain_word};
 use cc_script::{SliceSink, Summary};
 
@@ -89,7 +90,7 @@ fn is_explained(text: &str, answer: &str, any_error: bool) -> bool {
     let mut sink = SliceSink::new(&mut room, 500, None);
     let ended = explain_word(text.as_bytes(), &mut sink);
     let taken = sink.taken();
-    ended == Ok(Summary { any_error }) && room.get(..taken) == Some(answer.as_bytes())
+    is_answered(ended, any_error, &room, taken, answer.as_bytes())
 }
 
 #[test]
@@ -162,7 +163,7 @@ fn length_is_explained(base: &str, length: &str, answer: &str, any_error: bool) 
     let mut sink = SliceSink::new(&mut room, 100, None);
     let ended = explain_length(base, length, &mut sink);
     let taken = sink.taken();
-    ended == Ok(Summary { any_error }) && room.get(..taken) == Some(answer.as_bytes())
+    is_answered(ended, any_error, &room, taken, answer.as_bytes())
 }
 
 #[test]

@@ -1,4 +1,5 @@
 //! The cells of a map, and a map and a drawing of a plan's pool.
+use super::is_answered;
 use cc_bounds::Span;
 use cc_command::{cells_of, map_row, plan_script, show_drawing, show_map};
 use cc_machine::{Align, Len, Machine, ObjectState, PlannedObject};
@@ -58,7 +59,7 @@ fn is_drawn(machine: &Machine) -> bool {
     let mut drawn = SliceSink::new(&mut lines, 60, None);
     let ended = show_map(machine, &mut drawn);
     let taken = drawn.taken();
-    ended == Ok(Summary { any_error: false }) && lines.get(..taken) == Some(MAP.as_bytes())
+    is_answered(ended, false, &lines, taken, MAP.as_bytes())
 }
 
 fn is_drawn_on_a_page(machine: &Machine) -> bool {

@@ -1,4 +1,5 @@
 //! Worked answers of `round`.
+use super::is_answered;
 use cc_command::show_round;
 use cc_script::{ScriptFault, SliceSink, Summary};
 use std::process::Abort;
@@ -15,7 +16,7 @@ fn is_rounded(text: &str, answer: &str, any_error: bool) -> bool {
     let mut sink = SliceSink::new(&mut room, 128, None);
     let ended = show_round(text.as_bytes(), &mut sink);
     let taken = sink.taken();
-    ended == Ok(Summary { any_error }) && room.get(..taken) == Some(answer.as_bytes())
+    is_answered(ended, any_error, &room, taken, answer.as_bytes())
 }
 
 fn assert_rounded(rt: &impl Abort, text: &str, answer: &str, any_error: bool) {

@@ -1,6 +1,7 @@
 //! Worked answers of `show`.
+use super::is_answered;
 use cc_command::show_word;
-use cc_script::{ScriptFault, SliceSink, Summary};
+use cc_script::{ScriptFault, SliceSink};
 use std::process::Abort;
 
 pub const NULL_WORD: &str = "00000000000000000000000000000000";
@@ -60,7 +61,7 @@ fn is_shown(text: &str, answer: &str, any_error: bool) -> bool {
     let mut sink = SliceSink::new(&mut room, 200, None);
     let ended = show_word(text.as_bytes(), &mut sink);
     let taken = sink.taken();
-    ended == Ok(Summary { any_error }) && room.get(..taken) == Some(answer.as_bytes())
+    is_answered(ended, any_error, &room, taken, answer.as_bytes())
 }
 
 fn assert_shown(rt: &impl Abort, text: &str, answer: &str, any_error: bool) {

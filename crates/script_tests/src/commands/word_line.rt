@@ -1,13 +1,14 @@
 //! Worked answers of `show --line`.
+use super::is_answered;
 use cc_command::show_line;
-use cc_script::{SliceSink, Summary};
+use cc_script::SliceSink;
 
 fn is_shown(text: &[u8], line: &[u8]) -> bool {
     let mut room = [0; 96];
     let mut sink = SliceSink::new(&mut room, 96, None);
     let ended = show_line(text, &mut sink);
     let taken = sink.taken();
-    ended == Ok(Summary { any_error: false }) && room.get(..taken) == Some(line)
+    is_answered(ended, false, &room, taken, line)
 }
 
 #[test]
