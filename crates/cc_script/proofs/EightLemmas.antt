@@ -224,6 +224,14 @@ pub nineteen_fit : (radix n : ℕ) → (radix ≡ 10) ⊎ (radix ≡ 16) → ¬ 
 nineteen_fit radix n (inr sixteen) other few = absurd (other sixteen)
 nineteen_fit radix n (inl ten) other few = rw ten (ten_power n few)
 
+pub sixteen_digits_fit : (radix : ℕ) → (radix ≡ 10) ⊎ (radix ≡ 16) → (0 + 1) * radix ^ 16 ≤ 2 ^ 64
+sixteen_digits_fit radix (inl ten) = rw ten (omega arith)
+sixteen_digits_fit radix (inr sixteen) = rw sixteen (omega arith)
+
+pub radix_some : (radix : ℕ) → (radix ≡ 10) ⊎ (radix ≡ 16) → 1 ≤ radix
+radix_some radix (inl ten) = omega (arith, ten)
+radix_some radix (inr sixteen) = omega (arith, sixteen)
+
 -- all the digits, where there is one
 pub whole_numeral : (radix : ℕ) (ds : List ℕ) → 0 < length ds → number_further radix 0 ds ≡ numeral_of radix ds
 whole_numeral radix ds some = rw (lt-ltb 0 (length ds) some) refl

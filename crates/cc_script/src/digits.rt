@@ -1,5 +1,5 @@
 //! Digits, and the numbers that they spell.
-ghost use Rattle.std.specs.Prelude.{◌≡◌, ◌⊎◌, ◌↔◌, ◌+◌, ◌*◌, ◌%◌, ◌<◌, ◌≤◌, ◌^◌, length, min, SomeIff, IsSome, IsTrue};
+ghost use Rattle.std.specs.Prelude.{◌≡◌, ◌⊎◌, ◌↔◌, ◌+◌, ◌*◌, ◌%◌, ◌<◌, ◌≤◌, ◌^◌, length, min, take, false, Some, SomeIff, IsSome, IsTrue};
 ghost use Rattle.std.specs.Char.{digit_value};
 ghost use Rattle.cc_script.specs.Numbers.{numeral_of, capped};
 ghost use Rattle.cc_script.specs.Digits.{number_further};
@@ -83,7 +83,8 @@ pub fn read_digits(digits: &[u8], radix: u8) -> Option<u128>
 #[tactic(auto, using(crate::proofs::EightLemmas::sixteen_fit, crate::proofs::EightLemmas::nineteen_fit))]
 fn are_few(digits: &[u8], radix: u8) -> bool
     requires radix { (radix ≡ 10) ⊎ (radix ≡ 16) }
-    ensures { IsTrue result → radix ^ length digits.now ≤ 2 ^ 64 }
+    ensures few { IsTrue result → radix ^ length digits.now ≤ 2 ^ 64 }
+    ensures many { result ≡ false → 16 ≤ length digits.now }
 {
     if radix == 16 {
         digits.len() <= 16
@@ -108,19 +109,34 @@ fn read_short(digits: &[u8], radix: u8) -> Option<u64>
     }
 }
 
-/// The same of any number of digits, or [`OVER_ALL_LIMITS`] where it is above that.
+/// The same of more digits, or [`OVER_ALL_LIMITS`] where it is above that.
 #[cold]
 #[inline(never)]
 fn read_long(digits: &[u8], radix: u8) -> Option<u128>
-    requires low { 2 ≤ radix }
-    requires high { radix ≤ 16 }
-    requires some { 0 < length digits.now }
+    requires radix { (radix ≡ 10) ⊎ (radix ≡ 16) }
+    requires long { 16 ≤ length digits.now }
     ensures { result ≡ capped (2 ^ 65) (numeral_of radix digits.now) }
 {
-    let mut number = 0;
-    for byte in digits {
-        let digit = value_of_digit(*byte, radix)?;
+    match read_eights(0, &digits[..16], radix) {
+        Some(first) => read_behind(first, digits, radix),
+        None => None,
+    }
+}
+
+/// The same, where the first sixteen digits spell this number.
+#[inline(always)]
+fn read_behind(first: u64, digits: &[u8], radix: u8) -> Option<u128>
+    requires radix { (radix ≡ 10) ⊎ (radix ≡ 16) }
+    requires long { 16 ≤ length digits.now }
+    requires known { Some first ≡ number_further radix 0 (take 16 digits.now) }
+    ensures { result ≡ capped (2 ^ 65) (numeral_of radix digits.now) }
+{
+    let mut number = u128::from(first);
+    let mut at = 16;
+    'digits: while at < digits.len() {
+        let digit = value_of_digit(digits[at], radix)?;
         number = with_digit(number, radix, digit);
+        at += 1;
     }
     Some(number)
 }
