@@ -1,7 +1,9 @@
 -- A line in which no keyword and space stand first is a keyword alone, or no command.
-use Rattle.std.proofs.Common.{true≢false, ◌≡◌, ℕ, ◌++◌, Bool, true, false, ◌==◌, List, [], ◌∷◌, Option, Some, None, refl, sym, ◌∙◌, ap, if◌then◌else◌, codes, inl, inr, ◌⊎◌}
+use Rattle.std.proofs.Common.{true≢false, ◌≡◌, ℕ, ◌++◌, Bool, true, false, ◌==◌, ◌&&◌, nat_eq, List, [], ◌∷◌, length, take, drop, Option, Some, None, refl, sym, ◌∙◌, ap, if◌then◌else◌, codes, inl, inr, ◌⊎◌}
 use Rattle.std.proofs.lemmas.Bool.{eqb-true}
+use Rattle.std.proofs.lemmas.List.{take-append-drop}
 use Rattle.std.proofs.lemmas.Slice.Eq.{bytes_eq-Decides}
+use Rattle.std.specs.Cmp.Lexicographic.{pointwise, same_text}
 use Rattle.std.specs.List.{onto_first}
 use Rattle.std.specs.Str.{bytes_eq}
 use Rattle.cc_script.specs.declared.keyword.Keyword.{Keyword}
@@ -148,3 +150,38 @@ no_space k line at none = by (bytes_eq line (codes "sweep")) refl where
   by : (same : Bool) → bytes_eq line (codes "sweep") ≡ same → command_in (words_of line) ≡ command_alone line
   by true is = ap (λ (l : List ℕ). command_in (words_of l)) ((bytes_eq-Decides line (codes "sweep")).0 is) ∙ sym (ap command_alone ((bytes_eq-Decides line (codes "sweep")).0 is))
   by false is = ap command_in (first_word line).whole ∙ no_command k line at none is (first_word line)
+
+-- ---- a line that begins with a keyword and a space
+
+begins_as_taken : (bytes text : List ℕ) → begins_with bytes text ≡ pointwise nat_eq (take (length bytes) text) bytes
+begins_as_taken [] text = refl
+begins_as_taken (byte ∷ bytes) [] = refl
+begins_as_taken (byte ∷ bytes) (first ∷ text) = ap (λ (rest : Bool). (first == byte) && rest) (begins_as_taken bytes text)
+
+command_behind : (k : Keyword) (values : List ℕ) → command_in (words_of (spaced_name k ++ values)) ≡ command_of k (words_of values)
+command_behind keyword.Show values = refl
+command_behind keyword.Bounds values = refl
+command_behind keyword.Exact values = refl
+command_behind keyword.Addr values = refl
+command_behind keyword.Inc values = refl
+command_behind keyword.Perms values = refl
+command_behind keyword.Flag values = refl
+command_behind keyword.Seal values = refl
+command_behind keyword.Unseal values = refl
+command_behind keyword.Rebuild values = refl
+command_behind keyword.Round values = refl
+command_behind keyword.Pool values = refl
+command_behind keyword.Alloc values = refl
+command_behind keyword.Free values = refl
+command_behind keyword.Sweep values = refl
+
+-- what a line without a prefix says, where the prefix is a keyword's word and a space
+pub prefix_taken : (k : Keyword) (line spaced values : List ℕ) → spaced ≡ spaced_name k → pointwise nat_eq (take (length spaced) line) spaced ≡ true
+    → values ≡ drop (length spaced) line → command_in (words_of line) ≡ command_of k (words_of values)
+prefix_taken k line spaced values is begins rest =
+    let start : take (length spaced) line ≡ spaced = same_text _ _ (sym begins) in
+    let whole : line ≡ spaced_name k ++ values = sym (take-append-drop (length spaced) line) ∙ ap (λ (l : List ℕ). l ++ drop (length spaced) line) (start ∙ is) ∙ ap (λ (l : List ℕ). spaced_name k ++ l) (sym rest) in
+    ap (λ (l : List ℕ). command_in (words_of l)) whole ∙ command_behind k values
+
+pub no_prefix : (k : Keyword) (line spaced : List ℕ) → spaced ≡ spaced_name k → pointwise nat_eq (take (length spaced) line) spaced ≡ false → begins_with (spaced_name k) line ≡ false
+no_prefix k line spaced is begins = ap (λ (l : List ℕ). begins_with l line) (sym is) ∙ begins_as_taken spaced line ∙ begins

@@ -1,7 +1,7 @@
 //! The values of commands that are no numbers.
-ghost use Rattle.std.specs.Prelude.{◌≡◌, ◌==◌, option_map};
+ghost use Rattle.std.specs.Prelude.{◌≡◌, ◌==◌, drop, option_map};
 ghost use Rattle.std.specs.List.{slice_split};
-ghost use Rattle.bitflags.specs.Sets.{find_name};
+ghost use Rattle.bitflags.specs.Sets.{find_name, find_row};
 ghost use Rattle.cc_cap.specs.Permissions.{bits_of, permission_table};
 ghost use Rattle.cc_script.specs.Commands.{align_in, flag_in, word_in, permissions_in, with_names};
 
@@ -102,7 +102,18 @@ fn permission_named(name: &[u8]) -> Option<Perms>
         Perms::STORE_CAP
     } else if b"STORE_LOCAL_CAP".as_slice() == name {
         Perms::STORE_LOCAL_CAP
-    } else if b"SEAL".as_slice() == name {
+    } else {
+        return unusual_permission_named(name);
+    };
+    Some(perms)
+}
+
+/// The permission of this name, where it is none of those of memory.
+#[tactic(auto, unfolding(bitflags::specs::Sets::find_row))]
+fn unusual_permission_named(name: &[u8]) -> Option<Perms>
+    ensures { option_map bits_of result ≡ find_row (drop 7 permission_table) name.now }
+{
+    let perms = if b"SEAL".as_slice() == name {
         Perms::SEAL
     } else if b"CINVOKE".as_slice() == name {
         Perms::CINVOKE
@@ -112,7 +123,18 @@ fn permission_named(name: &[u8]) -> Option<Perms>
         Perms::SYSTEM_REGS
     } else if b"SET_CID".as_slice() == name {
         Perms::SET_CID
-    } else if b"USER0".as_slice() == name {
+    } else {
+        return user_permission_named(name);
+    };
+    Some(perms)
+}
+
+/// The user permission of this name.
+#[tactic(auto, unfolding(bitflags::specs::Sets::find_row))]
+fn user_permission_named(name: &[u8]) -> Option<Perms>
+    ensures { option_map bits_of result ≡ find_row (drop 12 permission_table) name.now }
+{
+    let perms = if b"USER0".as_slice() == name {
         Perms::USER0
     } else if b"USER1".as_slice() == name {
         Perms::USER1
