@@ -15,6 +15,7 @@ use cc_command::{
 use cc_machine::{Align, Machine};
 use cc_script::{Buffered, FromReader, FromWriter, Sink, Source, Summary};
 use std::io;
+use std::io::Read;
 use std::rt::Files;
 
 /// `map`: answers a script as `plan` does, and in place of the replies writes a drawing of the pool, or a map and the
@@ -62,16 +63,47 @@ fn map_pool<R: AllocGlobal + Files + Input, W: Sink + Drop>(
     requires output { W.has_failed output ≡ false }
     ensures { result ≡ Err Fault.Open → NamesFile (option_map (λ text. text.now) file.entry) }
 {
-    let (mut machine, script) = open(rt, limit, file)?;
+    let (machine, script) = open(rt, limit, file)?;
+    if svg {
+        map_as_page(machine, pool, script, output)
+    } else {
+        map_as_text(rt, machine, pool, script, output)
+    }
+}
+
+/// The same as a page with a drawing, on this machine.
+fn map_as_page<I: Read + Drop, W: Sink + Drop>(
+    mut machine: Machine,
+    pool: Pool,
+    script: I,
+    output: W,
+) -> Result<Summary, Fault>
+    requires { W.has_failed output ≡ false }
+    ensures { result ≢ Err Fault.Open }
+{
+    let mut source = FromReader::new(script);
+    let mut room = [0u8; MOST_WAITING];
+    let mut sink = Buffered::new(output, &mut room);
+    let mut replies = FromWriter::new(io::sink());
+    draw_page(&mut machine, pool, &mut source, &mut replies, &mut sink)
+}
+
+/// The same as a map and the summary, on this machine.
+fn map_as_text<R: AllocGlobal, I: Read + Drop, W: Sink + Drop>(
+    rt: &R,
+    mut machine: Machine,
+    pool: Pool,
+    script: I,
+    output: W,
+) -> Result<Summary, Fault>
+    requires { W.has_failed output ≡ false }
+    ensures { result ≢ Err Fault.Open }
+{
     let mut source = FromReader::new(script);
     let mut room = [0u8; MOST_WAITING];
     let mut sink = Buffered::new(output, &mut room);
     let mut counted = Counted::new(FromWriter::new(io::sink()));
-    if svg {
-        draw_page(&mut machine, pool, &mut source, &mut counted, &mut sink)
-    } else {
-        draw_map(rt, &mut machine, pool, &mut source, &mut counted, &mut sink)
-    }
+    draw_map(rt, &mut machine, pool, &mut source, &mut counted, &mut sink)
 }
 
 /// Answers a script on a machine that is given a pool, and where it came to its end writes the map and the summary to
