@@ -3,3 +3,4 @@ mod InvocationLemmas
 mod OutcomeLemmas
 mod ChoiceLemmas
 mod TellingLemmas
+mod CommandLemmas

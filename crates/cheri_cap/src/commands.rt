@@ -1,5 +1,6 @@
 //! The program and its commands, as clap reads them.
-ghost use Rattle.std.specs.Prelude.{◌≡◌, IfOk, codes, false};
+ghost use Rattle.std.specs.Prelude.{◌≡◌, IfOk, MatchResult, codes, false};
+ghost use Rattle.clap.specs.Built.{AddsSubcommand};
 ghost use Rattle.clap.specs.Words.{app_of, new_app};
 ghost use Rattle.clap.specs.declared.builder.command.Command.TheViews.{out-Command};
 ghost use Rattle.cheri_cap.specs.Invocation.{bare_program, decode_command, explain_command, map_command, plan_command, program, round_command, run_command, show_command, with_pool, with_pool_options, with_scripts, with_words};
@@ -29,18 +30,17 @@ pub(crate) fn program<'a>(
     ensures { IfOk result (λ command. app_of command ≡ program aligns.entry formats.entry orders.entry) }
 {
     let words = with_words(alloc, bare_program(alloc)?)?;
-    with_scripts(alloc, words, aligns)?
-        .subcommand(decode_command(alloc, formats, orders)?)?
-        .subcommand(explain_command(alloc)?)
+    let scripts = with_scripts(alloc, words, aligns)?;
+    let bulk = with_command(scripts, decode_command(alloc, formats, orders))?;
+    with_command(bulk, explain_command(alloc))
 }
 
 /// The program with `show` and `round`.
 fn with_words<'a>(alloc: Global, program: Command<'a>) -> Result<Command<'a>, AllocError>
     ensures { IfOk result (λ command. app_of command ≡ with_words (app_of program.entry)) }
 {
-    program
-        .subcommand(show_command(alloc)?)?
-        .subcommand(round_command(alloc)?)
+    let shows = with_command(program, show_command(alloc))?;
+    with_command(shows, round_command(alloc))
 }
 
 /// The program with `run`, `plan` and `map`.
@@ -51,10 +51,19 @@ fn with_scripts<'a>(
 ) -> Result<Command<'a>, AllocError>
     ensures { IfOk result (λ command. app_of command ≡ with_scripts (app_of program.entry) aligns.entry) }
 {
-    program
-        .subcommand(run_command(alloc)?)?
-        .subcommand(plan_command(alloc, aligns)?)?
-        .subcommand(map_command(alloc, aligns)?)
+    let runs = with_command(program, run_command(alloc))?;
+    let plans = with_command(runs, plan_command(alloc, aligns))?;
+    with_command(plans, map_command(alloc, aligns))
+}
+
+/// The program with one command more, where there was memory for that one.
+fn with_command<'a>(
+    program: Command<'a>,
+    command: Result<Command<'a>, AllocError>,
+) -> Result<Command<'a>, AllocError>
+    ensures { IfOk result (λ more. MatchResult command.entry (λ added. AddsSubcommand program.entry added more) (λ fault. ⊥)) }
+{
+    program.subcommand(command?)
 }
 
 /// `show [--line] WORD`.

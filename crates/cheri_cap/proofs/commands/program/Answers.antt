@@ -1,14 +1,14 @@
-use Rattle.std.proofs.Common.{ap, ap₂, ◌∙◌}
+use Rattle.std.proofs.Common.{ap, ◌∙◌}
 use Rattle.std.proofs.lemmas.Result.{IfOk-weaker}
-use Rattle.clap.specs.Words.{App, with_subcommand}
-use Rattle.cheri_cap.specs.Invocation.{with_scripts, with_words}
+use Rattle.clap.specs.Words.{App}
+use Rattle.cheri_cap.specs.Invocation.{decode_command, explain_command, with_scripts, with_words}
+use Rattle.cheri_cap.proofs.CommandLemmas.{with_added}
 use Rattle.cheri_cap.proofs.commands.program.Goals as goal
 
 pub returns : goal.returns
 returns c =
-    let with_decode =
-    c.in_ok-subcommand.ensures.shape c.in_ok-decode_command.ensures.local
-    ∙ ap₂ with_subcommand (c.in_ok-with_scripts.ensures ∙ ap (λ (a : App). with_scripts a c.args.aligns) (c.in_ok-words.ensures ∙ ap with_words c.in_ok-bare_program.ensures)) (ap (λ (a : App). a.top) c.in_ok-decode_command.ensures.shape) in
-    IfOk-weaker c.subcommand-2.result _ _
-    (λ r added. added.shape c.in_ok-explain_command.ensures.local ∙ ap₂ with_subcommand with_decode (ap (λ (a : App). a.top) c.in_ok-explain_command.ensures.shape))
-    c.subcommand-2.ensures
+    let scripts = c.in_ok-scripts.ensures ∙ ap (λ (a : App). with_scripts a c.args.aligns) (c.in_ok-words.ensures ∙ ap with_words c.in_ok-bare_program.ensures) in
+    let with_decode = with_added _ _ c.decode_command.result _ (decode_command c.args.formats c.args.orders) c.in_ok-bulk.ensures scripts c.decode_command.ensures.shape c.decode_command.ensures.local in
+    IfOk-weaker c.with_command-2.result _ _
+    (λ more added. with_added _ more c.explain_command.result _ explain_command added with_decode c.explain_command.ensures.shape c.explain_command.ensures.local)
+    c.with_command-2.ensures

@@ -1,16 +1,13 @@
-use Rattle.std.proofs.Common.{ap, ap₂, ◌∙◌}
+use Rattle.std.proofs.Common.{refl}
 use Rattle.std.proofs.lemmas.Result.{IfOk-weaker}
-use Rattle.clap.specs.Words.{App, app_of, with_subcommand}
+use Rattle.cheri_cap.specs.Invocation.{map_command, plan_command, run_command}
+use Rattle.cheri_cap.proofs.CommandLemmas.{with_added}
 use Rattle.cheri_cap.proofs.commands.with_scripts.Goals as goal
 
 pub returns : goal.returns
 returns c =
-    let with_run =
-    c.in_ok-subcommand.ensures.shape c.in_ok-run_command.ensures.local
-    ∙ ap (λ (a : App). with_subcommand (app_of c.args.program) a.top) c.in_ok-run_command.ensures.shape in
-    let with_plan =
-    c.in_ok-subcommand-2.ensures.shape c.in_ok-plan_command.ensures.local
-    ∙ ap₂ with_subcommand with_run (ap (λ (a : App). a.top) c.in_ok-plan_command.ensures.shape) in
-    IfOk-weaker c.subcommand-3.result _ _
-    (λ r added. added.shape c.in_ok-map_command.ensures.local ∙ ap₂ with_subcommand with_plan (ap (λ (a : App). a.top) c.in_ok-map_command.ensures.shape))
-    c.subcommand-3.ensures
+    let with_run = with_added _ _ c.run_command.result _ run_command c.in_ok-runs.ensures refl c.run_command.ensures.shape c.run_command.ensures.local in
+    let with_plan = with_added _ _ c.plan_command.result _ (plan_command c.args.aligns) c.in_ok-plans.ensures with_run c.plan_command.ensures.shape c.plan_command.ensures.local in
+    IfOk-weaker c.with_command-3.result _ _
+    (λ more added. with_added _ more c.map_command.result _ (map_command c.args.aligns) added with_plan c.map_command.ensures.shape c.map_command.ensures.local)
+    c.with_command-3.ensures
