@@ -1,5 +1,5 @@
 -- A line in which no keyword and space stand first is a keyword alone, or no command.
-use Rattle.std.proofs.Common.{true≢false, ◌≡◌, ℕ, ◌++◌, Bool, true, false, ◌==◌, ◌&&◌, nat_eq, List, [], ◌∷◌, length, take, drop, Option, Some, None, refl, sym, ◌∙◌, ap, if◌then◌else◌, codes, inl, inr, ◌⊎◌}
+use Rattle.std.proofs.Common.{arith, true≢false, ◌<◌, ◌≡◌, ℕ, ◌++◌, Bool, true, false, ◌==◌, ◌&&◌, nat_eq, List, [], ◌∷◌, length, take, drop, Option, Some, None, refl, sym, ◌∙◌, ap, if◌then◌else◌, codes, inl, inr, ◌⊎◌}
 use Rattle.std.proofs.lemmas.Bool.{eqb-true}
 use Rattle.std.proofs.lemmas.List.{take-append-drop}
 use Rattle.std.proofs.lemmas.Slice.Eq.{bytes_eq-Decides}
@@ -175,13 +175,29 @@ command_behind keyword.Alloc values = refl
 command_behind keyword.Free values = refl
 command_behind keyword.Sweep values = refl
 
--- what a line without a prefix says, where the prefix is a keyword's word and a space
-pub prefix_taken : (k : Keyword) (line spaced values : List ℕ) → spaced ≡ spaced_name k → pointwise nat_eq (take (length spaced) line) spaced ≡ true
-    → values ≡ drop (length spaced) line → command_in (words_of line) ≡ command_of k (words_of values)
-prefix_taken k line spaced values is begins rest =
-    let start : take (length spaced) line ≡ spaced = same_text _ _ (sym begins) in
-    let whole : line ≡ spaced_name k ++ values = sym (take-append-drop (length spaced) line) ∙ ap (λ (l : List ℕ). l ++ drop (length spaced) line) (start ∙ is) ∙ ap (λ (l : List ℕ). spaced_name k ++ l) (sym rest) in
+-- a line that begins with a keyword's word and a space
+pub prefix_taken : (k : Keyword) (n : ℕ) (line spaced start values : List ℕ) → spaced ≡ spaced_name k → start ≡ take n line → pointwise nat_eq start spaced ≡ true
+    → values ≡ drop n line → command_in (words_of line) ≡ command_of k (words_of values)
+prefix_taken k n line spaced start values is first begins rest =
+    let same : start ≡ spaced = same_text _ _ (sym begins) in
+    let whole : line ≡ spaced_name k ++ values = sym (take-append-drop n line) ∙ ap (λ (l : List ℕ). l ++ drop n line) (sym first ∙ same ∙ is) ∙ ap (λ (l : List ℕ). spaced_name k ++ l) (sym rest) in
     ap (λ (l : List ℕ). command_in (words_of l)) whole ∙ command_behind k values
 
-pub no_prefix : (k : Keyword) (line spaced : List ℕ) → spaced ≡ spaced_name k → pointwise nat_eq (take (length spaced) line) spaced ≡ false → begins_with (spaced_name k) line ≡ false
-no_prefix k line spaced is begins = ap (λ (l : List ℕ). begins_with l line) (sym is) ∙ begins_as_taken spaced line ∙ begins
+-- a line that begins otherwise
+pub other_start : (k : Keyword) (n : ℕ) (line spaced start : List ℕ) → spaced ≡ spaced_name k → length spaced ≡ n → start ≡ take n line → pointwise nat_eq start spaced ≡ false
+    → begins_with (spaced_name k) line ≡ false
+other_start k n line spaced start is sized first other =
+    ap (λ (l : List ℕ). begins_with l line) (sym is) ∙ begins_as_taken spaced line
+    ∙ ap (λ (m : ℕ). pointwise nat_eq (take m line) spaced) sized ∙ ap (λ (l : List ℕ). pointwise nat_eq l spaced) (sym first) ∙ other
+
+shorter : (bytes text : List ℕ) → length text < length bytes → begins_with bytes text ≡ false
+shorter [] text h = absurd (omega arith)
+shorter (byte ∷ bytes) [] h = refl
+shorter (byte ∷ bytes) (first ∷ text) h = by (first == byte) (shorter bytes text (omega arith)) where
+  by : (same : Bool) → begins_with bytes text ≡ false → (same && begins_with bytes text) ≡ false
+  by true later = later
+  by false later = refl
+
+-- a line that is too short
+pub too_short : (k : Keyword) (n : ℕ) (line spaced : List ℕ) → spaced ≡ spaced_name k → length spaced ≡ n → length line < n → begins_with (spaced_name k) line ≡ false
+too_short k n line spaced is sized h = ap (λ (l : List ℕ). begins_with l line) (sym is) ∙ shorter spaced line (omega arith)

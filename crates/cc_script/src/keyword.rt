@@ -91,11 +91,16 @@ impl Keyword {
 
     /// What stands behind the word of this keyword and a space, where a line begins with these bytes.
     #[inline(always)]
-    fn behind<'line>(self, spaced: &[u8], line: &'line [u8]) -> Option<&'line [u8]>
+    fn behind<'line, const N: usize>(
+        self,
+        spaced: &[u8; N],
+        line: &'line [u8],
+    ) -> Option<&'line [u8]>
         requires { spaced.now ≡ spaced_name self }
         ensures some { IfSome result (λ values. command_in (words_of line.now) ≡ command_of self (words_of values.now)) }
         ensures none { IfNone result (begins_with (spaced_name self) line.now ≡ false) }
     {
-        line.strip_prefix(spaced)
+        let (start, values) = line.split_first_chunk::<N>()?;
+        if start == spaced { Some(values) } else { None }
     }
 }
