@@ -1,0 +1,32 @@
+use Rattle.std.proofs.Common.{inl, subst, sym}
+use Rattle.std.specs.Prelude.{◌≢◌}
+use Rattle.std.proofs.lemmas.Bool.{false_from_ne_true}
+use Rattle.clap.specs.Walk.{texts}
+use Rattle.clap.specs.Words.{kind_of}
+use Rattle.cc_program.specs.declared.outcome.Ending.{Ending}
+use Rattle.cc_program.specs.declared.outcome.Ending.TheVariants.{Refused}
+use Rattle.cc_program.specs.Invocation.{faults_of, is_taken}
+use Rattle.cc_program.proofs.OutcomeLemmas.{answer_not_refused, ends_by_error, refused_not_for_memory}
+use Rattle.cc_program.proofs.program.answer_words.Goals as goal
+
+pub answer-requires-clause-invocation : goal.answer-requires-clause-invocation
+answer-requires-clause-invocation g c = (_, c.in-Ok.ensures.read.2)
+
+pub returns-in-Ok-clause-ends : goal.returns-in-Ok-clause-ends
+returns-in-Ok-clause-ends g c =
+    let told = c.in-Ok.ensures.kinds in
+    (told.0, told.1, inl (told.2, subst (λ (ending : Ending). ending ≢ Refused) (sym c.ending_of.ensures) (answer_not_refused c.answer.result)))
+
+pub returns-in-Err-clause-refused : goal.returns-in-Err-clause-refused
+returns-in-Err-clause-refused g c = λ is_refused.
+    let told = c.in-Err.ensures.refused in (
+      told.0,
+      told.1,
+      false_from_ne_true (is_taken told.0 (texts c.args.words.now)) (λ taken.
+          refused_not_for_memory (kind_of c.in-Err.error) c.tell.result c.tell.ensures is_refused (told.2 taken)),
+    )
+
+pub returns-in-Err-clause-ends : goal.returns-in-Err-clause-ends
+returns-in-Err-clause-ends g c =
+    let told = c.in-Err.ensures.kinds in
+    (told.0, told.1, ends_by_error (faults_of told.0 (texts c.args.words.now)) c.in-Err.error c.tell.result told.2 c.tell.ensures)

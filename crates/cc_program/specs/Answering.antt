@@ -1,0 +1,25 @@
+-- What `show`, `explain` and `round` answer, and where that is an error.
+use Rattle.std.specs.Prelude.{ℕ, true, false, IsErr, List}
+use Rattle.cc_script.specs.Commands.{length_in}
+use Rattle.cc_command.specs.Explanation.{IsExplanation}
+use Rattle.cc_command.specs.LineAnswer.{IsLineAnswer}
+use Rattle.cc_command.specs.Listing.{IsListing, IsWordText}
+use Rattle.cc_command.specs.Request.{IsLengthExplanation, request_in}
+use Rattle.cc_command.specs.Rounding.{IsRounding}
+use Rattle.cc_program.specs.declared.question.Question.{Question}
+use Rattle.cc_program.specs.declared.question.Question.TheVariants.{Explain, ExplainLength, Round, Show}
+
+-- the bytes are the answer to the question
+abbrev pub IsAnswerTo : Question → (answer : List ℕ) → Type 0
+IsAnswerTo (Show word false) answer = IsListing word.now answer
+IsAnswerTo (Show word true) answer = IsLineAnswer word.now answer
+IsAnswerTo (Explain word) answer = IsExplanation word.now answer
+IsAnswerTo (ExplainLength base size) answer = IsLengthExplanation base.now size.now answer
+IsAnswerTo (Round size) answer = IsRounding size.now answer
+
+-- the answer is an error: the texts spell no word, no bounds that can be asked for, or no length
+abbrev pub IsUnanswerable : Question → Type 0
+IsUnanswerable (Show word as_line) = ¬ IsWordText word.now
+IsUnanswerable (Explain word) = ¬ IsWordText word.now
+IsUnanswerable (ExplainLength base size) = IsErr (request_in base.now size.now)
+IsUnanswerable (Round size) = IsErr (length_in size.now)

@@ -1,0 +1,310 @@
+-- Which command lines are taken, and what each asks for.
+use Rattle.std.specs.Prelude.{cond, ◌≡◌, ◌≤◌, ◌⊎◌, ◌↔◌, ◌&&◌, ◌||◌, ℕ, Bool, IsTrue, true, not, pos, List, [], ◌∷◌, Option, Some, None, IfSome, IsSome, is_some, codes, option_map, unwrap_or, if◌then◌else◌}
+use Rattle.std.specs.Borrow.{Bor}
+use Rattle.std.specs.Option.{option_map_or}
+use Rattle.std.specs.Result.{result_ok}
+use Rattle.std.specs.Str.{bytes_eq}
+use Rattle.std.specs.Str.Parse.{IsNumeral, digits_value, without_leading_plus}
+use Rattle.clap.specs.Walk.{texts}
+use Rattle.clap.specs.Kinds.{or_else}
+use Rattle.clap.specs.Words.{App, Kinds, Row, Rule, Text, fault_of, first_of, new_app, new_rule, one_of, subcommand_of, takes, with_rule, with_subcommand}
+use Rattle.clap.specs.declared.error.kind.ErrorKind.{ErrorKind}
+use Rattle.clap.specs.declared.error.kind.ErrorKind.TheVariants.{ArgumentConflict, MissingRequiredArgument}
+use Rattle.clap.specs.declared.builder.action.ArgAction.TheVariants.{Set, SetTrue}
+use Rattle.clap.specs.declared.builder.value_parser.ValueParser.TheVariants.{Names, Signed}
+use Rattle.cc_plan.specs.declared.align.Align.{Align}
+use Rattle.cc_plan.specs.declared.align.Align.TheVariants.{One}
+use Rattle.cc_script.specs.Commands.{align_in}
+use Rattle.cc_command.specs.declared.planning.PoolTexts.{PoolTexts}
+use Rattle.cc_decode.specs.declared.input.ByteOrder.TheVariants.{Little, Big}
+use Rattle.cc_decode.specs.declared.input.InputForm.{InputForm}
+use Rattle.cc_decode.specs.declared.input.InputForm.TheVariants.{Lines, Bytes}
+use Rattle.cc_decode.specs.declared.format.Format.{Format}
+use Rattle.cc_decode.specs.declared.format.Format.TheVariants.{Columns, Csv}
+use Rattle.cc_decode.specs.declared.format.Format.TheVariants as format
+use Rattle.cc_program.specs.declared.invocation.Invocation.{Invocation}
+use Rattle.cc_program.specs.declared.invocation.Invocation.TheVariants.{Ask, Decode, Map, Plan, Run}
+use Rattle.cc_program.specs.declared.question.Question.{Question}
+use Rattle.cc_program.specs.declared.question.Question.TheVariants.{Explain, ExplainLength, Round, Show}
+
+-- ---- the program as clap reads it
+
+-- an argument that may be left out
+abbrev pub optional_argument : Text → Rule
+optional_argument name = record (new_rule name) { action = Some Set; value_names = 1 }
+
+-- an argument that has to be given
+abbrev pub wanted_argument : Text → Rule
+wanted_argument name = record (optional_argument name) { required = true }
+
+-- an option `--name` with a value
+abbrev pub valued_option : Text → Rule
+valued_option name = record (optional_argument name) { long = Some name }
+
+-- an option `--name` whose value is one of these texts
+abbrev pub choice_option : Text → Bor (List (Bor Text)) → Rule
+choice_option name choices = record (valued_option name) { parser = Some (Names choices) }
+
+-- the option `--slots N`, whose value is a number from 1 to 65,536
+abbrev pub slots_option : Rule
+slots_option = record (valued_option (codes "slots")) { parser = Some (Signed (pos 1) (pos 65536)) }
+
+-- an option `--name` without a value
+abbrev pub flag_option : Text → Rule
+flag_option name = record (new_rule name) { long = Some name; action = Some SetTrue }
+
+-- the command `show [--line] WORD`
+abbrev pub show_command : App
+show_command = with_rule (with_rule (new_app (codes "show")) (flag_option (codes "line"))) (wanted_argument (codes "word"))
+
+-- the command `explain [--length N] [--base B] [WORD]`
+abbrev pub explain_command : App
+explain_command =
+    let options = with_rule (with_rule (new_app (codes "explain")) (valued_option (codes "length"))) (valued_option (codes "base")) in
+    with_rule options (optional_argument (codes "word"))
+
+-- the command `round N`
+abbrev pub round_command : App
+round_command = with_rule (new_app (codes "round")) (wanted_argument (codes "length"))
+
+-- the command `run [--slots N] [--stats] [FILE]`
+abbrev pub run_command : App
+run_command =
+    let options = with_rule (with_rule (new_app (codes "run")) slots_option) (flag_option (codes "stats")) in
+    with_rule options (optional_argument (codes "file"))
+
+-- a command with `[--slots N] [--align ALIGN]` added
+abbrev pub with_pool_options : App → Bor (List (Bor Text)) → App
+with_pool_options command aligns = with_rule (with_rule command slots_option) (choice_option (codes "align") aligns)
+
+-- a command with `BASE LENGTH [FILE]` added
+abbrev pub with_pool : App → App
+with_pool command =
+    let pool = with_rule (with_rule command (wanted_argument (codes "base"))) (wanted_argument (codes "length")) in
+    with_rule pool (optional_argument (codes "file"))
+
+-- the command `plan [--slots N] [--align ALIGN] [--stats] BASE LENGTH [FILE]`
+abbrev pub plan_command : Bor (List (Bor Text)) → App
+plan_command aligns = with_pool (with_rule (with_pool_options (new_app (codes "plan")) aligns) (flag_option (codes "stats")))
+
+-- the command `map [--slots N] [--align ALIGN] [--svg] BASE LENGTH [FILE]`
+abbrev pub map_command : Bor (List (Bor Text)) → App
+map_command aligns = with_pool (with_rule (with_pool_options (new_app (codes "map")) aligns) (flag_option (codes "svg")))
+
+-- the names of the formats
+abbrev pub format_names : List Text
+format_names = codes "columns" ∷ codes "text" ∷ codes "csv" ∷ []
+
+-- the names of the orders of bytes
+abbrev pub order_names : List Text
+order_names = codes "little" ∷ codes "big" ∷ []
+
+-- the command `decode [--format FORMAT] [--bytes ORDER] [FILE]`
+abbrev pub decode_command : (formats orders : Bor (List (Bor Text))) → App
+decode_command formats orders =
+    let options = with_rule (with_rule (new_app (codes "decode")) (choice_option (codes "format") formats)) (choice_option (codes "bytes") orders) in
+    with_rule options (optional_argument (codes "file"))
+
+-- the program before its commands are added: it wants one of them, and has a version
+abbrev pub bare_program : App
+bare_program = let bare = new_app (codes "cheri-cap") in record bare {
+  top = record bare.top {
+    has_version = true;
+    arg_required_else_help = true;
+    subcommand_required = true;
+    disable_help_subcommand = true;
+  };
+}
+
+-- a program with `show` and `round` added
+abbrev pub with_words : App → App
+with_words program = with_subcommand (with_subcommand program show_command.top) round_command.top
+
+-- a program with `run`, `plan` and `map` added
+abbrev pub with_scripts : App → Bor (List (Bor Text)) → App
+with_scripts program aligns =
+    let runs = with_subcommand (with_subcommand program run_command.top) (plan_command aligns).top in
+    with_subcommand runs (map_command aligns).top
+
+-- the whole program, where `--align`, `--format` and `--bytes` take these texts
+abbrev pub program : (aligns formats orders : Bor (List (Bor Text))) → App
+program aligns formats orders =
+    let scripts = with_scripts (with_words bare_program) aligns in
+    with_subcommand (with_subcommand scripts (decode_command formats orders).top) explain_command.top
+
+-- the whole program, where `--align` takes 1 and 16, `--format` the names of the formats, and `--bytes` those of the
+-- orders, wherever in memory these texts stand
+pub record IsProgram (app : App) : Type 0 where
+  pub aligns : Bor (List (Bor Text))
+  pub are : texts aligns.now ≡ codes "1" ∷ codes "16" ∷ []
+  pub formats : Bor (List (Bor Text))
+  pub are_formats : texts formats.now ≡ format_names
+  pub orders : Bor (List (Bor Text))
+  pub are_orders : texts orders.now ≡ order_names
+  pub is : app ≡ program aligns formats orders
+
+-- ---- what clap found, and what it asks for
+
+-- the number that decimal digits spell, behind a plus or not
+abbrev pub decimal_value : Text → ℕ
+decimal_value text = digits_value 10 (without_leading_plus text)
+
+-- the limit is the value of `--slots`, or 4,096 where it is not given, and a machine can have it
+pub record IsLimit (given : Option Text) (limit : ℕ) : Type 0 where
+  pub value : limit ≡ option_map_or decimal_value given 4096
+  pub from_one : 1 ≤ limit
+  pub at_most : limit ≤ 65536
+
+-- the value is the one that the text names, or the default where no text is given
+abbrev pub IsChosen : {A : Type 0} → (named : Text → Option A) → (default : A) → (given : Option Text) → A → Type 0
+IsChosen named default None value = value ≡ default
+IsChosen named default (Some text) value = named text ≡ Some value
+
+-- the alignment that a text names
+abbrev pub align_named : Text → Option Align
+align_named text = result_ok (align_in text)
+
+-- the format that a text names
+abbrev pub format_named : Text → Option Format
+format_named text =
+    if bytes_eq text (codes "columns") then Some Columns
+    else if bytes_eq text (codes "text") then Some format.Text
+    else if bytes_eq text (codes "csv") then Some Csv
+    else None
+
+-- bytes, in the order that a text names
+abbrev pub input_named : Text → Option InputForm
+input_named text = if bytes_eq text (codes "little") then Some (Bytes Little) else if bytes_eq text (codes "big") then Some (Bytes Big) else None
+
+-- whether an option without a value was given: clap has `true` for it then
+abbrev pub IsGiven : (value : Option Text) → Bool → Type 0
+IsGiven value given = IsTrue given ↔ (value ≡ Some (codes "true"))
+
+-- the command that asks the question
+abbrev pub question_command : Question → Text
+question_command (Show word as_line) = codes "show"
+question_command (Explain word) = codes "explain"
+question_command (ExplainLength base size) = codes "explain"
+question_command (Round size) = codes "round"
+
+-- the name of the command
+abbrev pub command_of : Invocation → Text
+command_of (Ask question) = question_command question
+command_of (Run limit stats file) = codes "run"
+command_of (Plan limit pool align stats file) = codes "plan"
+command_of (Map limit pool align svg file) = codes "map"
+command_of (Decode options file) = codes "decode"
+
+-- the texts of the pool are the values of BASE and LENGTH
+abbrev pub HasPool : List Row → PoolTexts → Type 0
+HasPool rows pool = (first_of (codes "base") rows ≡ Some pool.base.now) × (first_of (codes "length") rows ≡ Some pool.length.now)
+
+-- the file is the value of FILE, and none where that is not given
+abbrev pub HasFile : List Row → Option (Bor Text) → Type 0
+HasFile rows file = first_of (codes "file") rows ≡ option_map (λ text. text.now) file
+
+-- the texts of the question are the values that clap found, and what it has no text for has no value
+abbrev pub HasTexts : List Row → Question → Type 0
+HasTexts rows (Show word as_line) = (first_of (codes "word") rows ≡ Some word.now) × IsGiven (first_of (codes "line") rows) as_line
+HasTexts rows (Explain word) =
+    (first_of (codes "word") rows ≡ Some word.now) × (first_of (codes "length") rows ≡ None) × (first_of (codes "base") rows ≡ None)
+HasTexts rows (ExplainLength base size) =
+    (first_of (codes "word") rows ≡ None) × (first_of (codes "length") rows ≡ Some size.now)
+    × (base.now ≡ unwrap_or (first_of (codes "base") rows) (codes "0"))
+HasTexts rows (Round size) = first_of (codes "length") rows ≡ Some size.now
+
+-- the values of the command are those that clap found
+abbrev pub HasValues : List Row → Invocation → Type 0
+HasValues rows (Ask question) = HasTexts rows question
+HasValues rows (Run limit stats file) =
+    IsLimit (first_of (codes "slots") rows) limit × IsGiven (first_of (codes "stats") rows) stats × HasFile rows file
+HasValues rows (Plan limit pool align stats file) =
+    IsLimit (first_of (codes "slots") rows) limit × IsChosen align_named One (first_of (codes "align") rows) align
+    × IsGiven (first_of (codes "stats") rows) stats × HasPool rows pool × HasFile rows file
+HasValues rows (Map limit pool align svg file) =
+    IsLimit (first_of (codes "slots") rows) limit × IsChosen align_named One (first_of (codes "align") rows) align
+    × IsGiven (first_of (codes "svg") rows) svg × HasPool rows pool × HasFile rows file
+HasValues rows (Decode options file) =
+    IsChosen format_named Columns (first_of (codes "format") rows) options.format
+    × IsChosen input_named Lines (first_of (codes "bytes") rows) options.input × HasFile rows file
+
+-- clap found this command, with these values
+abbrev pub IsInvocation : Option (Text × List Row) → Invocation → Type 0
+IsInvocation found invocation = (rows : List Row) × (found ≡ Some (command_of invocation, rows)) × HasValues rows invocation
+
+-- ---- which values of `explain` go together, which clap is not told
+
+-- why the values that are given do not go together: WORD excludes `--length` and `--base`, and one of WORD and `--length`
+-- is wanted
+abbrev pub choice_fault : (has_word has_length has_base : Bool) → Option ErrorKind
+choice_fault has_word has_length has_base =
+    if has_word then (if has_length || has_base then Some ArgumentConflict else None)
+    else if has_length then None else Some MissingRequiredArgument
+
+-- the same of the values of `explain`
+abbrev pub choice_fault_of : List Row → Option ErrorKind
+choice_fault_of rows =
+    choice_fault (is_some (first_of (codes "word") rows)) (is_some (first_of (codes "length") rows)) (is_some (first_of (codes "base") rows))
+
+-- the same of what clap found: only values of `explain` may not go together
+abbrev pub choice_fault_in : Option (Text × List Row) → Option ErrorKind
+choice_fault_in None = None
+choice_fault_in (Some found) = if bytes_eq found.0 (codes "explain") then choice_fault_of found.1 else None
+
+-- the words are taken: clap takes them, and their values go together
+abbrev pub is_taken : App → List Text → Bool
+is_taken app words = takes app words && not (is_some (choice_fault_in (subcommand_of app words)))
+
+-- the kind of a fault, if there is one
+abbrev pub kinds_in : Option ErrorKind → Kinds
+kinds_in None = []
+kinds_in (Some kind) = kind ∷ []
+
+-- the kinds of error that the words may give: those of clap, and where it has none, that of `explain`
+abbrev pub faults_of : App → List Text → Kinds
+faults_of app words = or_else (fault_of app words) (kinds_in (choice_fault_in (subcommand_of app words)))
+
+-- ---- what only private contracts cite
+
+-- the name has a value
+abbrev pub HasText : Text → List Row → Type 0
+HasText name rows = (text : Text) × (first_of name rows ≡ Some text)
+
+-- BASE and LENGTH have values
+abbrev pub HasPoolTexts : List Row → Type 0
+HasPoolTexts rows = HasText (codes "base") rows × HasText (codes "length") rows
+
+-- a number from 1 to 65,536
+pub record IsLimitText (text : Text) : Type 0 where
+  pub numeral : IsNumeral 10 (without_leading_plus text)
+  pub from_one : 1 ≤ decimal_value text
+  pub at_most : decimal_value text ≤ 65536
+
+-- `--slots` has no value or a number from 1 to 65,536, which is read as it is written
+pub record HasLimit (rows : List Row) : Type 0 where
+  pub read : one_of (codes "slots") rows ≡ first_of (codes "slots") rows
+  pub limit : IfSome (first_of (codes "slots") rows) IsLimitText
+
+-- clap has no value, `true` or `false` for an option without a value, and it is read as it is written
+pub record HasFlag (name : Text) (rows : List Row) : Type 0 where
+  pub read : one_of name rows ≡ first_of name rows
+  pub value : IfSome (first_of name rows) (λ text. (text ≡ codes "true") ⊎ (text ≡ codes "false"))
+
+-- the option has no value, or one that names what it chooses
+abbrev pub HasChoice : {A : Type 0} → (named : Text → Option A) → (name : Text) → List Row → Type 0
+HasChoice named name rows = IfSome (first_of name rows) (λ text. IsSome (named text))
+
+-- the command of this name is one of the program's, and has the values that it wants
+abbrev pub HasWanted : Text → List Row → Type 0
+HasWanted name rows =
+    cond (bytes_eq name (codes "show")) (HasText (codes "word") rows × HasFlag (codes "line") rows)
+    (cond (bytes_eq name (codes "round")) (HasText (codes "length") rows)
+    (cond (bytes_eq name (codes "run")) (HasLimit rows × HasFlag (codes "stats") rows)
+    (cond (bytes_eq name (codes "plan")) (HasPoolTexts rows × HasLimit rows × HasChoice align_named (codes "align") rows × HasFlag (codes "stats") rows)
+    (cond (bytes_eq name (codes "map")) (HasPoolTexts rows × HasLimit rows × HasChoice align_named (codes "align") rows × HasFlag (codes "svg") rows)
+    (cond (bytes_eq name (codes "decode")) (HasChoice format_named (codes "format") rows × HasChoice input_named (codes "bytes") rows)
+    (cond (bytes_eq name (codes "explain")) (choice_fault_of rows ≡ None) ⊥))))))
+
+-- clap found a command, with the values that it wants
+abbrev pub HasItsTexts : Option (Text × List Row) → Type 0
+HasItsTexts found = (name : Text) × (rows : List Row) × (found ≡ Some (name, rows)) × HasWanted name rows

@@ -1,0 +1,49 @@
+-- How the program ends.
+use Rattle.std.specs.Prelude.{ℕ, ◌≡◌, ◌≢◌, ◌⊎◌, false, [], Result, Ok, Err}
+use Rattle.clap.specs.Words.{IsAmong, Kinds}
+use Rattle.clap.specs.declared.error.kind.ErrorKind.{ErrorKind}
+use Rattle.clap.specs.declared.error.kind.ErrorKind.TheVariants.{DisplayHelp, DisplayVersion, OutOfMemory}
+use Rattle.cc_word.specs.Word.{bit_of}
+use Rattle.cc_program.specs.declared.outcome.Ending.{Ending}
+use Rattle.cc_program.specs.declared.outcome.Ending.TheVariants.{Answered, Refused, Stopped}
+use Rattle.cc_program.specs.declared.outcome.Fault.{Fault}
+use Rattle.cc_program.specs.declared.outcome.Fault.TheVariants as fault
+use Rattle.cc_script.specs.declared.summary.ScriptFault.{ScriptFault}
+use Rattle.cc_script.specs.declared.summary.ScriptFault.TheVariants.{Read, Write}
+use Rattle.cc_script.specs.declared.summary.Summary.{Summary}
+
+-- the fault of the program where a device failed
+abbrev pub fault_of : ScriptFault → Fault
+fault_of Read = fault.Read
+fault_of Write = fault.Write
+
+-- how the program ends that was asked for an answer
+abbrev pub ending_of : Result Summary Fault → Ending
+ending_of (Ok summary) = Answered summary
+ending_of (Err fault) = Stopped fault
+
+-- the exit status: 0 where no reply was an error, 1 where one was, 2 where the command line was refused, 3 where
+-- the program stopped before its end
+abbrev pub status_of : Ending → ℕ
+status_of (Answered summary) = bit_of summary.any_error
+status_of Refused = 2
+status_of (Stopped fault) = 3
+
+-- how a request for help or for the version ends: with an answer that is no error, or because it could not be written
+abbrev pub EndsRequest : Ending → Type 0
+EndsRequest ending = (ending ≡ Answered (record { any_error = false })) ⊎ (ending ≡ Stopped fault.Write)
+
+-- how an error of this kind ends the program: want of memory stops it, help and the version are answered, and any
+-- other refuses the command line
+abbrev pub EndsBy : ErrorKind → Ending → Type 0
+EndsBy OutOfMemory ending = ending ≡ Stopped fault.Memory
+EndsBy DisplayHelp ending = EndsRequest ending
+EndsBy DisplayVersion ending = EndsRequest ending
+EndsBy _ ending = ending ≡ Refused
+
+-- How words end the program that may give these kinds of error: where there are none, the command line is not refused;
+-- where there are some, one of them ends it; and want of memory may stop it in either case.
+abbrev pub EndsOn : Kinds → Ending → Type 0
+EndsOn kinds ending =
+    ((kinds ≡ []) × (ending ≢ Refused))
+    ⊎ (((kind : ErrorKind) × IsAmong kind kinds × EndsBy kind ending) ⊎ (ending ≡ Stopped fault.Memory))

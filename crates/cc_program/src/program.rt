@@ -1,0 +1,149 @@
+//! What the program does with its arguments.
+ghost use Rattle.std.specs.Prelude.{◌≡◌, false, List, Option};
+ghost use Rattle.clap.specs.Walk.{texts};
+ghost use Rattle.clap.specs.Words.{App, Row, Text, kind_of};
+ghost use Rattle.cc_program.specs.declared.outcome.Ending.TheVariants as ending;
+ghost use Rattle.cc_program.specs.Invocation.{IsInvocation, IsProgram, faults_of, is_taken};
+ghost use Rattle.cc_program.specs.Outcome.{EndsBy, EndsOn, status_of};
+
+use crate::answering::answer_question;
+use crate::invocation::Invocation;
+use crate::outcome::{Ending, Fault, ending_of, status};
+use crate::reading::read_words;
+use crate::telling::{Telling, Terminals};
+use crate::{mapping, running};
+use cc_script::{FromWriter, Sink, Summary};
+use clap::Error;
+use clap::error::ErrorKind;
+use std::alloc::AllocError;
+use std::env::{self, Env};
+use std::io;
+use std::rt::Files;
+
+/// Does what the program's arguments ask for; they have to be UTF-8.
+pub fn answer_arguments<R: Env + AllocGlobal + Files + Input + Print + Eprint>(
+    rt: &R,
+    terminals: Terminals,
+) -> Ending {
+    let arguments = match env::args(rt) {
+        Ok(arguments) => arguments.collect::<Vec<String>>(rt.alloc()),
+        Err(error) if error.kind() == io::ErrorKind::OutOfMemory => Err(AllocError),
+        Err(_) => {
+            let _ = eprintln!(rt; "cheri-cap: an argument is not text");
+            return Ending::Refused;
+        }
+    };
+    match arguments {
+        Ok(arguments) => answer_strings(rt, terminals, arguments.as_slice()),
+        Err(_) => Ending::Stopped(Fault::Memory),
+    }
+}
+
+/// Does what the arguments ask for; the first is the program's name.
+fn answer_strings<R: AllocGlobal + Files + Input + Print + Eprint>(
+    rt: &R,
+    terminals: Terminals,
+    arguments: &[String],
+) -> Ending {
+    let words: Result<Vec<&str>, AllocError> = arguments
+        .iter()
+        .map(|argument| argument.as_str())
+        .collect(rt.alloc());
+    match words {
+        Ok(words) => answer_words(rt, terminals, words.as_slice()),
+        Err(_) => Ending::Stopped(Fault::Memory),
+    }
+}
+
+/// Does what the words ask for; the first is the program's name.
+fn answer_words<R: AllocGlobal + Files + Input + Print + Eprint>(
+    rt: &R,
+    terminals: Terminals,
+    words: &[&str],
+) -> Ending
+    ensures refused { result ≡ ending.Refused → (app : App) × IsProgram app × (is_taken app (texts words.now) ≡ false) }
+    ensures ends { (app : App) × IsProgram app × EndsOn (faults_of app (texts words.now)) result }
+{
+    match read_words(rt.alloc(), words) {
+        Ok(invocation) => ending_of(answer(
+            rt,
+            terminals,
+            invocation,
+            FromWriter::new(io::writer(rt)),
+        )),
+        Err(error) => tell(rt, &error),
+    }
+}
+
+/// Tells why clap did not take the words: a request for help or for the version is answered on standard output,
+/// and a command line that is not understood on standard error.
+fn tell<R: Print + Eprint>(rt: &R, error: &Error) -> Ending
+    ensures { EndsBy (kind_of error.now) result }
+{
+    match error.kind() {
+        ErrorKind::OutOfMemory => Ending::Stopped(Fault::Memory),
+        ErrorKind::DisplayHelp | ErrorKind::DisplayVersion => match error.print(rt) {
+            Ok(()) => Ending::Answered(Summary { any_error: false }),
+            Err(_) => Ending::Stopped(Fault::Write),
+        },
+        _ => {
+            let _ = error.print(rt);
+            Ending::Refused
+        }
+    }
+}
+
+/// Does what was asked for, and writes the answer to `output`.
+fn answer<R: AllocGlobal + Files + Input + Eprint, W: Sink + Drop>(
+    rt: &R,
+    terminals: Terminals,
+    invocation: Invocation<'_>,
+    mut output: W,
+) -> Result<Summary, Fault>
+    requires invocation { (found : Option (Text × List Row)) × IsInvocation found invocation }
+    requires output { W.has_failed output ≡ false }
+{
+    match invocation {
+        Invocation::Run { limit, stats, file } => running::run(
+            rt,
+            limit,
+            Telling::new(stats, terminals),
+            file,
+            output,
+        ),
+        Invocation::Plan {
+            limit,
+            pool,
+            align,
+            stats,
+            file,
+        } => running::plan(
+            rt,
+            limit,
+            pool,
+            align,
+            Telling::new(stats, terminals),
+            file,
+            output,
+        ),
+        Invocation::Map {
+            limit,
+            pool,
+            align,
+            svg,
+            file,
+        } => mapping::map(rt, limit, pool, align, svg, file, output),
+        Invocation::Decode { options, file } => running::decode(rt, options, file, output),
+        Invocation::Ask(question) => Ok(answer_question(question, &mut output)?),
+    }
+}
+
+/// The exit status, after a fault is told on standard error.
+pub fn finish<R: Eprint>(rt: &R, ending: Ending) -> u8
+    ensures { result ≡ status_of ending }
+{
+    if let Ending::Stopped(fault) = ending {
+        let _ = eprintln!(rt; "{fault}");
+    }
+    status(ending)
+}

@@ -1,0 +1,216 @@
+//! Reads the command line: from words to an `Invocation`, or an error of clap's.
+ghost use Rattle.std.specs.Prelude.{◌≡◌, ◌∷◌, [], IfErr, IfOk, None, codes, is_some, true};
+ghost use Rattle.clap.specs.Walk.{texts};
+ghost use Rattle.clap.specs.Words.{App, FailsBy, first_of, found_of, kind_of, rows_of, subcommand_of, subcommand_rows_of};
+ghost use Rattle.cc_program.specs.Invocation.{HasChoice, HasFlag, HasItsTexts, HasLimit, HasPoolTexts, HasText, HasValues, IsInvocation, IsProgram, align_named, choice_fault_in, choice_fault_of, command_of, faults_of, format_named, format_names, input_named, is_taken, kinds_in, order_names};
+
+use crate::commands::{explain_command, program};
+use crate::help::EXPLAIN_CHOICE;
+use crate::invocation::Invocation;
+use crate::question::Question;
+use crate::values::{
+    align_of, base_of, format_of, input_of, is_given, limit_of, pool_texts, value_of, wanted_text,
+};
+use cc_decode::Options;
+use clap::error::ErrorKind;
+use clap::{ArgMatches, Error};
+use std::alloc::{AllocError, Global};
+
+/// Reads the program's words, its own name first.
+///
+/// An error is a mistake in the words, a request for help or for the version, or want of memory; its kind says
+/// which.
+pub fn read_words<'a>(alloc: Global, words: &'a [&'a str]) -> Result<Invocation<'a>, Error>
+    ensures read { IfOk result (λ invocation.
+        (app : App) × IsProgram app × IsInvocation (subcommand_of app (texts words.now)) invocation) }
+    ensures refused { IfErr result (λ error.
+        (app : App) × IsProgram app × (is_taken app (texts words.now) ≡ true → kind_of error ≡ ErrorKind.OutOfMemory)) }
+    ensures kinds { (app : App) × IsProgram app × FailsBy (faults_of app (texts words.now)) result }
+{
+    let mut command = program(alloc, aligns(), formats(), orders())?;
+    match command.try_get_matches_from_mut(words) {
+        Ok(matches) => chosen(alloc, &matches),
+        Err(error) => Err(error),
+    }
+}
+
+/// The values that `--align` takes.
+fn aligns<'a>() -> &'a [&'a str]
+    ensures { texts result.now ≡ codes "1" ∷ codes "16" ∷ [] }
+{
+    &["1", "16"]
+}
+
+/// The values that `--format` takes.
+fn formats<'a>() -> &'a [&'a str]
+    ensures { texts result.now ≡ format_names }
+{
+    &["columns", "text", "csv"]
+}
+
+/// The values that `--bytes` takes.
+fn orders<'a>() -> &'a [&'a str]
+    ensures { texts result.now ≡ order_names }
+{
+    &["little", "big"]
+}
+
+/// What the command that clap found asks for, or why the values of `explain` do not go together.
+fn chosen<'a>(alloc: Global, matches: &ArgMatches<'a>) -> Result<Invocation<'a>, Error>
+    requires { choice_fault_in (subcommand_rows_of matches.now) ≡ None → HasItsTexts (subcommand_rows_of matches.now) }
+    ensures read { IfOk result (IsInvocation (subcommand_rows_of matches.now)) }
+    ensures kinds { FailsBy (kinds_in (choice_fault_in (subcommand_rows_of matches.now))) result }
+{
+    match choice_fault(matches) {
+        None => Ok(invocation_of(matches)),
+        Some(kind) => Err(choice_error(alloc, kind)?),
+    }
+}
+
+/// Why the values of `explain` do not go together: a word stands alone, and without one a length is wanted.
+fn choice_fault(matches: &ArgMatches<'_>) -> Option<ErrorKind>
+    ensures { result ≡ choice_fault_in (subcommand_rows_of matches.now) }
+{
+    let explain = matches.subcommand_matches("explain")?;
+    let has_length = has_value(explain, "length");
+    if has_value(explain, "word") {
+        if has_length || has_value(explain, "base") {
+            Some(ErrorKind::ArgumentConflict)
+        } else {
+            None
+        }
+    } else if has_length {
+        None
+    } else {
+        Some(ErrorKind::MissingRequiredArgument)
+    }
+}
+
+/// The error that says which values `explain` takes together.
+fn choice_error(alloc: Global, kind: ErrorKind) -> Result<Error, AllocError>
+    ensures { IfOk result (λ error. kind_of error ≡ kind) }
+{
+    explain_command(alloc)?.error(kind, EXPLAIN_CHOICE)
+}
+
+/// Whether an argument has a value.
+fn has_value(matches: &ArgMatches<'_>, name: &str) -> bool
+    ensures { result ≡ is_some (first_of name.now (rows_of (found_of matches.now))) }
+{
+    value_of(matches, name).is_some()
+}
+
+/// What the command that clap found asks for, by its name.
+fn invocation_of<'a>(matches: &ArgMatches<'a>) -> Invocation<'a>
+    requires { HasItsTexts (subcommand_rows_of matches.now) }
+    ensures { IsInvocation (subcommand_rows_of matches.now) result }
+{
+    match matches.subcommand() {
+        Some(("show", show)) => read_show(show),
+        Some(("round", round)) => read_round(round),
+        Some(("run", run)) => read_run(run),
+        Some(("plan", plan)) => read_plan(plan),
+        Some(("map", map)) => read_map(map),
+        Some(("decode", decode)) => read_decode(decode),
+        Some(("explain", explain)) => read_explain(explain),
+        _ => unreachable!(),
+    }
+}
+
+fn read_show<'a>(matches: &ArgMatches<'a>) -> Invocation<'a>
+    requires word { HasText (codes "word") (rows_of (found_of matches.now)) }
+    requires line { HasFlag (codes "line") (rows_of (found_of matches.now)) }
+    ensures command { command_of result ≡ codes "show" }
+    ensures values { HasValues (rows_of (found_of matches.now)) result }
+{
+    Invocation::Ask(Question::Show {
+        word: wanted_text(matches, "word"),
+        as_line: is_given(matches, "line"),
+    })
+}
+
+fn read_round<'a>(matches: &ArgMatches<'a>) -> Invocation<'a>
+    requires { HasText (codes "length") (rows_of (found_of matches.now)) }
+    ensures command { command_of result ≡ codes "round" }
+    ensures values { HasValues (rows_of (found_of matches.now)) result }
+{
+    Invocation::Ask(Question::Round {
+        length: wanted_text(matches, "length"),
+    })
+}
+
+fn read_run<'a>(matches: &ArgMatches<'a>) -> Invocation<'a>
+    requires limit { HasLimit (rows_of (found_of matches.now)) }
+    requires stats { HasFlag (codes "stats") (rows_of (found_of matches.now)) }
+    ensures command { command_of result ≡ codes "run" }
+    ensures values { HasValues (rows_of (found_of matches.now)) result }
+{
+    Invocation::Run {
+        limit: limit_of(matches),
+        stats: is_given(matches, "stats"),
+        file: value_of(matches, "file"),
+    }
+}
+
+fn read_plan<'a>(matches: &ArgMatches<'a>) -> Invocation<'a>
+    requires pool { HasPoolTexts (rows_of (found_of matches.now)) }
+    requires limit { HasLimit (rows_of (found_of matches.now)) }
+    requires align { HasChoice align_named (codes "align") (rows_of (found_of matches.now)) }
+    requires stats { HasFlag (codes "stats") (rows_of (found_of matches.now)) }
+    ensures command { command_of result ≡ codes "plan" }
+    ensures values { HasValues (rows_of (found_of matches.now)) result }
+{
+    Invocation::Plan {
+        limit: limit_of(matches),
+        pool: pool_texts(matches),
+        align: align_of(matches),
+        stats: is_given(matches, "stats"),
+        file: value_of(matches, "file"),
+    }
+}
+
+fn read_map<'a>(matches: &ArgMatches<'a>) -> Invocation<'a>
+    requires pool { HasPoolTexts (rows_of (found_of matches.now)) }
+    requires limit { HasLimit (rows_of (found_of matches.now)) }
+    requires align { HasChoice align_named (codes "align") (rows_of (found_of matches.now)) }
+    requires svg { HasFlag (codes "svg") (rows_of (found_of matches.now)) }
+    ensures command { command_of result ≡ codes "map" }
+    ensures values { HasValues (rows_of (found_of matches.now)) result }
+{
+    Invocation::Map {
+        limit: limit_of(matches),
+        pool: pool_texts(matches),
+        align: align_of(matches),
+        svg: is_given(matches, "svg"),
+        file: value_of(matches, "file"),
+    }
+}
+
+fn read_decode<'a>(matches: &ArgMatches<'a>) -> Invocation<'a>
+    requires format { HasChoice format_named (codes "format") (rows_of (found_of matches.now)) }
+    requires order { HasChoice input_named (codes "bytes") (rows_of (found_of matches.now)) }
+    ensures command { command_of result ≡ codes "decode" }
+    ensures values { HasValues (rows_of (found_of matches.now)) result }
+{
+    Invocation::Decode {
+        options: Options {
+            input: input_of(matches),
+            format: format_of(matches),
+        },
+        file: value_of(matches, "file"),
+    }
+}
+
+fn read_explain<'a>(matches: &ArgMatches<'a>) -> Invocation<'a>
+    requires { choice_fault_of (rows_of (found_of matches.now)) ≡ None }
+    ensures command { command_of result ≡ codes "explain" }
+    ensures values { HasValues (rows_of (found_of matches.now)) result }
+{
+    match value_of(matches, "word") {
+        Some(word) => Invocation::Ask(Question::Explain { word }),
+        None => Invocation::Ask(Question::ExplainLength {
+            base: base_of(matches),
+            length: wanted_text(matches, "length"),
+        }),
+    }
+}

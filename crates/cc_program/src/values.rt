@@ -1,0 +1,99 @@
+//! The values that clap found for arguments and options.
+ghost use Rattle.std.specs.Prelude.{◌≡◌, Some, codes, option_map, unwrap_or};
+ghost use Rattle.clap.specs.Words.{first_of, found_of, rows_of};
+ghost use Rattle.cc_program.specs.Invocation.{HasChoice, HasFlag, HasLimit, HasPool, HasPoolTexts, HasText, IsChosen, IsGiven, IsLimit, align_named, format_named, input_named};
+
+use cc_command::PoolTexts;
+use cc_decode::{ByteOrder, Format, InputForm};
+use cc_machine::Align;
+use clap::ArgMatches;
+
+/// The value of `--slots` where it is not given.
+const DEFAULT_LIMIT: u32 = 4096;
+
+/// The value of an argument or of an option, if it has one.
+pub(crate) fn value_of<'a>(matches: &ArgMatches<'a>, name: &str) -> Option<&'a str>
+    ensures { first_of name.now (rows_of (found_of matches.now)) ≡ option_map (λ text. text.now) result }
+{
+    matches.get_str(name)
+}
+
+/// The value of `--base`, or `0`.
+pub(crate) fn base_of<'a>(matches: &ArgMatches<'a>) -> &'a str
+    ensures { result.now ≡ unwrap_or (first_of (codes "base") (rows_of (found_of matches.now))) (codes "0") }
+{
+    value_of(matches, "base").unwrap_or("0")
+}
+
+/// The value of an argument that clap does not let be left out.
+pub(crate) fn wanted_text<'a>(matches: &ArgMatches<'a>, name: &str) -> &'a str
+    requires { HasText name.now (rows_of (found_of matches.now)) }
+    ensures { first_of name.now (rows_of (found_of matches.now)) ≡ Some result.now }
+{
+    match value_of(matches, name) {
+        Some(text) => text,
+        None => unreachable!(),
+    }
+}
+
+/// The values of BASE and LENGTH.
+pub(crate) fn pool_texts<'a>(matches: &ArgMatches<'a>) -> PoolTexts<'a>
+    requires { HasPoolTexts (rows_of (found_of matches.now)) }
+    ensures { HasPool (rows_of (found_of matches.now)) result }
+{
+    PoolTexts {
+        base: wanted_text(matches, "base"),
+        length: wanted_text(matches, "length"),
+    }
+}
+
+/// Whether an option without a value was given.
+pub(crate) fn is_given(matches: &ArgMatches<'_>, name: &str) -> bool
+    requires { HasFlag name.now (rows_of (found_of matches.now)) }
+    ensures { IsGiven (first_of name.now (rows_of (found_of matches.now))) result }
+{
+    matches.get_flag(name)
+}
+
+/// The value of `--slots`, or 4,096.
+pub(crate) fn limit_of(matches: &ArgMatches<'_>) -> u32
+    requires { HasLimit (rows_of (found_of matches.now)) }
+    ensures { IsLimit (first_of (codes "slots") (rows_of (found_of matches.now))) result }
+{
+    matches.get_one("slots").unwrap_or(DEFAULT_LIMIT)
+}
+
+/// The value of `--align`, or 1.
+pub(crate) fn align_of(matches: &ArgMatches<'_>) -> Align
+    requires { HasChoice align_named (codes "align") (rows_of (found_of matches.now)) }
+    ensures { IsChosen align_named Align.One (first_of (codes "align") (rows_of (found_of matches.now))) result }
+{
+    match value_of(matches, "align") {
+        Some("16") => Align::Sixteen,
+        _ => Align::One,
+    }
+}
+
+/// The value of `--format`, or columns.
+pub(crate) fn format_of(matches: &ArgMatches<'_>) -> Format
+    requires { HasChoice format_named (codes "format") (rows_of (found_of matches.now)) }
+    ensures { IsChosen format_named Format.Columns (first_of (codes "format") (rows_of (found_of matches.now))) result }
+{
+    match value_of(matches, "format") {
+        Some("text") => Format::Text,
+        Some("csv") => Format::Csv,
+        _ => Format::Columns,
+    }
+}
+
+/// Raw bytes in the order that `--bytes` names, or lines of digits where it is not given.
+pub(crate) fn input_of(matches: &ArgMatches<'_>) -> InputForm
+    requires { HasChoice input_named (codes "bytes") (rows_of (found_of matches.now)) }
+    ensures { IsChosen input_named InputForm.Lines (first_of (codes "bytes") (rows_of (found_of matches.now))) result }
+{
+    match value_of(matches, "bytes") {
+        None => InputForm::Lines,
+        Some("big") => InputForm::Bytes(ByteOrder::Big),
+        Some(_) => InputForm::Bytes(ByteOrder::Little),
+    }
+}
