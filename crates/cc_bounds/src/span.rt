@@ -9,7 +9,7 @@ pub const ADDRESS_SPACE: u128 = 1 << 64;
 ///
 /// A plain pair, with no order asked: a word that belongs to no capability may decode to a top below
 /// its base, or to one past 2^64. The span of a capability has `base <= top <= 2^64`.
-#[derive(Clone, Copy, PartialEq, Eq, Debug)]
+#[derive(Clone, Copy, PartialEq, Eq, Debug, Default)]
 pub struct Span {
     /// The first byte's address.
     pub base: u64,

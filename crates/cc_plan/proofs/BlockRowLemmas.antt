@@ -1,6 +1,6 @@
 -- Blocks in a row: one of them among the others, and what becomes of the row where it changes.
 use Rattle.std.proofs.Common.{ℕ, zero, suc, ◌≡◌, ◌+◌, ◌-◌, ◌*◌, ◌/◌, Option, Some, None, ◌<◌, ◌≤◌, ◌^◌, ◌⊎◌, List, [], ◌∷◌, ◌++◌, Contains, length, take, drop, get_or, set, insert, remove, arith, refl, sym, ap, subst, ◌∙◌, inl, inr, append_assoc, length-append}
-use Rattle.std.proofs.lemmas.List.{append-nil, drop-set-lt, drop_more, drop_at, length-set, length-take-le, nil_from_length, take_all, take_at, take_more_set}
+use Rattle.std.proofs.lemmas.List.{append-nil, drop-set-lt, drop_all, drop_more, drop_at, length-set, length-take-le, nil_from_length, take_all, take_at, take_more_set}
 use Rattle.std.proofs.lemmas.List.Edits.{get_or-remove_below}
 use Rattle.std.proofs.lemmas.List.Elements.{Contains-append_left, Contains-append_right, Contains-append_cases}
 use Rattle.cc_bounds.specs.declared.span.Span.{Span}
@@ -253,6 +253,12 @@ push_new end blocks block span are is spans top = record {
   ends = blocks_end_append end blocks (block ∷ []) ∙ top;
   spans = spans_append blocks (block ∷ []) ∙ ap (λ (xs : List Span). spans_in blocks ++ xs) (append-nil block.spans ∙ spans);
 }
+
+-- a block put in behind the last one
+pub inserted_last : (blocks : List BlockState) (count : ℕ) (block : BlockState) → count ≡ length blocks
+    → insert blocks count block ≡ blocks ++ block ∷ []
+inserted_last blocks count block is =
+    rw (take_all count blocks (omega (arith, is)), drop_all count blocks (omega (arith, is))) refl
 
 -- ---- A block that follows an end that is lower now.
 

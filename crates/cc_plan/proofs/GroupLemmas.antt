@@ -1,7 +1,7 @@
 -- Bounds of groups of blocks: what covers the blocks after a change.
 use Rattle.std.proofs.Common.{ℕ, suc, ◌≡◌, ◌+◌, ◌-◌, ◌*◌, ◌/◌, ◌<◌, ◌≤◌, ◌^◌, min, List, [], ◌∷◌, ◌++◌, length, take, drop, get_or, set, arith, sym, ap, subst, ◌∙◌, inl, inr, length-drop, length-take, take-add}
 use Rattle.std.proofs.lemmas.Bool.{cases_eq, cases_lt}
-use Rattle.std.proofs.lemmas.List.{drop-drop, get_or-drop, get_or-set_other, get_or-set_same, get_or-take, length-set, take-append-drop, take_min}
+use Rattle.std.proofs.lemmas.List.{drop-drop, drop_more, get_or_append_left, get_or-drop, get_or-set_other, get_or-set_same, get_or-take, length-set, take-append-drop, take_min}
 use Rattle.cc_bounds.specs.declared.span.Span.{Span}
 use Rattle.cc_plan.specs.BlockState.{BlockState}
 use Rattle.cc_plan.specs.Blocks.{AreBlocks, blocks_end, spans_in}
@@ -101,6 +101,16 @@ covered_below blocks row at bounds covered within same k d e inside but =
       | inr high ↦ absurd (omega (arith, inside, but high))
     ]
 
+-- others in the place of a block
+pub covered_replaced : (blocks : List BlockState) (at : ℕ) (new : List BlockState) (bounds : List ℕ)
+    → AreCovered blocks bounds → at < length blocks
+    → AreCoveredBut at (length (take at blocks ++ (new ++ drop (suc at) blocks))) (take at blocks ++ (new ++ drop (suc at) blocks))
+    bounds
+covered_replaced blocks at new bounds covered within =
+    covered_below blocks (take at blocks ++ (new ++ drop (suc at) blocks)) at bounds covered (omega (arith, within))
+    (λ k d low. get_or_append_left (take at blocks) (new ++ drop (suc at) blocks) d k (omega (arith, low, within, length-take at blocks))
+    ∙ get_or-take at blocks k d low)
+
 -- ---- The groups one after another.
 
 blocks_low : (end : ℕ) (low high : List BlockState) → AreBlocks end (low ++ high) → AreBlocks end low
@@ -150,6 +160,33 @@ row_from end from count blocks are = record {
         ∙ ap (λ (bs : List BlockState). spans_in (take count (drop from blocks)) ++ spans_in bs)
         (drop-drop count from blocks))
 
+-- the block at a position, and those behind it up to another
+pub record IsRowStep (end at to : ℕ) (blocks : List BlockState) (d : BlockState) : Type 0 where
+  pub spans : spans_in (take (to - at) (drop at blocks))
+      ≡ (get_or blocks at d).spans ++ spans_in (take (to - (at + 1)) (drop (at + 1) blocks))
+  pub top : ℕ
+  pub chain : IsChain (blocks_end end (take at blocks)) top
+      ((get_or blocks at d).spans ++ spans_in (take (to - (at + 1)) (drop (at + 1) blocks)))
+
+pub row_step : (end at to : ℕ) (blocks : List BlockState) (d : BlockState) → AreBlocks end blocks → at < to
+    → at < length blocks → IsRowStep end at to blocks d
+row_step end at to blocks d are less within = record {
+  spans = first;
+  top = blocks_end start (take (to - at) (drop at blocks));
+  chain = subst (λ (spans : List Span). IsChain start (blocks_end start (take (to - at) (drop at blocks))) spans) first
+      (row_chain start (blocks_end start (take (to - at) (drop at blocks))) (take (to - at) (drop at blocks))
+      (row_from end at (to - at) blocks are).are (omega arith));
+}
+  where
+    start : ℕ
+    start = blocks_end end (take at blocks)
+
+    first : spans_in (take (to - at) (drop at blocks))
+        ≡ (get_or blocks at d).spans ++ spans_in (take (to - (at + 1)) (drop (at + 1) blocks))
+    first =
+        let count : to - at ≡ suc (to - (at + 1)) = omega (arith, less) in
+        rw count (ap (λ (bs : List BlockState). spans_in (take (suc (to - (at + 1))) bs)) (drop_more blocks at d within))
+
 -- ---- Where no block has room.
 
 most_room_row : (end bound : ℕ) (blocks : List BlockState) → AreBlocks end blocks
@@ -194,16 +231,3 @@ pub group_slice : (blocks : List BlockState) (from to : ℕ) → from < length b
 group_slice blocks from to within is =
     let count : to - from ≡ min 32 (length (drop from blocks)) = omega (arith, within, is, length-drop from blocks) in
     rw count (take_min 32 (drop from blocks))
-
-pub group_bounded : (blocks : List BlockState) (from to bound : ℕ) → from < length blocks → to ≡ min (length blocks) (from + 32)
-    → ((at : ℕ) (d : BlockState) → at < length (take (to - from) (drop from blocks))
-    → (get_or (take (to - from) (drop from blocks)) at d).bound ≤ bound)
-    → (k : ℕ) (d : BlockState) → from ≤ k → k < from + 32 → k < length blocks → (get_or blocks k d).bound ≤ bound
-group_bounded blocks from to bound within is few k d low high inside =
-    let place : from + (k - from) ≡ k = omega (arith, low) in
-    let same : get_or (take (to - from) (drop from blocks)) (k - from) d ≡ get_or blocks k d
-    = get_or-take (to - from) (drop from blocks) (k - from) d (omega (arith, low, high, inside, is))
-    ∙ (get_or-drop from blocks (k - from) d ∙ ap (λ (n : ℕ). get_or blocks n d) place) in
-    let one = few (k - from) d
-    (omega (arith, low, high, inside, is, length-take (to - from) (drop from blocks), length-drop from blocks)) in
-    subst (λ (b : BlockState). b.bound ≤ bound) same one

@@ -5,6 +5,7 @@ use Rattle.cc_plan.specs.BlockState.{BlockState}
 use Rattle.cc_plan.specs.Blocks.{AreBlocks, blocks_end, spans_in}
 use Rattle.cc_plan.specs.Groups.{AreCovered}
 use Rattle.cc_plan.specs.PlacerState.{IsPool}
+use Rattle.cc_plan.specs.RowState.{RowState}
 
 -- how many blocks a placer of so many spans reserves, which is enough
 abbrev pub block_count : ℕ → ℕ
@@ -15,15 +16,13 @@ abbrev pub AreBlocksIn : Option Span → List BlockState → Type 0
 AreBlocksIn None blocks = blocks ≡ []
 AreBlocksIn (Some pool) blocks = AreBlocks pool.base blocks × (blocks_end pool.base blocks ≤ pool.top)
 
--- what the placer keeps, with so many spare blocks, and room reserved for so many blocks in each of two rows
-pub record IsBlockPlacer (limit count : ℕ) (pool : Option Span) (blocks : List BlockState)
-    (groups : List ℕ) (spare capacity spare_capacity : ℕ) : Type 0 where
-  pub counted : count ≡ length (spans_in blocks)
+-- what the placer keeps
+pub record IsBlockPlacer (limit count : ℕ) (pool : Option Span) (row : RowState) (groups : List ℕ) : Type 0 where
+  pub counted : count ≡ length (spans_in row.blocks)
   pub at_most : count ≤ limit
   pub few : limit ≤ 65536
-  pub all : length blocks + spare ≡ block_count limit
-  pub reserved : block_count limit ≤ capacity
-  pub spare_reserved : block_count limit ≤ spare_capacity
+  pub room : row.room ≡ block_count limit
+  pub fits : length row.blocks ≤ row.room
   pub is_pool : IfSome pool IsPool
-  pub are_blocks : AreBlocksIn pool blocks
-  pub covered : AreCovered blocks groups
+  pub are_blocks : AreBlocksIn pool row.blocks
+  pub covered : AreCovered row.blocks groups

@@ -1,5 +1,5 @@
 -- Blocks of spans in the order of their addresses. No public clause cites this file.
-use Rattle.std.specs.Prelude.{ℕ, ◌≡◌, ◌+◌, ◌<◌, ◌≤◌, ◌^◌, List, [], ◌∷◌, ◌++◌, Option, Some, None, length, take, drop}
+use Rattle.std.specs.Prelude.{ℕ, ◌≡◌, ◌+◌, ◌<◌, ◌≤◌, ◌^◌, List, [], ◌∷◌, ◌++◌, length, take, drop}
 use Rattle.cc_bounds.specs.declared.span.Span.{Span}
 use Rattle.cc_plan.specs.BlockState.{BlockState}
 use Rattle.cc_plan.specs.Chain.{IsChain, end_of, most_room}
@@ -26,11 +26,6 @@ blocks_end end (block ∷ blocks) = blocks_end (block.last + 1) blocks
 abbrev pub spans_in : List BlockState → List Span
 spans_in [] = []
 spans_in (block ∷ blocks) = block.spans ++ spans_in blocks
-
--- a block and the one that was split off behind it, if there is one
-abbrev pub with_upper : BlockState → Option BlockState → List BlockState
-with_upper block None = block ∷ []
-with_upper block (Some upper) = block ∷ upper ∷ []
 
 -- the blocks before a position follow an end, and those from it on begin where the former end, or above
 pub record AreLooseAt (end at : ℕ) (blocks : List BlockState) : Type 0 where

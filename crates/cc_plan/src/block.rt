@@ -1,16 +1,16 @@
 //! A block of spans in the order of their addresses.
-ghost use Rattle.std.specs.Prelude.{◌≡◌, ◌↔◌, ◌+◌, ◌<◌, ◌≤◌, ◌^◌, ◌∷◌, ◌++◌, ℕ, [], length, max, take, vec_len, vec_capacity, Contains, IfNone, IfOk, IsTrue};
+ghost use Rattle.std.specs.Prelude.{◌≡◌, ◌↔◌, ◌+◌, ◌<◌, ◌≤◌, ◌^◌, ◌∷◌, ◌++◌, ℕ, [], length, max, take, Contains, IfNone, IsTrue};
 ghost use Rattle.cc_plan.specs.Placement.{IsApartFrom};
 ghost use Rattle.cc_plan.specs.PlacerState.{IsSomeBytes};
-ghost use Rattle.cc_plan.specs.Blocks.{AreBlocks, IsBlock, blocks_end, spans_in, with_upper};
+ghost use Rattle.cc_plan.specs.Blocks.{AreBlocks, IsBlock, spans_in};
 ghost use Rattle.cc_plan.specs.Chain.{IsChain, IsGapPlace, IsOneMore, end_of, most_room};
 ghost use Rattle.cc_plan.specs.Gap.{room_of};
 
 use crate::gap::room;
 use crate::rounding::fit_below;
 use crate::sorted::position_for;
+use arrayvec::ArrayVec;
 use cc_bounds::Span;
-use std::alloc::{AllocError, Global};
 use std::marker::Model;
 
 /// How many spans a block holds at most.
@@ -19,13 +19,13 @@ const MOST_SPANS: usize = 64;
 /// How many spans each half of a full block has.
 const HALF: usize = 32;
 
-/// Some spans in the order of their addresses, no two of which share a byte, with room reserved for `MOST_SPANS`.
+/// Up to `MOST_SPANS` spans in the order of their addresses, no two of which share a byte. They lie in the block itself.
 ///
 /// What it keeps besides them speaks of the gaps before its spans: the first of them begins where the block
 /// before ends, or where the pool does.
 #[derive(Drop)]
 pub(crate) struct Block {
-    spans: Vec<Span>,
+    spans: ArrayVec<Span, MOST_SPANS>,
     /// No gap before one of the spans has more room.
     bound: u64,
     /// The last byte of the last span.
@@ -33,26 +33,32 @@ pub(crate) struct Block {
 }
 
 impl Model for Block {
-    ghost use Rattle.std.specs.Prelude.{◌≤◌, length, vec_capacity};
+    ghost use Rattle.std.specs.Prelude.{◌≤◌, length};
     ghost use Rattle.cc_plan.specs.BlockState.{BlockState};
 
     ghost Value = { BlockState };
 
     ghost view = { λ b. record { spans = b.spans.items; bound = b.bound; last = b.last } };
 
-    ghost invariant = { λ b. (length b.spans.items ≤ 64) × (64 ≤ vec_capacity b.spans) };
+    ghost invariant = { λ b. length b.spans.items ≤ 64 };
 }
 
 impl Block {
-    /// A block with no span, in memory of its own.
-    pub(crate) fn empty(alloc: Global) -> Result<Block, AllocError>
-        ensures { IfOk result (λ block. block.spans ≡ []) }
+    /// A block of one span. The gap before it begins at `end`.
+    pub(crate) fn with_span(end: u64, span: Span) -> Block
+        requires some { IsSomeBytes span }
+        requires above { end ≤ span.base }
+        ensures spans { result.spans ≡ span ∷ [] }
+        ensures block { IsBlock end result }
+        ensures last { result.last + 1 ≡ span.top }
     {
-        Ok(Block {
-            spans: Vec::with_capacity(alloc, MOST_SPANS)?,
-            bound: 0,
-            last: 0,
-        })
+        let mut spans = ArrayVec::new();
+        spans.push(span);
+        Block {
+            spans,
+            bound: room(end, span.base),
+            last: (span.top - 1) as u64,
+        }
     }
 
     /// How many spans it has.
@@ -105,45 +111,32 @@ impl Block {
         let at = position_for(&self.spans, span.base);
         let next = self.spans[at].base;
         let gap = room(end_before(&self.spans, at, end), next);
-        self.spans.insert(at, span).unwrap();
+        self.spans.insert(at, span);
         if gap >= self.bound {
             self.bound = widest(&self.spans, end);
         }
     }
 
-    /// As `insert`, but a full block is split first: its upper half goes into a spare block, which is handed out.
-    pub(crate) fn insert_or_split(
-        &mut self,
-        end: u64,
-        span: Span,
-        spare: &mut Vec<Block>,
-    ) -> Option<Block>
+    /// As `insert`, where the block is full: its upper half goes into another block, which is handed out.
+    pub(crate) fn insert_split(&mut self, end: u64, span: Span) -> Block
         requires block { IsBlock end self.old }
-        requires spare { 0 < vec_len spare.old }
+        requires full { length self.old.spans ≡ 64 }
         requires some { IsSomeBytes span }
         requires apart { IsApartFrom self.old.spans span }
         requires above { end ≤ span.base }
         requires below { span.base ≤ self.old.last }
-        ensures spans { IsOneMore self.old.spans span (spans_in (with_upper self.new result)) }
-        ensures blocks { AreBlocks end (with_upper self.new result) }
-        ensures end { blocks_end end (with_upper self.new result) ≡ self.old.last + 1 }
-        ensures bound { IfNone result (self.new.bound ≤ self.old.bound) }
-        ensures spare { vec_len spare.new + length (with_upper self.new result) ≡ vec_len spare.old + 1 }
-        ensures capacity { vec_capacity spare.new ≡ vec_capacity spare.old }
+        ensures spans { IsOneMore self.old.spans span (spans_in (self.new ∷ result ∷ [])) }
+        ensures blocks { AreBlocks end (self.new ∷ result ∷ []) }
+        ensures last { result.last ≡ self.old.last }
     {
-        if !self.is_full() {
-            self.insert(end, span);
-            return None;
-        }
-        let mut upper = spare.pop().unwrap();
-        self.split(end, &mut upper);
+        let mut upper = self.split(end);
         let last = self.last;
         if span.base <= last {
             self.insert(end, span);
-            return Some(upper);
+        } else {
+            upper.insert(last + 1, span);
         }
-        upper.insert(last + 1, span);
-        Some(upper)
+        upper
     }
 
     /// Takes a span away. Where it was the only one, the bound and the last byte say nothing afterwards.
@@ -174,43 +167,33 @@ impl Block {
         ensures last { self.new.last + 1 ≡ span.top }
     {
         self.bound = wider(self.bound, self.last + 1, span.base);
-        self.spans.push_reserved(span);
+        self.spans.push(span);
         self.last = (span.top - 1) as u64;
     }
 
-    /// Makes a span its only one, whatever was there before. The gap before the span begins at `end`.
-    pub(crate) fn start(&mut self, end: u64, span: Span)
-        requires some { IsSomeBytes span }
-        requires above { end ≤ span.base }
-        ensures spans { self.new.spans ≡ span ∷ [] }
-        ensures block { IsBlock end self.new }
-        ensures last { self.new.last + 1 ≡ span.top }
-    {
-        self.spans.clear();
-        self.spans.push_reserved(span);
-        self.bound = room(end, span.base);
-        self.last = (span.top - 1) as u64;
-    }
-
-    /// Moves the upper half of a full block into another block, whose old spans are dropped.
-    pub(crate) fn split(&mut self, end: u64, upper: &mut Block)
+    /// Moves the upper half of a full block into another block.
+    pub(crate) fn split(&mut self, end: u64) -> Block
         requires block { IsBlock end self.old }
         requires full { length self.old.spans ≡ 64 }
-        ensures spans { self.old.spans ≡ self.new.spans ++ upper.new.spans }
+        ensures spans { self.old.spans ≡ self.new.spans ++ result.spans }
         ensures lower { IsBlock end self.new }
-        ensures upper { IsBlock (self.new.last + 1) upper.new }
+        ensures upper { IsBlock (self.new.last + 1) result }
         ensures lower_half { length self.new.spans ≡ 32 }
-        ensures upper_half { length upper.new.spans ≡ 32 }
-        ensures last { upper.new.last ≡ self.old.last }
+        ensures upper_half { length result.spans ≡ 32 }
+        ensures last { result.last ≡ self.old.last }
     {
-        upper.spans.clear();
-        upper.spans.extend_from_slice(&self.spans[HALF..]).unwrap();
+        let mut spans = ArrayVec::new();
+        spans.try_extend_from_slice(&self.spans[HALF..]).unwrap();
         self.spans.truncate(HALF);
         let middle = self.spans[HALF - 1].top as u64;
-        upper.bound = widest(&upper.spans, middle);
-        upper.last = self.last;
+        let upper = Block {
+            bound: widest(&spans, middle),
+            last: self.last,
+            spans,
+        };
         self.bound = widest(&self.spans, end);
         self.last = middle - 1;
+        upper
     }
 
     /// Puts the spans of another block, which follows it, behind its own.
@@ -220,7 +203,7 @@ impl Block {
         ensures block { (end : ℕ) → IsBlock end self.old → IsBlock (self.old.last + 1) upper.now → IsBlock end self.new }
         ensures last { self.new.last ≡ upper.now.last }
     {
-        self.spans.extend_from_slice(&upper.spans).unwrap();
+        self.spans.try_extend_from_slice(&upper.spans).unwrap();
         self.bound = self.bound.max(upper.bound);
         self.last = upper.last;
     }

@@ -4,12 +4,12 @@ ghost use Rattle.cc_plan.specs.Blocks.{AreBlocks, blocks_end, spans_in};
 ghost use Rattle.cc_plan.specs.Groups.{AreCovered};
 ghost use Rattle.cc_plan.specs.Placement.{IsRoom};
 
-use crate::block::Block;
 use crate::block_row::{place_among, put, row_end, take_out};
 use crate::gap::needed;
 use crate::groups::GroupBounds;
 use crate::placer::Placer;
 use crate::rounding::fit;
+use crate::row::Row;
 use cc_bounds::Span;
 use std::alloc::{AllocError, Global};
 use std::marker::Model;
@@ -28,25 +28,20 @@ pub struct BlockPlacer {
     limit: u32,
     count: u32,
     pool: Option<Span>,
-    blocks: Vec<Block>,
+    row: Row,
     groups: GroupBounds,
-    /// The blocks that have no spans.
-    spare: Vec<Block>,
 }
 
 impl Model for BlockPlacer {
-    ghost use Rattle.std.specs.Prelude.{vec_len, vec_capacity};
     ghost use Rattle.cc_plan.specs.PlacerState.{PlacerState};
     ghost use Rattle.cc_plan.specs.Blocks.{spans_in};
     ghost use Rattle.cc_plan.specs.BlockPlacer.{IsBlockPlacer};
 
     ghost Value = { PlacerState };
 
-    ghost view = { λ p. record { limit = p.limit; pool = p.pool; held = spans_in p.blocks.items } };
+    ghost view = { λ p. record { limit = p.limit; pool = p.pool; held = spans_in p.row.blocks } };
 
-    ghost invariant = { λ p.
-        IsBlockPlacer p.limit p.count p.pool p.blocks.items p.groups (vec_len p.spare) (vec_capacity p.blocks)
-        (vec_capacity p.spare) };
+    ghost invariant = { λ p. IsBlockPlacer p.limit p.count p.pool p.row p.groups };
 }
 
 impl Placer for BlockPlacer {
@@ -57,19 +52,13 @@ impl Placer for BlockPlacer {
     ghost held = { λ placer. placer.held };
 
     fn with_limit(alloc: Global, n: u32) -> Result<Self, AllocError> {
-        let count = (n / SPANS_A_BLOCK + 2) as usize;
-        let blocks = Vec::with_capacity(alloc, count)?;
-        let mut spare = Vec::with_capacity(alloc, count)?;
-        for made in 0..count {
-            spare.push_reserved(Block::empty(alloc)?);
-        }
+        let room = (n / SPANS_A_BLOCK + 2) as usize;
         Ok(BlockPlacer {
             limit: n,
             count: 0,
             pool: None,
-            blocks,
+            row: Row::with_room(alloc, room)?,
             groups: GroupBounds::new(),
-            spare,
         })
     }
 
@@ -78,20 +67,14 @@ impl Placer for BlockPlacer {
     }
 
     fn room(&self, len: u128, align: u64) -> Option<u64> {
-        room_in(&self.blocks, &self.groups, self.pool?, len, align)
+        room_in(&self.row, &self.groups, self.pool?, len, align)
     }
 
     fn hold(&mut self, span: Span) {
         let Some(pool) = self.pool else {
             unreachable!()
         };
-        put(
-            &mut self.blocks,
-            &mut self.groups,
-            &mut self.spare,
-            pool.base,
-            span,
-        );
+        put(&mut self.row, &mut self.groups, pool.base, span);
         self.count += 1;
     }
 
@@ -99,13 +82,7 @@ impl Placer for BlockPlacer {
         let Some(pool) = self.pool else {
             unreachable!()
         };
-        take_out(
-            &mut self.blocks,
-            &mut self.groups,
-            &mut self.spare,
-            pool.base,
-            span,
-        );
+        take_out(&mut self.row, &mut self.groups, pool.base, span);
         self.count -= 1;
     }
 
@@ -114,20 +91,20 @@ impl Placer for BlockPlacer {
     }
 }
 
-/// The least start of `len` bytes of the pool, at a multiple of `align`, beside the spans of the blocks: in a gap
+/// The least start of `len` bytes of the pool, at a multiple of `align`, beside the spans of the row: in a gap
 /// before one of them, or else behind the last.
-fn room_in(blocks: &[Block], groups: &GroupBounds, pool: Span, len: u128, align: u64) -> Option<u64>
-    requires blocks { AreBlocks pool.base blocks.now }
-    requires covered { AreCovered blocks.now groups.now }
-    requires few { length blocks.now ≤ 2752 }
-    requires within { blocks_end pool.base blocks.now ≤ pool.top }
+fn room_in(row: &Row, groups: &GroupBounds, pool: Span, len: u128, align: u64) -> Option<u64>
+    requires blocks { AreBlocks pool.base row.now.blocks }
+    requires covered { AreCovered row.now.blocks groups.now }
+    requires few { length row.now.blocks ≤ 2752 }
+    requires within { blocks_end pool.base row.now.blocks ≤ pool.top }
     requires fits { pool.top ≤ 2 ^ 64 }
     requires some { 0 < len }
     requires aligned { 0 < align }
-    ensures { IsRoom pool (spans_in blocks.now) len align result }
+    ensures { IsRoom pool (spans_in row.now.blocks) len align result }
 {
-    if let Some(start) = place_among(blocks, groups, pool.base, len, align, needed(len, align)) {
+    if let Some(start) = place_among(row, groups, pool.base, len, align, needed(len, align)) {
         return Some(start);
     }
-    fit(row_end(blocks, pool.base), pool.top, len, align)
+    fit(row_end(row, pool.base), pool.top, len, align)
 }

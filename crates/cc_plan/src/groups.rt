@@ -4,7 +4,7 @@ ghost use Rattle.std.specs.List.{slice_index_or};
 ghost use Rattle.cc_plan.specs.BlockState.{BlockState};
 ghost use Rattle.cc_plan.specs.Groups.{AreCovered, AreCoveredBut};
 
-use crate::block::Block;
+use crate::row::Row;
 use std::marker::Model;
 
 /// How many blocks a group has, but for the last.
@@ -45,62 +45,64 @@ impl GroupBounds {
     }
 
     /// Raises the bound of a block's group to the block's, where there is a block at the position and its is greater.
-    pub(crate) fn raise(&mut self, blocks: &[Block], at: usize)
-        requires few { length blocks.now ≤ 2752 }
-        ensures { (to : ℕ) → AreCoveredBut at to blocks.now self.old → AreCoveredBut (at + 1) to blocks.now self.new }
+    pub(crate) fn raise(&mut self, row: &Row, at: usize)
+        requires few { length row.now.blocks ≤ 2752 }
+        ensures { (to : ℕ) → AreCoveredBut at to row.now.blocks self.old
+            → AreCoveredBut (at + 1) to row.now.blocks self.new }
     {
-        let Some(block) = blocks.get(at) else {
+        if at >= row.len() {
             return;
-        };
+        }
         let group = at / GROUP;
-        self.bounds[group] = self.bounds[group].max(block.bound());
+        self.bounds[group] = self.bounds[group].max(row.at(at).bound());
     }
 
     /// Renews the bound of a block's group where it is `before`, the block's bound before a change, and the block's
     /// bound is lower now.
-    pub(crate) fn lower(&mut self, blocks: &[Block], at: usize, before: u64)
-        requires within { at < length blocks.now }
-        requires few { length blocks.now ≤ 2752 }
-        requires covered { AreCovered blocks.now self.old }
-        ensures covered { AreCovered blocks.now self.new }
+    pub(crate) fn lower(&mut self, row: &Row, at: usize, before: u64)
+        requires within { at < length row.now.blocks }
+        requires few { length row.now.blocks ≤ 2752 }
+        requires covered { AreCovered row.now.blocks self.old }
+        ensures covered { AreCovered row.now.blocks self.new }
     {
         let group = at / GROUP;
-        if before == self.bounds[group] && blocks[at].bound() < before {
-            self.renew(blocks, group);
+        if before == self.bounds[group] && row.at(at).bound() < before {
+            self.renew(row, group);
         }
     }
 
     /// Renews the bounds of all groups from that of the block at a position on.
-    pub(crate) fn renew_from(&mut self, blocks: &[Block], at: usize)
-        requires few { length blocks.now ≤ 2752 }
-        requires covered { AreCoveredBut at (length blocks.now) blocks.now self.old }
-        ensures covered { AreCovered blocks.now self.new }
+    pub(crate) fn renew_from(&mut self, row: &Row, at: usize)
+        requires few { length row.now.blocks ≤ 2752 }
+        requires covered { AreCoveredBut at (length row.now.blocks) row.now.blocks self.old }
+        ensures covered { AreCovered row.now.blocks self.new }
     {
-        for group in at / GROUP..blocks.len().div_ceil(GROUP) {
-            self.renew(blocks, group);
+        for group in at / GROUP..row.len().div_ceil(GROUP) {
+            self.renew(row, group);
         }
     }
 
     /// Makes the bound of a group the greatest of its blocks'.
-    fn renew(&mut self, blocks: &[Block], group: usize)
-        requires within { 32 * group < length blocks.now }
-        requires few { length blocks.now ≤ 2752 }
-        ensures { (to : ℕ) → AreCoveredBut (32 * group) to blocks.now self.old
-            → AreCoveredBut (32 * group + 32) to blocks.now self.new }
+    fn renew(&mut self, row: &Row, group: usize)
+        requires within { 32 * group < length row.now.blocks }
+        requires few { length row.now.blocks ≤ 2752 }
+        ensures { (to : ℕ) → AreCoveredBut (32 * group) to row.now.blocks self.old
+            → AreCoveredBut (32 * group + 32) to row.now.blocks self.new }
     {
         let from = GROUP * group;
-        let to = blocks.len().min(from + GROUP);
-        self.bounds[group] = greatest(&blocks[from..to]);
+        let to = row.len().min(from + GROUP);
+        self.bounds[group] = greatest(row, from, to);
     }
 }
 
-/// The greatest bound of the blocks.
-fn greatest(blocks: &[Block]) -> u64
-    ensures { (at : ℕ) (d : BlockState) → at < length blocks.now → (slice_index_or blocks.now at d).bound ≤ result }
+/// The greatest bound of the blocks from one position up to another.
+fn greatest(row: &Row, from: usize, to: usize) -> u64
+    requires within { to ≤ length row.now.blocks }
+    ensures { (at : ℕ) (d : BlockState) → from ≤ at → at < to → (slice_index_or row.now.blocks at d).bound ≤ result }
 {
     let mut most = 0;
-    for block in blocks {
-        most = block.bound().max(most);
+    for at in from..to {
+        most = row.at(at).bound().max(most);
     }
     most
 }

@@ -6,5 +6,5 @@ use Rattle.cc_plan.proofs.block_row.place_among.Given as goal
 -- a place in the gaps of the groups that are left is one in all
 abbrev pub invariant-loop-group : goal.invariant-loop-group
 invariant-loop-group l = (place : Option ℕ)
-    → IsGapPlace (spans_in (drop (32 * l.group) l.blocks)) (blocks_end l.end (take (32 * l.group) l.blocks)) l.len l.align place
-    → IsGapPlace (spans_in l.blocks) l.end l.len l.align place
+    → IsGapPlace (spans_in (drop (32 * l.group) l.row.blocks)) (blocks_end l.end (take (32 * l.group) l.row.blocks)) l.len l.align place
+    → IsGapPlace (spans_in l.row.blocks) l.end l.len l.align place

@@ -7,9 +7,9 @@ use Rattle.cc_plan.proofs.block_row.position_for.Given as goal
 abbrev pub invariant-loop-low : goal.invariant-loop-low
 invariant-loop-low l = record {
   in_order : l.low ≤ l.high;
-  within : l.high ≤ length l.blocks;
-  below : (d : BlockState) → 0 < l.low → (slice_index_or l.blocks (l.low - 1) d).last < l.base;
-  above : (d : BlockState) → l.high < length l.blocks → l.base ≤ (slice_index_or l.blocks l.high d).last;
+  within : l.high ≤ length l.row.blocks;
+  below : (d : BlockState) → 0 < l.low → (slice_index_or l.row.blocks (l.low - 1) d).last < l.base;
+  above : (d : BlockState) → l.high < length l.row.blocks → l.base ≤ (slice_index_or l.row.blocks l.high d).last;
 }
 
 abbrev pub decreases-loop-low : goal.decreases-loop-low

@@ -8,59 +8,58 @@ use Rattle.cc_plan.proofs.block_row.widen_at.Goals as goal
 pub end_before-before-requires-clause-fits : goal.end_before-before-requires-clause-fits
 end_before-before-requires-clause-fits c =
     let d : BlockState = record { spans = []; bound = 0; last = 0 } in
-    let within : c.args.at < length c.args.blocks.now.items = search rules in
-    let here = loose_here c.args.at c.requires.loose.from c.args.blocks.now.items d c.requires.loose.high within in
-    rw c.deref.ensures.value
+    let within : c.args.at < length c.args.row.now.blocks = search rules in
+    let here = loose_here c.args.at c.requires.loose.from c.args.row.now.blocks d c.requires.loose.high within in
     (omega (arith, c.requires.loose.above, here.here.fits, block_above c.requires.loose.from _ here.here))
 
 pub widen-requires-clause-chain : goal.widen-requires-clause-chain
 widen-requires-clause-chain c =
-    let within : c.args.at < length c.args.blocks.now.items = search rules in
-    let here = loose_here c.args.at c.requires.loose.from c.args.blocks.now.items c.index_mut-block.result.now c.requires.loose.high
+    let within : c.args.at < length c.args.row.now.blocks = search rules in
+    let here = loose_here c.args.at c.requires.loose.from c.args.row.now.blocks c.at_mut-block.result.now c.requires.loose.high
     within in
-    let before = rw c.deref.ensures.value at c.end_before-before.ensures in
-    let is : IsBlock c.requires.loose.from c.index_mut-block.result.now = rw c.index_mut-block.ensures.value here.here in
-    chain_wider c.requires.loose.from (c.index_mut-block.result.now.last + 1) c.end_before-before.result (2 ^ 64)
-    c.index_mut-block.result.now.spans (omega (arith, before, c.requires.loose.above)) (omega (arith, is.fits)) is.chain
+    let before = c.end_before-before.ensures in
+    let is : IsBlock c.requires.loose.from c.at_mut-block.result.now = rw c.at_mut-block.ensures.value here.here in
+    chain_wider c.requires.loose.from (c.at_mut-block.result.now.last + 1) c.end_before-before.result (2 ^ 64)
+    c.at_mut-block.result.now.spans (omega (arith, before, c.requires.loose.above)) (omega (arith, is.fits)) is.chain
 
 pub returns-then-at-len-clause-spans : goal.returns-then-at-len-clause-spans
 returns-then-at-len-clause-spans c =
-    let within : c.args.at < length c.args.blocks.now.items = search rules in
-    let here = loose_here c.args.at c.requires.loose.from c.args.blocks.now.items c.index_mut-block.result.now c.requires.loose.high
+    let within : c.args.at < length c.args.row.now.blocks = search rules in
+    let here = loose_here c.args.at c.requires.loose.from c.args.row.now.blocks c.at_mut-block.result.now c.requires.loose.high
     within in
-    let before = rw c.deref.ensures.value at c.end_before-before.ensures in
-    let last = ap (λ (b : BlockState). b.last) c.index_mut-block.ensures.value in
-    let spans = ap (λ (b : BlockState). b.spans) c.index_mut-block.ensures.value in
+    let before = c.end_before-before.ensures in
+    let last = ap (λ (b : BlockState). b.last) c.at_mut-block.ensures.value in
+    let spans = ap (λ (b : BlockState). b.spans) c.at_mut-block.ensures.value in
     let is = c.widen.ensures.block c.requires.loose.from (omega (arith, before, c.requires.loose.above))
-    (rw c.index_mut-block.ensures.value here.here) in
-    let row = widened c.args.end c.args.at c.args.blocks.now.items c.index_mut-block.result.now c.widen.new.self c.requires.loose
+    (rw c.at_mut-block.ensures.value here.here) in
+    let row = widened c.args.end c.args.at c.args.row.now.blocks c.at_mut-block.result.now c.widen.new.self c.requires.loose
     within (rw before at is) (c.widen.ensures.spans ∙ spans) (c.widen.ensures.last ∙ last) in
     row.spans
 
 pub returns-then-at-len-clause-blocks : goal.returns-then-at-len-clause-blocks
 returns-then-at-len-clause-blocks c =
-    let within : c.args.at < length c.args.blocks.now.items = search rules in
-    let here = loose_here c.args.at c.requires.loose.from c.args.blocks.now.items c.index_mut-block.result.now c.requires.loose.high
+    let within : c.args.at < length c.args.row.now.blocks = search rules in
+    let here = loose_here c.args.at c.requires.loose.from c.args.row.now.blocks c.at_mut-block.result.now c.requires.loose.high
     within in
-    let before = rw c.deref.ensures.value at c.end_before-before.ensures in
-    let last = ap (λ (b : BlockState). b.last) c.index_mut-block.ensures.value in
-    let spans = ap (λ (b : BlockState). b.spans) c.index_mut-block.ensures.value in
+    let before = c.end_before-before.ensures in
+    let last = ap (λ (b : BlockState). b.last) c.at_mut-block.ensures.value in
+    let spans = ap (λ (b : BlockState). b.spans) c.at_mut-block.ensures.value in
     let is = c.widen.ensures.block c.requires.loose.from (omega (arith, before, c.requires.loose.above))
-    (rw c.index_mut-block.ensures.value here.here) in
-    let row = widened c.args.end c.args.at c.args.blocks.now.items c.index_mut-block.result.now c.widen.new.self c.requires.loose
+    (rw c.at_mut-block.ensures.value here.here) in
+    let row = widened c.args.end c.args.at c.args.row.now.blocks c.at_mut-block.result.now c.widen.new.self c.requires.loose
     within (rw before at is) (c.widen.ensures.spans ∙ spans) (c.widen.ensures.last ∙ last) in
     row.are
 
 pub returns-then-at-len-clause-end : goal.returns-then-at-len-clause-end
 returns-then-at-len-clause-end c =
-    let within : c.args.at < length c.args.blocks.now.items = search rules in
-    let here = loose_here c.args.at c.requires.loose.from c.args.blocks.now.items c.index_mut-block.result.now c.requires.loose.high
+    let within : c.args.at < length c.args.row.now.blocks = search rules in
+    let here = loose_here c.args.at c.requires.loose.from c.args.row.now.blocks c.at_mut-block.result.now c.requires.loose.high
     within in
-    let before = rw c.deref.ensures.value at c.end_before-before.ensures in
-    let last = ap (λ (b : BlockState). b.last) c.index_mut-block.ensures.value in
-    let spans = ap (λ (b : BlockState). b.spans) c.index_mut-block.ensures.value in
+    let before = c.end_before-before.ensures in
+    let last = ap (λ (b : BlockState). b.last) c.at_mut-block.ensures.value in
+    let spans = ap (λ (b : BlockState). b.spans) c.at_mut-block.ensures.value in
     let is = c.widen.ensures.block c.requires.loose.from (omega (arith, before, c.requires.loose.above))
-    (rw c.index_mut-block.ensures.value here.here) in
-    let row = widened c.args.end c.args.at c.args.blocks.now.items c.index_mut-block.result.now c.widen.new.self c.requires.loose
+    (rw c.at_mut-block.ensures.value here.here) in
+    let row = widened c.args.end c.args.at c.args.row.now.blocks c.at_mut-block.result.now c.widen.new.self c.requires.loose
     within (rw before at is) (c.widen.ensures.spans ∙ spans) (c.widen.ensures.last ∙ last) in
     row.ends

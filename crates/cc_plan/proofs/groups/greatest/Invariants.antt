@@ -4,5 +4,5 @@ use Rattle.cc_plan.specs.BlockState.{BlockState}
 use Rattle.cc_plan.proofs.groups.greatest.Given as goal
 
 -- no block so far has a greater bound
-abbrev pub invariant-loop-block : goal.invariant-loop-block
-invariant-loop-block l = (at : ℕ) (d : BlockState) → at < l.block-index → (slice_index_or l.blocks at d).bound ≤ l.most
+abbrev pub invariant-loop-at : goal.invariant-loop-at
+invariant-loop-at l = (at : ℕ) (d : BlockState) → l.from ≤ at → at < l.at → (slice_index_or l.row.blocks at d).bound ≤ l.most

@@ -5,5 +5,5 @@ use Rattle.cc_plan.proofs.block.Block.place.Goals as goal
 
 pub place_between-requires-clause-chain : goal.place_between-requires-clause-chain
 place_between-requires-clause-chain c =
-    rw (c.from.ensures, c.deref.ensures.value, ap (λ (b : BlockState). b.spans) c.self.view_is)
+    rw (c.from.ensures, c.deref.ensures.0, ap (λ (b : BlockState). b.spans) c.self.view_is)
     (block_chain c.args.end c.args.self.now c.requires.block)

@@ -5,7 +5,7 @@ use Rattle.cc_plan.proofs.block.Block.take_in.Goals as goal
 
 pub returns-clause-block : goal.returns-clause-block
 returns-clause-block c end is other =
-    let items : c.extend_from_slice.new.self.items ≡ c.args.self.now.spans ++ c.args.upper.now.spans = search rules in
+    let items : c.try_extend_from_slice.new.self.items ≡ c.args.self.now.spans ++ c.args.upper.now.spans = search rules in
     let bound = ap (λ (b : BlockState). b.bound) c.self.view_is in
     let upper = ap (λ (b : BlockState). b.bound) c.upper.view_is in
     rw items

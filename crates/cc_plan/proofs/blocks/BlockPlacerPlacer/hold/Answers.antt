@@ -10,4 +10,4 @@ put-requires-clause-apart c = rw (ap (λ (s : PlacerState). s.held) c.self.view_
 pub returns-clause-held : goal.returns-clause-held
 returns-clause-held c =
     rw (← c.self.view_is)
-    (one_more_adds (spans_in c.self.inside.blocks.items) c.args.span (spans_in c.put.new.blocks.items) c.put.ensures.spans)
+    (one_more_adds (spans_in c.self.inside.row.blocks) c.args.span (spans_in c.put.new.row.blocks) c.put.ensures.spans)

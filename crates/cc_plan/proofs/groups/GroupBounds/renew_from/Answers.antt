@@ -6,7 +6,7 @@ loop-group-init c k d e inside but = c.requires.covered k d e inside (λ low. bu
 
 pub loop-group-preserved : goal.loop-group-preserved
 loop-group-preserved c k d e inside but =
-    c.renew.ensures (length c.args.blocks.now) c.loop-group.invariant k d e inside (λ low. but (omega (arith, low)))
+    c.renew.ensures (length c.args.row.now.blocks) c.loop-group.invariant k d e inside (λ low. but (omega (arith, low)))
 
 pub returns : goal.returns
 returns c = record {
