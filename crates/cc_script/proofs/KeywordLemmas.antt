@@ -1,9 +1,7 @@
 -- A line in which no keyword and space stand first is a keyword alone, or no command.
-use Rattle.std.proofs.Common.{arith, true≢false, ◌<◌, ◌≡◌, ℕ, ◌++◌, Bool, true, false, ◌==◌, ◌&&◌, nat_eq, List, [], ◌∷◌, length, take, drop, Option, Some, None, refl, sym, ◌∙◌, ap, if◌then◌else◌, codes, inl, inr, ◌⊎◌}
+use Rattle.std.proofs.Common.{true≢false, ◌≡◌, ℕ, ◌++◌, Bool, true, false, ◌==◌, List, [], ◌∷◌, Option, Some, None, refl, sym, ◌∙◌, ap, if◌then◌else◌, codes, inl, inr, ◌⊎◌}
 use Rattle.std.proofs.lemmas.Bool.{eqb-true}
-use Rattle.std.proofs.lemmas.List.{take-append-drop}
 use Rattle.std.proofs.lemmas.Slice.Eq.{bytes_eq-Decides}
-use Rattle.std.specs.Cmp.Lexicographic.{pointwise, same_text}
 use Rattle.std.specs.List.{onto_first}
 use Rattle.std.specs.Str.{bytes_eq}
 use Rattle.cc_script.specs.declared.keyword.Keyword.{Keyword}
@@ -150,54 +148,3 @@ no_space k line at none = by (bytes_eq line (codes "sweep")) refl where
   by : (same : Bool) → bytes_eq line (codes "sweep") ≡ same → command_in (words_of line) ≡ command_alone line
   by true is = ap (λ (l : List ℕ). command_in (words_of l)) ((bytes_eq-Decides line (codes "sweep")).0 is) ∙ sym (ap command_alone ((bytes_eq-Decides line (codes "sweep")).0 is))
   by false is = ap command_in (first_word line).whole ∙ no_command k line at none is (first_word line)
-
--- ---- a line that begins with a keyword and a space
-
-begins_as_taken : (bytes text : List ℕ) → begins_with bytes text ≡ pointwise nat_eq (take (length bytes) text) bytes
-begins_as_taken [] text = refl
-begins_as_taken (byte ∷ bytes) [] = refl
-begins_as_taken (byte ∷ bytes) (first ∷ text) = ap (λ (rest : Bool). (first == byte) && rest) (begins_as_taken bytes text)
-
-command_behind : (k : Keyword) (values : List ℕ) → command_in (words_of (spaced_name k ++ values)) ≡ command_of k (words_of values)
-command_behind keyword.Show values = refl
-command_behind keyword.Bounds values = refl
-command_behind keyword.Exact values = refl
-command_behind keyword.Addr values = refl
-command_behind keyword.Inc values = refl
-command_behind keyword.Perms values = refl
-command_behind keyword.Flag values = refl
-command_behind keyword.Seal values = refl
-command_behind keyword.Unseal values = refl
-command_behind keyword.Rebuild values = refl
-command_behind keyword.Round values = refl
-command_behind keyword.Pool values = refl
-command_behind keyword.Alloc values = refl
-command_behind keyword.Free values = refl
-command_behind keyword.Sweep values = refl
-
--- a line that begins with a keyword's word and a space
-pub prefix_taken : (k : Keyword) (n : ℕ) (line spaced start values : List ℕ) → spaced ≡ spaced_name k → start ≡ take n line → pointwise nat_eq start spaced ≡ true
-    → values ≡ drop n line → command_in (words_of line) ≡ command_of k (words_of values)
-prefix_taken k n line spaced start values is first begins rest =
-    let same : start ≡ spaced = same_text _ _ (sym begins) in
-    let whole : line ≡ spaced_name k ++ values = sym (take-append-drop n line) ∙ ap (λ (l : List ℕ). l ++ drop n line) (sym first ∙ same ∙ is) ∙ ap (λ (l : List ℕ). spaced_name k ++ l) (sym rest) in
-    ap (λ (l : List ℕ). command_in (words_of l)) whole ∙ command_behind k values
-
--- a line that begins otherwise
-pub other_start : (k : Keyword) (n : ℕ) (line spaced start : List ℕ) → spaced ≡ spaced_name k → length spaced ≡ n → start ≡ take n line → pointwise nat_eq start spaced ≡ false
-    → begins_with (spaced_name k) line ≡ false
-other_start k n line spaced start is sized first other =
-    ap (λ (l : List ℕ). begins_with l line) (sym is) ∙ begins_as_taken spaced line
-    ∙ ap (λ (m : ℕ). pointwise nat_eq (take m line) spaced) sized ∙ ap (λ (l : List ℕ). pointwise nat_eq l spaced) (sym first) ∙ other
-
-shorter : (bytes text : List ℕ) → length text < length bytes → begins_with bytes text ≡ false
-shorter [] text h = absurd (omega arith)
-shorter (byte ∷ bytes) [] h = refl
-shorter (byte ∷ bytes) (first ∷ text) h = by (first == byte) (shorter bytes text (omega arith)) where
-  by : (same : Bool) → begins_with bytes text ≡ false → (same && begins_with bytes text) ≡ false
-  by true later = later
-  by false later = refl
-
--- a line that is too short
-pub too_short : (k : Keyword) (n : ℕ) (line spaced : List ℕ) → spaced ≡ spaced_name k → length spaced ≡ n → length line < n → begins_with (spaced_name k) line ≡ false
-too_short k n line spaced is sized h = ap (λ (l : List ℕ). begins_with l line) (sym is) ∙ shorter spaced line (omega arith)

@@ -23,6 +23,16 @@ pub enum Keyword {
     Sweep,
 }
 
+/// What stands after these bytes and a space, where a line begins with them.
+macro_rules! after {
+    ($line:expr, $($byte:literal)*) => {
+        match $line {
+            [$($byte,)* b' ', values @ ..] => Some(values),
+            _ => None,
+        }
+    };
+}
+
 impl Keyword {
     /// The keyword of a line, and what stands after its space. `None` where no keyword and space stand first: then the
     /// line is a command only as a keyword alone.
@@ -71,36 +81,21 @@ impl Keyword {
         ensures none { IfNone result (begins_with (spaced_name self) line.now ≡ false) }
     {
         match self {
-            Keyword::Show => self.behind(b"show ", line),
-            Keyword::Bounds => self.behind(b"bounds ", line),
-            Keyword::Exact => self.behind(b"exact ", line),
-            Keyword::Addr => self.behind(b"addr ", line),
-            Keyword::Inc => self.behind(b"inc ", line),
-            Keyword::Perms => self.behind(b"perms ", line),
-            Keyword::Flag => self.behind(b"flag ", line),
-            Keyword::Seal => self.behind(b"seal ", line),
-            Keyword::Unseal => self.behind(b"unseal ", line),
-            Keyword::Rebuild => self.behind(b"rebuild ", line),
-            Keyword::Round => self.behind(b"round ", line),
-            Keyword::Pool => self.behind(b"pool ", line),
-            Keyword::Alloc => self.behind(b"alloc ", line),
-            Keyword::Free => self.behind(b"free ", line),
-            Keyword::Sweep => self.behind(b"sweep ", line),
+            Keyword::Show => after!(line, b's' b'h' b'o' b'w'),
+            Keyword::Bounds => after!(line, b'b' b'o' b'u' b'n' b'd' b's'),
+            Keyword::Exact => after!(line, b'e' b'x' b'a' b'c' b't'),
+            Keyword::Addr => after!(line, b'a' b'd' b'd' b'r'),
+            Keyword::Inc => after!(line, b'i' b'n' b'c'),
+            Keyword::Perms => after!(line, b'p' b'e' b'r' b'm' b's'),
+            Keyword::Flag => after!(line, b'f' b'l' b'a' b'g'),
+            Keyword::Seal => after!(line, b's' b'e' b'a' b'l'),
+            Keyword::Unseal => after!(line, b'u' b'n' b's' b'e' b'a' b'l'),
+            Keyword::Rebuild => after!(line, b'r' b'e' b'b' b'u' b'i' b'l' b'd'),
+            Keyword::Round => after!(line, b'r' b'o' b'u' b'n' b'd'),
+            Keyword::Pool => after!(line, b'p' b'o' b'o' b'l'),
+            Keyword::Alloc => after!(line, b'a' b'l' b'l' b'o' b'c'),
+            Keyword::Free => after!(line, b'f' b'r' b'e' b'e'),
+            Keyword::Sweep => after!(line, b's' b'w' b'e' b'e' b'p'),
         }
-    }
-
-    /// What stands behind the word of this keyword and a space, where a line begins with these bytes.
-    #[inline(always)]
-    fn behind<'line, const N: usize>(
-        self,
-        spaced: &[u8; N],
-        line: &'line [u8],
-    ) -> Option<&'line [u8]>
-        requires { spaced.now ≡ spaced_name self }
-        ensures some { IfSome result (λ values. command_in (words_of line.now) ≡ command_of self (words_of values.now)) }
-        ensures none { IfNone result (begins_with (spaced_name self) line.now ≡ false) }
-    {
-        let (start, values) = line.split_first_chunk::<N>()?;
-        if start == spaced { Some(values) } else { None }
     }
 }
