@@ -1,5 +1,5 @@
 -- The decimal digits of numbers of few digits, two by two as they are printed.
-use Rattle.std.proofs.Common.{◌≡◌, Bool, false, ℕ, ◌+◌, ◌*◌, ◌/◌, ◌%◌, ◌^◌, ◌<◌, ◌≤◌, ◌==◌, true, refl, slice_index, List, [], ◌∷◌, ◌++◌, decimal, ap, ◌∙◌, arith}
+use Rattle.std.proofs.Common.{◌≡◌, Bool, false, ℕ, ◌+◌, ◌*◌, ◌/◌, ◌%◌, ◌^◌, ◌<◌, ◌≤◌, ◌==◌, true, refl, slice_index, List, [], ◌∷◌, ◌++◌, append_assoc, decimal, ap, ◌∙◌, arith}
 use Rattle.std.proofs.lemmas.Bool.{eqb-true, agree_below_at}
 use mir.Val.{bool_byte}
 use Rattle.cc_word.specs.Word.{bit_of}
@@ -62,19 +62,18 @@ thousands_of n = omega arith
 hundreds_of : (n : ℕ) → n / 100 % 100 % 10 ≡ n / 100 % 10
 hundreds_of n = omega arith
 
-pub one_of_pair : (n : ℕ) → n < 10 → decimal n ≡ (48 + n % 100 % 10) ∷ []
-one_of_pair n h = rw (ones_of n) (one_digit n h)
-
-pub one_pair : (n : ℕ) → 10 ≤ n → n < 100 → decimal n ≡ (48 + n % 100 / 10) ∷ (48 + n % 100 % 10) ∷ []
-one_pair n low high = rw (tens_of n, ones_of n) (two_digits n low high)
+pub two_alone : (n : ℕ) → 10 ≤ n → n < 100 → decimal n ≡ (48 + n / 10) ∷ (48 + n % 10) ∷ []
+two_alone n low high = let tens : n / 10 ≡ n / 10 % 10 = omega (arith, high) in rw tens (two_digits n low high)
 
 pub three_of_pairs : (n : ℕ) → 100 ≤ n → n < 1000
-    → decimal n ≡ (48 + n / 100 % 100 % 10) ∷ (48 + n % 100 / 10) ∷ (48 + n % 100 % 10) ∷ []
-three_of_pairs n low high = rw (hundreds_of n, tens_of n, ones_of n) (three_digits n low high)
+    → decimal n ≡ (48 + n / 100 % 10) ∷ (48 + n % 100 / 10) ∷ (48 + n % 100 % 10) ∷ []
+three_of_pairs n low high = rw (tens_of n, ones_of n) (three_digits n low high)
 
 pub two_pairs : (n : ℕ) → 1000 ≤ n → n < 10000
-    → decimal n ≡ (48 + n / 100 % 100 / 10) ∷ (48 + n / 100 % 100 % 10) ∷ (48 + n % 100 / 10) ∷ (48 + n % 100 % 10) ∷ []
-two_pairs n low high = rw (thousands_of n, hundreds_of n, tens_of n, ones_of n) (four_digits n low high)
+    → decimal n ≡ (48 + n / 100 / 10) ∷ (48 + n / 100 % 10) ∷ (48 + n % 100 / 10) ∷ (48 + n % 100 % 10) ∷ []
+two_pairs n low high =
+    let first : n / 100 / 10 ≡ n / 1000 % 10 = omega (arith, high) in
+    rw (first, tens_of n, ones_of n) (four_digits n low high)
 
 pub five_of_pairs : (n : ℕ) → 10000 ≤ n → n < 100000
     → decimal n ≡ (48 + n / 10000 % 10) ∷ (48 + n / 100 % 100 / 10) ∷ (48 + n / 100 % 100 % 10) ∷ (48 + n % 100 / 10) ∷ (48 + n % 100 % 10) ∷ []
@@ -85,6 +84,13 @@ pub three_pairs : (n : ℕ) → 100000 ≤ n → n < 1000000
 three_pairs n low high =
     let first : n / 10000 / 10 ≡ n / 100000 % 10 = omega (arith, high) in
     rw (first, thousands_of n, hundreds_of n, tens_of n, ones_of n) (six_digits n low high)
+
+-- what was appended in two pieces, or in three
+pub in_two : (done a b whole : List ℕ) → a ++ b ≡ whole → (done ++ a) ++ b ≡ done ++ whole
+in_two done a b whole e = append_assoc done a b ∙ ap (λ (l : List ℕ). done ++ l) e
+
+pub in_three : (done a b c whole : List ℕ) → a ++ (b ++ c) ≡ whole → ((done ++ a) ++ b) ++ c ≡ done ++ whole
+in_three done a b c whole e = append_assoc (done ++ a) b c ∙ in_two done a (b ++ c) whole e
 
 -- the table of pairs has the two digits of each number
 pub first_listed : (n : ℕ) → n < 100 → slice_index PAIRS (2 * n) ≡ 48 + n / 10

@@ -160,7 +160,7 @@ fn read_first(digits: &[u8], radix: u8) -> Option<u64>
 {
     let mut number = 0;
     for byte in digits {
-        let digit = value_of_digit(*byte, radix)?;
+        let digit = value_in(*byte, radix)?;
         number = number * u64::from(radix) + u64::from(digit);
     }
     Some(number)
@@ -250,6 +250,20 @@ pub fn value_of_decimal(byte: u8) -> Option<u8>
 {
     let value = byte.wrapping_sub(b'0');
     if value < 10 { Some(value) } else { None }
+}
+
+/// The value of a digit of either case, where it is below the radix: a decimal one without the table.
+#[inline(always)]
+fn value_in(byte: u8, radix: u8) -> Option<u8>
+    requires { (radix ≡ 10) ⊎ (radix ≡ 16) }
+    ensures value { SomeIff result (digit_value byte < radix) (digit_value byte) }
+    ensures succeeds { digit_value byte < radix → IsSome result }
+{
+    if radix == 16 {
+        value_of_digit(byte, 16)
+    } else {
+        value_of_decimal(byte)
+    }
 }
 
 /// The value of a digit of either case, where it is below the radix.
