@@ -1,10 +1,14 @@
 -- What is counted of the replies to a script: how many there are, and of each refusal how many are it, and which is the
 -- first.
-use Rattle.std.specs.Prelude.{ℕ, suc, Bool, ◌≡◌, ◌-◌, ◌^◌, ◌<◌, List, [], ◌∷◌, count_by, get_or, if◌then◌else◌, length, min, take}
+use Rattle.std.specs.Prelude.{ℕ, suc, Bool, ◌≡◌, ◌-◌, ◌^◌, ◌<◌, List, [], ◌∷◌, ◌++◌, count_by, get_or, if◌then◌else◌, length, min, take}
 use Rattle.std.specs.Str.{bytes_eq}
 use Rattle.cc_word.specs.declared.refusal.Refusal.{Refusal}
+use Rattle.cc_machine.specs.declared.reply.Reply.{Reply}
+use Rattle.cc_machine.specs.State.{State}
 use Rattle.cc_script.specs.Lines.{lines_of, rest_of}
-use Rattle.cc_script.specs.Replies.{refusal_text}
+use Rattle.cc_script.specs.Commands.{operation_of}
+use Rattle.cc_script.specs.Replies.{refusal_text, reply_text}
+use Rattle.cc_script.specs.Output.{Takes, with_line_feed}
 use Rattle.cc_command.specs.declared.tally.TheConstants.{NONE}
 use Rattle.cc_command.specs.declared.tally.Count.{Count}
 use Rattle.cc_command.specs.declared.tally.Tally.{Tally}
@@ -36,6 +40,12 @@ pub record IsTally (text : List ℕ) (tally : Tally) : Type 0 where
   pub lines : tally.lines ≡ counted (length (lines_of text))
   pub begun : tally.begun ≡ take 129 (rest_of text)
   pub counts : (index : ℕ) (none : Count) → index < 22 → get_or tally.counts index none ≡ count_in (lines_of text) (get_or NONE index none).refusal
+
+-- the line was taken, and its reply with a line feed counted behind what had been
+pub record CountsReply (old : State) (line : List ℕ) (tally tally_now : Tally) (new : State) : Type 0 where
+  pub reply : Reply
+  pub takes : Takes old (operation_of line) reply new
+  pub counts : (text : List ℕ) → IsTally text tally → IsTally (text ++ with_line_feed (reply_text reply)) tally_now
 
 -- A sink that counts: the sink behind it, and the tally of what passed.
 pub record CountedState (W : Type 0) : Type 0 where

@@ -1,11 +1,13 @@
 //! A sink that counts what passes through it.
-ghost use Rattle.std.specs.Prelude.{◌≡◌, ℕ, List, [], ◌++◌, ◌↔◌, ◌<◌, IfOk, IsErr, OnErr, OnOk, length, take, true};
+ghost use Rattle.std.specs.Prelude.{◌≡◌, ℕ, List, [], ◌++◌, ◌↔◌, ◌<◌, IfOk, IsErr, OnErr, OnOk, length, take, false, true};
 ghost use Rattle.std.specs.Io.{WritesAtMost};
-ghost use Rattle.std.specs.Io.KnownBytes.{Keeps, WriteAppends};
-ghost use Rattle.cc_command.specs.Tally.{IsTally};
+ghost use Rattle.std.specs.Io.KnownBytes.{Appends, Keeps, WriteAppends};
+ghost use Rattle.cc_script.specs.Devices.{AnswersLine, CutsLine, TakesBeginning};
+ghost use Rattle.cc_command.specs.Tally.{CountsReply, IsTally};
 
 use crate::tally::Tally;
-use cc_script::{Failed, Sink};
+use cc_machine::Machine;
+use cc_script::{Failed, Sink, WholeLine, answer_into, write_all};
 use std::marker::Model;
 
 /// Passes each byte on to another sink, and counts the replies among the bytes that this sink took.
@@ -32,6 +34,25 @@ impl<W: Sink> Counted<W> {
         Counted {
             inner,
             tally: Tally::new(),
+        }
+    }
+
+    /// Writes all the bytes to the sink behind, and counts them. Where that fails, nothing is counted.
+    #[inline(always)]
+    fn write_counted(&mut self, bytes: &[u8]) -> Result<(), Failed>
+        requires { W.has_failed self.old.inner ≡ false }
+        ensures ok { OnOk result (Appends (W.taken_bytes self.old.inner) (W.taken_bytes self.new.inner) bytes.now) }
+        ensures err { OnErr result (TakesBeginning (W.taken_bytes self.old.inner) (W.taken_bytes self.new.inner) bytes.now) }
+        ensures fails { IsErr result ↔ (W.has_failed self.new.inner ≡ true) }
+        ensures counts { OnOk result ((text : List ℕ) → IsTally text self.old.tally → IsTally (text ++ bytes.now) self.new.tally) }
+        ensures counts_none { OnErr result (self.new.tally ≡ self.old.tally) }
+    {
+        match write_all(&mut self.inner, bytes) {
+            Ok(()) => {
+                self.tally.take(bytes);
+                Ok(())
+            }
+            Err(Failed) => Err(Failed),
         }
     }
 
@@ -66,6 +87,27 @@ impl<W: Sink> Sink for Counted<W> {
                 self.tally.take(&piece[..count]);
                 Ok(count)
             }
+            Err(Failed) => Err(Failed),
+        }
+    }
+
+    fn answer(
+        &mut self,
+        machine: &mut Machine,
+        text: &mut WholeLine,
+        line: &[u8],
+    ) -> Result<bool, Failed>
+        requires { W.has_failed self.old.inner ≡ false }
+        ensures ok { IfOk result (λ error. AnswersLine machine.old line.now (W.taken_bytes self.old.inner) (W.taken_bytes self.new.inner) error machine.new) }
+        ensures err { OnErr result (CutsLine machine.old line.now (W.taken_bytes self.old.inner) (W.taken_bytes self.new.inner) machine.new) }
+        ensures fails { IsErr result ↔ (W.has_failed self.new.inner ≡ true) }
+        ensures counts { OnOk result (CountsReply machine.old line.now self.old.tally self.new.tally machine.new) }
+        ensures counts_none { OnErr result (self.new.tally ≡ self.old.tally) }
+    {
+        text.clear();
+        let is_error = answer_into(machine, text, line);
+        match self.write_counted(text.bytes()) {
+            Ok(()) => Ok(is_error),
             Err(Failed) => Err(Failed),
         }
     }

@@ -3,7 +3,6 @@ ghost use Rattle.std.specs.Prelude.{◌≡◌, ◌<◌, ◌≤◌, ◌+◌, ◌-
 ghost use Rattle.std.specs.Io.KnownBytes.{Appends};
 ghost use Rattle.cc_machine.specs.Planned.{plan_of};
 ghost use Rattle.cc_script.specs.Devices.{TakesBeginning};
-ghost use Rattle.cc_script.specs.Output.{with_line_feed};
 ghost use Rattle.cc_command.specs.Answer.{WritesAnswer};
 ghost use Rattle.cc_command.specs.Drawing.{IsDrawing, bounds_line, drawing_text, end_text, fills_text, head_text, is_in, key_text, laid_out_text, layer_text, layout_of, live_text, mark_count, mark_text, marks_text, moved_text, names_text, object_text, part_text, parts_text, quarantined_text, rectangle_text, row_count, row_text, rows_text, scale_text, stripes_text};
 
@@ -417,11 +416,11 @@ fn write_rectangle<W: Sink>(
     ensures err { OnErr result (TakesBeginning (W.taken_bytes sink.old) (W.taken_bytes sink.new) (rectangle_text width row from to number span.now)) }
     ensures fails { IsErr result ↔ (W.has_failed sink.new ≡ true) }
 {
-    let mut line = rectangle_line(width, row, from, to, number, span);
-    line.write(sink)
+    let line = rectangle_line(width, row, from, to, number, span);
+    write_all(sink, line.bytes())
 }
 
-/// The rectangle over the cells of one row from `from` up to, and without, `to`, without its line feed.
+/// The line of that rectangle, with its line feed.
 #[tactic(auto, unfolding(crate::specs::Drawing::rectangle_text))]
 fn rectangle_line(width: u32, row: u32, from: u128, to: u128, number: u32, span: &Span) -> Line
     requires width { width ≤ 1024 }
@@ -429,7 +428,7 @@ fn rectangle_line(width: u32, row: u32, from: u128, to: u128, number: u32, span:
     requires left { 1024 * row ≤ from }
     requires some { from < to }
     requires right { to ≤ 1024 * row + 1024 }
-    ensures { with_line_feed result ≡ rectangle_text width row from to number span.now }
+    ensures { result ≡ rectangle_text width row from to number span.now }
 {
     let mut line = Line::new();
     line.push(b"<rect x='");
@@ -445,5 +444,6 @@ fn rectangle_line(width: u32, row: u32, from: u128, to: u128, number: u32, span:
     line.push(b"-");
     line.push_hexadecimal(span.top);
     line.push(b"</title></rect>");
+    line.push(b"\n");
     line
 }

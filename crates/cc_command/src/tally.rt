@@ -1,9 +1,10 @@
 //! What is counted of the replies to a script.
 ghost use Rattle.std.specs.Prelude.{◌≡◌, ℕ, ◌+◌, List, [], ◌∷◌, ◌++◌, length};
 ghost use Rattle.cc_script.specs.Lines.{IsLine};
+ghost use Rattle.cc_script.specs.Replies.{refusal_text};
 ghost use Rattle.cc_command.specs.Tally.{IsTally, count_in, counted, is_refusal};
 
-use cc_script::{LineStart, refusal_line, split_at_line_feed};
+use cc_script::{LineStart, refusal_bytes, split_at_line_feed};
 use cc_word::Refusal;
 
 /// How many replies are one refusal, and which of all replies is the first of them.
@@ -82,11 +83,20 @@ impl Count {
     }
 }
 
-/// Whether a line is this refusal. All refusals begin with `e`, so most other replies are told by their first byte.
+/// Whether a line, without its line feed, is this refusal. All refusals begin with `e`, so most other replies are told
+/// by their first byte.
 fn is_refusal(refusal: Refusal, line: &[u8]) -> bool
     ensures { result ≡ is_refusal refusal line.now }
 {
-    matches!(line, [b'e', ..]) && refusal_line(refusal).bytes() == line
+    matches!(line, [b'e', ..]) && text_of(refusal) == line
+}
+
+/// The text of a refusal, without its line feed.
+fn text_of(refusal: Refusal) -> &'static [u8]
+    ensures { result.now ≡ refusal_text refusal }
+{
+    let line = refusal_bytes(refusal);
+    &line[..line.len() - 1]
 }
 
 impl Tally {

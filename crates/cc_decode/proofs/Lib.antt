@@ -1,3 +1,4 @@
+mod DigitLemmas
 mod EntryLemmas
 mod AnswerLemmas
 mod EngineLemmas

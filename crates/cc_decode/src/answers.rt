@@ -9,7 +9,7 @@ use crate::batch::Batch;
 use crate::entries::read_entry;
 use crate::options::Options;
 use crate::rows::push_row;
-use cc_script::{Failed, LineStart, Sink, refusal_line};
+use cc_script::{Failed, LineStart, Sink, refusal_bytes, write_all};
 use cc_word::Refusal;
 
 /// Appends the answer to the entry that has begun with `start` and ends with `end`, and empties `start`. Tells whether
@@ -47,8 +47,7 @@ fn push_answer(options: Options, batch: &mut Batch, entry: &[u8]) -> bool
             false
         }
         None => {
-            batch.push(refusal_line(Refusal::Syntax).bytes());
-            batch.push_byte(b'\n');
+            batch.push(refusal_bytes(Refusal::Syntax));
             true
         }
     }
@@ -65,8 +64,7 @@ pub(crate) fn refuse_rest<W: Sink>(rest: &[u8], sink: &mut W) -> Result<bool, Fa
     if rest.is_empty() {
         return Ok(false);
     }
-    let mut text = refusal_line(Refusal::Unfinished);
-    match text.write(sink) {
+    match write_all(sink, refusal_bytes(Refusal::Unfinished)) {
         Ok(()) => Ok(true),
         Err(Failed) => Err(Failed),
     }

@@ -7,13 +7,13 @@ ghost use Rattle.cc_program.specs.Telling.{replies_before};
 
 use crate::outcome::Fault;
 use crate::pool::{OPENING, Pool};
-use crate::running::{MOST_WAITING, open};
+use crate::running::open;
 use cc_command::{
     Counted, PoolTexts, plan_numbers, plan_script, show_drawing, show_map, show_statistics,
     usage_of, write_refusal,
 };
 use cc_machine::{Align, Machine};
-use cc_script::{Buffered, FromReader, FromWriter, Sink, Source, Summary};
+use cc_script::{Buffered, FromReader, FromWriter, MOST_WAITING, Sink, Source, Summary, Waiting};
 use std::io;
 use std::io::Read;
 use std::rt::Files;
@@ -82,8 +82,8 @@ fn map_as_page<I: Read + Drop, W: Sink + Drop>(
     ensures { result ≢ Err Fault.Open }
 {
     let mut source = FromReader::new(script);
-    let mut room = [0u8; MOST_WAITING];
-    let mut sink = Buffered::new(output, &mut room);
+    let mut page = Waiting::new();
+    let mut sink = Buffered::new(output, &mut page, MOST_WAITING);
     let mut replies = FromWriter::new(io::sink());
     draw_page(&mut machine, pool, &mut source, &mut replies, &mut sink)
 }
@@ -100,8 +100,8 @@ fn map_as_text<R: AllocGlobal, I: Read + Drop, W: Sink + Drop>(
     ensures { result ≢ Err Fault.Open }
 {
     let mut source = FromReader::new(script);
-    let mut room = [0u8; MOST_WAITING];
-    let mut sink = Buffered::new(output, &mut room);
+    let mut page = Waiting::new();
+    let mut sink = Buffered::new(output, &mut page, MOST_WAITING);
     let mut counted = Counted::new(FromWriter::new(io::sink()));
     draw_map(rt, &mut machine, pool, &mut source, &mut counted, &mut sink)
 }

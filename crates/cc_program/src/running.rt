@@ -14,14 +14,13 @@ use crate::telling::{Telling, tell, tell_waiting};
 use cc_command::{Counted, PoolTexts, Watched, plan_numbers, plan_script, write_refusal};
 use cc_decode::{Options, decode_words};
 use cc_machine::{Align, Machine};
-use cc_script::{Buffered, FromReader, FromWriter, Sink, Source, Summary, run_script};
+use cc_script::{
+    Buffered, FromReader, FromWriter, MOST_WAITING, Sink, Source, Summary, Waiting, run_script,
+};
 use either::{Either, Left, Right};
 use std::fs;
 use std::io::Read;
 use std::rt::Files;
-
-/// How many bytes of replies wait at most until the script is read further.
-pub const MOST_WAITING: usize = 32768;
 
 /// How many bytes `decode` reads at most: more than any file or pipe gives.
 const MOST_DECODED: usize = 1 << 62;
@@ -92,8 +91,8 @@ fn run_alone<I: Read + Drop, W: Sink + Drop>(
     ensures { result ≢ Err Fault.Open }
 {
     let mut source = FromReader::new(script);
-    let mut room = [0u8; MOST_WAITING];
-    let mut sink = Buffered::new(output, &mut room);
+    let mut page = Waiting::new();
+    let mut sink = Buffered::new(output, &mut page, MOST_WAITING);
     Ok(run_script(&mut machine, &mut source, &mut sink)?)
 }
 
@@ -108,9 +107,9 @@ fn run_watched<R: AllocGlobal + Eprint, I: Read + Drop, W: Sink + Drop>(
     requires { W.has_failed output ≡ false }
     ensures { result ≢ Err Fault.Open }
 {
-    let mut room = [0u8; MOST_WAITING];
     let mut source = Watched::new(FromReader::new(script));
-    let mut sink = Counted::new(Buffered::new(output, &mut room));
+    let mut page = Waiting::new();
+    let mut sink = Counted::new(Buffered::new(output, &mut page, MOST_WAITING));
     let mut errors = FromWriter::new(ErrorWriter { to: rt });
     run_counted(
         rt,
@@ -224,8 +223,8 @@ fn plan_alone<I: Read + Drop, W: Sink + Drop>(
         align,
     } = pool;
     let mut source = FromReader::new(script);
-    let mut room = [0u8; MOST_WAITING];
-    let mut sink = Buffered::new(output, &mut room);
+    let mut page = Waiting::new();
+    let mut sink = Buffered::new(output, &mut page, MOST_WAITING);
     Ok(plan_script(&mut machine, base, length, align, &mut source, &mut sink)?)
 }
 
@@ -241,9 +240,9 @@ fn plan_watched<R: AllocGlobal + Eprint, I: Read + Drop, W: Sink + Drop>(
     requires { W.has_failed output ≡ false }
     ensures { result ≢ Err Fault.Open }
 {
-    let mut room = [0u8; MOST_WAITING];
     let mut source = Watched::new(FromReader::new(script));
-    let mut sink = Counted::new(Buffered::new(output, &mut room));
+    let mut page = Waiting::new();
+    let mut sink = Counted::new(Buffered::new(output, &mut page, MOST_WAITING));
     let mut errors = FromWriter::new(ErrorWriter { to: rt });
     plan_counted(
         rt,

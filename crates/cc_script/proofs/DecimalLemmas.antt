@@ -3,7 +3,7 @@ use Rattle.std.proofs.Common.{◌≡◌, Bool, false, ℕ, ◌+◌, ◌*◌, ◌
 use Rattle.std.proofs.lemmas.Bool.{eqb-true, agree_below_at}
 use mir.Val.{bool_byte}
 use Rattle.cc_word.specs.Word.{bit_of}
-use Rattle.cc_script.specs.declared.line.TheConstants.{PAIRS}
+use Rattle.cc_script.specs.declared.page.TheConstants.{PAIRS}
 use Rattle.std.proofs.lemmas.Fmt.{decimal_digit, decimal_step}
 
 -- a number from 10 up has the digits of its tenth, and one digit more

@@ -2,7 +2,7 @@
 use Rattle.std.proofs.Common.{◌≡◌, ℕ, ◌+◌, ◌≤◌, List, [], ◌++◌, length, take, drop, Option, Some, None, refl, sym, ◌∙◌, ap, append_assoc, arith, subst, ◌-◌}
 use Rattle.std.proofs.lemmas.Grind.{common_steps}
 use Rattle.std.proofs.lemmas.List.{take_all, take-take, drop-take, take-append-drop, length-drop, take_rest, append-nil}
-use Rattle.std.specs.Io.KnownBytes.{Appends, Consumes, Keeps}
+use Rattle.std.specs.Io.KnownBytes.{Appends, Consumes, Keeps, append_known}
 use Rattle.cc_script.specs.Devices.{TakesBeginning}
 
 pub appends_none : (a : Option (List ℕ)) → Appends a a []
@@ -14,6 +14,11 @@ appends_twice None b c xs ys p q = tt
 appends_twice (Some zs) (Some bs) (Some cs) xs ys p q = q ∙ ap (λ (l : List ℕ). l ++ ys) p ∙ append_assoc zs xs ys
 appends_twice (Some zs) (Some bs) None xs ys p q = q
 appends_twice (Some zs) None c xs ys p q = elim p [ ]
+
+-- bytes put behind those that wait
+pub waits_further : (a : Option (List ℕ)) (xs ys : List ℕ) → Appends (append_known a xs) (append_known a (xs ++ ys)) ys
+waits_further None xs ys = tt
+waits_further (Some zs) xs ys = sym (append_assoc zs xs ys)
 
 pub keeps_appends : (a b : Option (List ℕ)) → Keeps a b → Appends a b []
 keeps_appends None b k = tt

@@ -1,5 +1,5 @@
-//! The reply to one line, before it is written.
-ghost use Rattle.std.specs.Prelude.{◌≡◌, true, Result, Ok, Err};
+//! The reply to one line.
+ghost use Rattle.std.specs.Prelude.{◌≡◌, ◌+◌, ◌≤◌, length, true, Result, Ok, Err};
 ghost use Rattle.cc_word.specs.declared.refusal.Refusal.{Refusal as RefusalSpec};
 ghost use Rattle.cc_word.specs.declared.refusal.Refusal.TheVariants.{OutOfRange};
 ghost use Rattle.cc_machine.specs.declared.op.Op.{Op as OpSpec};
@@ -8,28 +8,53 @@ ghost use Rattle.cc_script.specs.Commands.{command_in, command_of, operation_of,
 ghost use Rattle.cc_script.specs.declared.keyword.Keyword.TheVariants as keywords;
 ghost use Rattle.cc_script.specs.Keywords.{command_alone};
 ghost use Rattle.cc_script.specs.Looks.{takes_number, takes_second_number};
+ghost use Rattle.cc_script.specs.Devices.{AnswersInto};
 ghost use Rattle.cc_script.specs.Engine.{IsAnswered};
 
 use crate::digits::Look;
 use crate::keyword::Keyword;
-use crate::line::Line;
 use crate::numbers::{look_at_number, split_number};
+use crate::page::Page;
 use crate::parsing::{
     MOST_BYTES, flag_of, one_of_number, parse_alone, parse_spaced, parse_two, perms_of,
     two_of_number,
 };
-use crate::printing::{push_any_reply, push_reply};
+use crate::printing::{push_any_reply, push_reply, refusal_bytes};
 use cc_machine::{Machine, Op, Reply};
 use cc_word::Refusal;
 
-/// Does what a line spells, and makes the text that of the reply. Where the line or its operation is refused, the
-/// refusal is the answer, and nothing is said of the text.
+/// Has the machine take a line of a script, and appends its reply and a line feed. Tells whether the reply is an error.
+///
+/// The caller has room for 193 bytes behind the text. For a sink that puts replies together where they wait.
+#[inline(always)]
+pub fn answer_into<const N: usize>(machine: &mut Machine, text: &mut Page<N>, line: &[u8]) -> bool
+    requires { length text.old + 193 ≤ N }
+    ensures answers { AnswersInto machine.old line.now text.old text.new result machine.new }
+    ensures fits { length text.new ≤ length text.old + 193 }
+{
+    match answer(machine, text, line) {
+        Ok(()) => false,
+        Err(refusal) => {
+            text.push(refusal_bytes(refusal));
+            true
+        }
+    }
+}
+
+/// Does what a line spells, and appends its reply and a line feed. Where the line or its operation is refused, the
+/// refusal is the answer, and the text is as it was.
 ///
 /// Each operation that is spelled in short numbers has an arm of its own, in which the compiler knows which one it is.
 #[inline(never)]
 #[tactic(auto, unfolding(crate::specs::Commands::operation_of))]
-pub(crate) fn answer(machine: &mut Machine, text: &mut Line, line: &[u8]) -> Result<(), Refusal>
-    ensures { IsAnswered machine.old (operation_of line.now) result text.new machine.new }
+fn answer<const N: usize>(
+    machine: &mut Machine,
+    text: &mut Page<N>,
+    line: &[u8],
+) -> Result<(), Refusal>
+    requires { length text.old + 193 ≤ N }
+    ensures answers { IsAnswered machine.old (operation_of line.now) result text.old text.new machine.new }
+    ensures fits { length text.new ≤ length text.old + 193 }
 {
     if line.len() > MOST_BYTES {
         return Err(Refusal::TooLong);
@@ -39,9 +64,15 @@ pub(crate) fn answer(machine: &mut Machine, text: &mut Line, line: &[u8]) -> Res
 
 /// Answers a line of no more than 128 bytes.
 #[inline(always)]
-fn answer_short(machine: &mut Machine, text: &mut Line, line: &[u8]) -> Result<(), Refusal>
-    ensures { (command : Result OpSpec RefusalSpec) → command ≡ command_in (words_of line.now)
-        → IsAnswered machine.old command result text.new machine.new }
+fn answer_short<const N: usize>(
+    machine: &mut Machine,
+    text: &mut Page<N>,
+    line: &[u8],
+) -> Result<(), Refusal>
+    requires { length text.old + 193 ≤ N }
+    ensures answers { (command : Result OpSpec RefusalSpec) → command ≡ command_in (words_of line.now)
+        → IsAnswered machine.old command result text.old text.new machine.new }
+    ensures fits { length text.new ≤ length text.old + 193 }
 {
     match Keyword::split(line) {
         Some((keyword, values)) => answer_values(machine, text, keyword, values),
@@ -51,14 +82,16 @@ fn answer_short(machine: &mut Machine, text: &mut Line, line: &[u8]) -> Result<(
 
 /// Answers a keyword and what stands after its space.
 #[inline(always)]
-fn answer_values(
+fn answer_values<const N: usize>(
     machine: &mut Machine,
-    text: &mut Line,
+    text: &mut Page<N>,
     keyword: Keyword,
     values: &[u8],
 ) -> Result<(), Refusal>
-    ensures { (command : Result OpSpec RefusalSpec) → command ≡ command_of keyword (words_of values.now)
-        → IsAnswered machine.old command result text.new machine.new }
+    requires { length text.old + 193 ≤ N }
+    ensures answers { (command : Result OpSpec RefusalSpec) → command ≡ command_of keyword (words_of values.now)
+        → IsAnswered machine.old command result text.old text.new machine.new }
+    ensures fits { length text.new ≤ length text.old + 193 }
 {
     match keyword {
         Keyword::Show => answer_one(machine, text, Keyword::Show, values),
@@ -71,15 +104,17 @@ fn answer_values(
 
 /// Answers a keyword that the compiler knows, and one value, which is a number.
 #[inline(always)]
-fn answer_one(
+fn answer_one<const N: usize>(
     machine: &mut Machine,
-    text: &mut Line,
+    text: &mut Page<N>,
     keyword: Keyword,
     value: &[u8],
 ) -> Result<(), Refusal>
-    requires { takes_number keyword ≡ true }
-    ensures { (command : Result OpSpec RefusalSpec) → command ≡ command_of keyword (words_of value.now)
-        → IsAnswered machine.old command result text.new machine.new }
+    requires number { takes_number keyword ≡ true }
+    requires room { length text.old + 193 ≤ N }
+    ensures answers { (command : Result OpSpec RefusalSpec) → command ≡ command_of keyword (words_of value.now)
+        → IsAnswered machine.old command result text.old text.new machine.new }
+    ensures fits { length text.new ≤ length text.old + 193 }
 {
     match look_at_number(value) {
         Look::Number(number) => answer_read(machine, text, one_of_number(keyword, number)),
@@ -90,14 +125,16 @@ fn answer_one(
 
 /// Answers a keyword and two values.
 #[inline(always)]
-fn answer_two(
+fn answer_two<const N: usize>(
     machine: &mut Machine,
-    text: &mut Line,
+    text: &mut Page<N>,
     keyword: Keyword,
     values: &[u8],
 ) -> Result<(), Refusal>
-    ensures { (command : Result OpSpec RefusalSpec) → command ≡ command_of keyword (words_of values.now)
-        → IsAnswered machine.old command result text.new machine.new }
+    requires { length text.old + 193 ≤ N }
+    ensures answers { (command : Result OpSpec RefusalSpec) → command ≡ command_of keyword (words_of values.now)
+        → IsAnswered machine.old command result text.old text.new machine.new }
+    ensures fits { length text.new ≤ length text.old + 193 }
 {
     match split_number(values) {
         Some((number, second)) => {
@@ -113,15 +150,17 @@ fn answer_two(
 
 /// Answers a keyword, a slot and a second value.
 #[inline(always)]
-fn answer_second(
+fn answer_second<const N: usize>(
     machine: &mut Machine,
-    text: &mut Line,
+    text: &mut Page<N>,
     keyword: Keyword,
     slot: u32,
     second: &[u8],
 ) -> Result<(), Refusal>
-    ensures { (command : Result OpSpec RefusalSpec) → command ≡ two_values keyword (Ok slot) second.now
-        → IsAnswered machine.old command result text.new machine.new }
+    requires { length text.old + 193 ≤ N }
+    ensures answers { (command : Result OpSpec RefusalSpec) → command ≡ two_values keyword (Ok slot) second.now
+        → IsAnswered machine.old command result text.old text.new machine.new }
+    ensures fits { length text.new ≤ length text.old + 193 }
 {
     match keyword {
         Keyword::Bounds => answer_known(machine, text, Keyword::Bounds, slot, second),
@@ -138,16 +177,18 @@ fn answer_second(
 
 /// Answers a keyword that the compiler knows, a slot and a second value, which is a number.
 #[inline(always)]
-fn answer_known(
+fn answer_known<const N: usize>(
     machine: &mut Machine,
-    text: &mut Line,
+    text: &mut Page<N>,
     keyword: Keyword,
     slot: u32,
     second: &[u8],
 ) -> Result<(), Refusal>
-    requires { takes_second_number keyword ≡ true }
-    ensures { (command : Result OpSpec RefusalSpec) → command ≡ two_values keyword (Ok slot) second.now
-        → IsAnswered machine.old command result text.new machine.new }
+    requires number { takes_second_number keyword ≡ true }
+    requires room { length text.old + 193 ≤ N }
+    ensures answers { (command : Result OpSpec RefusalSpec) → command ≡ two_values keyword (Ok slot) second.now
+        → IsAnswered machine.old command result text.old text.new machine.new }
+    ensures fits { length text.new ≤ length text.old + 193 }
 {
     match look_at_number(second) {
         Look::Number(number) => answer_read(machine, text, two_of_number(keyword, slot, number)),
@@ -158,57 +199,65 @@ fn answer_known(
 
 /// Answers `perms`, a slot and a second value.
 #[inline(always)]
-fn answer_perms(
+fn answer_perms<const N: usize>(
     machine: &mut Machine,
-    text: &mut Line,
+    text: &mut Page<N>,
     slot: u32,
     second: &[u8],
 ) -> Result<(), Refusal>
-    ensures { (command : Result OpSpec RefusalSpec) → command ≡ two_values keywords.Perms (Ok slot) second.now
-        → IsAnswered machine.old command result text.new machine.new }
+    requires { length text.old + 193 ≤ N }
+    ensures answers { (command : Result OpSpec RefusalSpec) → command ≡ two_values keywords.Perms (Ok slot) second.now
+        → IsAnswered machine.old command result text.old text.new machine.new }
+    ensures fits { length text.new ≤ length text.old + 193 }
 {
     answer_read(machine, text, perms_of(slot, second))
 }
 
 /// Answers `flag`, a slot and a second value.
 #[inline(always)]
-fn answer_flag(
+fn answer_flag<const N: usize>(
     machine: &mut Machine,
-    text: &mut Line,
+    text: &mut Page<N>,
     slot: u32,
     second: &[u8],
 ) -> Result<(), Refusal>
-    ensures { (command : Result OpSpec RefusalSpec) → command ≡ two_values keywords.Flag (Ok slot) second.now
-        → IsAnswered machine.old command result text.new machine.new }
+    requires { length text.old + 193 ≤ N }
+    ensures answers { (command : Result OpSpec RefusalSpec) → command ≡ two_values keywords.Flag (Ok slot) second.now
+        → IsAnswered machine.old command result text.old text.new machine.new }
+    ensures fits { length text.new ≤ length text.old + 193 }
 {
     answer_read(machine, text, flag_of(slot, second))
 }
 
 /// Answers a keyword, a slot and a second value, whatever that is.
 #[inline(never)]
-fn answer_any_second(
+fn answer_any_second<const N: usize>(
     machine: &mut Machine,
-    text: &mut Line,
+    text: &mut Page<N>,
     keyword: Keyword,
     slot: u32,
     second: &[u8],
 ) -> Result<(), Refusal>
-    ensures { (command : Result OpSpec RefusalSpec) → command ≡ two_values keyword (Ok slot) second.now
-        → IsAnswered machine.old command result text.new machine.new }
+    requires { length text.old + 193 ≤ N }
+    ensures answers { (command : Result OpSpec RefusalSpec) → command ≡ two_values keyword (Ok slot) second.now
+        → IsAnswered machine.old command result text.old text.new machine.new }
+    ensures fits { length text.new ≤ length text.old + 193 }
 {
     answer_parsed(machine, text, parse_two(keyword, Ok(slot), second))
 }
 
 /// Answers a keyword, a slot over its limit and a second value.
 #[inline(never)]
-fn answer_over(
+fn answer_over<const N: usize>(
     machine: &mut Machine,
-    text: &mut Line,
+    text: &mut Page<N>,
     keyword: Keyword,
     second: &[u8],
 ) -> Result<(), Refusal>
-    ensures { (command : Result OpSpec RefusalSpec) → command ≡ two_values keyword (Err OutOfRange) second.now
-        → IsAnswered machine.old command result text.new machine.new }
+    requires { length text.old + 193 ≤ N }
+    ensures answers { (command : Result OpSpec RefusalSpec) → command ≡ two_values keyword (Err OutOfRange) second.now
+        → IsAnswered machine.old command result text.old text.new machine.new }
+    ensures fits { length text.new ≤ length text.old + 193 }
 {
     answer_parsed(
         machine,
@@ -219,36 +268,46 @@ fn answer_over(
 
 /// Answers a keyword and what stands after its space, whatever that is.
 #[inline(never)]
-fn answer_spaced(
+fn answer_spaced<const N: usize>(
     machine: &mut Machine,
-    text: &mut Line,
+    text: &mut Page<N>,
     keyword: Keyword,
     values: &[u8],
 ) -> Result<(), Refusal>
-    ensures { (command : Result OpSpec RefusalSpec) → command ≡ command_of keyword (words_of values.now)
-        → IsAnswered machine.old command result text.new machine.new }
+    requires { length text.old + 193 ≤ N }
+    ensures answers { (command : Result OpSpec RefusalSpec) → command ≡ command_of keyword (words_of values.now)
+        → IsAnswered machine.old command result text.old text.new machine.new }
+    ensures fits { length text.new ≤ length text.old + 193 }
 {
     answer_parsed(machine, text, parse_spaced(keyword, values))
 }
 
 /// Answers a line in which no keyword and space stand first.
 #[inline(always)]
-fn answer_alone(machine: &mut Machine, text: &mut Line, line: &[u8]) -> Result<(), Refusal>
-    ensures { (command : Result OpSpec RefusalSpec) → command ≡ command_alone line.now
-        → IsAnswered machine.old command result text.new machine.new }
+fn answer_alone<const N: usize>(
+    machine: &mut Machine,
+    text: &mut Page<N>,
+    line: &[u8],
+) -> Result<(), Refusal>
+    requires { length text.old + 193 ≤ N }
+    ensures answers { (command : Result OpSpec RefusalSpec) → command ≡ command_alone line.now
+        → IsAnswered machine.old command result text.old text.new machine.new }
+    ensures fits { length text.new ≤ length text.old + 193 }
 {
     answer_read(machine, text, parse_alone(line))
 }
 
 /// Answers an operation that the compiler knows, or the fault of a line.
 #[inline(always)]
-fn answer_read(
+fn answer_read<const N: usize>(
     machine: &mut Machine,
-    text: &mut Line,
+    text: &mut Page<N>,
     parsed: Result<Op, Refusal>,
 ) -> Result<(), Refusal>
-    ensures { (command : Result OpSpec RefusalSpec) → command ≡ parsed
-        → IsAnswered machine.old command result text.new machine.new }
+    requires { length text.old + 193 ≤ N }
+    ensures answers { (command : Result OpSpec RefusalSpec) → command ≡ parsed
+        → IsAnswered machine.old command result text.old text.new machine.new }
+    ensures fits { length text.new ≤ length text.old + 193 }
 {
     match parsed {
         Ok(op) => answer_op(machine, text, &op),
@@ -257,13 +316,15 @@ fn answer_read(
 }
 
 /// Answers an operation, or the fault of a line.
-fn answer_parsed(
+fn answer_parsed<const N: usize>(
     machine: &mut Machine,
-    text: &mut Line,
+    text: &mut Page<N>,
     parsed: Result<Op, Refusal>,
 ) -> Result<(), Refusal>
-    ensures { (command : Result OpSpec RefusalSpec) → command ≡ parsed
-        → IsAnswered machine.old command result text.new machine.new }
+    requires { length text.old + 193 ≤ N }
+    ensures answers { (command : Result OpSpec RefusalSpec) → command ≡ parsed
+        → IsAnswered machine.old command result text.old text.new machine.new }
+    ensures fits { length text.new ≤ length text.old + 193 }
 {
     match parsed {
         Ok(op) => answer_any_op(machine, text, &op),
@@ -271,18 +332,24 @@ fn answer_parsed(
     }
 }
 
-/// Does an operation, and makes the text that of the reply. A refusal is the answer, and nothing is said of the text.
+/// Does an operation, and appends its reply and a line feed. A refusal is the answer, and the text is as it was.
 #[inline(always)]
-fn answer_op(machine: &mut Machine, text: &mut Line, op: &Op) -> Result<(), Refusal>
-    ensures { (command : Result OpSpec RefusalSpec) → command ≡ Ok op.now
-        → IsAnswered machine.old command result text.new machine.new }
+fn answer_op<const N: usize>(
+    machine: &mut Machine,
+    text: &mut Page<N>,
+    op: &Op,
+) -> Result<(), Refusal>
+    requires { length text.old + 193 ≤ N }
+    ensures answers { (command : Result OpSpec RefusalSpec) → command ≡ Ok op.now
+        → IsAnswered machine.old command result text.old text.new machine.new }
+    ensures fits { length text.new ≤ length text.old + 193 }
 {
     let reply = machine.step(op);
     match reply {
         Reply::Refused(refusal) => Err(refusal),
         _ => {
-            text.clear();
             push_reply(text, &reply);
+            text.push_known(*b"\n");
             Ok(())
         }
     }
@@ -290,16 +357,22 @@ fn answer_op(machine: &mut Machine, text: &mut Line, op: &Op) -> Result<(), Refu
 
 /// The same of an operation that the compiler does not know, in one place.
 #[inline(never)]
-fn answer_any_op(machine: &mut Machine, text: &mut Line, op: &Op) -> Result<(), Refusal>
-    ensures { (command : Result OpSpec RefusalSpec) → command ≡ Ok op.now
-        → IsAnswered machine.old command result text.new machine.new }
+fn answer_any_op<const N: usize>(
+    machine: &mut Machine,
+    text: &mut Page<N>,
+    op: &Op,
+) -> Result<(), Refusal>
+    requires { length text.old + 193 ≤ N }
+    ensures answers { (command : Result OpSpec RefusalSpec) → command ≡ Ok op.now
+        → IsAnswered machine.old command result text.old text.new machine.new }
+    ensures fits { length text.new ≤ length text.old + 193 }
 {
     let reply = step(machine, op);
     match reply {
         Reply::Refused(refusal) => Err(refusal),
         _ => {
-            text.clear();
             push_any_reply(text, &reply);
+            text.push_known(*b"\n");
             Ok(())
         }
     }

@@ -1,26 +1,25 @@
 //! Runs a script.
-ghost use Rattle.std.specs.Prelude.{◌≡◌, ℕ, true, false, List, [], ◌∷◌, ◌++◌, map, take, length, not, ◌==◌, ◌↔◌, Ok, Err, IfSome, IfOk, OnOk, OnErr, IsErr};
+ghost use Rattle.std.specs.Prelude.{◌≡◌, ℕ, true, false, List, [], ◌∷◌, ◌++◌, map, take, length, not, ◌==◌, ◌↔◌, Ok, Err, IfOk, OnOk, OnErr, IsErr};
 ghost use Rattle.std.specs.Io.KnownBytes.{Appends};
 ghost use Rattle.cc_machine.specs.Run.{IsReached};
 ghost use Rattle.cc_script.specs.Lines.{IsLine};
-ghost use Rattle.cc_script.specs.Commands.{operation_of};
-ghost use Rattle.cc_script.specs.Replies.{refusal_text, reply_text, is_error};
-ghost use Rattle.cc_script.specs.Output.{Takes, with_line_feed, rest_text};
+ghost use Rattle.cc_script.specs.Replies.{reply_text, is_error};
+ghost use Rattle.cc_script.specs.Output.{with_line_feed, rest_text};
 ghost use Rattle.cc_script.specs.Devices.{TakesBeginning};
 ghost use Rattle.cc_script.specs.Correct.{StopsInReply, AnswersScript, RunsScript, stand};
-ghost use Rattle.cc_script.specs.Engine.{AnswersLine, CutsLine, AnswersOpening, commands_from, Answers};
+ghost use Rattle.cc_script.specs.Engine.{AnswersOpening, commands_from, Answers};
 
-use crate::answering::{answer, step};
+use crate::answering::step;
 use crate::devices::{Failed, Sink, Source, write_all};
-use crate::line::Line;
 use crate::line_start::{LineStart, split_at_line_feed};
-use crate::printing::{push_any_reply, refusal_bytes, refusal_line};
+use crate::page::WholeLine;
+use crate::printing::{push_any_reply, refusal_bytes};
 use crate::summary::{ScriptFault, Summary};
 use cc_machine::{Machine, Op, Reply};
 use cc_word::Refusal;
 
 /// The most bytes that are read at once.
-const PIECE: usize = 32768;
+const PIECE: usize = 65536;
 
 /// Runs the script that the source gives: each line is stepped by the machine, and its reply is written
 /// before the next line is looked at. Where replies were written since the source was last read, the sink is
@@ -94,7 +93,7 @@ fn run_pieces<R: Source, W: Sink>(
     ensures passed_before_read { result ≡ Err ScriptFault.Read → W.waiting_bytes sink.old ≡ [] → W.waiting_bytes sink.new ≡ [] }
 {
     let mut start = LineStart::new();
-    let mut text = Line::new();
+    let mut text = WholeLine::new();
     let mut piece = [0u8; PIECE];
     let opening_error = match take_opening(machine, &mut text, opening, sink) {
         Ok(is_error) => is_error,
@@ -126,7 +125,7 @@ fn run_pieces<R: Source, W: Sink>(
 /// waits. Tells whether a reply was an error.
 fn take_opening<W: Sink>(
     machine: &mut Machine,
-    text: &mut Line,
+    text: &mut WholeLine,
     opening: &[Op],
     sink: &mut W,
 ) -> Result<bool, Failed>
@@ -160,7 +159,7 @@ fn take_opening<W: Sink>(
 fn take_piece<W: Sink>(
     machine: &mut Machine,
     start: &mut LineStart,
-    text: &mut Line,
+    text: &mut WholeLine,
     piece: &[u8],
     sink: &mut W,
 ) -> Result<bool, Failed>
@@ -199,7 +198,7 @@ fn take_piece<W: Sink>(
 fn end_line<W: Sink>(
     machine: &mut Machine,
     start: &mut LineStart,
-    text: &mut Line,
+    text: &mut WholeLine,
     end: &[u8],
     sink: &mut W,
 ) -> Result<bool, Failed>
@@ -213,7 +212,7 @@ fn end_line<W: Sink>(
 {
     if start.is_empty() {
         // the line stands whole in the piece
-        match answer_line(machine, text, end, sink) {
+        match sink.answer(machine, text, end) {
             Ok(is_error) => Ok(is_error),
             Err(Failed) => Err(Failed),
         }
@@ -231,7 +230,7 @@ fn end_line<W: Sink>(
 fn end_begun_line<W: Sink>(
     machine: &mut Machine,
     start: &mut LineStart,
-    text: &mut Line,
+    text: &mut WholeLine,
     end: &[u8],
     sink: &mut W,
 ) -> Result<bool, Failed>
@@ -244,7 +243,7 @@ fn end_begun_line<W: Sink>(
     ensures fails { IsErr result ↔ (W.has_failed sink.new ≡ true) }
 {
     start.extend(end);
-    match answer_line(machine, text, start.as_slice(), sink) {
+    match sink.answer(machine, text, start.as_slice()) {
         Ok(is_error) => {
             start.clear();
             Ok(is_error)
@@ -253,48 +252,8 @@ fn end_begun_line<W: Sink>(
     }
 }
 
-/// Takes one line and writes its reply. Tells whether that is an error.
-#[inline(always)]
-fn answer_line<W: Sink>(
-    machine: &mut Machine,
-    text: &mut Line,
-    line: &[u8],
-    sink: &mut W,
-) -> Result<bool, Failed>
-    requires { W.has_failed sink.old ≡ false }
-    ensures ok { IfOk result (λ error. AnswersLine machine.old line.now (W.taken_bytes sink.old) (W.taken_bytes sink.new) error machine.new) }
-    ensures err { OnErr result (CutsLine machine.old line.now (W.taken_bytes sink.old) (W.taken_bytes sink.new) machine.new) }
-    ensures fails { IsErr result ↔ (W.has_failed sink.new ≡ true) }
-{
-    match answer(machine, text, line) {
-        Ok(()) => match text.write(sink) {
-            Ok(()) => Ok(false),
-            Err(Failed) => Err(Failed),
-        },
-        Err(refusal) => match write_refusal(refusal, sink) {
-            Ok(is_error) => Ok(is_error),
-            Err(Failed) => Err(Failed),
-        },
-    }
-}
-
-/// Writes the refusal of a line or of its operation, which is an error.
-#[inline(always)]
-fn write_refusal<W: Sink>(refusal: Refusal, sink: &mut W) -> Result<bool, Failed>
-    requires { W.has_failed sink.old ≡ false }
-    ensures error { IfOk result (λ error. error ≡ true) }
-    ensures ok { OnOk result (Appends (W.taken_bytes sink.old) (W.taken_bytes sink.new) (with_line_feed (refusal_text refusal))) }
-    ensures err { OnErr result (TakesBeginning (W.taken_bytes sink.old) (W.taken_bytes sink.new) (with_line_feed (refusal_text refusal))) }
-    ensures fails { IsErr result ↔ (W.has_failed sink.new ≡ true) }
-{
-    match write_all(sink, refusal_bytes(refusal)) {
-        Ok(()) => Ok(true),
-        Err(Failed) => Err(Failed),
-    }
-}
-
 /// Writes a reply. Tells whether it is an error.
-fn write_reply<W: Sink>(text: &mut Line, reply: &Reply, sink: &mut W) -> Result<bool, Failed>
+fn write_reply<W: Sink>(text: &mut WholeLine, reply: &Reply, sink: &mut W) -> Result<bool, Failed>
     requires { W.has_failed sink.old ≡ false }
     ensures error { IfOk result (λ error. error ≡ is_error reply.now) }
     ensures ok { OnOk result (Appends (W.taken_bytes sink.old) (W.taken_bytes sink.new) (with_line_feed (reply_text reply.now))) }
@@ -303,7 +262,8 @@ fn write_reply<W: Sink>(text: &mut Line, reply: &Reply, sink: &mut W) -> Result<
 {
     text.clear();
     push_any_reply(text, reply);
-    match text.write(sink) {
+    text.push_known(*b"\n");
+    match write_all(sink, text.bytes()) {
         Ok(()) => Ok(is_refusal(reply)),
         Err(Failed) => Err(Failed),
     }
@@ -348,8 +308,7 @@ fn refuse_rest<W: Sink>(rest: &[u8], sink: &mut W) -> Result<bool, Failed>
     if rest.is_empty() {
         return Ok(false);
     }
-    let mut text = refusal_line(Refusal::Unfinished);
-    match text.write(sink) {
+    match write_all(sink, refusal_bytes(Refusal::Unfinished)) {
         Ok(()) => Ok(true),
         Err(Failed) => Err(Failed),
     }

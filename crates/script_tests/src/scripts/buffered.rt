@@ -1,7 +1,8 @@
-//! A sink that lets bytes wait in room that is lent to it.
+//! A sink that lets bytes wait on a page that is lent to it.
 use cc_machine::Machine;
 use cc_script::{
-    Buffered, FromReader, FromWriter, Sink, SliceSink, SliceSource, Summary, run_script,
+    Buffered, FromReader, FromWriter, MOST_WAITING, Sink, SliceSink, SliceSource, Summary, Waiting,
+    run_script,
 };
 use std::alloc::{AllocError, Global};
 use std::cell::Cell;
@@ -54,9 +55,9 @@ fn answers_through(
     wanted: &[u8; 16],
 ) -> bool {
     let mut taken = [0u8; 16];
-    let mut room = [0u8; 8];
+    let mut page = Waiting::new();
     let inner = SliceSink::new(&mut taken, piece.max(1), fail_at);
-    let mut sink = Buffered::new(inner, &mut room[..size.min(8)]);
+    let mut sink = Buffered::new(inner, &mut page, size.min(MOST_WAITING));
     answers(&mut sink, rows) && taken == *wanted
 }
 
@@ -87,29 +88,30 @@ fn bytes_not_taken_go_on_waiting(rt: HostRuntime) {
     assert!(rt; answers_through(8, 2, Some(2), &NOT_TAKEN, taken));
 }
 
-/// A script, its replies, and sizes of the room: less than a reply has, as much, and enough for all.
+/// A script, its replies, and sizes of the room: less than a reply has, as much, enough for all, and enough for 193
+/// bytes, as many as a reply may have, with none, some and all of the others before them.
 #[rattlefmt::skip]
 const SCRIPTS: [(&[u8], &[u8], [usize; 9]); 2] = [
     (
         b"round 512\n\nshow 0\nshow 1\nx",
         b"round 0x200 0x1 0xffffffffffffffff\nerror 1 syntax\ncap ffff0000000000000000000000000000 0x0 0x10000000000000000 ffff 0 3ffff -\nerror 5 slot\nerror 2 unfinished\n",
-        [0, 1, 2, 7, 34, 35, 36, 64, 200],
+        [0, 1, 2, 34, 35, 64, 192, 193, 228],
     ),
     // each reply has fifteen bytes
     (
         b"a\nb\nc\n",
         b"error 1 syntax\nerror 1 syntax\nerror 1 syntax\n",
-        [14, 15, 16, 29, 30, 31, 44, 45, 46],
+        [14, 15, 16, 30, 45, 207, 208, 222, 223],
     ),
 ];
 
 /// These replies reach the slice through room of this size.
 fn replies(machine: &mut Machine, script: &[u8], wanted: &[u8], size: usize) -> bool {
     let mut taken = [0u8; 256];
-    let mut room = [0u8; 200];
+    let mut page = Waiting::new();
     let mut source = SliceSource::new(script, 1 + size / 8, None);
     let inner = SliceSink::new(&mut taken, 7, None);
-    let mut sink = Buffered::new(inner, &mut room[..size.min(200)]);
+    let mut sink = Buffered::new(inner, &mut page, size.min(MOST_WAITING));
     let _ = run_script(machine, &mut source, &mut sink);
     let count = sink.inner().taken();
     taken.get(..count) == Some(wanted)
@@ -177,9 +179,9 @@ fn fails_behind(sink: &mut Buffered<Buffered<SliceSink>>) -> bool {
 #[test]
 fn failed_passing_on_behind_is_told(rt: HostRuntime) {
     let mut taken = [0u8; 16];
-    let (mut near, mut far) = ([0u8; 4], [0u8; 8]);
-    let behind = Buffered::new(SliceSink::new(&mut taken, 16, Some(1)), &mut far);
-    assert!(rt; fails_behind(&mut Buffered::new(behind, &mut near)));
+    let (mut near, mut far) = (Waiting::new(), Waiting::new());
+    let behind = Buffered::new(SliceSink::new(&mut taken, 16, Some(1)), &mut far, 8);
+    assert!(rt; fails_behind(&mut Buffered::new(behind, &mut near, 4)));
 }
 
 /// A writer that tells how many bytes it took.
@@ -235,13 +237,13 @@ const PIECES: [(usize, &[u8]); 7] = [
 /// Through room of this size each reply comes in time, and all of them.
 fn come_in_time(machine: &mut Machine, size: usize) -> bool {
     let taken = Cell::new(0usize);
-    let mut room = [0u8; 64];
+    let mut page = Waiting::new();
     let mut source = FromReader::new(Waits {
         taken: &taken,
         pieces: &PIECES,
     });
     let writer = FromWriter::new(Told { taken: &taken });
-    let mut sink = Buffered::new(writer, &mut room[..size.min(64)]);
+    let mut sink = Buffered::new(writer, &mut page, size.min(MOST_WAITING));
     let result = run_script(machine, &mut source, &mut sink);
     result == Ok(Summary { any_error: true }) && taken.get() == 94
 }
@@ -256,7 +258,7 @@ fn come_in_time_anew(alloc: Global, size: usize) -> bool {
 
 #[test]
 fn replies_come_before_the_next_read(rt: HostRuntime) {
-    for size in [0usize, 1, 14, 15, 16, 64] {
+    for size in [0usize, 1, 14, 15, 16, 64, 193, 207, 208] {
         assert!(rt; come_in_time_anew(rt.alloc(), size), "{size}");
     }
 }

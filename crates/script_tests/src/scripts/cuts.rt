@@ -2,7 +2,9 @@
 //! each reply on, and to sinks in which replies wait. Which lines a machine took is seen from its replies to the others.
 use super::{End, Fails, Pieces, is_end, run_between};
 use cc_machine::Machine;
-use cc_script::{Buffered, ScriptFault, SliceSink, SliceSource, Summary, run_script};
+use cc_script::{
+    Buffered, MOST_WAITING, ScriptFault, SliceSink, SliceSource, Summary, Waiting, run_script,
+};
 use std::alloc::{AllocError, Global};
 
 const SCRIPT: &[u8] =
@@ -80,11 +82,15 @@ fn line_feeds(text: &[u8]) -> usize {
     count
 }
 
-/// The room that the program lends.
-const MOST_ROOM: usize = 32_768;
-
 /// The size of the room in which replies wait; `None` where the sink passes each write on.
-const ROOMS: [Option<usize>; 6] = [None, Some(1), Some(2), Some(64), Some(200), Some(MOST_ROOM)];
+const ROOMS: [Option<usize>; 6] = [
+    None,
+    Some(1),
+    Some(2),
+    Some(64),
+    Some(200),
+    Some(MOST_WAITING),
+];
 
 #[derive(Clone, Copy)]
 struct Devices {
@@ -107,10 +113,10 @@ fn run_buffered(
     size: usize,
     taken: &mut [u8],
 ) -> (End, usize) {
-    let mut room = [0u8; MOST_ROOM];
+    let mut page = Waiting::new();
     let mut source = SliceSource::new(text, devices.pieces.0.max(1), devices.fails.0);
     let sink = SliceSink::new(taken, devices.pieces.1.max(1), devices.fails.1);
-    let mut sink = Buffered::new(sink, &mut room[..size.min(MOST_ROOM)]);
+    let mut sink = Buffered::new(sink, &mut page, size.min(MOST_WAITING));
     let end = run_script(machine, &mut source, &mut sink);
     (end, sink.inner().taken())
 }

@@ -1,4 +1,4 @@
-use Rattle.std.proofs.Common.{ℕ, List, subst}
+use Rattle.std.proofs.Common.{ℕ, List, subst, ◌∙◌}
 use Rattle.std.specs.Prelude.{OnErr, OnOk}
 use Rattle.std.specs.Io.KnownBytes.{Appends}
 use Rattle.cc_script.specs.Devices.{TakesBeginning}
@@ -6,10 +6,10 @@ use Rattle.cc_command.proofs.drawing.write_rectangle.Goals as goal
 
 pub returns-clause-ok : goal.returns-clause-ok
 returns-clause-ok g c =
-    subst (λ (l : List ℕ). OnOk c.write.result (Appends (g.W.Sink.taken_bytes c.args.sink.now) (g.W.Sink.taken_bytes c.write.new.sink) l))
-    c.rectangle_line-line.ensures c.write.ensures.ok
+    subst (λ (l : List ℕ). OnOk c.write_all.result (Appends (g.W.Sink.taken_bytes c.args.sink.now) (g.W.Sink.taken_bytes c.write_all.new.sink) l))
+    (c.bytes.ensures.value ∙ c.rectangle_line-line.ensures) c.write_all.ensures.ok
 
 pub returns-clause-err : goal.returns-clause-err
 returns-clause-err g c =
-    subst (λ (l : List ℕ). OnErr c.write.result (TakesBeginning (g.W.Sink.taken_bytes c.args.sink.now) (g.W.Sink.taken_bytes c.write.new.sink) l))
-    c.rectangle_line-line.ensures c.write.ensures.err
+    subst (λ (l : List ℕ). OnErr c.write_all.result (TakesBeginning (g.W.Sink.taken_bytes c.args.sink.now) (g.W.Sink.taken_bytes c.write_all.new.sink) l))
+    (c.bytes.ensures.value ∙ c.rectangle_line-line.ensures) c.write_all.ensures.err

@@ -1,4 +1,6 @@
 use Rattle.std.proofs.Common.{◌∙◌, ◌∷◌, ◌++◌, [], ℕ, List, ap, append_assoc, false, true, inl, inr, refl, subst}
+use Rattle.cc_word.specs.declared.refusal.Refusal.TheVariants.{Syntax}
+use Rattle.cc_script.specs.Replies.{refusal_text}
 use Rattle.cc_decode.specs.Row.{IsWordRow}
 use Rattle.cc_decode.proofs.answers.push_answer.Goals as goal
 
@@ -19,8 +21,8 @@ returns-in-Some c =
 
 pub returns-in-None : goal.returns-in-None
 returns-in-None c = record {
-  answer = record { text = c.refusal_line.result; is_error = true };
-  is_answer = inr (λ word. let some = c.in-None.ensures.found.1 word in cc some, c.refusal_line.ensures, refl);
-  written = c.push_byte-in-None.ensures.value ∙ ap (λ (l : List ℕ). l ++ 10 ∷ []) (c.push.ensures ∙ ap (λ (l : List ℕ). c.args.batch.now ++ l) c.bytes.ensures.value) ∙ append_assoc c.args.batch.now c.refusal_line.result (10 ∷ []);
+  answer = record { text = refusal_text Syntax; is_error = true };
+  is_answer = inr (λ word. let some = c.in-None.ensures.found.1 word in cc some, refl, refl);
+  written = c.push.ensures ∙ ap (λ (l : List ℕ). c.args.batch.now ++ l) c.refusal_bytes.ensures.value;
   error_is = refl;
 }

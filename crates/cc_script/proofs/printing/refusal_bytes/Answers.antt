@@ -2,90 +2,90 @@ use Rattle.std.proofs.Common.{refl}
 use Rattle.std.specs.Fmt.{digits}
 use Rattle.cc_script.proofs.printing.refusal_bytes.Goals as goal
 
-pub returns-in-Syntax : goal.returns-in-Syntax
+pub returns-in-Syntax-clause-value : goal.returns-in-Syntax-clause-value
 unfolding digits
-returns-in-Syntax c = rw c.in-Syntax.is refl
+returns-in-Syntax-clause-value c = rw c.in-Syntax.is refl
 
-pub returns-in-Unfinished : goal.returns-in-Unfinished
+pub returns-in-Unfinished-clause-value : goal.returns-in-Unfinished-clause-value
 unfolding digits
-returns-in-Unfinished c = rw c.in-Unfinished.is refl
+returns-in-Unfinished-clause-value c = rw c.in-Unfinished.is refl
 
-pub returns-in-TooLong : goal.returns-in-TooLong
+pub returns-in-TooLong-clause-value : goal.returns-in-TooLong-clause-value
 unfolding digits
-returns-in-TooLong c = rw c.in-TooLong.is refl
+returns-in-TooLong-clause-value c = rw c.in-TooLong.is refl
 
-pub returns-in-OutOfRange : goal.returns-in-OutOfRange
+pub returns-in-OutOfRange-clause-value : goal.returns-in-OutOfRange-clause-value
 unfolding digits
-returns-in-OutOfRange c = rw c.in-OutOfRange.is refl
+returns-in-OutOfRange-clause-value c = rw c.in-OutOfRange.is refl
 
-pub returns-in-NoSlot : goal.returns-in-NoSlot
+pub returns-in-NoSlot-clause-value : goal.returns-in-NoSlot-clause-value
 unfolding digits
-returns-in-NoSlot c = rw c.in-NoSlot.is refl
+returns-in-NoSlot-clause-value c = rw c.in-NoSlot.is refl
 
-pub returns-in-Revoked : goal.returns-in-Revoked
+pub returns-in-Revoked-clause-value : goal.returns-in-Revoked-clause-value
 unfolding digits
-returns-in-Revoked c = rw c.in-Revoked.is refl
+returns-in-Revoked-clause-value c = rw c.in-Revoked.is refl
 
-pub returns-in-Sealed : goal.returns-in-Sealed
+pub returns-in-Sealed-clause-value : goal.returns-in-Sealed-clause-value
 unfolding digits
-returns-in-Sealed c = rw c.in-Sealed.is refl
+returns-in-Sealed-clause-value c = rw c.in-Sealed.is refl
 
-pub returns-in-Unsealed : goal.returns-in-Unsealed
+pub returns-in-Unsealed-clause-value : goal.returns-in-Unsealed-clause-value
 unfolding digits
-returns-in-Unsealed c = rw c.in-Unsealed.is refl
+returns-in-Unsealed-clause-value c = rw c.in-Unsealed.is refl
 
-pub returns-in-OutOfBounds : goal.returns-in-OutOfBounds
+pub returns-in-OutOfBounds-clause-value : goal.returns-in-OutOfBounds-clause-value
 unfolding digits
-returns-in-OutOfBounds c = rw c.in-OutOfBounds.is refl
+returns-in-OutOfBounds-clause-value c = rw c.in-OutOfBounds.is refl
 
-pub returns-in-Inexact : goal.returns-in-Inexact
+pub returns-in-Inexact-clause-value : goal.returns-in-Inexact-clause-value
 unfolding digits
-returns-in-Inexact c = rw c.in-Inexact.is refl
+returns-in-Inexact-clause-value c = rw c.in-Inexact.is refl
 
-pub returns-in-Unrepresentable : goal.returns-in-Unrepresentable
+pub returns-in-Unrepresentable-clause-value : goal.returns-in-Unrepresentable-clause-value
 unfolding digits
-returns-in-Unrepresentable c = rw c.in-Unrepresentable.is refl
+returns-in-Unrepresentable-clause-value c = rw c.in-Unrepresentable.is refl
 
-pub returns-in-MissingPermission : goal.returns-in-MissingPermission
+pub returns-in-MissingPermission-clause-value : goal.returns-in-MissingPermission-clause-value
 unfolding digits
-returns-in-MissingPermission c = rw c.in-MissingPermission.is refl
+returns-in-MissingPermission-clause-value c = rw c.in-MissingPermission.is refl
 
-pub returns-in-ReservedType : goal.returns-in-ReservedType
+pub returns-in-ReservedType-clause-value : goal.returns-in-ReservedType-clause-value
 unfolding digits
-returns-in-ReservedType c = rw c.in-ReservedType.is refl
+returns-in-ReservedType-clause-value c = rw c.in-ReservedType.is refl
 
-pub returns-in-TypeMismatch : goal.returns-in-TypeMismatch
+pub returns-in-TypeMismatch-clause-value : goal.returns-in-TypeMismatch-clause-value
 unfolding digits
-returns-in-TypeMismatch c = rw c.in-TypeMismatch.is refl
+returns-in-TypeMismatch-clause-value c = rw c.in-TypeMismatch.is refl
 
-pub returns-in-NotCanonical : goal.returns-in-NotCanonical
+pub returns-in-NotCanonical-clause-value : goal.returns-in-NotCanonical-clause-value
 unfolding digits
-returns-in-NotCanonical c = rw c.in-NotCanonical.is refl
+returns-in-NotCanonical-clause-value c = rw c.in-NotCanonical.is refl
 
-pub returns-in-ExceedsAuthority : goal.returns-in-ExceedsAuthority
+pub returns-in-ExceedsAuthority-clause-value : goal.returns-in-ExceedsAuthority-clause-value
 unfolding digits
-returns-in-ExceedsAuthority c = rw c.in-ExceedsAuthority.is refl
+returns-in-ExceedsAuthority-clause-value c = rw c.in-ExceedsAuthority.is refl
 
-pub returns-in-NoPool : goal.returns-in-NoPool
+pub returns-in-NoPool-clause-value : goal.returns-in-NoPool-clause-value
 unfolding digits
-returns-in-NoPool c = rw c.in-NoPool.is refl
+returns-in-NoPool-clause-value c = rw c.in-NoPool.is refl
 
-pub returns-in-PoolAlreadySet : goal.returns-in-PoolAlreadySet
+pub returns-in-PoolAlreadySet-clause-value : goal.returns-in-PoolAlreadySet-clause-value
 unfolding digits
-returns-in-PoolAlreadySet c = rw c.in-PoolAlreadySet.is refl
+returns-in-PoolAlreadySet-clause-value c = rw c.in-PoolAlreadySet.is refl
 
-pub returns-in-ZeroSize : goal.returns-in-ZeroSize
+pub returns-in-ZeroSize-clause-value : goal.returns-in-ZeroSize-clause-value
 unfolding digits
-returns-in-ZeroSize c = rw c.in-ZeroSize.is refl
+returns-in-ZeroSize-clause-value c = rw c.in-ZeroSize.is refl
 
-pub returns-in-NoRoom : goal.returns-in-NoRoom
+pub returns-in-NoRoom-clause-value : goal.returns-in-NoRoom-clause-value
 unfolding digits
-returns-in-NoRoom c = rw c.in-NoRoom.is refl
+returns-in-NoRoom-clause-value c = rw c.in-NoRoom.is refl
 
-pub returns-in-NoObject : goal.returns-in-NoObject
+pub returns-in-NoObject-clause-value : goal.returns-in-NoObject-clause-value
 unfolding digits
-returns-in-NoObject c = rw c.in-NoObject.is refl
+returns-in-NoObject-clause-value c = rw c.in-NoObject.is refl
 
-pub returns-in-Full : goal.returns-in-Full
+pub returns-in-Full-clause-value : goal.returns-in-Full-clause-value
 unfolding digits
-returns-in-Full c = rw c.in-Full.is refl
+returns-in-Full-clause-value c = rw c.in-Full.is refl

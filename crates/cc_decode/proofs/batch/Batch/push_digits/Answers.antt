@@ -1,5 +1,5 @@
 use Rattle.std.proofs.Common.{◌∙◌, ap, List, ℕ, ◌++◌}
-use Rattle.cc_script.proofs.DigitLemmas.{last_short_digits}
+use Rattle.cc_decode.proofs.DigitLemmas.{last_short_digits}
 use Rattle.cc_decode.proofs.batch.Batch.push_digits.Goals as goal
 
 pub returns-clause-value : goal.returns-clause-value

@@ -1,5 +1,5 @@
 use Rattle.cc_script.proofs.DigitLemmas.{counted}
-use Rattle.cc_script.proofs.line.digit_count.Goals as goal
+use Rattle.cc_script.proofs.page.digit_count.Goals as goal
 
 pub returns-clause-fits : goal.returns-clause-fits
 returns-clause-fits c = (counted c.args.number c.max.result c.ranges.number.fits c.max.ensures).fits

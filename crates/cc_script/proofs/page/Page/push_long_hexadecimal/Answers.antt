@@ -2,10 +2,10 @@ use Rattle.std.proofs.Common.{◌∙◌, ap, ℕ, List, [], ◌∷◌, ◌++◌,
 use Rattle.std.specs.Fmt.{digits}
 use Rattle.cc_word.specs.WordText.{digits_of}
 use Rattle.cc_script.proofs.DigitLemmas.{digits-long}
-use Rattle.cc_script.proofs.line.Line.push_long_hexadecimal.Goals as goal
+use Rattle.cc_script.proofs.page.Page.push_long_hexadecimal.Goals as goal
 
 pub returns-clause-value : goal.returns-clause-value
-returns-clause-value c =
+returns-clause-value g c =
     let number = c.args.number in
     let before : List ℕ = c.args.self.now ++ 48 ∷ 120 ∷ [] in
     let high = digits 16 false (number / 2 ^ 64) in

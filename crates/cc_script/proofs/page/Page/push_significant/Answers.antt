@@ -2,10 +2,10 @@ use Rattle.std.proofs.Common.{◌≡◌, ◌∙◌, ◌-◌, ◌+◌, ap, arith,
 use Rattle.std.proofs.Math.Seq.{take-append-add}
 use Rattle.cc_word.proofs.DigitLemmas.{length-digits_of}
 use Rattle.cc_script.proofs.DigitLemmas.{HasDigits, digits-moved}
-use Rattle.cc_script.proofs.line.Line.push_significant.Goals as goal
+use Rattle.cc_script.proofs.page.Page.push_significant.Goals as goal
 
 pub returns-clause-value : goal.returns-clause-value
-returns-clause-value c =
+returns-clause-value g c =
     let line = c.args.self.now in
     let count = c.digit_count-count.result in
     let sixteen = c.write_half.result in
