@@ -9,7 +9,7 @@ use crate::obj_type::UNSEALED_TYPE;
 use crate::perms::Perms;
 use bitflags::Flags;
 use cc_bounds::{Span, decode};
-use cc_word::{Fields, unpack, write_word};
+use cc_word::{Fields, unpack, write_word_fast};
 use std::marker::Model;
 
 /// More bytes than any line has.
@@ -106,7 +106,7 @@ impl WordLine {
         ensures fits { length self.new ≤ length self.old + 19 }
     {
         self.push(b"0x");
-        self.push(&write_word(number)[32 - digit_count(number)..]);
+        self.push(&write_word_fast(number)[32 - digit_count(number)..]);
     }
 
     // Appends the letters of permissions.

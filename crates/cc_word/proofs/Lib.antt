@@ -1,6 +1,7 @@
 pub mod WordLemmas
 pub mod UnpackLemmas
 pub mod TextLemmas
+pub mod PairLemmas
 pub mod ReadingLemmas
 pub mod WritingLemmas
 pub mod DigitLemmas

@@ -13,7 +13,7 @@ use Rattle.cc_word.proofs.TextLemmas.{digit_value-hex}
 use Rattle.std.specs.Char.{digit_value}
 use Rattle.std.specs.Str.Parse.{AllDigits, digits_value, digits_value_after}
 use Rattle.std.proofs.lemmas.Int.Digits.{digits_value-lt}
-use Rattle.cc_word.specs.declared.text.TheConstants.{DIGIT_VALUES, FIRST_DIGIT_VALUES}
+use Rattle.cc_word.specs.declared.kernels.TheConstants.{DIGIT_VALUES, FIRST_DIGIT_VALUES}
 
 -- what the table has for a byte
 abbrev pub worth : ℕ → ℕ

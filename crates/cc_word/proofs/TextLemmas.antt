@@ -2,7 +2,7 @@
 use Rattle.std.proofs.Common.{◌-◌, ◌<◌, ◌≤◌, inl, inr, ◌≡◌, ℕ, zero, suc, ◌/◌, ◌%◌, ◌^◌, Some, None, refl, sym, arith, ap, ◌∙◌, ◌++◌, List, [], take, drop, length, append-nil}
 use Rattle.std.proofs.lemmas.List.{take_all, take-append-le, drop_all, drop_at, length-drop}
 use Rattle.std.proofs.Math.Nat.{pow-suc, div-div-eq-div-mul, div-one}
-use Rattle.std.specs.Int.{w64, to_be_bytes, byte_at, bytes_high_first}
+use Rattle.std.specs.Int.{w64, w128, to_be_bytes, byte_at, bytes_high_first}
 use Rattle.hex.specs.Hex.{encode_with, lower_digits, hex_digit_value}
 use Rattle.std.proofs.lemmas.Bool.{cases_lt, le-ltb, lt-ltb}
 use Rattle.std.specs.Char.{digit_value}
@@ -45,6 +45,9 @@ encode-bytes_high_first (suc k) n =
 
 pub half_written : (half : ℕ) → encode_with lower_digits (to_be_bytes w64 half) ≡ digits_of 16 half
 half_written half = encode-bytes_high_first 8 half
+
+pub word_written : (word : ℕ) → encode_with lower_digits (to_be_bytes w128 word) ≡ digits_of 32 word
+word_written word = encode-bytes_high_first 16 word
 
 -- a text of 32 bytes whose first sixteen are written, and then the others, is what was written
 pub put_halves : (text first second : List ℕ) → length text ≡ 32 → length first ≡ 16 → length second ≡ 16

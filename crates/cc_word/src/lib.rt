@@ -3,11 +3,13 @@
 #![tactic(auto)]
 
 mod fields;
+mod kernels;
 mod layout;
 mod refusal;
 mod text;
 
 pub use fields::Fields;
+pub use kernels::{read_quarter, read_word_fast, write_half, write_word_fast, write_word_fast_to};
 pub use layout::{pack, unpack};
 pub use refusal::Refusal;
-pub use text::{read_quarter, read_word, write_half, write_word, write_word_to};
+pub use text::{read_word, write_word};

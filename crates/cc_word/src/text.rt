@@ -1,219 +1,57 @@
 //! Words as text: 32 hexadecimal digits, the highest first.
-ghost use Rattle.std.specs.Prelude.{◌≡◌, ◌↔◌, ◌+◌, ◌*◌, ◌/◌, ◌%◌, ◌<◌, ◌^◌, ◌++◌, length, slice_index, if◌then◌else◌, IsSome, IfSome};
-ghost use Rattle.std.specs.Char.{digit_value};
-ghost use Rattle.std.specs.List.{AllPass};
+ghost use Rattle.std.specs.Prelude.{◌≡◌, ◌↔◌, IsSome, IfSome};
+ghost use Rattle.std.specs.Int.{w128, from_be_bytes};
 ghost use Rattle.std.specs.Str.Parse.{digits_value};
-ghost use Rattle.hex.specs.Hex.{is_hex_digit, encode_with, lower_digits};
+ghost use Rattle.hex.specs.Hex.{encode_with, lower_digits};
 ghost use Rattle.cc_word.specs.WordText.{IsWordText, digits_of};
 
-/// What stands in the table for a byte that is no digit: more than eight digits spell.
-const NONE: u64 = 1 << 32;
+use hex::{decode_to_slice, encode_to_slice};
 
-/// The value of each byte as a hexadecimal digit, of either case.
-#[rattlefmt::skip]
-const DIGIT_VALUES: [u64; 256] = [
-    NONE, NONE, NONE, NONE, NONE, NONE, NONE, NONE, NONE, NONE, NONE, NONE, NONE, NONE, NONE, NONE,
-    NONE, NONE, NONE, NONE, NONE, NONE, NONE, NONE, NONE, NONE, NONE, NONE, NONE, NONE, NONE, NONE,
-    NONE, NONE, NONE, NONE, NONE, NONE, NONE, NONE, NONE, NONE, NONE, NONE, NONE, NONE, NONE, NONE,
-    0, 1, 2, 3, 4, 5, 6, 7, 8, 9, NONE, NONE, NONE, NONE, NONE, NONE,
-    NONE, 10, 11, 12, 13, 14, 15, NONE, NONE, NONE, NONE, NONE, NONE, NONE, NONE, NONE,
-    NONE, NONE, NONE, NONE, NONE, NONE, NONE, NONE, NONE, NONE, NONE, NONE, NONE, NONE, NONE, NONE,
-    NONE, 10, 11, 12, 13, 14, 15, NONE, NONE, NONE, NONE, NONE, NONE, NONE, NONE, NONE,
-    NONE, NONE, NONE, NONE, NONE, NONE, NONE, NONE, NONE, NONE, NONE, NONE, NONE, NONE, NONE, NONE,
-    NONE, NONE, NONE, NONE, NONE, NONE, NONE, NONE, NONE, NONE, NONE, NONE, NONE, NONE, NONE, NONE,
-    NONE, NONE, NONE, NONE, NONE, NONE, NONE, NONE, NONE, NONE, NONE, NONE, NONE, NONE, NONE, NONE,
-    NONE, NONE, NONE, NONE, NONE, NONE, NONE, NONE, NONE, NONE, NONE, NONE, NONE, NONE, NONE, NONE,
-    NONE, NONE, NONE, NONE, NONE, NONE, NONE, NONE, NONE, NONE, NONE, NONE, NONE, NONE, NONE, NONE,
-    NONE, NONE, NONE, NONE, NONE, NONE, NONE, NONE, NONE, NONE, NONE, NONE, NONE, NONE, NONE, NONE,
-    NONE, NONE, NONE, NONE, NONE, NONE, NONE, NONE, NONE, NONE, NONE, NONE, NONE, NONE, NONE, NONE,
-    NONE, NONE, NONE, NONE, NONE, NONE, NONE, NONE, NONE, NONE, NONE, NONE, NONE, NONE, NONE, NONE,
-    NONE, NONE, NONE, NONE, NONE, NONE, NONE, NONE, NONE, NONE, NONE, NONE, NONE, NONE, NONE, NONE,
-];
-
-/// What stands in the table of first digits for a byte that is no digit: sixteen times as much.
-const MORE: u64 = 16 * NONE;
-
-/// The value of each byte as the first of two hexadecimal digits: sixteen times that of [`DIGIT_VALUES`].
-#[rattlefmt::skip]
-const FIRST_DIGIT_VALUES: [u64; 256] = [
-    MORE, MORE, MORE, MORE, MORE, MORE, MORE, MORE, MORE, MORE, MORE, MORE, MORE, MORE, MORE, MORE,
-    MORE, MORE, MORE, MORE, MORE, MORE, MORE, MORE, MORE, MORE, MORE, MORE, MORE, MORE, MORE, MORE,
-    MORE, MORE, MORE, MORE, MORE, MORE, MORE, MORE, MORE, MORE, MORE, MORE, MORE, MORE, MORE, MORE,
-    0x00, 0x10, 0x20, 0x30, 0x40, 0x50, 0x60, 0x70, 0x80, 0x90, MORE, MORE, MORE, MORE, MORE, MORE,
-    MORE, 0xa0, 0xb0, 0xc0, 0xd0, 0xe0, 0xf0, MORE, MORE, MORE, MORE, MORE, MORE, MORE, MORE, MORE,
-    MORE, MORE, MORE, MORE, MORE, MORE, MORE, MORE, MORE, MORE, MORE, MORE, MORE, MORE, MORE, MORE,
-    MORE, 0xa0, 0xb0, 0xc0, 0xd0, 0xe0, 0xf0, MORE, MORE, MORE, MORE, MORE, MORE, MORE, MORE, MORE,
-    MORE, MORE, MORE, MORE, MORE, MORE, MORE, MORE, MORE, MORE, MORE, MORE, MORE, MORE, MORE, MORE,
-    MORE, MORE, MORE, MORE, MORE, MORE, MORE, MORE, MORE, MORE, MORE, MORE, MORE, MORE, MORE, MORE,
-    MORE, MORE, MORE, MORE, MORE, MORE, MORE, MORE, MORE, MORE, MORE, MORE, MORE, MORE, MORE, MORE,
-    MORE, MORE, MORE, MORE, MORE, MORE, MORE, MORE, MORE, MORE, MORE, MORE, MORE, MORE, MORE, MORE,
-    MORE, MORE, MORE, MORE, MORE, MORE, MORE, MORE, MORE, MORE, MORE, MORE, MORE, MORE, MORE, MORE,
-    MORE, MORE, MORE, MORE, MORE, MORE, MORE, MORE, MORE, MORE, MORE, MORE, MORE, MORE, MORE, MORE,
-    MORE, MORE, MORE, MORE, MORE, MORE, MORE, MORE, MORE, MORE, MORE, MORE, MORE, MORE, MORE, MORE,
-    MORE, MORE, MORE, MORE, MORE, MORE, MORE, MORE, MORE, MORE, MORE, MORE, MORE, MORE, MORE, MORE,
-    MORE, MORE, MORE, MORE, MORE, MORE, MORE, MORE, MORE, MORE, MORE, MORE, MORE, MORE, MORE, MORE,
-];
-
-/// The value of a digit, and [`NONE`] for a byte that is no digit.
-#[tactic(auto, using(crate::proofs::ReadingLemmas::value_listed))]
-fn value_of_digit(byte: u8) -> u64
-    ensures { result ≡ (if is_hex_digit byte then digit_value byte else 2 ^ 32) }
-{
-    DIGIT_VALUES[usize::from(byte)]
-}
-
-/// Sixteen times the value of a digit, and sixteen times [`NONE`] for a byte that is no digit.
-#[tactic(auto, using(crate::proofs::ReadingLemmas::first_value_listed))]
-fn value_of_first_digit(byte: u8) -> u64
-    ensures { result ≡ 16 * (if is_hex_digit byte then digit_value byte else 2 ^ 32) }
-{
-    FIRST_DIGIT_VALUES[usize::from(byte)]
-}
-
-/// The hexadecimal digit of a number below 16, in lower case.
-#[inline(always)]
-#[tactic(auto, using(crate::proofs::WritingLemmas::decimal_listed, crate::proofs::WritingLemmas::letter_listed))]
-fn digit_of(value: u8) -> u8
-    requires { value < 16 }
-    ensures { result ≡ slice_index lower_digits value }
-{
-    if value < 10 {
-        b'0' + value
-    } else {
-        b'a' - 10 + value
-    }
-}
-
-/// The first of the two hexadecimal digits of a byte.
-#[inline(always)]
-fn high_digit(byte: u8) -> u8
-    ensures { result ≡ slice_index lower_digits (byte / 16) }
-{
-    digit_of(byte / 16)
-}
-
-/// The second of them.
-#[inline(always)]
-fn low_digit(byte: u8) -> u8
-    ensures { result ≡ slice_index lower_digits (byte % 16) }
-{
-    digit_of(byte % 16)
-}
-
-/// The number that eight digits spell, which is below 2^32, or a greater one where a byte is no digit.
+/// Returns the word that 32 hexadecimal digits of either case spell.
 ///
-/// Two digits at a time, each from its own table, so that no digit has to be shifted by itself.
-#[inline(always)]
-fn value_of_eight(digits: &[u8]) -> u64
-    requires { length digits.now ≡ 8 }
-    ensures found { result < 2 ^ 32 ↔ AllPass is_hex_digit digits.now }
-    ensures value { result < 2 ^ 32 → result ≡ digits_value 16 digits.now }
-{
-    let mut number = 0;
-    for pair in 0..4 {
-        let first = value_of_first_digit(digits[2 * pair]);
-        let second = value_of_digit(digits[2 * pair + 1]);
-        number = number * 256 + first + second;
-    }
-    number
-}
-
-/// Writes the hexadecimal digits of bytes, two for each, in lower case.
-#[inline(always)]
-fn write_digits(bytes: &[u8], text: &mut [u8])
-    requires { length text.old ≡ 2 * length bytes.now }
-    ensures { text.new ≡ encode_with lower_digits bytes.now }
-{
-    for (index, byte) in bytes.iter().enumerate() {
-        text[2 * index] = high_digit(*byte);
-        text[2 * index + 1] = low_digit(*byte);
-    }
-}
-
-/// The digits of eight bytes.
-///
-/// It is called and not inlined, so that the bytes lie in memory and the compiler takes the digits of all in one vector.
-#[inline(never)]
-fn digits_of_eight(bytes: &[u8; 8]) -> [u8; 16]
-    ensures { result ≡ encode_with lower_digits bytes.now }
-{
-    let mut text = [0; 16];
-    write_digits(bytes, &mut text);
-    text
-}
-
-/// Writes the digits of a word's two halves.
-///
-/// It is called and not inlined, since the compiler turns the bytes of a half round at once where it has that half alone.
-#[inline(never)]
-fn write_halves(high: u64, low: u64, text: &mut [u8; 32])
-    ensures { text.new ≡ digits_of 16 high ++ digits_of 16 low }
-{
-    text[..16].copy_from_slice(&write_half(high));
-    text[16..32].copy_from_slice(&write_half(low));
-}
-
-/// The word that 32 hexadecimal digits of either case spell, and `None` for any other text: fewer or
-/// more digits, a prefix, a space, a byte that is no digit.
+/// Returns `None` for any other text: fewer or more digits, a prefix, a space, a byte that is not a digit.
+/// Where words come by the million, [`read_word_fast`](crate::read_word_fast) takes a quarter of the instructions.
 pub fn read_word(text: &[u8]) -> Option<u128>
     ensures found { IsSome result ↔ IsWordText text.now }
     ensures value { IfSome result (λ word. word ≡ digits_value 16 text.now) }
 {
-    if text.len() != 32 {
-        return None;
-    }
-    let (high, low) = (&text[..16], &text[16..32]);
-    let a = value_of_eight(&high[..8]);
-    let b = value_of_eight(&high[8..16]);
-    let c = value_of_eight(&low[..8]);
-    let d = value_of_eight(&low[8..16]);
-    // One test of all four: a byte that is no digit leaves a bit above the low 32.
-    if a | b | c | d < NONE {
-        Some((u128::from(a * NONE + b) << 64) + u128::from(c * NONE + d))
-    } else {
-        None
-    }
+    let bytes = bytes_of_digits(text)?;
+    Some(u128::from_be_bytes(bytes))
 }
 
-/// The number that eight hexadecimal digits of either case spell, as those of a quarter of a word, and `None` where
-/// a byte is no digit.
-#[inline(always)]
-pub fn read_quarter(digits: &[u8; 8]) -> Option<u32>
-    ensures found { IsSome result ↔ AllPass is_hex_digit digits.now }
-    ensures value { IfSome result (λ number. number ≡ digits_value 16 digits.now) }
-{
-    let number = value_of_eight(digits);
-    if number < NONE {
-        Some(number as u32)
-    } else {
-        None
-    }
-}
-
-/// The 32 hexadecimal digits of a word, in lower case, the highest first: what [`read_word`] reads back.
-#[inline(always)]
+/// Returns the 32 hexadecimal digits of a word, in lower case, the highest first.
+///
+/// Where words come by the million, [`write_word_fast`](crate::write_word_fast) takes fewer instructions.
 pub fn write_word(word: u128) -> [u8; 32]
     ensures { result ≡ digits_of 32 word }
 {
+    digits_of_bytes(bytes_of_word(word))
+}
+
+/// The bytes that 32 hexadecimal digits spell, the highest first.
+fn bytes_of_digits(text: &[u8]) -> Option<[u8; 16]>
+    ensures found { IsSome result ↔ IsWordText text.now }
+    ensures value { IfSome result (λ bytes. from_be_bytes w128 bytes ≡ digits_value 16 text.now) }
+{
+    let mut bytes = [0; 16];
+    match decode_to_slice(text, &mut bytes) {
+        Ok(()) => Some(bytes),
+        Err(_) => None,
+    }
+}
+
+/// The hexadecimal digits of sixteen bytes, two for each, in lower case.
+fn digits_of_bytes(bytes: [u8; 16]) -> [u8; 32]
+    ensures { result ≡ encode_with lower_digits bytes }
+{
     let mut text = [0; 32];
-    write_word_to(word, &mut text);
+    let _ = encode_to_slice(bytes, &mut text);
     text
 }
 
-/// Writes the digits of [`write_word`] to room that the caller has.
-#[inline(always)]
-#[tactic(auto, using(crate::proofs::DigitLemmas::word_halves))]
-pub fn write_word_to(word: u128, text: &mut [u8; 32])
-    ensures { text.new ≡ digits_of 32 word }
+/// The bytes of a word, the highest first.
+fn bytes_of_word(word: u128) -> [u8; 16]
+    ensures { encode_with lower_digits result ≡ digits_of 32 word }
 {
-    write_halves((word >> 64) as u64, (word % (1 << 64)) as u64, text);
-}
-
-/// The 16 hexadecimal digits of half a word, as of an address, in lower case, the highest first.
-#[inline(always)]
-#[tactic(auto, using(crate::proofs::TextLemmas::half_written))]
-pub fn write_half(half: u64) -> [u8; 16]
-    ensures { result ≡ digits_of 16 half }
-{
-    digits_of_eight(&half.to_be_bytes())
+    word.to_be_bytes()
 }

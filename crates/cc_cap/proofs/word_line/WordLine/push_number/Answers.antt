@@ -11,7 +11,7 @@ returns-clause-value c =
     let prefix : List ℕ = 48 ∷ 120 ∷ [] in
     let before : List ℕ = c.args.self.now ++ prefix in
     c.push-2.ensures
-    ∙ rw (c.push.ensures, c.write_word.ensures)
+    ∙ rw (c.push.ensures, c.write_word_fast.ensures)
     (ap (λ (l : List ℕ). before ++ l)
     (last_digits count number (omega (arith, has.most)) ∙ sym (digits-count count number has.some (omega (arith, has.most)) has.fits has.least))
     ∙ append_assoc c.args.self.now prefix (digits 16 false number))

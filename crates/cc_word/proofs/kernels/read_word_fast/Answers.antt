@@ -1,7 +1,7 @@
 use Rattle.std.proofs.Common.{ℕ, List, take, drop, arith, refl}
 use Rattle.std.proofs.lemmas.List.{length-drop, length-take}
 use Rattle.cc_word.proofs.ReadingLemmas.{in_eights, joined-small, small-joined}
-use Rattle.cc_word.proofs.text.read_word.Goals as goal
+use Rattle.cc_word.proofs.kernels.read_word_fast.Goals as goal
 
 pub slice_bounds-value_of_eight-end-3 : goal.slice_bounds-value_of_eight-end-3
 slice_bounds-value_of_eight-end-3 c =

@@ -2,7 +2,7 @@ use Rattle.std.proofs.Common.{◌≡◌, ◌∙◌}
 use Rattle.cc_word.specs.WordText.{digits_of}
 use Rattle.cc_word.proofs.DigitLemmas.{length-digits_of}
 use Rattle.cc_word.proofs.TextLemmas.{put_halves}
-use Rattle.cc_word.proofs.text.write_halves.Goals as goal
+use Rattle.cc_word.proofs.kernels.write_halves.Goals as goal
 
 pub returns : goal.returns
 returns c =

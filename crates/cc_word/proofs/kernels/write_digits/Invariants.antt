@@ -1,6 +1,6 @@
 use Rattle.std.proofs.Common.{◌≡◌, ◌*◌, ◌++◌, take, drop, length}
 use Rattle.hex.specs.Hex.{encode_with, lower_digits}
-use Rattle.cc_word.proofs.text.write_digits.Given as goal
+use Rattle.cc_word.proofs.kernels.write_digits.Given as goal
 
 abbrev pub invariant-loop-index : goal.invariant-loop-index
 invariant-loop-index l = record {

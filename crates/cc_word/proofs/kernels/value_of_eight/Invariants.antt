@@ -1,6 +1,6 @@
 use Rattle.std.proofs.Common.{◌≡◌, ◌+◌, ◌*◌, ◌≤◌, ◌^◌, drop}
 use Rattle.cc_word.proofs.ReadingLemmas.{gathered}
-use Rattle.cc_word.proofs.text.value_of_eight.Given as goal
+use Rattle.cc_word.proofs.kernels.value_of_eight.Given as goal
 
 abbrev pub invariant-loop-pair : goal.invariant-loop-pair
 invariant-loop-pair l = record {

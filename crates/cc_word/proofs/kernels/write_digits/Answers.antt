@@ -2,7 +2,7 @@ use Rattle.std.proofs.Common.{arith, ◌+◌, ◌*◌, ◌∙◌, slice_set}
 use Rattle.std.proofs.lemmas.List.{length-set}
 use Rattle.hex.specs.Hex.{lower_digits}
 use Rattle.hex.proofs.Pairs.{encode_step, encode_done}
-use Rattle.cc_word.proofs.text.write_digits.Goals as goal
+use Rattle.cc_word.proofs.kernels.write_digits.Goals as goal
 
 pub loop-index-preserved : goal.loop-index-preserved
 loop-index-preserved c =

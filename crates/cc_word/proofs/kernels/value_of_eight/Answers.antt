@@ -1,6 +1,6 @@
 use Rattle.std.proofs.Common.{arith, ◌+◌, ◌*◌, ◌≤◌, ◌∙◌, ℕ, slice_index}
 use Rattle.cc_word.proofs.ReadingLemmas.{worth, worth-most, gathered_pair, gathered_all, room_further, room_fits}
-use Rattle.cc_word.proofs.text.value_of_eight.Goals as goal
+use Rattle.cc_word.proofs.kernels.value_of_eight.Goals as goal
 
 -- what a number has after a pair fits, whatever the two bytes are
 pub overflow_mul-number : goal.overflow_mul-number
