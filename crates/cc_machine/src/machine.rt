@@ -161,7 +161,7 @@ impl Machine {
         })
     }
 
-    /// How many bytes the held objects take, padding counted: at most 2^64.
+    /// Returns the bytes that held objects take, padding included.
     pub fn held_bytes(&self) -> u128
         ensures { result ≡ held_bytes_of self.now }
     {
