@@ -10,7 +10,7 @@ use Rattle.cc_plan.specs.declared.object.ObjectState.{ObjectState}
 use Rattle.cc_plan.specs.declared.object.ObjectState.TheVariants.{Live, Freed}
 use Rattle.cc_plan.specs.declared.object.PlannedObject.{PlannedObject}
 use Rattle.cc_command.specs.Drawing.{AreCellsOf, end_cell, end_text, first_cell, is_in, layer_text, live_text, object_text, parts_text, quarantined_text, rectangle_text, scale_text}
-use Rattle.cc_command.specs.Picture.{cell_of}
+use Rattle.cc_explain.specs.Picture.{cell_of}
 use Rattle.cc_command.specs.declared.layout.Layout.{Layout}
 
 -- ---- the cells of a span

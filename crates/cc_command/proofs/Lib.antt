@@ -1,6 +1,3 @@
-mod PermissionLemmas
-mod StepLemmas
-mod StandingLemmas
 mod RequestLemmas
 mod TallyLemmas
 mod UsageLemmas

@@ -1,6 +1,7 @@
 -- How a tally changes as its text grows.
-use Rattle.std.proofs.Common.{◌≡◌, ◌≢◌, ◌∙◌, ◌+◌, ◌<◌, ◌≤◌, ◌-◌, ◌/◌, ◌%◌, ◌^◌, ℕ, zero, suc, Bool, true, false, cond, List, [], ◌∷◌, ◌++◌, ap, append-nil, arith, codes, decimal, get_or, get_or-set_other, get_or-set_same, set, if◌then◌else◌, length, length-append, length-take, min, refl, inl, inr, subst, sym, take, count_by}
-use Rattle.std.proofs.lemmas.List.{get_or_default, take_all}
+use Rattle.std.proofs.Common.{◌≡◌, ◌≢◌, ◌∙◌, ◌+◌, ◌<◌, ◌≤◌, ◌-◌, ◌/◌, ◌%◌, ◌^◌, ℕ, zero, suc, Bool, true, false, cond, List, [], ◌∷◌, ◌++◌, ap, append-nil, arith, codes, decimal, drop, get_or, get_or-set_other, get_or-set_same, set, if◌then◌else◌, length, length-append, length-take, min, refl, inl, inr, subst, sym, take, count_by}
+use Rattle.std.proofs.Math.ListN.{drop_of_length-le}
+use Rattle.std.proofs.lemmas.List.{drop-append-le, get_or_default, length-drop, take_all}
 use Rattle.std.proofs.lemmas.List.Sums.{sum_by_push}
 use Rattle.std.proofs.lemmas.Bool.{cases_lt}
 use Rattle.std.proofs.lemmas.Slice.Eq.{bytes_eq-Decides}
@@ -9,13 +10,13 @@ use Rattle.cc_word.specs.declared.refusal.Refusal.TheVariants.{Syntax, Unfinishe
 use Rattle.cc_word.specs.Refusal.{code_of, name_of}
 use Rattle.cc_script.specs.Lines.{IsLine, lines_of, rest_of}
 use Rattle.cc_script.specs.Replies.{refusal_text}
-use Rattle.cc_script.proofs.DecimalLemmas.{one_digit, two_digits}
+use Rattle.cc_text.proofs.DecimalLemmas.{one_digit, two_digits}
 use Rattle.cc_script.proofs.LineLemmas.{all_rest, lines_further, no_lines, rest_further, start_longer}
 use Rattle.cc_script.proofs.SplitLemmas.{lines_line, rest_line}
 use Rattle.cc_command.specs.declared.tally.TheConstants.{NONE}
 use Rattle.cc_command.specs.declared.tally.Tally.{Tally}
 use Rattle.cc_command.specs.declared.tally.Count.{Count}
-use Rattle.cc_command.specs.Tally.{IsTally, count_in, counted, first_from, is_refusal}
+use Rattle.cc_command.specs.Tally.{IsTally, count_in, counted, first_behind, first_from, is_refusal}
 
 -- the number that was found, or another where none was
 abbrev kept_or : (found other : ℕ) → ℕ
@@ -71,6 +72,54 @@ first-kept passes lines line some = first-more passes 0 lines line ∙ by_found 
     by_found : (found : ℕ) (b : Bool) → (found ≡ 0 → ⊥) → kept_or found (if b then 1 + length lines else 0) ≡ found
     by_found zero b some = absurd (some refl)
     by_found (suc found) b some = refl
+
+-- the number of the first line behind three others that passes, after one line more that is among the three
+behind-few : (passes : List ℕ → Bool) (lines : List (List ℕ)) (line : List ℕ) → length lines < 3 → first_behind 3 passes (lines ++ line ∷ []) ≡ first_behind 3 passes lines
+behind-few passes lines line few =
+    let more = length-append lines (line ∷ []) in
+    let after : drop 3 (lines ++ line ∷ []) ≡ [] = drop_of_length-le (lines ++ line ∷ []) {i = 3} (omega (arith, more, few)) in
+    let before : drop 3 lines ≡ [] = drop_of_length-le lines {i = 3} (omega (arith, few)) in
+    ap (λ (l : List (List ℕ)). first_from passes 4 l) (after ∙ sym before)
+
+-- and after one that is behind them
+behind-more : (passes : List ℕ → Bool) (lines : List (List ℕ)) (line : List ℕ) → 3 ≤ length lines
+    → first_behind 3 passes (lines ++ line ∷ []) ≡ kept_or (first_behind 3 passes lines) (if passes line then length lines + 1 else 0)
+behind-more passes lines line many =
+    let number : suc 3 + length (drop 3 lines) ≡ length lines + 1 = omega (arith, many, length-drop 3 lines) in
+    ap (λ (l : List (List ℕ)). first_from passes 4 l) (drop-append-le 3 lines (line ∷ []) many)
+    ∙ first-more passes 3 (drop 3 lines) line
+    ∙ ap (λ (n : ℕ). kept_or (first_behind 3 passes lines) (if passes line then n else 0)) number
+
+-- a line that does not pass, or is among the three, changes nothing; nor does one where another was found
+pub behind-other : (passes : List ℕ → Bool) (lines : List (List ℕ)) (line : List ℕ) → passes line ≡ false → first_behind 3 passes (lines ++ line ∷ []) ≡ first_behind 3 passes lines
+behind-other passes lines line is = elim (cases_lt (length lines) 3) [
+  | inl few ↦ behind-few passes lines line few
+  | inr many ↦ behind-more passes lines line many ∙ by_found (first_behind 3 passes lines) (passes line) is
+]
+  where
+    by_found : (found : ℕ) (b : Bool) → b ≡ false → kept_or found (if b then length lines + 1 else 0) ≡ found
+    by_found zero b is = rw is refl
+    by_found (suc found) b is = refl
+
+pub behind-kept : (passes : List ℕ → Bool) (lines : List (List ℕ)) (line : List ℕ) → (first_behind 3 passes lines ≡ 0 → 3 ≤ length lines → ⊥)
+    → first_behind 3 passes (lines ++ line ∷ []) ≡ first_behind 3 passes lines
+behind-kept passes lines line some = elim (cases_lt (length lines) 3) [
+  | inl few ↦ behind-few passes lines line few
+  | inr many ↦ behind-more passes lines line many ∙ by_found (first_behind 3 passes lines) (passes line) (λ none. some none many)
+]
+  where
+    by_found : (found : ℕ) (b : Bool) → (found ≡ 0 → ⊥) → kept_or found (if b then length lines + 1 else 0) ≡ found
+    by_found zero b some = absurd (some refl)
+    by_found (suc found) b some = refl
+
+-- a line that passes is the first where none was found
+pub behind-new : (passes : List ℕ → Bool) (lines : List (List ℕ)) (line : List ℕ) → passes line ≡ true → first_behind 3 passes lines ≡ 0 → 3 ≤ length lines
+    → first_behind 3 passes (lines ++ line ∷ []) ≡ length lines + 1
+behind-new passes lines line is none many = behind-more passes lines line many ∙ by_found (first_behind 3 passes lines) (passes line) is none
+  where
+    by_found : (found : ℕ) (b : Bool) → b ≡ true → found ≡ 0 → kept_or found (if b then length lines + 1 else 0) ≡ length lines + 1
+    by_found zero b is none = rw is refl
+    by_found (suc found) b is none = absurd (omega (arith, none))
 
 same_count : (refusal : Refusal) (times first times' first' : ℕ) → times ≡ times' → first ≡ first'
     → ◌≡◌ {A = Count} (record { refusal = refusal; times = times; first = first }) (record { refusal = refusal; times = times'; first = first' })
@@ -178,6 +227,15 @@ count_in-cut refusal lines line =
     (ap counted
     (first-more passes 0 lines (take 129 line) ∙ ap (λ (b : Bool). kept_or (first_from passes 1 lines) (if b then 1 + length lines else 0)) same ∙ sym (first-more passes 0 lines line)))
 
+behind-cut : (lines : List (List ℕ)) (line : List ℕ) → first_behind 3 (is_refusal Full) (lines ++ take 129 line ∷ []) ≡ first_behind 3 (is_refusal Full) (lines ++ line ∷ [])
+behind-cut lines line = elim (cases_lt (length lines) 3) [
+  | inl few ↦ behind-few (is_refusal Full) lines (take 129 line) few ∙ sym (behind-few (is_refusal Full) lines line few)
+  | inr many ↦
+      behind-more (is_refusal Full) lines (take 129 line) many
+      ∙ ap (λ (b : Bool). kept_or (first_behind 3 (is_refusal Full) lines) (if b then length lines + 1 else 0)) (is_refusal-cut Full line)
+      ∙ sym (behind-more (is_refusal Full) lines line many)
+]
+
 -- ---- more of the text
 
 -- the text grows by bytes up to and with a line feed, and each count by that line
@@ -185,8 +243,10 @@ pub tally_line : (text end : List ℕ) (old new : Tally) → IsLine end → IsTa
     → ((index : ℕ) (none : Count) → index < 22 → (lines : List (List ℕ)) → get_or old.counts index none ≡ count_in lines (get_or NONE index none).refusal
     → new.lines ≡ counted (length lines + 1)
     → get_or new.counts index none ≡ count_in (lines ++ take 129 (old.begun ++ end) ∷ []) (get_or NONE index none).refusal)
+    → ((lines : List (List ℕ)) → old.full ≡ counted (first_behind 3 (is_refusal Full) lines) → new.lines ≡ counted (length lines + 1)
+    → new.full ≡ counted (first_behind 3 (is_refusal Full) (lines ++ take 129 (old.begun ++ end) ∷ [])))
     → IsTally (text ++ (end ++ 10 ∷ [])) new
-tally_line text end old new line was lines_are begun_is counts_are =
+tally_line text end old new line was lines_are begun_is counts_are full_is =
     let last : List (List ℕ) = (rest_of text ++ end) ∷ [] in
     let all : lines_of (text ++ (end ++ 10 ∷ [])) ≡ lines_of text ++ last =
     lines_further [] text (end ++ 10 ∷ []) ∙ ap (λ (l : List (List ℕ)). lines_of text ++ l) (lines_line (rest_of text) end [] line) in
@@ -201,12 +261,16 @@ tally_line text end old new line was lines_are begun_is counts_are =
           ∙ ap (λ (l : List ℕ). count_in (lines_of text ++ l ∷ []) refusal) kept
           ∙ count_in-cut refusal (lines_of text) (rest_of text ++ end)
           ∙ ap (λ (l : List (List ℕ)). count_in l refusal) (sym all);
+      full = full_is (lines_of text) was.full number
+          ∙ ap (λ (l : List ℕ). counted (first_behind 3 (is_refusal Full) (lines_of text ++ l ∷ []))) kept
+          ∙ ap counted (behind-cut (lines_of text) (rest_of text ++ end))
+          ∙ ap (λ (l : List (List ℕ)). counted (first_behind 3 (is_refusal Full) l)) (sym all);
     }
 
 -- the text grows by bytes without a line feed
-pub tally_rest : (text rest : List ℕ) (old new : Tally) → IsLine rest → IsTally text old → new.lines ≡ old.lines → new.begun ≡ take 129 (old.begun ++ rest) → new.counts ≡ old.counts
+pub tally_rest : (text rest : List ℕ) (old new : Tally) → IsLine rest → IsTally text old → new.lines ≡ old.lines → new.begun ≡ take 129 (old.begun ++ rest) → new.counts ≡ old.counts → new.full ≡ old.full
     → IsTally (text ++ rest) new
-tally_rest text rest old new line was lines_are begun_is counts_are =
+tally_rest text rest old new line was lines_are begun_is counts_are full_is =
     let all : lines_of (text ++ rest) ≡ lines_of text =
     lines_further [] text rest ∙ ap (λ (l : List (List ℕ)). lines_of text ++ l) (no_lines (rest_of text) rest line) ∙ append-nil (lines_of text) in
     record {
@@ -216,6 +280,7 @@ tally_rest text rest old new line was lines_are begun_is counts_are =
       counts = λ index none below.
           ap (λ (l : List Count). get_or l index none) counts_are ∙ was.counts index none below
           ∙ ap (λ (l : List (List ℕ)). count_in l (get_or NONE index none).refusal) (sym all);
+      full = full_is ∙ was.full ∙ ap (λ (l : List (List ℕ)). counted (first_behind 3 (is_refusal Full) l)) (sym all);
     }
 
 -- ---- the counts, one after another

@@ -10,8 +10,8 @@ use Rattle.cc_plan.specs.declared.object.ObjectState.TheVariants.{Live, Freed, S
 use Rattle.cc_plan.specs.declared.object.PlannedObject.{PlannedObject}
 use Rattle.cc_plan.specs.Plan.{Plan, is_freed}
 use Rattle.cc_script.specs.Output.{with_line_feed}
-use Rattle.cc_command.specs.Numbered.{line_with_decimal, line_with_hexadecimal, with_hexadecimal}
-use Rattle.cc_command.specs.Picture.{cell_bytes, cell_count, cell_of}
+use Rattle.cc_text.specs.Numbered.{line_with_decimal, line_with_hexadecimal, with_hexadecimal}
+use Rattle.cc_explain.specs.Picture.{cell_bytes, cell_count, cell_of}
 use Rattle.cc_command.specs.Usage.{is_live, is_swept, pool_span}
 use Rattle.cc_command.specs.declared.layout.Layout.{Layout}
 

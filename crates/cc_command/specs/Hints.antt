@@ -4,7 +4,7 @@ use Rattle.std.specs.List.{ends_with, list_any, starts_with}
 use Rattle.cc_bounds.specs.Granule.{granule_of, padded_size}
 use Rattle.cc_bounds.specs.Span.{from_zero}
 use Rattle.cc_script.specs.Lines.{lines_of, rest_of}
-use Rattle.cc_command.specs.Numbered.{line_with_decimal, line_with_hexadecimal, with_hexadecimal}
+use Rattle.cc_text.specs.Numbered.{line_with_decimal, line_with_hexadecimal, with_hexadecimal}
 use Rattle.cc_command.specs.Tally.{counted, first_from}
 use Rattle.cc_command.specs.declared.hints.Hints.{Hints}
 use Rattle.cc_command.specs.declared.watch.Watch.{Watch}

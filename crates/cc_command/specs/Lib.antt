@@ -1,12 +1,7 @@
 -- In reading order.
 pub mod Answer
-pub mod Permissions
 pub mod Listing
 pub mod LineAnswer
-pub mod Steps
-pub mod Standing
-pub mod Picture
-pub mod Numbered
 pub mod Explanation
 pub mod Rounding
 pub mod Planning

@@ -9,7 +9,7 @@ use Rattle.cc_bounds.specs.Decoding.{stored_exponent, DecodesTo}
 use Rattle.cc_cap.specs.Canonical.{IsCanonical}
 use Rattle.cc_script.specs.Output.{with_line_feed}
 use Rattle.cc_command.specs.Answer.{AnswersText}
-use Rattle.cc_command.specs.Permissions.{permissions_text}
+use Rattle.cc_explain.specs.Permissions.{permissions_text}
 
 -- a name, one space, a value and the line feed
 abbrev pub line_of : (name value : List ℕ) → List ℕ

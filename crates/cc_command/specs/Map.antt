@@ -9,8 +9,8 @@ use Rattle.cc_plan.specs.declared.object.ObjectState.TheVariants.{Live, Freed}
 use Rattle.cc_plan.specs.declared.object.PlannedObject.{PlannedObject}
 use Rattle.cc_plan.specs.Plan.{Plan}
 use Rattle.cc_script.specs.Output.{with_line_feed}
-use Rattle.cc_command.specs.Numbered.{line_with_hexadecimal}
-use Rattle.cc_command.specs.Picture.{cell_bytes, cell_count, cell_of}
+use Rattle.cc_text.specs.Numbered.{line_with_hexadecimal}
+use Rattle.cc_explain.specs.Picture.{cell_bytes, cell_count, cell_of}
 use Rattle.cc_command.specs.Usage.{pool_span}
 
 -- a byte of the span is one of an object in this state

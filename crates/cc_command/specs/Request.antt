@@ -9,8 +9,8 @@ use Rattle.cc_cap.specs.Capability.{Capability, at_address, root_capability, wit
 use Rattle.cc_cap.specs.Canonical.{IsWordOf}
 use Rattle.cc_script.specs.Output.{with_line_feed}
 use Rattle.cc_command.specs.Answer.{AnswersResult}
-use Rattle.cc_command.specs.Explanation.{word_text}
-use Rattle.cc_command.specs.Numbered.{line_with_decimal, line_with_hexadecimal, with_hexadecimal}
+use Rattle.cc_explain.specs.Explanation.{word_text}
+use Rattle.cc_text.specs.Numbered.{line_with_decimal, line_with_hexadecimal, with_hexadecimal}
 use Rattle.cc_command.specs.Planning.{pool_of}
 use Rattle.cc_command.specs.declared.request.Grant.{Grant}
 

@@ -2,7 +2,7 @@
 use Rattle.std.specs.Prelude.{ℕ, zero, suc, ◌-◌, ◌*◌, ◌/◌, ◌%◌, List, [], ◌∷◌, ◌++◌, codes, decimal}
 use Rattle.cc_word.specs.Refusal.{name_of}
 use Rattle.cc_script.specs.Output.{with_line_feed}
-use Rattle.cc_command.specs.Numbered.{line_with_decimal, line_with_hexadecimal}
+use Rattle.cc_text.specs.Numbered.{line_with_decimal, line_with_hexadecimal}
 use Rattle.cc_command.specs.declared.tally.Count.{Count}
 use Rattle.cc_command.specs.declared.tally.Tally.{Tally}
 use Rattle.cc_command.specs.declared.usage.Usage.{Usage}

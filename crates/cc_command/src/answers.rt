@@ -4,9 +4,9 @@ ghost use Rattle.std.specs.Io.KnownBytes.{Appends};
 ghost use Rattle.cc_script.specs.Devices.{TakesBeginning};
 ghost use Rattle.cc_command.specs.Answer.{IsRefusalLine, WritesAnswer};
 
-use crate::text::Text;
 use cc_machine::Reply;
 use cc_script::{ScriptFault, Sink, Summary, reply_line, write_all};
+use cc_text::Text;
 use cc_word::Refusal;
 
 /// Writes the line of a refusal, `error CODE NAME`, and flushes the sink once after it. The summary tells an error.

@@ -56,7 +56,8 @@ impl<W: Sink> Counted<W> {
         }
     }
 
-    /// The tally of all bytes that the inner sink took.
+    /// Returns the tally of what this sink counted: of each write the bytes that the inner sink took, and of each line
+    /// that it answered the whole reply. If `answer` fails, the part of that reply that the inner sink took is not counted.
     pub fn tally(&self) -> &Tally
         ensures { result.now ≡ self.now.tally }
     {

@@ -7,16 +7,16 @@ ghost use Rattle.cc_command.specs.Answer.{WritesAnswer};
 ghost use Rattle.cc_command.specs.Drawing.{IsDrawing, bounds_line, drawing_text, end_text, fills_text, head_text, is_in, key_text, laid_out_text, layer_text, layout_of, live_text, mark_count, mark_text, marks_text, moved_text, names_text, object_text, part_text, parts_text, quarantined_text, rectangle_text, row_count, row_text, rows_text, scale_text, stripes_text};
 
 use crate::layout::{Layout, ROW, cells_of};
-use crate::numbered::{end_with_decimal, end_with_hexadecimal, push_hexadecimal};
-use crate::text::{ROOM, Text};
 use crate::usage::pool_span;
 use cc_bounds::Span;
 use cc_machine::{Machine, ObjectState, PlannedObject};
 use cc_script::{Failed, Line, ScriptFault, Sink, Summary, write_all};
+use cc_text::{ROOM, Text, end_with_decimal, end_with_hexadecimal, push_hexadecimal};
 
 /// Writes a drawing of the machine's pool, and flushes the sink once after it: an SVG document in which a rectangle
-/// stands for each object that is held. It covers exactly the cells that hold a byte of the object ([`cells_of`]), and is
-/// filled where the object is live, striped where it is quarantined.
+/// stands for each object that is held. It covers the cells from the first to the last that [`cells_of`] names: exactly
+/// those that hold a byte of the object, if the object lies in the pool. It is filled where the object is live, striped
+/// where it is quarantined.
 ///
 /// The cells cover the pool, at most 16,384 of them, as small as that allows, in at most 16 rows. An object with cells in
 /// several rows has a rectangle in each. Where a live and a quarantined object share a cell, the stripes lie above, and

@@ -4,11 +4,10 @@ ghost use Rattle.cc_bounds.specs.Granule.{IsGranule};
 ghost use Rattle.cc_bounds.specs.Span.{IsSpan, IsWithin, length_of};
 ghost use Rattle.cc_command.specs.Request.{IsGrant, exact_text, grant_text, half_text, lost_text, span_text, touched_text, unit_text};
 
-use crate::explained_steps::push_word;
-use crate::numbered::{end_with_decimal, end_with_hexadecimal, push_hexadecimal};
 use crate::request::{Grant, granule_count, length_of};
-use crate::text::{ROOM, Text};
 use cc_bounds::{Span, granule, round_length};
+use cc_explain::push_word;
+use cc_text::{ROOM, Text, end_with_decimal, end_with_hexadecimal, push_hexadecimal};
 
 /// Appends all lines of an explained request, down to the word of what it is granted.
 pub(crate) fn push_grant(text: &mut Text, request: &Span, grant: &Grant)

@@ -5,13 +5,13 @@ ghost use Rattle.cc_command.specs.Explanation.{IsExplanation};
 ghost use Rattle.cc_command.specs.Listing.{IsWordText};
 
 use crate::answers::{push_refusal, write_answer};
-use crate::explained_steps::{push_fields, push_mantissas, push_window_lines};
-use crate::picture::{push_picture, rows_of};
-use crate::standing::standing_of;
-use crate::steps::decoding_steps;
-use crate::text::Text;
 use cc_bounds::decode;
+use cc_explain::{
+    decoding_steps, push_fields, push_mantissas, push_picture, push_window_lines, rows_of,
+    standing_of,
+};
 use cc_script::{ScriptFault, Sink, Summary};
+use cc_text::Text;
 use cc_word::{Refusal, read_word, unpack};
 
 /// Writes how the word that a text spells is decoded: its fields, each step with its numbers, the bounds,

@@ -6,8 +6,8 @@ ghost use Rattle.cc_command.specs.Request.{IsLengthExplanation, request_in};
 use crate::answers::{push_refusal, write_answer};
 use crate::explained_request::push_grant;
 use crate::request::{grant_of, read_request};
-use crate::text::Text;
 use cc_script::{ScriptFault, Sink, Summary};
+use cc_text::Text;
 
 /// Writes what setting bounds grants to a request, whose base and length two texts spell: the granule, and why half
 /// of it is not enough; the granted bounds, and how many bytes of them lie beside the request; which length has exact

@@ -5,11 +5,10 @@ ghost use Rattle.cc_script.specs.Devices.{TakesBeginning};
 ghost use Rattle.cc_command.specs.Hints.{hints_text, line_hint, pool_hint};
 
 use crate::answers::write_answer;
-use crate::numbered::{end_with_decimal, end_with_hexadecimal, push_hexadecimal};
-use crate::text::{ROOM, Text};
 use cc_bounds::{granule, round_length};
 use cc_machine::Len;
 use cc_script::{ScriptFault, Sink};
+use cc_text::{ROOM, Text, end_with_decimal, end_with_hexadecimal, push_hexadecimal};
 
 /// What is worth a hint after a run. Lines of the script are numbered from 1; 0 says that there is no such line.
 #[derive(Clone, Copy, Debug, PartialEq, Eq)]

@@ -3,7 +3,7 @@ ghost use Rattle.std.specs.Prelude.{◌≡◌, ◌<◌, ◌≤◌, ◌+◌, ◌^
 ghost use Rattle.std.specs.Int.{div_ceil};
 ghost use Rattle.cc_bounds.specs.Span.{length_of};
 ghost use Rattle.cc_command.specs.Drawing.{AreCellsOf, cell_width, end_cell, first_cell, layout_of, row_count};
-ghost use Rattle.cc_command.specs.Picture.{cell_bytes, cell_count};
+ghost use Rattle.cc_explain.specs.Picture.{cell_bytes, cell_count};
 
 use cc_bounds::Span;
 
@@ -14,7 +14,7 @@ const MOST_CELLS: u128 = 16_384;
 pub(crate) const ROW: u32 = 1024;
 
 /// How a pool is laid out on a page: rows of 1,024 cells of the same size.
-#[derive(Clone, Copy, Debug)]
+#[derive(Clone, Copy)]
 pub(crate) struct Layout {
     /// The pool's first address.
     pub(crate) start: u128,

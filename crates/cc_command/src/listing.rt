@@ -5,15 +5,15 @@ ghost use Rattle.cc_word.specs.WordText.{digits_of};
 ghost use Rattle.cc_script.specs.Replies.{hexadecimal};
 ghost use Rattle.cc_command.specs.Answer.{WritesAnswer};
 ghost use Rattle.cc_command.specs.Listing.{IsListing, IsWordText, bounds_lines_of, field_lines_of, line_of, listing_of};
-ghost use Rattle.cc_command.specs.Permissions.{permissions_text};
+ghost use Rattle.cc_explain.specs.Permissions.{permissions_text};
 
 use crate::answers::{push_refusal, write_answer};
-use crate::permissions::push_permissions;
-use crate::text::{ROOM, Text};
 use bitflags::Flags;
 use cc_bounds::{Span, decode, exponent};
 use cc_cap::{Perms, is_canonical};
+use cc_explain::push_permissions;
 use cc_script::{Line, ScriptFault, Sink, Summary};
+use cc_text::{ROOM, Text};
 use cc_word::{Fields, Refusal, read_word, unpack};
 
 /// Writes the listing of the word that a text spells, or the line `error 1 syntax` for a text that is

@@ -4,16 +4,15 @@ ghost use Rattle.std.specs.Int.{div_ceil};
 ghost use Rattle.cc_machine.specs.Planned.{plan_of};
 ghost use Rattle.cc_command.specs.Answer.{WritesAnswer};
 ghost use Rattle.cc_command.specs.Map.{AreMapRows, HoldsByte, IsMap, IsMapOf, IsMapRow, TellsCell, map_row_text};
-ghost use Rattle.cc_command.specs.Picture.{cell_bytes, cell_count};
+ghost use Rattle.cc_explain.specs.Picture.{cell_bytes, cell_count};
 
 use crate::answers::write_answer;
-use crate::numbered::end_with_hexadecimal;
-use crate::picture::{CELLS, Stretch, shares_byte};
-use crate::text::{ROOM, Text};
 use crate::usage::pool_span;
 use cc_bounds::Span;
+use cc_explain::{CELLS, Stretch, shares_byte};
 use cc_machine::{Machine, ObjectState, PlannedObject};
 use cc_script::{Line, ScriptFault, Sink, Summary};
+use cc_text::{ROOM, Text, end_with_hexadecimal};
 
 /// The most cells of a map.
 const MOST_CELLS: u128 = 1024;

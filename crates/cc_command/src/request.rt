@@ -6,13 +6,13 @@ ghost use Rattle.cc_bounds.specs.declared.span.Span.{Span as SpanSpec};
 ghost use Rattle.cc_cap.specs.Canonical.{IsWordOf};
 ghost use Rattle.cc_command.specs.Request.{IsGrant, granted_capability, request_from, request_in};
 
-use crate::planning::{PoolTexts, plan_numbers};
+use crate::planning::plan_numbers;
 use cc_bounds::{Set, Span, set_bounds};
 use cc_cap::Cap;
 use cc_word::Refusal;
 
 /// What setting the bounds of a request grants.
-#[derive(Clone, Copy, Debug)]
+#[derive(Clone, Copy)]
 pub(crate) struct Grant {
     /// The granule of the request, in bytes: 1, or a power of two from 8 to 2^55.
     pub(crate) granule: u64,
@@ -30,7 +30,7 @@ pub(crate) fn read_request(base: &str, length: &str) -> Result<Span, Refusal>
     ensures request { result ≡ request_in base.now length.now }
     ensures is_span { IfOk result IsSpan }
 {
-    match plan_numbers(&PoolTexts { base, length }) {
+    match plan_numbers(base.as_bytes(), length.as_bytes()) {
         Ok((base, length)) => request_from(base, length.get()),
         Err(refusal) => Err(refusal),
     }

@@ -5,9 +5,9 @@ ghost use Rattle.cc_command.specs.Answer.{WritesAnswer};
 ghost use Rattle.cc_command.specs.Rounding.{IsRounding};
 
 use crate::answers::{push_refusal, write_answer};
-use crate::text::Text;
 use cc_machine::Reply;
 use cc_script::{ScriptFault, Sink, Summary, read_length, reply_line};
+use cc_text::Text;
 
 /// Writes the line `round LENGTH GRANULE MASK` for the length that a text spells, and flushes the sink
 /// once after it. LENGTH is how many bytes such bounds take, GRANULE is of what their base has to be a

@@ -2,15 +2,14 @@
 ghost use Rattle.std.specs.Prelude.{◌≡◌, ◌+◌, ◌*◌, ◌≤◌, ◌^◌, ◌++◌, ◌↔◌, [], Err, IsErr, OnErr, OnOk, codes, false, length, true};
 ghost use Rattle.std.specs.Io.KnownBytes.{Appends};
 ghost use Rattle.cc_script.specs.Devices.{TakesBeginning};
-ghost use Rattle.cc_command.specs.Numbered.{line_with_decimal};
+ghost use Rattle.cc_text.specs.Numbered.{line_with_decimal};
 ghost use Rattle.cc_command.specs.Statistics.{bytes_text, count_lines, counts_text, end_text, holes_text, hundredths_of, objects_text, percent_text, statistics_text};
 
 use crate::answers::write_answer;
-use crate::numbered::{end_with_decimal, end_with_hexadecimal};
 use crate::tally::{Count, Tally};
-use crate::text::{ROOM, Text};
 use crate::usage::Usage;
 use cc_script::{Line, ScriptFault, Sink};
+use cc_text::{ROOM, Text, end_with_decimal, end_with_hexadecimal};
 
 /// Writes the summary of a run, a line for each number, and flushes the sink once after the last: how many lines
 /// were answered; of each refusal how many replies are it, and the line of the first; and what the machine uses.

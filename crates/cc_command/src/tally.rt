@@ -2,7 +2,8 @@
 ghost use Rattle.std.specs.Prelude.{◌≡◌, ℕ, ◌+◌, List, [], ◌∷◌, ◌++◌, length};
 ghost use Rattle.cc_script.specs.Lines.{IsLine};
 ghost use Rattle.cc_script.specs.Replies.{refusal_text};
-ghost use Rattle.cc_command.specs.Tally.{IsTally, count_in, counted, is_refusal};
+ghost use Rattle.cc_word.specs.declared.refusal.Refusal.TheVariants.{Full};
+ghost use Rattle.cc_command.specs.Tally.{IsTally, count_in, counted, first_behind, is_refusal};
 
 use cc_script::{LineStart, refusal_bytes, split_at_line_feed};
 use cc_word::Refusal;
@@ -18,7 +19,8 @@ pub struct Count {
     pub first: u64,
 }
 
-/// The counts of some replies: how many there are, and of each refusal how many replies are it, and which is the first.
+/// The counts of some replies: how many there are, of each refusal how many replies are it and which is the first, and
+/// which is the first `Full` behind the replies to the opening of a plan.
 #[derive(Drop)]
 pub struct Tally {
     /// How many replies there are, at most 2^64 - 1.
@@ -27,7 +29,12 @@ pub struct Tally {
     pub begun: LineStart,
     /// The counts of the refusals, in the order of their codes.
     pub counts: [Count; 22],
+    /// The number of the first reply behind three others that is `Full`, from 1 up among all replies; 0 where none is.
+    pub full: u64,
 }
+
+/// How many replies are to the opening of a plan.
+const OPENING: u64 = 3;
 
 /// The count of a refusal that no reply is.
 macro_rules! none {
@@ -83,6 +90,19 @@ impl Count {
     }
 }
 
+/// The number of the first reply behind the opening that is `Full`, after one reply more: this line, with this number
+/// among all replies.
+fn with_full(full: u64, line: &[u8], number: u64) -> u64
+    ensures { (lines : List (List ℕ)) → full ≡ counted (first_behind 3 (is_refusal Full) lines) → number ≡ counted (length lines + 1)
+        → result ≡ counted (first_behind 3 (is_refusal Full) (lines ++ line.now ∷ [])) }
+{
+    if full == 0 && number > OPENING && is_refusal(Refusal::Full, line) {
+        number
+    } else {
+        full
+    }
+}
+
 /// Whether a line, without its line feed, is this refusal. All refusals begin with `e`, so most other replies are told
 /// by their first byte.
 fn is_refusal(refusal: Refusal, line: &[u8]) -> bool
@@ -108,6 +128,7 @@ impl Tally {
             lines: 0,
             begun: LineStart::new(),
             counts: NONE,
+            full: 0,
         }
     }
 
@@ -130,6 +151,7 @@ impl Tally {
     {
         self.begun.extend(end);
         self.lines = self.lines.saturating_add(1);
+        self.full = with_full(self.full, self.begun.as_slice(), self.lines);
         for index in 0..22usize {
             self.counts[index] = self.counts[index].with_line(self.begun.as_slice(), self.lines);
         }

@@ -10,8 +10,8 @@ use cc_cap::Cap;
 use cc_machine::{Machine, ObjectState, PlannedObject};
 use std::alloc::{AllocError, Global};
 
-/// What the objects of a machine take of its pool, and what is left. Bytes are at most 2^64.
-#[derive(Clone, Copy, Debug, PartialEq, Eq)]
+/// What the objects of a machine take of its pool, and what is left, in bytes. At most 2^80 bytes are held.
+#[derive(Clone, Copy, PartialEq, Eq)]
 pub struct Usage {
     /// How many slots there are, slot 0 and revoked ones counted: from 1 up.
     pub slots: u32,
@@ -41,7 +41,7 @@ pub struct Usage {
 }
 
 /// How many holes there are, and how many bytes the largest has.
-#[derive(Clone, Copy, Debug)]
+#[derive(Clone, Copy)]
 struct Holes {
     count: usize,
     largest: u128,

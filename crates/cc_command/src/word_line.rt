@@ -5,9 +5,9 @@ ghost use Rattle.cc_command.specs.LineAnswer.{IsLineAnswer};
 ghost use Rattle.cc_command.specs.Listing.{IsWordText};
 
 use crate::answers::{push_refusal, write_answer};
-use crate::text::Text;
 use cc_cap::WordLine;
 use cc_script::{ScriptFault, Sink, Summary};
+use cc_text::Text;
 use cc_word::{Refusal, read_word};
 
 /// Writes the line of the word that a text spells, such as `0x10070 [rwxRW,0x10070-0x12070]`, or the line

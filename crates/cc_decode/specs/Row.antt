@@ -9,7 +9,7 @@ use Rattle.cc_cap.specs.LineText.{IsLine}
 use Rattle.cc_script.specs.Output.{with_line_feed}
 use Rattle.cc_script.specs.Replies.{hexadecimal}
 use Rattle.cc_command.specs.Listing.{TellsWord}
-use Rattle.cc_command.specs.Permissions.{permissions_text}
+use Rattle.cc_explain.specs.Permissions.{permissions_text}
 use Rattle.cc_decode.specs.declared.format.Format.{Format}
 use Rattle.cc_decode.specs.declared.format.Format.TheVariants.{Columns, Csv, Text}
 

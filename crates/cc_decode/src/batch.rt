@@ -3,9 +3,9 @@ ghost use Rattle.std.specs.Prelude.{◌≡◌, ◌+◌, ◌-◌, ◌≤◌, ◌<
 ghost use Rattle.std.specs.Fmt.{digits};
 ghost use Rattle.cc_word.specs.WordText.{digits_of};
 ghost use Rattle.cc_script.specs.Replies.{hexadecimal};
-ghost use Rattle.cc_script.proofs.DigitLemmas.{HasDigits};
+ghost use Rattle.cc_text.proofs.DigitLemmas.{HasDigits};
 
-use cc_word::{write_half, write_word};
+use cc_word::{write_half, write_word_fast};
 use std::marker::Model;
 
 /// The most bytes that wait.
@@ -104,7 +104,7 @@ impl Batch {
         ensures value { self.new ≡ self.old ++ digits_of 32 word }
         ensures fits { length self.new ≡ length self.old + 32 }
     {
-        self.push(&write_word(word));
+        self.push(&write_word_fast(word));
     }
 
     /// Appends the last `count` hexadecimal digits of a number, at most 16.

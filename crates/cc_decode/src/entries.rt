@@ -5,7 +5,7 @@ ghost use Rattle.cc_decode.specs.Engine.{EndsEntry, EndsNone, IsBegun};
 
 use crate::input::{ByteOrder, InputForm};
 use cc_script::split_at_line_feed;
-use cc_word::read_word;
+use cc_word::read_word_fast;
 
 /// How many bytes a word has.
 const BLOCK: usize = 16;
@@ -50,7 +50,7 @@ pub(crate) fn read_entry(input: InputForm, entry: &[u8]) -> Option<u128>
     ensures value { IfSome result (λ word. word ≡ word_in input entry.now) }
 {
     match input {
-        InputForm::Lines => read_word(entry),
+        InputForm::Lines => read_word_fast(entry),
         InputForm::Bytes(order) => read_block(order, entry),
     }
 }

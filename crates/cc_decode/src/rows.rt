@@ -4,7 +4,7 @@ ghost use Rattle.cc_word.specs.Word.{bit_of};
 ghost use Rattle.cc_word.specs.WordText.{digits_of, hexadecimal};
 ghost use Rattle.cc_cap.specs.LineText.{letter_of, letters_of, line_of, marks_of};
 ghost use Rattle.cc_cap.specs.Permissions.{bits_of};
-ghost use Rattle.cc_command.specs.Permissions.{permissions_text};
+ghost use Rattle.cc_explain.specs.Permissions.{permissions_text};
 ghost use Rattle.cc_decode.specs.Engine.{AppendsRow};
 ghost use Rattle.cc_decode.specs.Row.{columns_text, csv_text, values_text};
 
@@ -13,7 +13,7 @@ use crate::format::Format;
 use bitflags::Flags;
 use cc_bounds::{Span, decode, exponent};
 use cc_cap::{Perms, is_canonical};
-use cc_command::push_permissions;
+use cc_explain::push_permissions;
 use cc_script::Line;
 use cc_word::{Fields, unpack};
 

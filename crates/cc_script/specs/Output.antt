@@ -8,6 +8,7 @@ use Rattle.cc_machine.specs.declared.reply.Reply.{Reply}
 use Rattle.cc_machine.specs.declared.reply.Reply.TheVariants.{Refused}
 use Rattle.cc_machine.specs.State.{State}
 use Rattle.cc_machine.specs.Step.{Step}
+pub use Rattle.cc_text.specs.Text.{with_line_feed}
 use Rattle.cc_script.specs.Lines.{lines_of, rest_of}
 use Rattle.cc_script.specs.Commands.{operation_of}
 use Rattle.cc_script.specs.Replies.{reply_text, refusal_text, is_error}
@@ -29,10 +30,6 @@ TakesAll old (command ∷ commands) (reply ∷ replies) new =
     (mid : State) × Takes old command reply mid × TakesAll mid commands replies new
 TakesAll old [] (reply ∷ replies) new = ⊥
 TakesAll old (command ∷ commands) [] new = ⊥
-
--- a text with its line feed
-abbrev pub with_line_feed : List ℕ → List ℕ
-with_line_feed text = text ++ 10 ∷ []
 
 -- the texts of replies, each with its line feed
 abbrev pub replies_text : List Reply → List ℕ

@@ -1,5 +1,5 @@
 //! The first words of commands.
-ghost use Rattle.std.specs.Prelude.{◌≡◌, false, IfSome, IfNone};
+ghost use Rattle.std.specs.Prelude.{◌≡◌, ◌∷◌, [], false, IfSome, IfNone};
 ghost use Rattle.cc_script.specs.Commands.{words_of, command_in, command_of};
 ghost use Rattle.cc_script.specs.Keywords.{begins_with, command_alone, keyword_at, spaced_name};
 
@@ -21,16 +21,6 @@ pub enum Keyword {
     Alloc,
     Free,
     Sweep,
-}
-
-/// What stands after these bytes and a space, where a line begins with them.
-macro_rules! after {
-    ($line:expr, $($byte:literal)*) => {
-        match $line {
-            [$($byte,)* b' ', values @ ..] => Some(values),
-            _ => None,
-        }
-    };
 }
 
 impl Keyword {
@@ -81,21 +71,100 @@ impl Keyword {
         ensures none { IfNone result (begins_with (spaced_name self) line.now ≡ false) }
     {
         match self {
-            Keyword::Show => after!(line, b's' b'h' b'o' b'w'),
-            Keyword::Bounds => after!(line, b'b' b'o' b'u' b'n' b'd' b's'),
-            Keyword::Exact => after!(line, b'e' b'x' b'a' b'c' b't'),
-            Keyword::Addr => after!(line, b'a' b'd' b'd' b'r'),
-            Keyword::Inc => after!(line, b'i' b'n' b'c'),
-            Keyword::Perms => after!(line, b'p' b'e' b'r' b'm' b's'),
-            Keyword::Flag => after!(line, b'f' b'l' b'a' b'g'),
-            Keyword::Seal => after!(line, b's' b'e' b'a' b'l'),
-            Keyword::Unseal => after!(line, b'u' b'n' b's' b'e' b'a' b'l'),
-            Keyword::Rebuild => after!(line, b'r' b'e' b'b' b'u' b'i' b'l' b'd'),
-            Keyword::Round => after!(line, b'r' b'o' b'u' b'n' b'd'),
-            Keyword::Pool => after!(line, b'p' b'o' b'o' b'l'),
-            Keyword::Alloc => after!(line, b'a' b'l' b'l' b'o' b'c'),
-            Keyword::Free => after!(line, b'f' b'r' b'e' b'e'),
-            Keyword::Sweep => after!(line, b's' b'w' b'e' b'e' b'p'),
+            Keyword::Show => after_four(line, b's', b'h', b'o', b'w'),
+            Keyword::Bounds => after_six(line, b'b', b'o', b'u', b'n', b'd', b's'),
+            Keyword::Exact => after_five(line, b'e', b'x', b'a', b'c', b't'),
+            Keyword::Addr => after_four(line, b'a', b'd', b'd', b'r'),
+            Keyword::Inc => after_three(line, b'i', b'n', b'c'),
+            Keyword::Perms => after_five(line, b'p', b'e', b'r', b'm', b's'),
+            Keyword::Flag => after_four(line, b'f', b'l', b'a', b'g'),
+            Keyword::Seal => after_four(line, b's', b'e', b'a', b'l'),
+            Keyword::Unseal => after_six(line, b'u', b'n', b's', b'e', b'a', b'l'),
+            Keyword::Rebuild => after_rebuild(line),
+            Keyword::Round => after_five(line, b'r', b'o', b'u', b'n', b'd'),
+            Keyword::Pool => after_four(line, b'p', b'o', b'o', b'l'),
+            Keyword::Alloc => after_five(line, b'a', b'l', b'l', b'o', b'c'),
+            Keyword::Free => after_four(line, b'f', b'r', b'e', b'e'),
+            Keyword::Sweep => after_five(line, b's', b'w', b'e', b'e', b'p'),
         }
+    }
+}
+
+/// What stands after these three bytes and a space, where a line begins with them.
+#[inline(always)]
+fn after_three(line: &[u8], a: u8, b: u8, c: u8) -> Option<&[u8]>
+    ensures some { IfSome result (λ values. line.now ≡ a ∷ b ∷ c ∷ 32 ∷ values.now) }
+    ensures none { IfNone result (begins_with (a ∷ b ∷ c ∷ 32 ∷ []) line.now ≡ false) }
+{
+    match line {
+        [first, second, third, b' ', values @ ..] if *first == a && *second == b && *third == c =>
+            Some(values),
+        _ => None,
+    }
+}
+
+/// What stands after these four bytes and a space, where a line begins with them.
+#[inline(always)]
+fn after_four(line: &[u8], a: u8, b: u8, c: u8, d: u8) -> Option<&[u8]>
+    ensures some { IfSome result (λ values. line.now ≡ a ∷ b ∷ c ∷ d ∷ 32 ∷ values.now) }
+    ensures none { IfNone result (begins_with (a ∷ b ∷ c ∷ d ∷ 32 ∷ []) line.now ≡ false) }
+{
+    match line {
+        [first, second, third, fourth, b' ', values @ ..]
+            if *first == a && *second == b && *third == c && *fourth == d => Some(values),
+        _ => None,
+    }
+}
+
+/// What stands after these five bytes and a space, where a line begins with them.
+#[inline(always)]
+fn after_five(line: &[u8], a: u8, b: u8, c: u8, d: u8, e: u8) -> Option<&[u8]>
+    ensures some { IfSome result (λ values. line.now ≡ a ∷ b ∷ c ∷ d ∷ e ∷ 32 ∷ values.now) }
+    ensures none { IfNone result (begins_with (a ∷ b ∷ c ∷ d ∷ e ∷ 32 ∷ []) line.now ≡ false) }
+{
+    match line {
+        [first, second, third, fourth, fifth, b' ', values @ ..]
+            if *first == a && *second == b && *third == c && *fourth == d && *fifth == e => Some(
+            values,
+        ),
+        _ => None,
+    }
+}
+
+/// What stands after these six bytes and a space, where a line begins with them.
+#[inline(always)]
+fn after_six(line: &[u8], a: u8, b: u8, c: u8, d: u8, e: u8, f: u8) -> Option<&[u8]>
+    ensures some { IfSome result (λ values. line.now ≡ a ∷ b ∷ c ∷ d ∷ e ∷ f ∷ 32 ∷ values.now) }
+    ensures none { IfNone result (begins_with (a ∷ b ∷ c ∷ d ∷ e ∷ f ∷ 32 ∷ []) line.now ≡ false) }
+{
+    match line {
+        [
+            first,
+            second,
+            third,
+            fourth,
+            fifth,
+            sixth,
+            b' ',
+            values @ ..,
+        ] if *first == a
+            && *second == b
+            && *third == c
+            && *fourth == d
+            && *fifth == e
+            && *sixth == f => Some(values),
+        _ => None,
+    }
+}
+
+/// What stands after `rebuild `, where a line begins with it.
+#[inline(always)]
+fn after_rebuild(line: &[u8]) -> Option<&[u8]>
+    ensures some { IfSome result (λ values. command_in (words_of line.now) ≡ command_of Keyword.Rebuild (words_of values.now)) }
+    ensures none { IfNone result (begins_with (spaced_name Keyword.Rebuild) line.now ≡ false) }
+{
+    match line {
+        [b'r', b'e', b'b', b'u', b'i', b'l', b'd', b' ', values @ ..] => Some(values),
+        _ => None,
     }
 }

@@ -40,7 +40,7 @@ pub fn read_align(text: &[u8]) -> Result<Align, Refusal>
 pub fn read_word_value(text: &[u8]) -> Result<u128, Refusal>
     ensures { result ≡ word_in text.now }
 {
-    match cc_word::read_word(text) {
+    match cc_word::read_word_fast(text) {
         Some(word) => Ok(word),
         None => Err(Refusal::Syntax),
     }

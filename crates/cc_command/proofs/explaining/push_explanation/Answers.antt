@@ -1,8 +1,8 @@
 use Rattle.std.proofs.Common.{◌≡◌, ℕ, List, ◌++◌, inl, refl, subst}
 use Rattle.cc_word.specs.declared.fields.Fields.{Fields}
-use Rattle.cc_command.specs.declared.steps.Steps.{Steps}
-use Rattle.cc_command.specs.Explanation.{IsWordExplanation, explanation_of, fields_text, mantissas_text, picture_text, window_lines_text}
-use Rattle.cc_command.proofs.StepLemmas.{steps-fit}
+use Rattle.cc_explain.specs.declared.steps.Steps.{Steps}
+use Rattle.cc_explain.specs.Explanation.{IsWordExplanation, explanation_of, fields_text, mantissas_text, picture_text, window_lines_text}
+use Rattle.cc_explain.proofs.StepLemmas.{steps-fit}
 use Rattle.cc_command.proofs.explaining.push_explanation.Goals as goal
 
 -- four texts, one after another

@@ -1,4 +1,4 @@
-use Rattle.cc_script.proofs.DigitLemmas.{counted}
+use Rattle.cc_text.proofs.DigitLemmas.{counted}
 use Rattle.cc_decode.proofs.batch.digit_count.Goals as goal
 
 pub returns : goal.returns

@@ -8,6 +8,7 @@ abbrev pub invariant-loop-index : goal.invariant-loop-index
 invariant-loop-index l = record {
   lines : l.self.lines ≡ l.initial.self.lines;
   begun : l.self.begun ≡ l.initial.self.begun;
+  full : l.self.full ≡ l.initial.self.full;
   done : (index : ℕ) (none : Count) → index < l.index → (lines : List (List ℕ))
       → get_or l.initial.self.counts index none ≡ count_in lines (get_or NONE index none).refusal → l.self.lines ≡ counted (length lines + 1)
       → get_or l.self.counts index none ≡ count_in (lines ++ l.self.begun ∷ []) (get_or NONE index none).refusal;

@@ -11,5 +11,5 @@ returns c text was =
     let line : IsLine c.lines.rest.now = search rules in
     let whole : text ++ c.args.bytes.now ≡ (text ++ before.0) ++ c.lines.rest.now =
     ap (λ (l : List ℕ). text ++ l) before.1 ∙ sym (append_assoc text before.0 c.lines.rest.now) in
-    let new : Tally = record { lines = c.lines.self.lines; begun = c.extend.new.self; counts = c.lines.self.counts } in
-    subst (λ (l : List ℕ). IsTally l new) (sym whole) (tally_rest (text ++ before.0) c.lines.rest.now c.lines.self new line before.2 refl c.extend.ensures refl)
+    let new : Tally = record { lines = c.lines.self.lines; begun = c.extend.new.self; counts = c.lines.self.counts; full = c.lines.self.full } in
+    subst (λ (l : List ℕ). IsTally l new) (sym whole) (tally_rest (text ++ before.0) c.lines.rest.now c.lines.self new line before.2 refl c.extend.ensures refl refl)

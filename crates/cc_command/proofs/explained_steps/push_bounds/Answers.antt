@@ -1,6 +1,0 @@
-use Rattle.std.proofs.Common.{append_assoc}
-use Rattle.cc_command.proofs.explained_steps.push_bounds.Goals as goal
-
-pub returns-clause-value : goal.returns-clause-value
-returns-clause-value c =
-    rw (c.end_with_hexadecimal-2.ensures.value, c.end_with_hexadecimal.ensures.value, c.from-base.ensures) (simp append_assoc)

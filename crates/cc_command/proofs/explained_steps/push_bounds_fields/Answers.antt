@@ -1,6 +1,0 @@
-use Rattle.std.proofs.Common.{append_assoc}
-use Rattle.cc_command.proofs.explained_steps.push_bounds_fields.Goals as goal
-
-pub returns-clause-value : goal.returns-clause-value
-returns-clause-value c =
-    rw (c.push_digits-2.ensures.value, c.push_digits.ensures.value, c.push_decimal.ensures.value, c.bit.ensures, c.from.ensures, c.from-2.ensures) (simp append_assoc)

@@ -1,0 +1,3 @@
+mod PermissionLemmas
+pub mod StepLemmas
+mod StandingLemmas

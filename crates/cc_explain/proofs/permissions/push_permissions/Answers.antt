@@ -1,0 +1,16 @@
+use Rattle.std.proofs.Common.{rules, ◌≡◌, ◌++◌, ◌∙◌, ap, List}
+use Rattle.std.proofs.lemmas.Bool.{ne_eqb}
+use Rattle.std.specs.List.{join_with_byte}
+use Rattle.bitflags.specs.Sets.{Row}
+use Rattle.cc_cap.specs.Permissions.{bits_of, permission_table}
+use Rattle.cc_explain.specs.Permissions.{names_of_set, permissions_text, rows_of}
+use Rattle.cc_explain.proofs.permissions.push_permissions.Goals as goal
+
+pub returns-else-bits-eq0-clause-value : goal.returns-else-bits-eq0-clause-value
+unfolding permissions_text
+returns-else-bits-eq0-clause-value c =
+    let rows : rows_of c.flags.result.now ≡ permission_table = search rules in
+    let some = ne_eqb (bits_of c.args.perms) 0 (search rules) in
+    rw some
+    (c.push_names.ensures.value
+    ∙ ap (λ (l : List Row). c.args.line.now ++ join_with_byte 43 (names_of_set (bits_of c.args.perms) l)) rows)

@@ -1,0 +1,6 @@
+-- In reading order.
+pub mod Permissions
+pub mod Steps
+pub mod Standing
+pub mod Picture
+pub mod Explanation

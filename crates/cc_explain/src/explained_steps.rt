@@ -1,0 +1,319 @@
+//! The lines of an explanation: the fields of a word, and the steps of decoding them.
+ghost use Rattle.std.specs.Prelude.{◌≡◌, ◌+◌, ◌≤◌, ◌<◌, ◌^◌, ◌++◌, [], codes, length};
+ghost use Rattle.cc_word.specs.Word.{bit_of};
+ghost use Rattle.cc_explain.specs.Explanation.{base_mantissa_text, bounds_fields_text, bounds_line_text, bounds_text, exponent_text, fields_text, granule_text, length_text, mantissas_text, rights_text, section_text, sections_text, standing_text, stored_text, top_mantissa_text, window_addresses_text, window_lines_text, window_text, word_text};
+
+use crate::standing::Standing;
+use crate::steps::{Steps, section, unit};
+use cc_bounds::Span;
+use cc_text::{
+    ROOM, Text, end_with_decimal, end_with_hexadecimal, push_decimal, push_digits, push_hexadecimal,
+};
+use cc_word::Fields;
+
+/// Appends the lines of a word and of its fields.
+pub fn push_fields(text: &mut Text, word: u128, fields: &Fields)
+    requires { text.old ≡ [] }
+    ensures value { text.new ≡ fields_text word fields.now }
+    ensures fits { length text.new ≤ 400 }
+{
+    push_word(text, word);
+    push_rights(text, fields);
+    push_bounds_line(text, fields);
+}
+
+/// Appends the line of a word.
+pub fn push_word(text: &mut Text, word: u128)
+    requires room { length text.old + 43 ≤ ROOM }
+    ensures value { text.new ≡ text.old ++ word_text word }
+    ensures fits { length text.new ≤ length text.old + 43 }
+{
+    push_digits(text, b"word      ", word, 32);
+    text.push(b"\n");
+}
+
+/// Appends the line of the fields that the bounds do not depend on: permissions, reserved bits, flag and type.
+fn push_rights(text: &mut Text, fields: &Fields)
+    requires room { length text.old + 145 ≤ ROOM }
+    ensures value { text.new ≡ text.old ++ rights_text fields.now }
+    ensures fits { length text.new ≤ length text.old + 145 }
+{
+    push_digits(text, b"fields    permissions ", u128::from(fields.perms), 4);
+    push_decimal(text, b", reserved ", u128::from(fields.reserved));
+    push_decimal(text, b", flag ", bit(fields.flag));
+    push_digits(text, b", type ", u128::from(fields.otype), 5);
+    text.push(b"\n");
+}
+
+/// Appends the line of the fields that the bounds are decoded from: IE, T, B and the address.
+fn push_bounds_line(text: &mut Text, fields: &Fields)
+    requires room { length text.old + 170 ≤ ROOM }
+    ensures value { text.new ≡ text.old ++ bounds_line_text fields.now }
+    ensures fits { length text.new ≤ length text.old + 170 }
+{
+    push_bounds_fields(text, b"          IE ", fields.ie, fields.t, fields.b);
+    push_hexadecimal(text, b", address ", u128::from(fields.address));
+    text.push(b"\n");
+}
+
+/// Appends bytes, and then the values of IE and of the T and B fields.
+fn push_bounds_fields(text: &mut Text, before: &[u8], ie: bool, t: u16, b: u16)
+    requires before { length before.now ≤ 60 }
+    requires room { length text.old + length before.now + 75 ≤ ROOM }
+    ensures value { text.new ≡ text.old ++ bounds_fields_text before.now (bit_of ie) t b }
+    ensures fits { length text.new ≤ length text.old + length before.now + 75 }
+{
+    push_decimal(text, before, bit(ie));
+    push_digits(text, b", T field 0x", u128::from(t), 3);
+    push_digits(text, b", B field 0x", u128::from(b), 4);
+}
+
+/// The bit as a number: 1 or 0.
+fn bit(is_set: bool) -> u128
+    ensures { result ≡ bit_of is_set }
+{
+    u128::from(is_set)
+}
+
+/// Appends the lines of the exponent and of the mantissas.
+pub fn push_mantissas(text: &mut Text, fields: &Fields, steps: &Steps)
+    requires exponent { steps.now.exponent ≤ 52 }
+    requires base_mantissa { steps.now.b < 2 ^ 14 }
+    requires top_mantissa { steps.now.t < 2 ^ 14 }
+    requires room { length text.old + 900 ≤ ROOM }
+    ensures value { text.new ≡ text.old ++ mantissas_text fields.now steps.now }
+    ensures fits { length text.new ≤ length text.old + 900 }
+{
+    push_exponent(text, fields, steps);
+    push_granule(text, fields, steps);
+    push_base_mantissa(text, fields, steps);
+    push_top_mantissa(text, fields, steps);
+    push_length(text, fields, steps);
+}
+
+/// Appends the line of the exponent, with the two octal digits that store it where IE is set.
+fn push_exponent(text: &mut Text, fields: &Fields, steps: &Steps)
+    requires room { length text.old + 220 ≤ ROOM }
+    ensures value { text.new ≡ text.old ++ exponent_text fields.now steps.now }
+    ensures fits { length text.new ≤ length text.old + 220 }
+{
+    if fields.ie {
+        push_decimal(text, b"exponent  E = ", u128::from(steps.exponent));
+        push_decimal(text, b": 8 * ", u128::from(fields.t % 8));
+        end_with_decimal(
+            text,
+            b" + ",
+            u128::from(fields.b % 8),
+            b", from the low 3 bits of the T field and of the B field; at most 52",
+        );
+    } else {
+        text.push(b"exponent  E = 0, as IE is 0\n");
+    }
+}
+
+/// Appends the line of the granule: 2^(E+3) bytes with IE, one byte without.
+fn push_granule(text: &mut Text, fields: &Fields, steps: &Steps)
+    requires exponent { steps.now.exponent ≤ 52 }
+    requires room { length text.old + 70 ≤ ROOM }
+    ensures value { text.new ≡ text.old ++ granule_text fields.now steps.now }
+    ensures fits { length text.new ≤ length text.old + 70 }
+{
+    if fields.ie {
+        end_with_hexadecimal(
+            text,
+            b"granule   ",
+            8 * unit(steps.exponent),
+            b" bytes, 2^(E+3)",
+        );
+    } else {
+        text.push(b"granule   1 byte\n");
+    }
+}
+
+/// Appends the line of the base mantissa B.
+fn push_base_mantissa(text: &mut Text, fields: &Fields, steps: &Steps)
+    requires room { length text.old + 100 ≤ ROOM }
+    ensures value { text.new ≡ text.old ++ base_mantissa_text fields.now steps.now }
+    ensures fits { length text.new ≤ length text.old + 100 }
+{
+    push_hexadecimal(text, b"B         ", u128::from(steps.b));
+    text.push(b", the B");
+    text.push(stored(fields));
+    text.push(b"\n");
+}
+
+/// Appends the line of the top mantissa T, with its two implied bits.
+fn push_top_mantissa(text: &mut Text, fields: &Fields, steps: &Steps)
+    requires room { length text.old + 170 ≤ ROOM }
+    ensures value { text.new ≡ text.old ++ top_mantissa_text fields.now steps.now }
+    ensures fits { length text.new ≤ length text.old + 170 }
+{
+    push_hexadecimal(text, b"T         ", u128::from(steps.t));
+    text.push(b", the T");
+    text.push(stored(fields));
+    let implied = u128::from(steps.t >> 12);
+    end_with_decimal(text, b", and above it ", implied, b" as the 2 implied bits");
+}
+
+/// How the T or the B field counts as part of its mantissa: with IE its low three bits count as 0.
+fn stored(fields: &Fields) -> &'static [u8]
+    ensures value { result.now ≡ stored_text fields.now }
+    ensures fits { length result.now ≤ 35 }
+{
+    if fields.ie {
+        b" field with its low 3 bits as 0"
+    } else {
+        b" field"
+    }
+}
+
+/// Appends the line of T - B modulo 2^14, and of the range that the implied bits put it in.
+fn push_length(text: &mut Text, fields: &Fields, steps: &Steps)
+    requires base_mantissa { steps.now.b < 2 ^ 14 }
+    requires top_mantissa { steps.now.t < 2 ^ 14 }
+    requires room { length text.old + 120 ≤ ROOM }
+    ensures value { text.new ≡ text.old ++ length_text fields.now steps.now }
+    ensures fits { length text.new ≤ length text.old + 120 }
+{
+    push_hexadecimal(
+        text,
+        b"T - B     ",
+        u128::from((steps.t + 0x4000 - steps.b) % 0x4000),
+    );
+    text.push(if fields.ie {
+        b" modulo 0x4000: the implied bits put it within 0x1000 to 0x1fff\n"
+    } else {
+        b" modulo 0x4000: the implied bits put it within 0x0 to 0xfff\n"
+    });
+}
+
+/// Appends the lines of the window, of the bounds and of whether the word is canonical.
+pub fn push_window_lines(
+    text: &mut Text,
+    fields: &Fields,
+    steps: &Steps,
+    bounds: &Span,
+    standing: Standing,
+)
+    requires exponent { steps.now.exponent ≤ 52 }
+    requires start { steps.now.start < 2 ^ 67 }
+    requires room { length text.old + 900 ≤ ROOM }
+    ensures value { text.new ≡ text.old ++ window_lines_text fields.now steps.now bounds.now standing }
+    ensures fits { length text.new ≤ length text.old + 900 }
+{
+    push_section(text, steps);
+    push_sections(text, fields, steps);
+    push_window(text, steps);
+    push_bounds(text, bounds);
+    push_standing(text, standing);
+}
+
+/// Appends the line of the size of a section.
+fn push_section(text: &mut Text, steps: &Steps)
+    requires exponent { steps.now.exponent ≤ 52 }
+    requires room { length text.old + 70 ≤ ROOM }
+    ensures value { text.new ≡ text.old ++ section_text steps.now }
+    ensures fits { length text.new ≤ length text.old + 70 }
+{
+    end_with_hexadecimal(
+        text,
+        b"section   ",
+        section(steps.exponent),
+        b" bytes, 2^(E+11)",
+    );
+}
+
+/// Appends the line of the sections, from 0 to 7, that B, T and the address lie in.
+fn push_sections(text: &mut Text, fields: &Fields, steps: &Steps)
+    requires exponent { steps.now.exponent ≤ 52 }
+    requires room { length text.old + 180 ≤ ROOM }
+    ensures value { text.new ≡ text.old ++ sections_text fields.now steps.now }
+    ensures fits { length text.new ≤ length text.old + 180 }
+{
+    push_decimal(text, b"sections  ", u128::from(steps.b / 2048));
+    push_decimal(text, b" of B, ", u128::from(steps.t / 2048));
+    let of_address = u128::from(fields.address) / section(steps.exponent) % 8;
+    end_with_decimal(text, b" of T, ", of_address, b" of the address");
+}
+
+/// Appends the line of the window.
+fn push_window(text: &mut Text, steps: &Steps)
+    requires exponent { steps.now.exponent ≤ 52 }
+    requires start { steps.now.start < 2 ^ 67 }
+    requires room { length text.old + 180 ≤ ROOM }
+    ensures value { text.new ≡ text.old ++ window_text steps.now }
+    ensures fits { length text.new ≤ length text.old + 180 }
+{
+    push_window_addresses(text, steps);
+    let first = u128::from(steps.first_section);
+    end_with_decimal(
+        text,
+        b": eight sections from ",
+        first,
+        b" on, one below that of B",
+    );
+}
+
+/// Appends the first and the last address of the window, which is every address from exponent 50 up.
+fn push_window_addresses(text: &mut Text, steps: &Steps)
+    requires exponent { steps.now.exponent ≤ 52 }
+    requires start { steps.now.start < 2 ^ 67 }
+    requires room { length text.old + 85 ≤ ROOM }
+    ensures value { text.new ≡ text.old ++ window_addresses_text steps.now }
+    ensures fits { length text.new ≤ length text.old + 85 }
+{
+    if steps.exponent >= 50 {
+        text.push(b"window    every address");
+    } else {
+        let last = steps.start + (8 * section(steps.exponent) - 1);
+        push_hexadecimal(text, b"window    ", steps.start % (1 << 64));
+        push_hexadecimal(text, b" to ", last % (1 << 64));
+    }
+}
+
+/// Appends the lines of the base and of the top.
+fn push_bounds(text: &mut Text, bounds: &Span)
+    requires room { length text.old + 180 ≤ ROOM }
+    ensures value { text.new ≡ text.old ++ bounds_text bounds.now }
+    ensures fits { length text.new ≤ length text.old + 180 }
+{
+    let base = u128::from(bounds.base);
+    end_with_hexadecimal(
+        text,
+        b"base      ",
+        base,
+        b", where B * 2^E stands in the window",
+    );
+    let top = bounds.top;
+    end_with_hexadecimal(
+        text,
+        b"top       ",
+        top,
+        b", where T * 2^E stands in the window",
+    );
+}
+
+/// Appends the line of whether the word is canonical, or why not.
+fn push_standing(text: &mut Text, standing: Standing)
+    requires room { length text.old + 135 ≤ ROOM }
+    ensures value { text.new ≡ text.old ++ standing_text standing }
+    ensures fits { length text.new ≤ length text.old + 135 }
+{
+    match standing {
+        Standing::Canonical => text.push(b"canonical yes\n"),
+        Standing::ReservedBits => text.push(b"canonical no: a reserved bit is set\n"),
+        Standing::ReservedType => text.push(b"canonical no: the type is reserved\n"),
+        Standing::TopBelowBase => text.push(b"canonical no: the top is below the base\n"),
+        Standing::TopPastEnd => text.push(b"canonical no: the top is above 2^64\n"),
+        Standing::StoredAs { ie, t, b } => {
+            push_bounds_fields(
+                text,
+                b"canonical no: setting these bounds stores IE ",
+                ie,
+                t,
+                b,
+            );
+            text.push(b"\n");
+        }
+    }
+}

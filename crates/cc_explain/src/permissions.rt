@@ -1,0 +1,40 @@
+//! The permissions of a word by name.
+ghost use Rattle.std.specs.Prelude.{◌≡◌, ◌+◌, ◌≤◌, ◌++◌, length};
+ghost use Rattle.std.specs.List.{join_with_byte};
+ghost use Rattle.cc_cap.specs.Permissions.{bits_of};
+ghost use Rattle.cc_explain.specs.Permissions.{names_of_set, permissions_text, room_of, rows_of};
+
+use bitflags::{Flag, Flags};
+use cc_cap::Perms;
+use cc_text::Line;
+
+/// Appends the names of the permissions from bit 0 up, joined by `+`, or `-` for none: at most 125 bytes. The line needs
+/// room for as many.
+#[tactic(auto, unfolding(crate::specs::Permissions::permissions_text))]
+pub fn push_permissions(line: &mut Line, perms: Perms)
+    requires { length line.old + 125 ≤ 192 }
+    ensures value { line.new ≡ line.old ++ permissions_text (bits_of perms) }
+    ensures fits { length line.new ≤ length line.old + 125 }
+{
+    if perms.bits() == 0 {
+        line.push(b"-");
+    } else {
+        push_names(line, perms, Perms::flags());
+    }
+}
+
+/// Appends, of these flags, the names of those that the set has, joined by `+`.
+fn push_names(line: &mut Line, perms: Perms, flags: &[Flag<Perms>])
+    requires { length line.old + room_of (rows_of flags.now) ≤ 192 }
+    ensures value { line.new ≡ line.old ++ join_with_byte 43 (names_of_set (bits_of perms) (rows_of flags.now)) }
+    ensures fits { length line.new ≤ length line.old + room_of (rows_of flags.now) }
+{
+    let mut separator: &[u8] = b"";
+    for flag in flags {
+        if perms.contains(*flag.value()) {
+            line.push(separator);
+            line.push(flag.name().as_bytes());
+            separator = b"+";
+        }
+    }
+}

@@ -1,0 +1,116 @@
+//! What decoding finds on its way from the fields of a word to its bounds.
+ghost use Rattle.std.specs.Prelude.{◌≡◌, ◌*◌, ◌+◌, ◌<◌, ◌≤◌, ◌^◌};
+ghost use Rattle.cc_bounds.specs.Decoding.{IsPlaced, IsTopMantissa, IsWindow, base_mantissa, first_section};
+ghost use Rattle.cc_bounds.specs.Window.{section_of};
+ghost use Rattle.cc_explain.specs.Steps.{AreSteps};
+ghost use Rattle.cc_explain.specs.declared.steps.TheConstants.{LAPS};
+
+use cc_bounds::exponent;
+use cc_word::Fields;
+
+/// Four laps of the address space: 2^66. Numbers that could be below zero are raised by it.
+pub const LAPS: u128 = 1 << 66;
+
+/// What decoding finds on its way: the exponent, the mantissas, and where they stand in the window.
+#[derive(Clone, Copy)]
+pub struct Steps {
+    /// The exponent E, from 0 to 52.
+    pub exponent: u8,
+    /// The base mantissa B, of 14 bits.
+    pub b: u16,
+    /// The top mantissa T, of 14 bits.
+    pub t: u16,
+    /// The section with which the window begins, from 0 to 7.
+    pub first_section: u16,
+    /// Where the window begins, raised by [`LAPS`].
+    pub start: u128,
+    /// Where B stands in the window, raised by [`LAPS`].
+    pub base: u128,
+    /// Where T stands in the window, raised by [`LAPS`].
+    pub top: u128,
+}
+
+/// The steps of these fields.
+pub fn decoding_steps(fields: &Fields) -> Steps
+    ensures { AreSteps fields.now result }
+{
+    let b = base_mantissa(fields);
+    let t = top_mantissa(fields);
+    let start = window_start(fields);
+    Steps {
+        exponent: exponent(fields),
+        b,
+        t,
+        first_section: first_section(fields),
+        start,
+        base: place(fields, start, b),
+        top: place(fields, start, t),
+    }
+}
+
+/// The size of a section, an eighth of the window: 2^(E+11) bytes.
+pub fn section(exponent: u8) -> u128
+    requires { exponent ≤ 52 }
+    ensures value { result ≡ section_of exponent }
+    ensures some { 0 < result }
+    ensures fits { result ≤ 2 ^ 63 }
+{
+    1 << (u32::from(exponent) + 11)
+}
+
+/// The base mantissa: the B field, whose low three bits count as 0 with IE.
+fn base_mantissa(fields: &Fields) -> u16
+    ensures value { result ≡ base_mantissa fields.now }
+    ensures fits { result < 2 ^ 14 }
+{
+    if fields.ie { fields.b & !0x7 } else { fields.b }
+}
+
+/// The top mantissa: the T field, whose low three bits count as 0 with IE, and above it the two implied bits.
+fn top_mantissa(fields: &Fields) -> u16
+    ensures value { IsTopMantissa fields.now result }
+    ensures fits { result < 2 ^ 14 }
+{
+    let base = base_mantissa(fields);
+    let stored = if fields.ie { fields.t & !0x7 } else { fields.t };
+    let length = (u16::from(fields.ie) << 12) | (stored.wrapping_sub(base) & 0xfff);
+    (base + length) & 0x3fff
+}
+
+/// The section with which the window begins, from 0 to 7: the one below that of B.
+fn first_section(fields: &Fields) -> u16
+    ensures { result ≡ first_section fields.now }
+{
+    (base_mantissa(fields) / 2048 + 7) % 8
+}
+
+/// Where the window begins that has the address in it, raised by [`LAPS`].
+fn window_start(fields: &Fields) -> u128
+    ensures { IsWindow fields.now result }
+{
+    let section = section(exponent(fields));
+    let first = u128::from(first_section(fields)) * section;
+    let address = u128::from(fields.address) + LAPS;
+    address - (address - first) % (8 * section)
+}
+
+/// Where a mantissa stands in the window that begins at `start`.
+fn place(fields: &Fields, start: u128, mantissa: u16) -> u128
+    requires window { IsWindow fields.now start }
+    requires fits { mantissa < 2 ^ 14 }
+    ensures { IsPlaced fields.now mantissa result }
+{
+    let exponent = exponent(fields);
+    let size = 8 * section(exponent);
+    let scaled = u128::from(mantissa) * unit(exponent);
+    start + (scaled + size - start % size) % size
+}
+
+/// The unit of a mantissa: 2^E bytes.
+pub fn unit(exponent: u8) -> u128
+    requires { exponent ≤ 52 }
+    ensures value { result ≡ 2 ^ exponent }
+    ensures fits { result ≤ 2 ^ 52 }
+{
+    1 << exponent
+}

@@ -1,0 +1,3 @@
+mod WaitingLemmas
+pub mod DigitLemmas
+pub mod DecimalLemmas
