@@ -3,4 +3,3 @@ mod InvocationLemmas
 mod OutcomeLemmas
 mod ChoiceLemmas
 mod TellingLemmas
-mod CommandLemmas

@@ -7,7 +7,7 @@ use Rattle.cc_machine.specs.State.{State}
 use Rattle.cc_script.specs.Lines.{lines_of}
 use Rattle.cc_command.specs.Hints.{hints_text}
 use Rattle.cc_command.specs.Statistics.{statistics_text}
-use Rattle.cc_command.specs.Tally.{IsTally, counted, first_from, is_refusal}
+use Rattle.cc_command.specs.Tally.{IsTally, counted, first_behind, first_from, is_refusal}
 use Rattle.cc_command.specs.Usage.{IsUsage}
 use Rattle.cc_command.specs.declared.hints.Hints.{Hints}
 use Rattle.cc_command.specs.declared.tally.Tally.{Tally}
@@ -36,8 +36,8 @@ inexact_pool zero opening pool = None
 inexact_pool (suc before) opening pool = if nat_lt opening (suc before) then None else pool
 
 -- The hints after a run whose first `opening` replies made its pool, if it has one, of this length: of the pool, of what
--- was seen in the script, and of the line whose reply is the first that is `Full`. `inexact` and `full` are the numbers of
--- the first such replies, and 0 where there is none.
+-- was seen in the script, and of its first line whose reply is `Full`. `inexact` is the number of the first reply that is
+-- `Inexact`, and `full` that of the first reply behind the opening that is `Full`; both are 0 where there is none.
 abbrev pub hints_of : (inexact full : ℕ) → Watch → (opening : ℕ) → (pool : Option ℕ) → Hints
 hints_of inexact full watch opening pool = record {
   inexact = inexact_pool inexact opening pool;
@@ -49,6 +49,10 @@ hints_of inexact full watch opening pool = record {
 -- the number of the first of these replies that is this refusal, and 0 where none is
 abbrev pub first_refused : Refusal → (replies : List ℕ) → ℕ
 first_refused refusal replies = counted (first_from (is_refusal refusal) 1 (lines_of replies))
+
+-- the number, among all of these replies, of the first behind so many others that is `Full`, and 0 where none is
+abbrev pub first_full : (others : ℕ) (replies : List ℕ) → ℕ
+first_full others replies = counted (first_behind others (is_refusal Full) (lines_of replies))
 
 -- how many replies stand before those to the script: those to the operations that make its pool, where it has one
 abbrev pub replies_before : (pool : Option ℕ) → ℕ
@@ -65,7 +69,7 @@ abbrev pub AreHints : (given : Bool) → Tally → Watch → (pool : Option ℕ)
 AreHints false tally watch pool text = text ≡ []
 AreHints true tally watch pool text =
     (replies : List ℕ) → IsTally replies tally
-    → text ≡ hints_text (hints_of (first_refused Inexact replies) (first_refused Full replies) watch (replies_before pool) pool)
+    → text ≡ hints_text (hints_of (first_refused Inexact replies) (first_full (replies_before pool) replies) watch (replies_before pool) pool)
 
 -- what is told of a run: the summary, and then the hints
 pub record TellsRun (telling : Telling) (state : State) (tally : Tally) (watch : Watch) (pool : Option ℕ) (taken taken_now : Option (List ℕ)) : Type 0 where

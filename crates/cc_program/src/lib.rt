@@ -2,10 +2,7 @@
 #![tactic(auto)]
 
 mod answering;
-mod arguments;
-mod commands;
 mod error_writer;
-mod help;
 mod invocation;
 mod mapping;
 mod outcome;
@@ -17,6 +14,9 @@ mod running;
 mod telling;
 mod values;
 
-pub use outcome::{Ending, Fault};
+pub use invocation::Invocation;
+pub use outcome::{Ending, Fault, status};
 pub use program::{answer_arguments, finish};
+pub use question::Question;
+pub use reading::read_words;
 pub use telling::Terminals;

@@ -36,7 +36,7 @@ pub fn map<R: AllocGlobal + Files + Input, W: Sink + Drop>(
     ensures open { result ≡ Err Fault.Open → NamesFile (option_map (λ text. text.now) file.entry) }
     ensures refused { RefusesPool texts.entry.base.now texts.entry.length.now result }
 {
-    match plan_numbers(&texts) {
+    match plan_numbers(texts.base.as_bytes(), texts.length.as_bytes()) {
         Ok((base, length)) => {
             let pool = Pool {
                 base,

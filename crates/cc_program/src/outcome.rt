@@ -45,9 +45,20 @@ pub fn ending_of(answer: Result<Summary, Fault>) -> Ending
     }
 }
 
+/// The exit status of a program that was asked for an answer: 0 where no reply was an error, 1 where one was, and 3 for a
+/// fault.
+pub fn status(answer: &Result<Summary, Fault>) -> u8
+    ensures { result ≡ status_of (ending_of answer.now) }
+{
+    match answer {
+        Ok(summary) => u8::from(summary.any_error),
+        Err(_) => 3,
+    }
+}
+
 /// The exit status: 0 where no reply was an error, 1 where one was, 2 for a command line that was refused, and 3
 /// for a fault.
-pub fn status(ending: Ending) -> u8
+pub fn ending_status(ending: Ending) -> u8
     ensures { result ≡ status_of ending }
 {
     match ending {

@@ -8,7 +8,7 @@ ghost use Rattle.cc_program.specs.Outcome.{EndsBy, EndsOn, status_of};
 
 use crate::answering::answer_question;
 use crate::invocation::Invocation;
-use crate::outcome::{Ending, Fault, ending_of, status};
+use crate::outcome::{Ending, Fault, ending_of, ending_status};
 use crate::reading::read_words;
 use crate::telling::{Telling, Terminals};
 use crate::{mapping, running};
@@ -145,5 +145,5 @@ pub fn finish<R: Eprint>(rt: &R, ending: Ending) -> u8
     if let Ending::Stopped(fault) = ending {
         let _ = eprintln!(rt; "{fault}");
     }
-    status(ending)
+    ending_status(ending)
 }

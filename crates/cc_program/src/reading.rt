@@ -4,14 +4,13 @@ ghost use Rattle.clap.specs.Walk.{texts};
 ghost use Rattle.clap.specs.Words.{App, FailsBy, first_of, found_of, kind_of, rows_of, subcommand_of, subcommand_rows_of};
 ghost use Rattle.cc_program.specs.Invocation.{HasChoice, HasFlag, HasItsTexts, HasLimit, HasPoolTexts, HasText, HasValues, IsInvocation, IsProgram, align_named, choice_fault_in, choice_fault_of, command_of, faults_of, format_named, format_names, input_named, is_taken, kinds_in, order_names};
 
-use crate::commands::{explain_command, program};
-use crate::help::EXPLAIN_CHOICE;
 use crate::invocation::Invocation;
 use crate::question::Question;
 use crate::values::{
     align_of, base_of, format_of, input_of, is_given, limit_of, pool_texts, value_of, wanted_text,
 };
 use cc_decode::Options;
+use cc_table::{EXPLAIN_CHOICE, explain_command, program};
 use clap::error::ErrorKind;
 use clap::{ArgMatches, Error};
 use std::alloc::{AllocError, Global};

@@ -4,7 +4,7 @@ ghost use Rattle.std.specs.Io.KnownBytes.{Appends};
 ghost use Rattle.cc_word.specs.declared.refusal.Refusal.TheVariants as refusal;
 ghost use Rattle.cc_command.specs.Tally.{IsTally};
 ghost use Rattle.cc_program.specs.Script.{NamesFile};
-ghost use Rattle.cc_program.specs.Telling.{TellsRun, first_refused, hints_of, replies_before, telling_of, waiting_text};
+ghost use Rattle.cc_program.specs.Telling.{TellsRun, first_full, first_refused, hints_of, replies_before, telling_of, waiting_text};
 
 use crate::pool::OPENING;
 use cc_command::{Hints, Tally, Watch, show_hints, show_statistics, usage_of};
@@ -73,15 +73,19 @@ fn first_inexact(tally: &Tally) -> u64
     tally.counts[INEXACT].first
 }
 
-/// The number of the first reply that is `Full`, from 1 up; 0 where none is.
-fn first_full(tally: &Tally) -> u64
-    ensures { (text : List ℕ) → IsTally text tally.now → result ≡ first_refused refusal.Full text }
+/// The number of the first reply to the script that is `Full`, from 1 up among all replies; 0 where none is.
+fn first_full(tally: &Tally, pool: &Option<Len>) -> u64
+    ensures { (text : List ℕ) → IsTally text tally.now → result ≡ first_full (replies_before pool.now) text }
 {
-    tally.counts[FULL].first
+    match pool {
+        Some(_) => tally.full,
+        None => tally.counts[FULL].first,
+    }
 }
 
 /// What is worth a hint after a run whose first `opening` replies made its pool, if it has one, of `pool` bytes.
-/// `inexact` and `full` are the numbers of the first such replies, or 0.
+/// `inexact` is the number of the first reply that is `Inexact`, `full` that of the first behind the opening that is
+/// `Full`, and either is 0 where none is.
 fn hints_of(inexact: u64, full: u64, watch: &Watch, opening: u64, pool: Option<Len>) -> Hints
     ensures { result ≡ hints_of inexact full watch.now opening pool }
 {
@@ -132,7 +136,7 @@ pub fn tell<R: AllocGlobal, E: Sink>(
     if telling.hints {
         let hints = hints_of(
             first_inexact(tally),
-            first_full(tally),
+            first_full(tally, &pool),
             watch,
             opening,
             pool,

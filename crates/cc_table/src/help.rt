@@ -43,7 +43,8 @@ pub(crate) const EXPLAIN_USAGE: &str = "\
 cheri-cap explain <WORD>
        cheri-cap explain --length <N> [--base <B>]";
 
-pub(crate) const EXPLAIN_CHOICE: &str =
+/// What is said where the values of `explain` do not go together.
+pub const EXPLAIN_CHOICE: &str =
     "either WORD is wanted, or `--length N` and with it `--base B` or not";
 
 pub(crate) const REQUEST_LENGTH_HELP: &str = "\
@@ -53,11 +54,12 @@ pub(crate) const REQUEST_BASE_HELP: &str =
     "The first address of the N bytes, written as N is [default: 0]";
 
 pub(crate) const EXPLAIN_AFTER_HELP: &str = "\
-Of a WORD the answer has its fields, its exponent, granule and mantissas, its window, in which its
-address may move while its bounds stay as they are, its base and its top, whether it is canonical,
-and if not why. Under them stands a picture of the window in 64 cells, eight to each of its eight
-sections: `#` marks the cells that hold bytes of the bounds, B, T and A that of the base, of the top
-and of the address. For a text that is no word the answer is `error 1 syntax`, with exit status 1.
+Of a WORD the answer has its fields, its exponent, granule and mantissas, its window, its base and
+its top, whether it is canonical, and if not why. A word that setting bounds made keeps its bounds
+wherever in the window its address is. Under them stands a picture of the window in 64 cells, eight
+to each of its eight sections: `#` marks the cells that hold bytes of the bounds, B, T and A that of
+the base, of the top and of the address. For a text that is no word the answer is `error 1 syntax`,
+with exit status 1.
 
 Of N bytes from B on it has the granule in which their bounds are stored, and why half of it is not
 enough, the bounds that are granted, the bytes beside the N that they take in, the length and the
@@ -83,7 +85,7 @@ The length in bytes, at most 2^64: decimal digits, or 0x and hexadecimal digits 
 
 pub(crate) const ROUND_AFTER_HELP: &str = "\
 The answer is one line, `round LENGTH GRANULE MASK`, with each number in hexadecimal:
-  LENGTH   how many bytes to set aside: the least number from N up that bounds can have exactly
+  LENGTH   how many bytes to set aside: what a length of N is rounded up to for exact bounds
   GRANULE  how to align them: they begin at an address that is a multiple of this
   MASK     rounds an address down to such a multiple, as `address & MASK`
 A capability for bytes placed so grants them, and nothing beside them.
@@ -195,7 +197,7 @@ The answers stand in the order of the words, one on each line:
   csv       a header, and then the values of the columns, ADDRESS and NAMES with commas between
 A line that is no word is answered by `error 1 syntax`, and a rest that is no whole line, or fewer
 than 16 bytes, by `error 2 unfinished`. Each word is answered for itself, so that parts of the input
-can be decoded apart.
+can be decoded apart; but with `--format csv` the answers to each part begin with the header.
 
 The exit status is 0, or 1 where an answer is an error, 2 for a command line that is not understood,
 and 3 where FILE cannot be opened, or the input or output failed.

@@ -1,0 +1,10 @@
+//! The command line, as clap reads it: the commands, their arguments and the texts of the help.
+#![tactic(auto)]
+
+mod arguments;
+mod commands;
+mod help;
+mod table;
+
+pub use commands::{explain_command, program};
+pub use help::EXPLAIN_CHOICE;

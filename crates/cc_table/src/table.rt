@@ -1,0 +1,355 @@
+//! The commands and their arguments as rows of a table.
+ghost use Rattle.std.specs.Prelude.{◌≡◌, codes};
+ghost use Rattle.clap.specs.Words.{new_app};
+ghost use Rattle.cc_table.specs.Usage.{bare_program, explain_command, listed_commands, with_arguments, with_commands};
+
+use crate::help::{
+    ALIGN_HELP, BASE_HELP, BYTES_HELP, DECODE_ABOUT, DECODE_AFTER_HELP, FILE_HELP, FORMAT_HELP,
+    LENGTH_HELP, LINE_HELP, MAP_ABOUT, MAP_AFTER_HELP, PLAN_ABOUT, PLAN_AFTER_HELP,
+    POOL_LENGTH_HELP, REQUEST_BASE_HELP, REQUEST_LENGTH_HELP, ROUND_ABOUT, ROUND_AFTER_HELP,
+    RUN_ABOUT, RUN_AFTER_HELP, SHOW_ABOUT, SHOW_AFTER_HELP, SLOTS_HELP, STATS_HELP, SVG_HELP,
+    WORD_HELP, WORDS_FILE_HELP,
+};
+
+/// What the help of an argument is about.
+#[derive(Clone, Copy)]
+pub(crate) enum Topic {
+    /// `LINE_HELP`.
+    Line,
+    /// `WORD_HELP`.
+    Word,
+    /// `LENGTH_HELP`.
+    Length,
+    /// `SLOTS_HELP`.
+    Slots,
+    /// `STATS_HELP`.
+    Stats,
+    /// `FILE_HELP`.
+    File,
+    /// `ALIGN_HELP`.
+    Align,
+    /// `BASE_HELP`.
+    Base,
+    /// `POOL_LENGTH_HELP`.
+    PoolLength,
+    /// `SVG_HELP`.
+    Svg,
+    /// `FORMAT_HELP`.
+    Format,
+    /// `BYTES_HELP`.
+    Bytes,
+    /// `WORDS_FILE_HELP`.
+    WordsFile,
+    /// `REQUEST_LENGTH_HELP`.
+    RequestLength,
+    /// `REQUEST_BASE_HELP`.
+    RequestBase,
+}
+
+/// Whose help.
+#[derive(Clone, Copy)]
+pub(crate) enum Page {
+    /// Of `show`.
+    Show,
+    /// Of `round`.
+    Round,
+    /// Of `run`.
+    Run,
+    /// Of `plan`.
+    Plan,
+    /// Of `map`.
+    Map,
+    /// Of `decode`.
+    Decode,
+}
+
+/// The help of an argument.
+pub(crate) fn help<'a>(topic: Topic) -> &'a str {
+    match topic {
+        Topic::Line => LINE_HELP,
+        Topic::Word => WORD_HELP,
+        Topic::Length => LENGTH_HELP,
+        Topic::Slots => SLOTS_HELP,
+        Topic::Stats => STATS_HELP,
+        Topic::File => FILE_HELP,
+        Topic::Align => ALIGN_HELP,
+        Topic::Base => BASE_HELP,
+        Topic::PoolLength => POOL_LENGTH_HELP,
+        Topic::Svg => SVG_HELP,
+        Topic::Format => FORMAT_HELP,
+        Topic::Bytes => BYTES_HELP,
+        Topic::WordsFile => WORDS_FILE_HELP,
+        Topic::RequestLength => REQUEST_LENGTH_HELP,
+        Topic::RequestBase => REQUEST_BASE_HELP,
+    }
+}
+
+/// What a command does.
+pub(crate) fn about<'a>(page: Page) -> &'a str {
+    match page {
+        Page::Show => SHOW_ABOUT,
+        Page::Round => ROUND_ABOUT,
+        Page::Run => RUN_ABOUT,
+        Page::Plan => PLAN_ABOUT,
+        Page::Map => MAP_ABOUT,
+        Page::Decode => DECODE_ABOUT,
+    }
+}
+
+/// What follows a command's arguments.
+pub(crate) fn after_help<'a>(page: Page) -> &'a str {
+    match page {
+        Page::Show => SHOW_AFTER_HELP,
+        Page::Round => ROUND_AFTER_HELP,
+        Page::Run => RUN_AFTER_HELP,
+        Page::Plan => PLAN_AFTER_HELP,
+        Page::Map => MAP_AFTER_HELP,
+        Page::Decode => DECODE_AFTER_HELP,
+    }
+}
+
+/// What an argument is.
+#[derive(Clone, Copy)]
+pub(crate) enum Kind {
+    /// It has to be given.
+    Wanted,
+    /// It may be left out.
+    Free,
+    /// An option with a value.
+    Valued,
+    /// An option without a value.
+    Flag,
+    /// The option `--slots N`.
+    Slots,
+    /// An option whose value is an alignment.
+    Align,
+    /// An option whose value is a format.
+    Format,
+    /// An option whose value is an order of bytes.
+    Order,
+}
+
+/// An argument of a command.
+#[derive(Clone, Copy)]
+pub(crate) struct Row<'a> {
+    pub(crate) kind: Kind,
+    pub(crate) name: &'a str,
+    pub(crate) placeholder: &'a str,
+    pub(crate) topic: Topic,
+}
+
+/// The texts that `--align`, `--format` and `--bytes` take.
+#[derive(Clone, Copy)]
+pub(crate) struct Choices<'a> {
+    pub(crate) aligns: &'a [&'a str],
+    pub(crate) formats: &'a [&'a str],
+    pub(crate) orders: &'a [&'a str],
+}
+
+/// A command.
+#[derive(Clone, Copy)]
+pub(crate) struct CommandRow<'a> {
+    pub(crate) name: &'a str,
+    pub(crate) page: Page,
+    pub(crate) rows: &'a [Row<'a>],
+}
+
+/// The commands but for `explain`.
+const COMMANDS: &[CommandRow] = &[
+    CommandRow {
+        name: "show",
+        page: Page::Show,
+        rows: &[
+            Row {
+                kind: Kind::Flag,
+                name: "line",
+                placeholder: "",
+                topic: Topic::Line,
+            },
+            Row {
+                kind: Kind::Wanted,
+                name: "word",
+                placeholder: "WORD",
+                topic: Topic::Word,
+            },
+        ],
+    },
+    CommandRow {
+        name: "round",
+        page: Page::Round,
+        rows: &[Row {
+            kind: Kind::Wanted,
+            name: "length",
+            placeholder: "N",
+            topic: Topic::Length,
+        }],
+    },
+    CommandRow {
+        name: "run",
+        page: Page::Run,
+        rows: &[
+            Row {
+                kind: Kind::Slots,
+                name: "slots",
+                placeholder: "N",
+                topic: Topic::Slots,
+            },
+            Row {
+                kind: Kind::Flag,
+                name: "stats",
+                placeholder: "",
+                topic: Topic::Stats,
+            },
+            Row {
+                kind: Kind::Free,
+                name: "file",
+                placeholder: "FILE",
+                topic: Topic::File,
+            },
+        ],
+    },
+    CommandRow {
+        name: "plan",
+        page: Page::Plan,
+        rows: &[
+            Row {
+                kind: Kind::Slots,
+                name: "slots",
+                placeholder: "N",
+                topic: Topic::Slots,
+            },
+            Row {
+                kind: Kind::Align,
+                name: "align",
+                placeholder: "ALIGN",
+                topic: Topic::Align,
+            },
+            Row {
+                kind: Kind::Flag,
+                name: "stats",
+                placeholder: "",
+                topic: Topic::Stats,
+            },
+            Row {
+                kind: Kind::Wanted,
+                name: "base",
+                placeholder: "BASE",
+                topic: Topic::Base,
+            },
+            Row {
+                kind: Kind::Wanted,
+                name: "length",
+                placeholder: "LENGTH",
+                topic: Topic::PoolLength,
+            },
+            Row {
+                kind: Kind::Free,
+                name: "file",
+                placeholder: "FILE",
+                topic: Topic::File,
+            },
+        ],
+    },
+    CommandRow {
+        name: "map",
+        page: Page::Map,
+        rows: &[
+            Row {
+                kind: Kind::Slots,
+                name: "slots",
+                placeholder: "N",
+                topic: Topic::Slots,
+            },
+            Row {
+                kind: Kind::Align,
+                name: "align",
+                placeholder: "ALIGN",
+                topic: Topic::Align,
+            },
+            Row {
+                kind: Kind::Flag,
+                name: "svg",
+                placeholder: "",
+                topic: Topic::Svg,
+            },
+            Row {
+                kind: Kind::Wanted,
+                name: "base",
+                placeholder: "BASE",
+                topic: Topic::Base,
+            },
+            Row {
+                kind: Kind::Wanted,
+                name: "length",
+                placeholder: "LENGTH",
+                topic: Topic::PoolLength,
+            },
+            Row {
+                kind: Kind::Free,
+                name: "file",
+                placeholder: "FILE",
+                topic: Topic::File,
+            },
+        ],
+    },
+    CommandRow {
+        name: "decode",
+        page: Page::Decode,
+        rows: &[
+            Row {
+                kind: Kind::Format,
+                name: "format",
+                placeholder: "FORMAT",
+                topic: Topic::Format,
+            },
+            Row {
+                kind: Kind::Order,
+                name: "bytes",
+                placeholder: "ORDER",
+                topic: Topic::Bytes,
+            },
+            Row {
+                kind: Kind::Free,
+                name: "file",
+                placeholder: "FILE",
+                topic: Topic::WordsFile,
+            },
+        ],
+    },
+];
+
+/// The arguments of `explain`.
+const EXPLAIN_ROWS: &[Row] = &[
+    Row {
+        kind: Kind::Valued,
+        name: "length",
+        placeholder: "N",
+        topic: Topic::RequestLength,
+    },
+    Row {
+        kind: Kind::Valued,
+        name: "base",
+        placeholder: "B",
+        topic: Topic::RequestBase,
+    },
+    Row {
+        kind: Kind::Free,
+        name: "word",
+        placeholder: "WORD",
+        topic: Topic::Word,
+    },
+];
+
+/// The commands but for `explain`.
+pub(crate) fn commands<'a>() -> &'a [CommandRow<'a>]
+    ensures { (choices : Choices) → with_commands choices bare_program result.now ≡ listed_commands choices.aligns choices.formats choices.orders }
+{
+    COMMANDS
+}
+
+/// The arguments of `explain`.
+pub(crate) fn explain_rows<'a>() -> &'a [Row<'a>]
+    ensures { (choices : Choices) → with_arguments choices (new_app (codes "explain")) result.now ≡ explain_command }
+{
+    EXPLAIN_ROWS
+}
