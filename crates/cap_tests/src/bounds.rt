@@ -1,5 +1,3 @@
-//! Words that are decoded, bounds that are set, and spans.
-mod decoding;
-mod encoding;
+//! Bounds that are set.
 mod plain_search;
-mod spans;
+mod values;

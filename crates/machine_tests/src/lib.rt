@@ -1,5 +1,5 @@
-//! Tests of cc_plan and cc_machine: worked rows, as callers meet these crates. They stand apart from them, so that the
-//! bodies are not proved once more beside the tests.
+//! Tests of cc_plan and cc_machine: what no script of the program shows and no contract says. They stand apart from
+//! these crates, so that the bodies are not proved once more beside the tests.
 #![tactic(auto)]
 
 #[cfg(test)]

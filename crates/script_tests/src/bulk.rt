@@ -1,21 +1,91 @@
-//! Words in bulk.
-mod devices;
-mod rows;
-
-use cc_decode::{Options, decode_words};
+//! Words in bulk between devices that fail.
+use cc_decode::{Format, InputForm, Options, decode_words};
 use cc_script::{ScriptFault, SliceSink, SliceSource, Summary};
 
-/// How the decoding of an input ends, and how many bytes of the answers are then in the room. The source gives at most
-/// `pieces.0` bytes at once, and the sink takes `pieces.1`; `fails` says which call of each fails, if one does.
-fn decode_between(
-    options: Options,
-    input: &[u8],
+/// Two words, lines that are none, and a rest.
+const TEXT: &[u8] = b"\
+ffff0000000f803d0000000000010070
+02001FFFC48190040000000000001000
+
+ffff0000000f803d0000000000010070\r
+0ffff0000000f803d0000000000010070
+ffffffffffffffffffffffffffffffff
+ffff0000000f803d0000000000010070";
+
+const COLUMNS: &[u8] = b"\
+ffff0000000f803d0000000000010070 0x10070 0x12070 ffff 0 3ffff 1 yes
+02001fffc48190040000000000001000 0x1000 0x1200 0200 0 00007 0 yes
+error 1 syntax
+error 1 syntax
+error 1 syntax
+ffffffffffffffffffffffffffffffff 0xfffffffffffffffb 0x10000000000000ff9 ffff 1 00000 0 no
+error 2 unfinished
+";
+
+/// How the decoding of the text ends, and how many bytes of the answers were then taken; `None` where other bytes were.
+/// The source gives at most `pieces.0` bytes at once, and the sink takes `pieces.1`; `fails` says which call of each
+/// fails, if one does.
+fn decode(
     pieces: (usize, usize),
     fails: (Option<u32>, Option<u32>),
-    room: &mut [u8],
-) -> (Result<Summary, ScriptFault>, usize) {
-    let mut source = SliceSource::new(input, pieces.0.max(1), fails.0);
-    let mut sink = SliceSink::new(room, pieces.1.max(1), fails.1);
+) -> Option<(Result<Summary, ScriptFault>, usize)> {
+    let options = Options {
+        input: InputForm::Lines,
+        format: Format::Columns,
+    };
+    let mut room = [0; 512];
+    let mut source = SliceSource::new(TEXT, pieces.0.max(1), fails.0);
+    let mut sink = SliceSink::new(&mut room, pieces.1.max(1), fails.1);
     let end = decode_words(options, &mut source, &mut sink);
-    (end, sink.taken())
+    let taken = sink.taken();
+    if room.get(..taken) == COLUMNS.get(..taken) {
+        Some((end, taken))
+    } else {
+        None
+    }
+}
+
+/// How many line feeds a text has.
+fn count_lines(text: &[u8]) -> usize {
+    let mut count = 0usize;
+    for byte in text {
+        count = count.saturating_add(usize::from(*byte == b'\n'));
+    }
+    count
+}
+
+/// Where this call of the source fails, the lines that came whole before it are answered.
+fn read_fails(call: u32) -> bool {
+    let given = (call as usize).saturating_sub(1).saturating_mul(13);
+    let lines = count_lines(&TEXT[..given.min(TEXT.len())]);
+    match decode((13, 4096), (Some(call), None)) {
+        Some((Err(ScriptFault::Read), taken)) => {
+            count_lines(&COLUMNS[..taken.min(COLUMNS.len())]) == lines
+        }
+        _ => false,
+    }
+}
+
+#[test]
+fn each_read_fails_in_turn(rt: HostRuntime) {
+    for call in 1..18u32 {
+        assert!(rt; read_fails(call), "call {call}");
+    }
+}
+
+/// Where this call of the sink fails, a beginning of the answers was written. The twenty-ninth would be a second flush
+/// behind 27 writes, and is never made.
+fn write_fails(call: u32) -> bool {
+    match decode((4096, 11), (None, Some(call))) {
+        Some((Err(ScriptFault::Write), _)) => call < 29,
+        Some((Ok(summary), taken)) => call == 29 && summary.any_error && taken == COLUMNS.len(),
+        _ => false,
+    }
+}
+
+#[test]
+fn each_write_and_the_flush_fail_in_turn(rt: HostRuntime) {
+    for call in 1..30u32 {
+        assert!(rt; write_fails(call), "call {call}");
+    }
 }

@@ -2,7 +2,6 @@
 ghost use Rattle.std.specs.Prelude.{◌<◌, ◌≤◌};
 
 use cc_bounds::{Span, set_bounds};
-use std::process::Abort;
 
 /// The power of two of the largest granule.
 const MAX_POWER: u32 = 55;
@@ -48,26 +47,34 @@ fn searched(request: Span) -> ((u8, bool, u16, u16), Span, bool) {
     (fields, granted, granted == request)
 }
 
+/// Both grant these bytes alike.
+fn is_as_searched(base: u64, len: u128) -> bool
+    requires base { base < 64 }
+    requires length { len ≤ 8300 }
+{
+    let set = set_bounds(base, len);
+    let top = u128::from(base) + len;
+    let (fields, granted, exact) = searched(Span { base, top });
+    (set.e(), set.ie(), set.t(), set.b()) == fields
+        && set.granted() == granted
+        && set.exact() == exact
+}
+
 /// Both agree on each length from 4,000 to 8,300.
-fn check_lengths(rt: &impl Abort, base: u64)
+fn are_as_searched(base: u64) -> bool
     requires { base < 64 }
 {
-    for len in 4000..8301_u32 {
-        let len = u128::from(len);
-        let set = set_bounds(base, len);
-        let fields = (set.e(), set.ie(), set.t(), set.b());
-        let request = Span {
-            base,
-            top: u128::from(base) + len,
-        };
-        let found = (fields, set.granted(), set.exact());
-        assert_eq!(rt; found, searched(request), "base {base} length {len}");
+    for len in 4000..8301u32 {
+        if !is_as_searched(base, u128::from(len)) {
+            return false;
+        }
     }
+    true
 }
 
 #[test]
 fn bounds_as_searched(rt: HostRuntime) {
-    for base in 0..64 {
-        check_lengths(&rt, base);
+    for base in 0..64u64 {
+        assert!(rt; are_as_searched(base), "base {base}");
     }
 }

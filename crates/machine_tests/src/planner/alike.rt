@@ -1,13 +1,14 @@
-//! The three placers answer alike, whatever is made, freed and swept; and blocks that are split and joined again.
+//! The three placers answer alike, whatever is made, freed and swept.
 ghost use Rattle.std.specs.Prelude.{◌≤◌, ◌^◌};
 ghost use Rattle.cc_plan.specs.Replay.{IsWithinLimit};
 
-use super::{Pool, SMALL, WHOLE, with_pool};
+use super::{Pool, with_pool};
 use PlanCall::{Alloc, Free, Sweep};
 use cc_plan::{
     Align, BlockPlacer, ObjectId, Placer, PlanCall, PlanReply, Planner, ScanPlacer, SortedPlacer,
     plan_run,
 };
+use cc_word::Refusal;
 use std::alloc::Global;
 
 /// A planner over each placer.
@@ -46,11 +47,6 @@ impl Planners {
         self.sorted.held_bytes() == self.scanning.held_bytes()
             && self.blocks.held_bytes() == self.scanning.held_bytes()
             && self.blocks.placer().count() == self.scanning.placer().count()
-    }
-
-    /// The three reply alike to a free of the object.
-    fn free(&mut self, number: u32) -> bool {
-        self.reply(Free(ObjectId(number))).is_some()
     }
 
     fn sweep(&mut self) -> bool {
@@ -121,161 +117,74 @@ fn walks_anew(alloc: Global, first: u32, kinds: u32, pool: Pool) -> bool {
     }
 }
 
-#[test]
-fn same_replies_with_much_room(rt: HostRuntime) {
-    assert!(rt; walks_anew(rt.alloc(), 1, 5, WHOLE));
-}
+/// The first seed of a walk, how many kinds of sizes it takes, and the pool.
+type Walk = (u32, u32, Pool);
+
+/// Much room, little and hardly any; both ends of the address space; and alignment 16.
+const WALKS: [Walk; 7] = [
+    (1, 5, (0, 1 << 64, Align::One)),
+    (7, 5, (0x10000, 0x10000, Align::One)),
+    (99, 3, (0x10000, 0x800, Align::One)),
+    (3, 7, (0, 0x400000000, Align::One)),
+    (5, 7, (0xfffffffc00000000, 0x400000000, Align::One)),
+    (11, 3, (0x10008, 0xff0, Align::Sixteen)),
+    (13, 7, (0, 1 << 64, Align::Sixteen)),
+];
 
 #[test]
-fn same_replies_with_little_room(rt: HostRuntime) {
-    assert!(rt; walks_anew(rt.alloc(), 7, 5, SMALL));
-}
-
-#[test]
-fn same_replies_with_hardly_any_room(rt: HostRuntime) {
-    assert!(rt; walks_anew(rt.alloc(), 99, 3, (0x10000, 0x800, Align::One)));
-}
-
-const LOW: Pool = (0, 0x400000000, Align::One);
-
-const HIGH: Pool = (0xfffffffc00000000, 0x400000000, Align::One);
-
-#[test]
-fn same_replies_at_both_ends_of_the_address_space(rt: HostRuntime) {
-    assert!(rt; walks_anew(rt.alloc(), 3, 7, LOW));
-    assert!(rt; walks_anew(rt.alloc(), 5, 7, HIGH));
-}
-
-#[test]
-fn same_replies_in_alignment_16(rt: HostRuntime) {
-    assert!(rt; walks_anew(rt.alloc(), 11, 3, (0x10008, 0xff0, Align::Sixteen)));
-    assert!(rt; walks_anew(rt.alloc(), 13, 7, (0, 1 << 64, Align::Sixteen)));
-}
-
-/// The orders of five, by a number from 0 to 119.
-fn order_of(number: u32) -> [u32; 5] {
-    let mut order = [1, 2, 3, 4, 5u32];
-    order.swap(0, (number % 5) as usize);
-    order.swap(1, 1 + (number / 5 % 4) as usize);
-    order.swap(2, 2 + (number / 20 % 3) as usize);
-    order.swap(3, 3 + (number / 60 % 2) as usize);
-    order
-}
-
-/// Makes object 2 i - 1 of 16 i bytes, and behind it object 2 i of one byte, for i from 1 to 5: no hole below its own is
-/// large enough for a large one, so it is made again where it was.
-fn makes_ten(planners: &mut Planners) -> bool {
-    for i in 1..6u32 {
-        if planners.reply(Alloc(16 * u128::from(i))).is_none()
-            || planners.reply(Alloc(1)).is_none()
-        {
-            return false;
-        }
-    }
-    true
-}
-
-/// Frees the large ones in this order, with a sweep after each.
-fn sweeps_each(planners: &mut Planners, order: &[u32; 5]) -> bool {
-    for i in order {
-        if !planners.free(i.wrapping_mul(2).wrapping_sub(1)) || !planners.sweep() {
-            return false;
-        }
-    }
-    true
-}
-
-fn makes_again(planners: &mut Planners, order: &[u32; 5]) -> bool {
-    for i in order {
-        if planners.reply(Alloc(16 * u128::from(*i))).is_none() {
-            return false;
-        }
-    }
-    true
-}
-
-fn frees_last(planners: &mut Planners) -> bool {
-    for object in 11..16u32 {
-        if !planners.free(object) {
-            return false;
-        }
-    }
-    planners.sweep() && planners.blocks.held_bytes() == 5
-}
-
-/// Objects of five sizes are freed in this order and made again, alike.
-fn makes_in_order(alloc: Global, number: u32) -> bool {
-    let order = order_of(number);
-    match Planners::over(alloc, SMALL) {
-        Some(mut planners) => {
-            makes_ten(&mut planners)
-                && sweeps_each(&mut planners, &order)
-                && makes_again(&mut planners, &order)
-                && frees_last(&mut planners)
-        }
-        None => false,
+fn same_replies_of_each_placer(rt: HostRuntime) {
+    for (first, kinds, pool) in &WALKS {
+        assert!(rt;
+            walks_anew(rt.alloc(), *first, *kinds, *pool),
+            "walk {first}"
+        );
     }
 }
 
-#[test]
-fn freed_and_made_in_every_order(rt: HostRuntime) {
-    for number in 0..120u32 {
-        assert!(rt; makes_in_order(rt.alloc(), number), "{number}");
+const CALLS: [PlanCall; 9] = [
+    Alloc(24),
+    Alloc(40),
+    Alloc(8),
+    Free(ObjectId(2)),
+    Sweep,
+    Alloc(32),
+    Alloc(16),
+    Alloc(8),
+    Alloc(1),
+];
+
+/// Where the reply says that an object begins.
+fn start(reply: &PlanReply) -> Option<u64> {
+    match reply {
+        PlanReply::Placed(_, cap) => Some(cap.address()),
+        PlanReply::Freed | PlanReply::Swept(_) | PlanReply::Refused(_) => None,
     }
 }
 
-fn makes_400(planner: &mut Planner<BlockPlacer>) -> bool {
-    for _ in 0..400u32 {
-        if planner.alloc(4096).is_err() {
-            return false;
-        }
-    }
-    true
+/// A run of calls at once has these replies: the freed place is taken again, and the last object has no number left.
+fn are_replies(replies: &[PlanReply; 9]) -> bool {
+    start(&replies[2]) == Some(0x10040)
+        && replies[4] == PlanReply::Swept(1)
+        && start(&replies[5]) == Some(0x10018)
+        && start(&replies[6]) == Some(0x10048)
+        && start(&replies[7]) == Some(0x10038)
+        && replies[8] == PlanReply::Refused(Refusal::Full)
 }
 
-/// Sweeps all but every 56th object, so that one of each block stays.
-fn sweeps_393(planner: &mut Planner<BlockPlacer>) -> bool {
-    for object in 1..401u32 {
-        if object % 56 != 0 && planner.free(ObjectId(object)).is_err() {
-            return false;
-        }
-    }
-    planner.sweep() == 393
-}
-
-/// Makes objects below the first that stayed, for which the first block is split again and again.
-fn makes_393(planner: &mut Planner<BlockPlacer>) -> bool {
-    for start in 0..393u64 {
-        match planner.alloc(1) {
-            Ok((_, cap)) if cap.span().base == start => {}
-            _ => return false,
-        }
-    }
-    planner.placer().count() == 400
-}
-
-fn sweeps_seven(planner: &mut Planner<BlockPlacer>) -> bool {
-    for object in 1..8u32 {
-        if planner.free(ObjectId(object.wrapping_mul(56))).is_err() {
-            return false;
-        }
-    }
-    planner.sweep() == 7 && planner.held_bytes() == 393
-}
-
-fn makes_many(alloc: Global) -> bool {
-    match with_pool(alloc, 800, WHOLE) {
+fn runs<P: Placer>(alloc: Global) -> bool {
+    match with_pool::<P>(alloc, 6, (0x10000, 0x10000, Align::One)) {
         Some(mut planner) => {
-            makes_400(&mut planner)
-                && sweeps_393(&mut planner)
-                && makes_393(&mut planner)
-                && sweeps_seven(&mut planner)
+            let mut replies = [PlanReply::Freed; 9];
+            plan_run(&mut planner, &CALLS, &mut replies);
+            are_replies(&replies)
         }
         None => false,
     }
 }
 
 #[test]
-fn many_objects_in_the_places_of_a_few(rt: HostRuntime) {
-    assert!(rt; makes_many(rt.alloc()));
+fn run_of_calls(rt: HostRuntime) {
+    assert!(rt; runs::<ScanPlacer>(rt.alloc()));
+    assert!(rt; runs::<SortedPlacer>(rt.alloc()));
+    assert!(rt; runs::<BlockPlacer>(rt.alloc()));
 }

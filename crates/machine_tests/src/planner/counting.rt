@@ -1,10 +1,7 @@
 //! A planner does its work through its placer.
-use super::Answer::{Freed, Placed, Refused, Swept};
-use super::{Row, answers, with_pool};
-use PlanCall::{Alloc, Free, Sweep};
+use super::with_pool;
 use cc_bounds::Span;
-use cc_plan::{Align, ObjectId, Placer, PlanCall, Planner, SortedPlacer};
-use cc_word::Refusal;
+use cc_plan::{Align, ObjectId, Placer, Planner, SortedPlacer};
 use std::alloc::{AllocError, Global};
 
 /// A placer that counts how often it is asked to hold a span, and passes every call on.
@@ -50,30 +47,29 @@ impl<P: Placer> Placer for CountingPlacer<P> {
     }
 }
 
-const FOUR: [Row; 6] = [
-    (Alloc(16), Placed(1, 0x10000, 0x10010), 16),
-    (Alloc(16), Placed(2, 0x10010, 0x10020), 32),
-    (Alloc(16), Placed(3, 0x10020, 0x10030), 48),
-    (Alloc(16), Placed(4, 0x10030, 0x10040), 64),
-    (Alloc(16), Refused(Refusal::NoRoom), 64),
-    (Free(ObjectId(2)), Freed, 64),
-];
-
-const SWEPT: [Row; 1] = [(Sweep, Swept(1), 48)];
-
-const FIFTH: [Row; 1] = [(Alloc(8), Placed(5, 0x10010, 0x10018), 56)];
+type Counted = Planner<CountingPlacer<SortedPlacer>>;
 
 /// The placer was asked so often to hold a span, and so many are held.
-fn has_held(planner: &Planner<CountingPlacer<SortedPlacer>>, holds: u32, count: u32) -> bool {
+fn has_held(planner: &Counted, holds: u32, count: u32) -> bool {
     planner.placer().holds == holds && planner.placer().count() == count
 }
 
-fn holds_each_once(planner: &mut Planner<CountingPlacer<SortedPlacer>>) -> bool {
-    answers(planner, &FOUR)
-        && has_held(planner, 4, 4)
-        && answers(planner, &SWEPT)
+/// Four objects fill a pool of 64 bytes, and a fifth has no room.
+fn holds_four(planner: &mut Counted) -> bool {
+    for _ in 0..4u32 {
+        if planner.alloc(16).is_err() {
+            return false;
+        }
+    }
+    planner.alloc(16).is_err() && has_held(planner, 4, 4)
+}
+
+fn holds_each_once(planner: &mut Counted) -> bool {
+    holds_four(planner)
+        && planner.free(ObjectId(2)).is_ok()
+        && planner.sweep() == 1
         && has_held(planner, 4, 3)
-        && answers(planner, &FIFTH)
+        && planner.alloc(8).is_ok()
         && has_held(planner, 5, 4)
 }
 

@@ -30,11 +30,6 @@ fn are_objects_told_apart() -> bool {
         && ObjectId(1) != ObjectId(2)
 }
 
-#[test]
-fn objects_are_told_apart(rt: HostRuntime) {
-    assert!(rt; are_objects_told_apart());
-}
-
 fn are_calls_told_apart() -> bool {
     PlanCall::Alloc(1) != PlanCall::Alloc(2)
         && PlanCall::Free(ObjectId(1)) != PlanCall::Free(ObjectId(2))
@@ -64,9 +59,14 @@ fn are_replies_told_apart() -> bool {
         && PlanReply::Refused(Refusal::Full) != PlanReply::Refused(Refusal::NoRoom)
 }
 
+fn are_told_apart() -> bool {
+    are_objects_told_apart()
+        && are_calls_told_apart()
+        && are_placed_told_apart()
+        && are_replies_told_apart()
+}
+
 #[test]
-fn calls_and_replies_are_told_apart(rt: HostRuntime) {
-    assert!(rt; are_calls_told_apart());
-    assert!(rt; are_placed_told_apart());
-    assert!(rt; are_replies_told_apart());
+fn values_are_told_apart(rt: HostRuntime) {
+    assert!(rt; are_told_apart());
 }

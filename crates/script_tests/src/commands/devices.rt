@@ -1,8 +1,25 @@
 //! What a command tells of sinks and writers that fail.
-use super::rows::{NULL_LISTING, NULL_WORD};
 use cc_command::{Counted, show_word};
 use cc_script::{FromWriter, ScriptFault, Sink, SliceSink, Summary};
 use std::io::{self, Write};
+
+const NULL_WORD: &str = "00000000000000000000000000000000";
+
+const NULL_LISTING: &str = "\
+word 00000000000000000000000000000000
+perms 0000 -
+reserved 0
+flag 0
+type 3ffff
+ie 1
+t 006
+b 0004
+address 0x0
+exponent 52
+base 0x0
+top 0x10000000000000000
+canonical yes
+";
 
 /// Where call `fail_at` of the sink fails, a write or the flush, the listing was written up to it; where there are fewer
 /// calls, all of it was. The sink takes `piece` bytes at once.
@@ -42,17 +59,6 @@ fn counted_sink_is_not_flushed_before_a_read(rt: HostRuntime) {
     let mut room = [0u8; 4];
     let behind = SliceSink::new(&mut room, 4, Some(1));
     assert!(rt; is_only_told(&mut Counted::new(behind)));
-}
-
-/// The listing goes into this list.
-fn is_listed(bytes: &mut Vec<u8>) -> bool {
-    let ended = show_word(NULL_WORD.as_bytes(), &mut FromWriter::new(&mut *bytes));
-    ended == Ok(Summary { any_error: false }) && bytes.as_slice() == NULL_LISTING.as_bytes()
-}
-
-#[test]
-fn vec_as_writer(rt: HostRuntime) {
-    assert!(rt; is_listed(&mut Vec::new(rt.alloc())));
 }
 
 /// A writer that answers its calls as it is told to, and counts the flushes.
@@ -122,22 +128,4 @@ fn errors_of_writers_are_failures(rt: HostRuntime) {
     for row in &ANSWERS {
         assert!(rt; ends(row));
     }
-}
-
-/// A writer that is interrupted is not flushed.
-fn is_not_flushed(writer: &mut Faulty) -> bool {
-    let mut sink = FromWriter::new(&mut *writer);
-    let has_failed = sink.write(b"a").is_err() && sink.flush().is_err();
-    has_failed && writer.flushes == 0
-}
-
-#[test]
-fn failed_writer_is_asked_no_more(rt: HostRuntime) {
-    assert!(rt;
-        is_not_flushed(&mut Faulty {
-            write: Answer::Interrupted,
-            flush: Answer::All,
-            flushes: 0,
-        })
-    );
 }

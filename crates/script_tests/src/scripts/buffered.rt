@@ -1,8 +1,7 @@
 //! A sink that lets bytes wait on a page that is lent to it.
 use cc_machine::Machine;
 use cc_script::{
-    Buffered, FromReader, FromWriter, MOST_WAITING, Sink, SliceSink, SliceSource, Summary, Waiting,
-    run_script,
+    Buffered, FromReader, FromWriter, MOST_WAITING, Sink, SliceSink, Summary, Waiting, run_script,
 };
 use std::alloc::{AllocError, Global};
 use std::cell::Cell;
@@ -45,22 +44,6 @@ fn answers(sink: &mut Buffered<SliceSink>, rows: &[Row]) -> bool {
     true
 }
 
-/// With room of this size each call is answered as its row says, before a slice that takes `piece` bytes at most at
-/// once and fails at call `fail_at`; then the slice holds these bytes.
-fn answers_through(
-    size: usize,
-    piece: usize,
-    fail_at: Option<u32>,
-    rows: &[Row],
-    wanted: &[u8; 16],
-) -> bool {
-    let mut taken = [0u8; 16];
-    let mut page = Waiting::new();
-    let inner = SliceSink::new(&mut taken, piece.max(1), fail_at);
-    let mut sink = Buffered::new(inner, &mut page, size.min(MOST_WAITING));
-    answers(&mut sink, rows) && taken == *wanted
-}
-
 const PASSED_ON: [Row; 6] = [
     (Put(b"abc"), Some(3), 0),
     (Put(b"de"), Some(2), 3),
@@ -70,11 +53,7 @@ const PASSED_ON: [Row; 6] = [
     (Flush, Some(0), 11),
 ];
 
-#[test]
-fn bytes_wait_until_passed_on(rt: HostRuntime) {
-    assert!(rt; answers_through(4, 16, None, &PASSED_ON, b"abcdefghijk\0\0\0\0\0"));
-}
-
+/// Bytes that are not taken go on waiting.
 const NOT_TAKEN: [Row; 4] = [
     (Put(b"abcde"), Some(5), 0),
     (BeforeRead, None, 2),
@@ -82,66 +61,7 @@ const NOT_TAKEN: [Row; 4] = [
     (Flush, None, 2),
 ];
 
-#[test]
-fn bytes_not_taken_go_on_waiting(rt: HostRuntime) {
-    let taken = b"ab\0\0\0\0\0\0\0\0\0\0\0\0\0\0";
-    assert!(rt; answers_through(8, 2, Some(2), &NOT_TAKEN, taken));
-}
-
-/// A script, its replies, and sizes of the room: less than a reply has, as much, enough for all, and enough for 193
-/// bytes, as many as a reply may have, with none, some and all of the others before them.
-#[rattlefmt::skip]
-const SCRIPTS: [(&[u8], &[u8], [usize; 9]); 2] = [
-    (
-        b"round 512\n\nshow 0\nshow 1\nx",
-        b"round 0x200 0x1 0xffffffffffffffff\nerror 1 syntax\ncap ffff0000000000000000000000000000 0x0 0x10000000000000000 ffff 0 3ffff -\nerror 5 slot\nerror 2 unfinished\n",
-        [0, 1, 2, 34, 35, 64, 192, 193, 228],
-    ),
-    // each reply has fifteen bytes
-    (
-        b"a\nb\nc\n",
-        b"error 1 syntax\nerror 1 syntax\nerror 1 syntax\n",
-        [14, 15, 16, 30, 45, 207, 208, 222, 223],
-    ),
-];
-
-/// These replies reach the slice through room of this size.
-fn replies(machine: &mut Machine, script: &[u8], wanted: &[u8], size: usize) -> bool {
-    let mut taken = [0u8; 256];
-    let mut page = Waiting::new();
-    let mut source = SliceSource::new(script, 1 + size / 8, None);
-    let inner = SliceSink::new(&mut taken, 7, None);
-    let mut sink = Buffered::new(inner, &mut page, size.min(MOST_WAITING));
-    let _ = run_script(machine, &mut source, &mut sink);
-    let count = sink.inner().taken();
-    taken.get(..count) == Some(wanted)
-}
-
-/// The same on a new machine.
-fn replies_anew(alloc: Global, script: &[u8], wanted: &[u8], size: usize) -> bool {
-    match Machine::with_limit(alloc, 4) {
-        Ok(mut machine) => replies(&mut machine, script, wanted, size),
-        Err(AllocError) => false,
-    }
-}
-
-/// The same through room of each of these sizes.
-fn replies_in_all(alloc: Global, script: &[u8], wanted: &[u8], sizes: &[usize; 9]) -> bool {
-    for size in sizes {
-        if !replies_anew(alloc, script, wanted, *size) {
-            return false;
-        }
-    }
-    true
-}
-
-#[test]
-fn replies_are_the_same_in_any_room(rt: HostRuntime) {
-    for (script, wanted, sizes) in &SCRIPTS {
-        assert!(rt; replies_in_all(rt.alloc(), script, wanted, sizes));
-    }
-}
-
+/// Full room is passed on at the next byte.
 const FULL_ROOM: [Row; 4] = [
     (Put(b"abcd"), Some(4), 0),
     (Put(b""), Some(0), 0),
@@ -149,22 +69,44 @@ const FULL_ROOM: [Row; 4] = [
     (Flush, Some(0), 5),
 ];
 
-#[test]
-fn full_room_is_passed_on_at_the_next_byte(rt: HostRuntime) {
-    let taken = b"abcde\0\0\0\0\0\0\0\0\0\0\0";
-    assert!(rt; answers_through(4, 16, None, &FULL_ROOM, taken));
-}
-
 const FAILED_FLUSH: [Row; 3] = [
     (Put(b"abc"), Some(3), 0),
     (Flush, None, 3),
     (Flush, None, 3),
 ];
 
+/// The size of the room; how many bytes the slice takes at most at once, and at which call it fails; the calls; and what
+/// the slice then holds.
+type Case<'a> = (usize, usize, Option<u32>, &'a [Row<'a>], &'a [u8; 16]);
+
+const CASES: [Case; 4] = [
+    (4, 16, None, &PASSED_ON, b"abcdefghijk\0\0\0\0\0"),
+    (8, 2, Some(2), &NOT_TAKEN, b"ab\0\0\0\0\0\0\0\0\0\0\0\0\0\0"),
+    (4, 16, None, &FULL_ROOM, b"abcde\0\0\0\0\0\0\0\0\0\0\0"),
+    (
+        4,
+        16,
+        Some(2),
+        &FAILED_FLUSH,
+        b"abc\0\0\0\0\0\0\0\0\0\0\0\0\0",
+    ),
+];
+
+/// Each call is answered as its row says, and then the slice holds these bytes.
+fn answers_through(case: &Case) -> bool {
+    let (size, piece, fail_at, rows, wanted) = *case;
+    let mut taken = [0u8; 16];
+    let mut page = Waiting::new();
+    let inner = SliceSink::new(&mut taken, piece.max(1), fail_at);
+    let mut sink = Buffered::new(inner, &mut page, size.min(MOST_WAITING));
+    answers(&mut sink, rows) && taken == *wanted
+}
+
 #[test]
-fn failed_flush_behind_is_told(rt: HostRuntime) {
-    let taken = b"abc\0\0\0\0\0\0\0\0\0\0\0\0\0";
-    assert!(rt; answers_through(4, 16, Some(2), &FAILED_FLUSH, taken));
+fn bytes_wait_until_passed_on(rt: HostRuntime) {
+    for case in &CASES {
+        assert!(rt; answers_through(case));
+    }
 }
 
 /// Where bytes can't be passed on by the second of two such sinks, that call of the first fails, and every later one.

@@ -1,7 +1,7 @@
 //! Sources and sinks over slices, and over std's readers and writers.
 use cc_script::{Failed, FromReader, FromWriter, Sink, SliceSink, SliceSource, Source, write_all};
 use std::io;
-use std::io::Read;
+use std::io::{Read, Write};
 
 /// A read into room of so many bytes gives these.
 fn reads<S: Source>(source: &mut S, room: usize, given: &[u8]) -> bool {
@@ -29,14 +29,6 @@ fn takes_four(room: &mut [u8; 4]) -> bool {
     write_all(&mut sink, b"abcd").is_ok() && sink.write(b"e").is_err() && sink.taken() == 4
 }
 
-#[test]
-fn slices_give_and_take_in_pieces(rt: HostRuntime) {
-    assert!(rt; gives_seven(&mut SliceSource::new(b"abcdefg", 3, None)));
-    let mut room = [0u8; 4];
-    assert!(rt; takes_four(&mut room));
-    assert!(rt; room == *b"abcd");
-}
-
 fn fails_after_one_byte(source: &mut SliceSource) -> bool {
     reads(source, 1, b"a") && read_fails(source) && read_fails(source)
 }
@@ -48,11 +40,14 @@ fn fails_after_two_bytes(sink: &mut SliceSink) -> bool {
         && sink.taken() == 2
 }
 
+/// Slices give and take in pieces, and a call that fails stays failed.
 #[test]
-fn chosen_call_fails_and_stays_failed(rt: HostRuntime) {
+fn slices_as_devices(rt: HostRuntime) {
+    let mut room = [0u8; 4];
+    assert!(rt; gives_seven(&mut SliceSource::new(b"abcdefg", 3, None)) && takes_four(&mut room));
+    assert!(rt; room == *b"abcd");
     assert!(rt; fails_after_one_byte(&mut SliceSource::new(b"abc", 1, Some(2))));
-    let mut room = [0u8; 8];
-    assert!(rt; fails_after_two_bytes(&mut SliceSink::new(&mut room, 8, Some(2))));
+    assert!(rt; fails_after_two_bytes(&mut SliceSink::new(&mut room, 4, Some(2))));
 }
 
 /// A reader that has no end.
@@ -81,19 +76,57 @@ fn reader_gives_at_most_2_to_the_30_bytes(rt: HostRuntime) {
     assert!(rt; gives_2_to_the_30(&mut FromReader::new(Endless)));
 }
 
-/// A reader each call of which is interrupted.
+/// A reader and writer whose first call is interrupted, and whose later ones succeed.
 #[derive(Drop)]
-struct Broken;
+struct InterruptedOnce {
+    has_failed: bool,
+}
 
-impl Read for Broken {
-    fn read(&mut self, _room: &mut [u8]) -> io::Result<usize> {
+impl InterruptedOnce {
+    fn call(&mut self) -> io::Result<()> {
+        if self.has_failed {
+            return Ok(());
+        }
+        self.has_failed = true;
         Err(io::ErrorKind::Interrupted.into())
     }
 }
 
+impl Read for InterruptedOnce {
+    fn read(&mut self, room: &mut [u8]) -> io::Result<usize> {
+        self.call()?;
+        Ok(room.len())
+    }
+}
+
+impl Write for InterruptedOnce {
+    fn write(&mut self, piece: &[u8]) -> io::Result<usize> {
+        self.call()?;
+        Ok(piece.len())
+    }
+
+    fn flush(&mut self) -> io::Result<()> {
+        self.call()
+    }
+}
+
+const FIRST: InterruptedOnce = InterruptedOnce { has_failed: false };
+
+fn is_written_once(sink: &mut FromWriter<InterruptedOnce>) -> bool {
+    sink.write(b"abc").is_err() && sink.write(b"abc").is_err() && sink.flush().is_err()
+}
+
+fn is_flushed_once(sink: &mut FromWriter<InterruptedOnce>) -> bool {
+    sink.flush().is_err() && sink.flush().is_err()
+}
+
+/// What was interrupted is not asked again.
 #[test]
-fn interrupted_reader_has_failed(rt: HostRuntime) {
-    assert!(rt; read_fails(&mut FromReader::new(Broken)));
+fn interrupted_devices_have_failed(rt: HostRuntime) {
+    let mut source = FromReader::new(FIRST);
+    assert!(rt; read_fails(&mut source) && read_fails(&mut source));
+    assert!(rt; is_written_once(&mut FromWriter::new(FIRST)));
+    assert!(rt; is_flushed_once(&mut FromWriter::new(FIRST)));
 }
 
 fn gives_three(source: &mut FromReader<&[u8]>) -> bool {
@@ -103,7 +136,9 @@ fn gives_three(source: &mut FromReader<&[u8]>) -> bool {
 /// The bytes go into this list.
 fn takes_three(taken: &mut Vec<u8>) -> bool {
     let mut sink = FromWriter::new(&mut *taken);
-    let is_taken = write_all(&mut sink, b"abc").is_ok() && sink.flush().is_ok();
+    let is_taken = matches!(sink.write(b""), Ok(0))
+        && write_all(&mut sink, b"abc").is_ok()
+        && sink.flush().is_ok();
     is_taken && taken.as_slice() == b"abc".as_slice()
 }
 
@@ -111,14 +146,4 @@ fn takes_three(taken: &mut Vec<u8>) -> bool {
 fn reader_and_writer_move_bytes(rt: HostRuntime) {
     assert!(rt; gives_three(&mut FromReader::new(b"abc".as_slice())));
     assert!(rt; takes_three(&mut Vec::new(rt.alloc())));
-}
-
-fn takes_nothing(taken: &mut Vec<u8>) -> bool {
-    let mut sink = FromWriter::new(taken);
-    matches!(sink.write(b""), Ok(0))
-}
-
-#[test]
-fn writer_takes_an_empty_piece(rt: HostRuntime) {
-    assert!(rt; takes_nothing(&mut Vec::new(rt.alloc())));
 }

@@ -1,9 +1,12 @@
 //! Runs that begin with operations, before their script.
-use super::{CLEAN, ERRORS, End, Fails, SOUND, is_end};
+use super::End;
 use cc_machine::{Len, Machine, Op};
 use cc_plan::Align;
-use cc_script::{ScriptFault, SliceSink, SliceSource, run_script_after};
+use cc_script::{ScriptFault, SliceSink, SliceSource, Summary, run_script_after};
 use std::alloc::{AllocError, Global};
+
+/// Which call of the source fails and which of the sink, by number from 1 up; `None` where none does.
+type Fails = (Option<u32>, Option<u32>);
 
 /// The replies to the operations of a plan of 65,536 bytes from 0x10000.
 const PLAN: &[u8] =
@@ -31,7 +34,7 @@ fn writes(opening: &[Op], machine: &mut Machine, row: &Row) -> bool {
     let (script, fails, (first, then), wanted) = *row;
     let mut room = [0u8; 512];
     let (end, taken) = run_after(opening, machine, script, fails, &mut room);
-    is_end(end, wanted) && room.starts_with(first) && room.get(first.len()..taken) == Some(then)
+    end == wanted && room.starts_with(first) && room.get(first.len()..taken) == Some(then)
 }
 
 /// The same on a new machine.
@@ -60,59 +63,49 @@ fn is_planned(alloc: Global, row: &Row) -> bool {
 const OBJECT: &[u8] =
     b"object 1 slot 3 ffff0000041880040000000000010000 0x10000 0x10064 held 100\n";
 
-/// The sixth call of the sink would fail, and is never made: the plan has three replies and the script one, and
-/// then the sink is flushed, once.
-const SIXTH_CALL: Fails = (None, Some(6));
+const FIRST: &[u8] = b"slot 1 ffff0000000000000000000000010000 0x0 0x10000000000000000\n";
 
+/// The plan has three replies and the script one, and then the sink is flushed, once: its sixth call is never made. Then
+/// the first read fails, and the second write.
 const PLANNED: [Row; 3] = [
-    (b"alloc 100\n", SIXTH_CALL, (PLAN, OBJECT), CLEAN),
-    (b"", SOUND, (PLAN, b""), CLEAN),
-    (b"free 1", SOUND, (PLAN, b"error 2 unfinished\n"), ERRORS),
+    (
+        b"alloc 100\n",
+        (None, Some(6)),
+        (PLAN, OBJECT),
+        Ok(Summary { any_error: false }),
+    ),
+    (
+        b"alloc 100\n",
+        (Some(1), None),
+        (PLAN, b""),
+        Err(ScriptFault::Read),
+    ),
+    (
+        b"alloc 100\n",
+        (None, Some(2)),
+        (FIRST, b""),
+        Err(ScriptFault::Write),
+    ),
 ];
 
 #[test]
-fn replies_to_the_opening_come_first(rt: HostRuntime) {
+fn opening_is_answered_before_the_first_read(rt: HostRuntime) {
     for row in &PLANNED {
         assert!(rt; is_planned(rt.alloc(), row));
     }
 }
 
-const SWEPT: &[u8] = b"swept 0 revoked 0 held 0\n";
-
 const REFUSED: Row = (
     b"sweep\n",
-    SOUND,
-    (b"error 5 slot\nswept 0 revoked 0 held 0\n", SWEPT),
-    ERRORS,
+    (None, None),
+    (
+        b"error 5 slot\nswept 0 revoked 0 held 0\n",
+        b"swept 0 revoked 0 held 0\n",
+    ),
+    Ok(Summary { any_error: true }),
 );
 
 #[test]
 fn error_in_the_opening_is_told(rt: HostRuntime) {
     assert!(rt; writes_anew(rt.alloc(), &[Op::Show(7), Op::Sweep], &REFUSED));
-}
-
-const FAILED_READ: Row = (
-    b"alloc 100\n",
-    (Some(1), None),
-    (PLAN, b""),
-    Err(ScriptFault::Read),
-);
-
-#[test]
-fn opening_is_answered_before_the_first_read(rt: HostRuntime) {
-    assert!(rt; is_planned(rt.alloc(), &FAILED_READ));
-}
-
-const FIRST: &[u8] = b"slot 1 ffff0000000000000000000000010000 0x0 0x10000000000000000\n";
-
-const FAILED_WRITE: Row = (
-    b"alloc 100\n",
-    (None, Some(2)),
-    (FIRST, b""),
-    Err(ScriptFault::Write),
-);
-
-#[test]
-fn sink_fails_in_the_opening(rt: HostRuntime) {
-    assert!(rt; is_planned(rt.alloc(), &FAILED_WRITE));
 }

@@ -1,6 +1,5 @@
 //! Many words at once.
-use super::END;
-use cc_bounds::Span;
+use cc_bounds::{ADDRESS_SPACE, Span};
 use cc_cap::many;
 
 /// The root's word, one of 512 bytes, and one with an exponent field of 53, which no capability has.
@@ -11,12 +10,18 @@ const WORDS: [u128; 3] = [
 ];
 
 const SPANS: [Span; 3] = [
-    Span { base: 0, top: END },
+    Span {
+        base: 0,
+        top: ADDRESS_SPACE,
+    },
     Span {
         base: 0x1000,
         top: 0x1200,
     },
-    Span { base: 0, top: END },
+    Span {
+        base: 0,
+        top: ADDRESS_SPACE,
+    },
 ];
 
 /// An address for each word; the second is outside its window.
@@ -42,7 +47,5 @@ fn are_told_representable() -> bool {
 
 #[test]
 fn many_words_are_told(rt: HostRuntime) {
-    assert!(rt; are_decoded());
-    assert!(rt; are_told_canonical());
-    assert!(rt; are_told_representable());
+    assert!(rt; are_decoded() && are_told_canonical() && are_told_representable());
 }
