@@ -21,12 +21,21 @@
  * address after the last byte. A top or a length may be 2^64, which needs 65 bits, so these have two
  * halves as well, and for 2^64 the high half is 1 and the low half 0.
  *
- * Ranges: every function takes every value of its parameters' types, but for the pointers of the three text
- * calls and of the three for many words, which have to be good, and says what it answers for values out of
- * range. A `bool` has to be 0 or 1, as C and C++ make it.
+ * Ranges: every function takes every value of its parameters' types, except bad pointers and bad `bool`s, and
+ * says what it answers for values out of range.
  *
- * Threads: no function has a state, allocates, blocks, or calls another library. Any number of threads
- * may call any of them at once, and a signal handler too.
+ * Pointers, of the three text calls and of the three for many words: none may be null, not even with a count
+ * or a length of 0. An array has as many elements as its count says, and its size in bytes is at most
+ * PTRDIFF_MAX. It begins at the alignment of its element type: 8 bytes for cheri_cap_u128, cheri_cap_bounds and
+ * uint64_t. Arrays that a call reads may overlap each other. An array that a call writes may not overlap any
+ * other array of that call.
+ *
+ * Booleans: a `bool` has to be 0 or 1, as C and C++ make it, in a struct too. If the bytes of a struct come from
+ * a file or a socket, check them first: any other value is undefined behavior, in C as in the library.
+ *
+ * Threads: no function has a state, allocates, blocks, or calls another library. Any number of threads may
+ * call any of them at once, and a signal handler too. Calls at the same time may read the same arrays; none may
+ * write an array that another reads or writes.
  */
 #ifndef CHERI_CAP_H
 #define CHERI_CAP_H
@@ -182,9 +191,9 @@ uint8_t cheri_cap_exponent(uint64_t high, uint64_t low);
 cheri_cap_granted cheri_cap_set_bounds(uint64_t base, uint64_t length_high, uint64_t length_low);
 
 /*
- * Whether a capability that stores its bounds as this word does could have this address: whether the word
- * with that address decodes to the same bounds. False for a word that does not store its bounds as
- * setting bounds stores them. The permissions, the reserved bits, the flag and the type are not looked at.
+ * Whether a capability that stores its bounds as this word does could have this address: whether the address is
+ * representable for them. False for a word that does not store its bounds as setting bounds stores them. The
+ * permissions, the reserved bits, the flag and the type are not looked at.
  */
 bool cheri_cap_represents(uint64_t high, uint64_t low, uint64_t address);
 
@@ -193,8 +202,9 @@ bool cheri_cap_represents(uint64_t high, uint64_t low, uint64_t address);
  * cheri_cap_is_canonical or cheri_cap_represents answers for it, the last for the address at that place; a yes is
  * a byte of 1, a no a byte of 0. It answers for how many words it did so. Each array has a count of its own: where
  * they differ, the least of them counts, and answers past that stay as they were. None of the pointers may be
- * null, not even for a count of 0, and the answers may not overlap what is read. What the room for the answers
- * holds before does not matter.
+ * null, not even for a count of 0; words, bounds and addresses are aligned to 8 bytes; the answers may not overlap
+ * what is read, though words and addresses may overlap each other. What the room for the answers holds before does
+ * not matter. See "Pointers" above.
  */
 size_t cheri_cap_decode_many(const cheri_cap_u128 *words, size_t word_count, cheri_cap_bounds *bounds, size_t bounds_count);
 size_t cheri_cap_is_canonical_many(const cheri_cap_u128 *words, size_t word_count, uint8_t *answers, size_t answer_count);
@@ -220,11 +230,12 @@ uint64_t cheri_cap_alignment_mask(uint64_t length_high, uint64_t length_low);
 
 /*
  * The word that `length` bytes of text spell: 32 hexadecimal digits of either case and nothing else. For
- * any other text `found` is false and the halves are 0. `text` may not be null, not even for length 0.
+ * any other text `found` is false and the halves are 0. `text` may not be null, not even for length 0, and is
+ * read for `length` bytes, at most PTRDIFF_MAX; no zero byte has to end it.
  */
 cheri_cap_read cheri_cap_read_word(const char *text, size_t length);
 
-/* Writes the 32 hexadecimal digits of a word, in lower case, and no zero byte after them. */
+/* Writes the 32 hexadecimal digits of a word, in lower case, and no zero byte after them: 32 bytes in all. */
 void cheri_cap_write_word(uint64_t high, uint64_t low, char *text /* room for 32 bytes */);
 
 /* Room for the line of any word, its zero byte counted. */
@@ -236,7 +247,8 @@ void cheri_cap_write_word(uint64_t high, uint64_t low, char *text /* room for 32
  * and the top. LOAD is r, STORE w, EXECUTE x, LOAD_CAP R, STORE_CAP W; the other permissions have no letter.
  * After it stands " (sentry)" for a sentry and " (sealed)" for any other type but unsealed, reserved ones too;
  * and " (invalid)", " (invalid,sentry)" or " (invalid,sealed)" where `tagged` is false. Answers how many bytes
- * stand before that zero byte. The rest of the room is overwritten.
+ * stand before that zero byte. All CHERI_CAP_LINE_SIZE bytes are written: from the end of the line on they are
+ * zero bytes.
  *
  * Every word has a line, canonical or not, by the bounds that it decodes to: the top may be 0x10000000000000000
  * (2^64), and of a word that is not canonical above that, or below the base. Null without its tag is
