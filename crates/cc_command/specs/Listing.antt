@@ -1,15 +1,15 @@
 -- What `show` writes for a text.
-use Rattle.std.specs.Prelude.{◌≡◌, ℕ, List, ◌++◌, codes, decimal, Bool, IsTrue, ◌↔◌, if◌then◌else◌}
-use Rattle.cc_word.specs.Word.{word_of, bit_of}
+use Rattle.std.specs.Prelude.{ℕ, List, ◌++◌, codes, decimal, Bool, if◌then◌else◌}
+use Rattle.cc_word.specs.Word.{bit_of}
 use Rattle.cc_word.specs.WordText.{digits_of, hexadecimal}
 pub use Rattle.cc_word.specs.WordText.{IsWordText}
 use Rattle.cc_word.specs.declared.fields.Fields.{Fields}
 use Rattle.cc_bounds.specs.declared.span.Span.{Span}
-use Rattle.cc_bounds.specs.Decoding.{stored_exponent, DecodesTo}
-use Rattle.cc_cap.specs.Canonical.{IsCanonical}
+use Rattle.cc_bounds.specs.Decoding.{stored_exponent}
 use Rattle.cc_script.specs.Output.{with_line_feed}
 use Rattle.cc_command.specs.Answer.{AnswersText}
 use Rattle.cc_explain.specs.Permissions.{permissions_text}
+use Rattle.cc_explain.specs.WordTelling.{TellsWord}
 
 -- a name, one space, a value and the line feed
 abbrev pub line_of : (name value : List ℕ) → List ℕ
@@ -39,19 +39,6 @@ bounds_lines_of fields bounds canonical =
 -- all thirteen lines of a listing
 abbrev pub listing_of : (word : ℕ) (fields : Fields) (bounds : Span) (canonical : Bool) → List ℕ
 listing_of word fields bounds canonical = field_lines_of word fields ++ bounds_lines_of fields bounds canonical
-
--- The text tells a word: `text_of` makes it of the word, of its fields, of the span that they decode to, and of whether the
--- word is canonical. There are no other such fields, and there is no other such span.
-pub record TellsWord (text_of : ℕ → Fields → Span → Bool → List ℕ) (word : ℕ) (text : List ℕ) : Type 0 where
-  pub fields : Fields
-  pub bounds : Span
-  pub canonical : Bool
-  pub of_word : word_of fields ≡ word
-  pub only_fields : (other : Fields) → word_of other ≡ word → other ≡ fields
-  pub decoded : DecodesTo fields bounds
-  pub only_bounds : (other : Span) → DecodesTo fields other → other ≡ bounds
-  pub is_canonical : IsTrue canonical ↔ IsCanonical word
-  pub is_text : text ≡ text_of word fields bounds canonical
 
 -- the answer to a text: to a word its listing
 abbrev pub IsListing : (text listing : List ℕ) → Type 0

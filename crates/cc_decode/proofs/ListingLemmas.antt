@@ -9,7 +9,7 @@ use Rattle.cc_bounds.specs.Decoding.{DecodesTo}
 use Rattle.cc_bounds.proofs.DecodingLemmas.{DecodesTo-same}
 use Rattle.cc_cap.specs.LineText.{IsLine, line_of}
 use Rattle.cc_script.specs.Output.{rest_text}
-use Rattle.cc_command.specs.Listing.{TellsWord}
+use Rattle.cc_explain.specs.WordTelling.{TellsWord}
 use Rattle.cc_decode.specs.Correct.{WritesListing}
 use Rattle.cc_decode.specs.Input.{entries_of, left_of, word_in}
 use Rattle.cc_decode.specs.Output.{Answer, IsAnswer, AreAnswers, answers_text}

@@ -3,8 +3,8 @@ use Rattle.std.specs.Prelude.{◌≡◌, ◌<◌, ℕ, List, [], ◌∷◌, ◌+
 use Rattle.std.specs.Int.{w128, from_be_bytes, from_le_bytes}
 use Rattle.std.specs.List.{AllByRecursion}
 use Rattle.std.specs.Str.Parse.{digits_value}
+use Rattle.cc_word.specs.WordText.{IsWordText}
 use Rattle.cc_script.specs.Lines.{lines_from, rest_from}
-use Rattle.cc_command.specs.Listing.{IsWordText}
 use Rattle.cc_decode.specs.declared.input.ByteOrder.{ByteOrder}
 use Rattle.cc_decode.specs.declared.input.ByteOrder.TheVariants.{Little, Big}
 use Rattle.cc_decode.specs.declared.input.InputForm.{InputForm}

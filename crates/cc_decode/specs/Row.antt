@@ -8,8 +8,8 @@ use Rattle.cc_bounds.specs.Decoding.{stored_exponent}
 use Rattle.cc_cap.specs.LineText.{IsLine}
 use Rattle.cc_script.specs.Output.{with_line_feed}
 use Rattle.cc_script.specs.Replies.{hexadecimal}
-use Rattle.cc_command.specs.Listing.{TellsWord}
 use Rattle.cc_explain.specs.Permissions.{permissions_text}
+use Rattle.cc_explain.specs.WordTelling.{TellsWord}
 use Rattle.cc_decode.specs.declared.format.Format.{Format}
 use Rattle.cc_decode.specs.declared.format.Format.TheVariants.{Columns, Csv, Text}
 

@@ -120,7 +120,7 @@ impl Batch {
 
     /// Appends a number below 100 in decimal digits.
     #[inline(always)]
-    #[tactic(auto, using(cc_script::proofs::DecimalLemmas::one_digit, cc_script::proofs::DecimalLemmas::two_digits))]
+    #[tactic(auto, using(cc_text::proofs::DecimalLemmas::one_digit, cc_text::proofs::DecimalLemmas::two_digits))]
     pub(crate) fn push_decimal(&mut self, number: u8)
         requires small { number < 100 }
         requires room { length self.old + 2 ≤ 32768 }

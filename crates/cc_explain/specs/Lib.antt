@@ -4,3 +4,4 @@ pub mod Steps
 pub mod Standing
 pub mod Picture
 pub mod Explanation
+pub mod WordTelling
