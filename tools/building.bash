@@ -15,7 +15,7 @@
 : "${top:?}" "${who:?}"
 readonly NOT_BUILT=125
 # a crate that takes long tells how far it is, after so many seconds each
-readonly TELLS_EACH=10
+readonly TELLS_EACH=20
 
 say() {
   printf '%s: %s\n' "$who" "$1" >&2
@@ -96,67 +96,68 @@ is_current() {
   keep "$kept/seen" "$found" || true
 }
 
-# Keeps other builds out of this checkout until it is unlocked or this process ends.
+# Keeps other builds out of this checkout until it is unlocked or this process ends, and the toolchain's commands out of the
+# crates' folders, which it locks in this order.
 lock_checkout() {
-  exec {locked}<"$top/crates"
-  if type -P flock >/dev/null && ! flock -n "$locked"; then
-    say 'another build is at work in this checkout: waiting for it'
-    flock "$locked" || true
-  fi
+  local names name locked said=''
+  mapfile -t names < <(printf '%s\n' "${order[@]}" | LC_ALL=C sort)
+  for name in crates "${names[@]/#/crates/}"; do
+    exec {locked}<"$top/$name"
+    locks+=("$locked")
+    if type -P flock >/dev/null && ! flock -n "$locked"; then
+      [[ -n $said ]] || say 'another build is at work in this checkout: waiting for it'
+      said=yes
+      flock "$locked" || true
+    fi
+  done
 }
 unlock_checkout() {
-  exec {locked}<&-
-}
-
-# Proves and builds a crate by the rt command that follows, telling its place, as "3 of 7". The status of the command
-# comes as the last line behind what it says.
-prove() {
-  local at=$1 name=$2 line='' said='' began=$SECONDS told=$SECONDS
-  say "$at: proving and building $name"
-  while IFS= read -r line; do
-    said+=$line$'\n'
-    if [[ $line =~ ^so\ far:\ ([0-9]+)\ of\ ([0-9]+)\ functions ]] && ((SECONDS - told >= TELLS_EACH)); then
-      told=$SECONDS
-      say "$at: $name: ${BASH_REMATCH[1]} of ${BASH_REMATCH[2]} functions after $((SECONDS - began)) s"
-    fi
-  done < <(cd -- "$top/crates/$name" && "${@:3}" 2>&1 </dev/null; printf '\nstatus %s\n' "$?")
-  if [[ $said != *$'\n''status 0'$'\n' ]]; then
-    printf '%s' "${said%status *}" >&2
-    stop "$name is not proved, so nothing was built"
-  fi
-  say "$at: $name took $((SECONDS - began)) s"
+  local locked
+  for locked in "${locks[@]}"; do exec {locked}<&-; done
 }
 
 # Proves and builds all crates in `order`, the last by the rt command given, and keeps what they were made of: the
 # checksums, which are those of the sources that were built if all of them look the same before and after.
 build_all() {
-  local identity=$1 product=$2 kept=$3 name at=0 before found made_of how
+  local product=$1 kept=$2 before found made_of
+  local slots processors memory
+  local -A costs=() ranks=()
   mkdir -p -- "$kept" 2>/dev/null && keep "$kept/building" "$identity" || stop "the build cannot be kept: $kept is not to be written to"
   rm -f -- "$kept/building"
+  measure_machine
+  weigh_crates
+  [[ -f $top/$product ]] || announce
   before=$(looks | LC_ALL=C sort) || stop 'the sources cannot be read'
-  [[ -f $top/$product ]] || say 'the first build takes some minutes; it is done again where a source changed'
-  for name in "${order[@]}"; do
-    at=$((at + 1)) how=(rt lib)
-    ((at < ${#order[@]})) || how=("${@:4}")
-    prove "$at of ${#order[@]}" "$name" "${how[@]}"
-  done
+  prove_crates "${@:3}"
   found=$(looks "$product") && made_of=$(checksums "$product") || stop "$product was not built"
   [[ $(looks | LC_ALL=C sort) == "$before" ]] || stop 'a source changed while it was built: start it again'
   keep "$kept/built-from" "$identity"$'\n'"$made_of" && keep "$kept/seen" "$found" || stop "the build cannot be kept in $kept"
 }
 
+# Sets `order`, `needs` and `identity` for a crate, and answers whether the file of its folder out/ stands as built from the
+# sources as they are:  is_built CRATE FILE
+is_built() {
+  needs=() listed=() order=()
+  read_crates
+  list_crates "$1"
+  identify
+  is_current "$identity" "crates/$1/out/$2" "$top/crates/$1/out"
+}
+want_toolchain() {
+  [[ -n $identity ]] || stop "the toolchain's command rt is not found or tells no version, and what stands built is not from these sources: see README.md, \"Before the first start\""
+}
+
 # Sees to it that a file of a crate's folder out/ stands as built from the sources as they are, else builds it by the rt
 # command that follows:  stand_built CRATE FILE run -- --version
 stand_built() {
-  local crate=$1 product=crates/$1/out/$2 kept=$top/crates/$1/out identity locked
-  local -A needs=() listed=()
-  local order=()
-  read_crates
-  list_crates "$crate"
-  identify
-  if is_current "$identity" "$product" "$kept"; then return; fi
-  [[ -n $identity ]] || stop "the toolchain's command rt is not found or tells no version, and what stands built is not from these sources: see README.md, \"Before the first start\""
+  local product=crates/$1/out/$2 kept=$top/crates/$1/out identity
+  local -A needs listed
+  local order locks=()
+  if is_built "$1" "$2"; then return; fi
+  want_toolchain
+  # shellcheck source=tools/proving.bash
+  declare -F prove_crates >/dev/null || source "$top/tools/proving.bash"
   lock_checkout
-  is_current "$identity" "$product" "$kept" || build_all "$identity" "$product" "$kept" rt "${@:3}"
+  is_current "$identity" "$product" "$kept" || build_all "$product" "$kept" "${@:3}"
   unlock_checkout
 }
