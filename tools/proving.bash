@@ -69,6 +69,8 @@ pick() {
   done
   [[ -n $picked ]] || return
   most=$((1 + ${costs[$picked]} / JOB_SECONDS)) jobs=$((slots - busy - ready + 1))
+  # the last crate has few functions of its own, and its code is compiled by one process
+  [[ $picked != "${order[-1]}" ]] || most=1
   ((most <= MOST_JOBS)) || most=$MOST_JOBS
   ((jobs <= most)) || jobs=$most
   ((jobs > 0)) || jobs=1
