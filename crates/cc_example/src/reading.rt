@@ -20,8 +20,8 @@ pub fn bounds_of(text: &[u8]) -> Option<Span>
     Some(decode(&unpack(word)))
 }
 
-/// The first `len` bytes of what a capability grants, rounded up where they cannot be stored exactly; to
-/// be read only.
+/// Derives a read-only capability for the first `len` bytes of `cap`, rounded up if they cannot be
+/// stored exactly.
 pub fn read_only(cap: &Cap, len: u128) -> Result<Cap, Refusal>
     requires { len ≤ 2 ^ 64 }
     ensures monotonic { IfOk result (λ narrower. GrantsNoMore narrower cap.now) }
