@@ -144,7 +144,7 @@ is_built() {
   is_current "$identity" "crates/$1/out/$2" "$top/crates/$1/out"
 }
 want_toolchain() {
-  [[ -n $identity ]] || stop "the toolchain's command rt is not found or tells no version, and what stands built is not from these sources: see README.md, \"Before the first start\""
+  [[ -n $identity ]] || stop "the toolchain's command rt is not found or tells no version, and what stands built is not from these sources: see README.md, \"Install\""
 }
 
 # Sees to it that a file of a crate's folder out/ stands as built from the sources as they are, else builds it by the rt
