@@ -116,22 +116,31 @@ unlock_checkout() {
   for locked in "${locks[@]}"; do exec {locked}<&-; done
 }
 
+# Removes the libraries of the crates in `order`, two fifths of what a build leaves. A later build writes them again from what
+# is kept beside them, and proves nothing for it.
+drop_libraries() {
+  local name
+  for name in "${order[@]}"; do rm -rf -- "$top/crates/$name/out/rlib" || true; done
+}
+
 # Proves and builds all crates in `order`, the last by the rt command given, and keeps what they were made of: the
-# checksums, which are those of the sources that were built if all of them look the same before and after.
+# checksums, which are those of the sources that were built if all of them look the same before and after. The first build of
+# the program leaves no libraries, since most users never need them; one that follows a change keeps them for the next.
 build_all() {
-  local product=$1 kept=$2 before found made_of
+  local product=$1 kept=$2 first='' before found made_of
   local slots processors memory
   local -A costs=() ranks=()
   mkdir -p -- "$kept" 2>/dev/null && keep "$kept/building" "$identity" || stop "the build cannot be kept: $kept is not to be written to"
   rm -f -- "$kept/building"
   measure_machine
   weigh_crates
-  [[ -f $top/$product ]] || announce
+  [[ -f $top/$product ]] || { first=yes && announce; }
   before=$(looks | LC_ALL=C sort) || stop 'the sources cannot be read'
   prove_crates "${@:3}"
   found=$(looks "$product") && made_of=$(checksums "$product") || stop "$product was not built"
   [[ $(looks | LC_ALL=C sort) == "$before" ]] || stop 'a source changed while it was built: start it again'
   keep "$kept/built-from" "$identity"$'\n'"$made_of" && keep "$kept/seen" "$found" || stop "the build cannot be kept in $kept"
+  [[ -z $first || $who != cheri-cap ]] || drop_libraries
 }
 
 # Sets `order`, `needs` and `identity` for a crate, and answers whether the file of its folder out/ stands as built from the
