@@ -1,6 +1,6 @@
 use Rattle.std.proofs.Common.{refl}
 use Rattle.std.specs.Fmt.{digits}
-use Rattle.cc_script.proofs.printing.refusal_bytes.Goals as goal
+use Rattle.cc_text.proofs.refusals.refusal_bytes.Goals as goal
 
 pub returns-in-Syntax-clause-value : goal.returns-in-Syntax-clause-value
 unfolding digits
