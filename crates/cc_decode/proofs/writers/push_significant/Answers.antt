@@ -2,11 +2,11 @@ use Rattle.std.proofs.Common.{◌≡◌, ◌∙◌, ◌-◌, ◌+◌, ap, arith,
 use Rattle.std.proofs.Math.Seq.{take-append-add}
 use Rattle.cc_text.proofs.DigitLemmas.{digits-moved}
 use Rattle.cc_word.proofs.DigitLemmas.{length-digits_of}
-use Rattle.cc_decode.proofs.batch.Batch.push_significant.Goals as goal
+use Rattle.cc_decode.proofs.writers.push_significant.Goals as goal
 
 pub returns-clause-value : goal.returns-clause-value
 returns-clause-value c =
-    let line = c.args.self.now in
+    let line = c.args.batch.now in
     let count = c.digit_count-count.result in
     let sixteen = c.write_half.result in
     let is = c.digit_count-count.ensures in
