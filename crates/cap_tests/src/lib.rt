@@ -1,4 +1,4 @@
-//! Tests of cc_word, cc_bounds and cc_cap: what no script of the program shows and no contract says. They stand apart
+//! Tests of cc_word, cc_io, cc_bounds and cc_cap: what no script of the program shows and no contract says. They stand apart
 //! from these crates, so that the bodies are not proved once more beside the tests.
 #![tactic(auto)]
 
@@ -6,5 +6,7 @@
 mod bounds;
 #[cfg(test)]
 mod capabilities;
+#[cfg(test)]
+mod io;
 #[cfg(test)]
 mod words;

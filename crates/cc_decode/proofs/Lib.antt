@@ -1,5 +1,4 @@
 mod DigitLemmas
-mod EntryLemmas
 mod AnswerLemmas
-mod EngineLemmas
+mod ListLemmas
 mod ListingLemmas

@@ -8,11 +8,12 @@ use Rattle.cc_bounds.specs.declared.span.Span.{Span}
 use Rattle.cc_bounds.specs.Decoding.{DecodesTo}
 use Rattle.cc_bounds.proofs.DecodingLemmas.{DecodesTo-same}
 use Rattle.cc_cap.specs.LineText.{IsLine, line_of}
-use Rattle.cc_script.specs.Output.{rest_text}
+use Rattle.cc_text.specs.Text.{rest_text, with_line_feed}
+use Rattle.cc_io.specs.Answers.{Answer, answers_text}
 use Rattle.cc_explain.specs.WordTelling.{TellsWord}
 use Rattle.cc_decode.specs.Correct.{WritesListing}
 use Rattle.cc_decode.specs.Input.{entries_of, left_of, word_in}
-use Rattle.cc_decode.specs.Output.{Answer, IsAnswer, AreAnswers, answers_text}
+use Rattle.cc_decode.specs.Output.{IsAnswer, IsRowLine, AreAnswers}
 use Rattle.cc_decode.specs.Row.{IsWordRow, columns_text, csv_text, header_text}
 use Rattle.cc_decode.specs.declared.format.Format.{Format}
 use Rattle.cc_decode.specs.declared.format.Format.TheVariants.{Columns, Csv, Text}
@@ -47,12 +48,15 @@ one_word_row Columns word one other p q = one_row columns_text word one other p 
 one_word_row Text word one other p q = one_line word one other p q
 one_word_row Csv word one other p q = one_row csv_text word one other p q
 
+one_row_line : (format : Format) (word : ℕ) (one other : List ℕ) → IsRowLine format word one → IsRowLine format word other → one ≡ other
+one_row_line format word one other p q = p.text_is ∙ ap with_line_feed (one_word_row format word p.row q.row p.is_row q.is_row) ∙ sym q.text_is
+
 same_answer : (one other : Answer) → one.text ≡ other.text → one.is_error ≡ other.is_error → one ≡ other
 same_answer one other p q = ap₂ (λ (t : List ℕ) (b : Bool). record { text = t; is_error = b }) p q
 
 one_answer : (options : Options) (entry : List ℕ) (one other : Answer) → IsAnswer options entry one → IsAnswer options entry other → one ≡ other
 one_answer options entry one other (inl p) (inl q) =
-    same_answer one other (one_word_row options.format (word_in options.input entry) one.text other.text p.1 q.1) (p.2 ∙ sym q.2)
+    same_answer one other (one_row_line options.format (word_in options.input entry) one.text other.text p.1 q.1) (p.2 ∙ sym q.2)
 one_answer options entry one other (inl p) (inr q) = absurd (q.0 p.0)
 one_answer options entry one other (inr p) (inl q) = absurd (p.0 q.0)
 one_answer options entry one other (inr p) (inr q) = same_answer one other (p.1 ∙ sym q.1) (p.2 ∙ sym q.2)

@@ -1,66 +1,79 @@
--- The theorem of decoding a text: what the sink took, and what is left in the source, by what is answered.
-use Rattle.std.specs.Prelude.{◌≡◌, ℕ, Bool, not, ◌||◌, ◌==◌, List, [], ◌++◌, length, Option, Some, Result, Ok, Err, ◌⊎◌}
+-- The theorem of decoding a text: the bytes that the sink took, and those left in the source, by the result.
+use Rattle.std.specs.Prelude.{◌≡◌, ◌≤◌, ℕ, Bool, not, ◌||◌, ◌==◌, List, [], ◌++◌, length, take, Option, Some, Result, Ok, Err, ◌⊎◌}
 use Rattle.std.specs.Io.KnownBytes.{Appends, Consumes, IsAtEnd}
 use Rattle.std.specs.List.{list_any}
-use Rattle.cc_script.specs.Devices.{TakesBeginning}
-use Rattle.cc_script.specs.Output.{rest_text}
-use Rattle.cc_script.specs.declared.summary.ScriptFault.{ScriptFault}
-use Rattle.cc_script.specs.declared.summary.ScriptFault.TheVariants.{Read, Write}
-use Rattle.cc_script.specs.declared.summary.Summary.{Summary}
+use Rattle.cc_text.specs.Text.{rest_text}
+use Rattle.cc_io.specs.Devices.{TakesBeginning}
+use Rattle.cc_io.specs.Answers.{Answer, answers_text, LastFits}
+use Rattle.cc_io.specs.declared.summary.IoError.{IoError}
+use Rattle.cc_io.specs.declared.summary.IoError.TheVariants.{Read, Write}
+use Rattle.cc_io.specs.declared.summary.Summary.{Summary}
 use Rattle.cc_decode.specs.Input.{entries_of, left_of}
-use Rattle.cc_decode.specs.Output.{Answer, AreAnswers, answers_text}
+use Rattle.cc_decode.specs.Output.{AreAnswers}
 use Rattle.cc_decode.specs.Row.{header_text}
 use Rattle.cc_decode.specs.declared.options.Options.{Options}
 
--- The sink took the whole listing of the text: the header of the format, the answer to each entry, and the refusal of a
--- rest that is not empty. `any_error` tells whether an answer is an error, or there is such a rest.
+-- WritesListing holds if the sink took the whole listing of the text: the header of the format, the answer to each entry,
+-- and the refusal of trailing bytes, unless there are none. `any_error` says whether an answer is an error, or there are
+-- trailing bytes.
 pub record WritesListing (options : Options) (text : List ℕ) (taken taken_now : Option (List ℕ)) (any_error : Bool) : Type 0 where
   pub answers : List Answer
   pub are_answers : AreAnswers options (entries_of options.input text) answers
   pub written : Appends taken taken_now (header_text options.format ++ answers_text answers ++ rest_text (left_of options.input text))
   pub error_is : any_error ≡ (list_any (λ answer. answer.is_error) answers || not (length (left_of options.input text) == 0))
 
--- the sink took the header and the answers to these entries
+-- WritesAnswers holds if the sink took the header and the answers to these entries.
 pub record WritesAnswers (options : Options) (header : List ℕ) (entries : List (List ℕ)) (taken taken_now : Option (List ℕ)) : Type 0 where
   pub answers : List Answer
   pub are_answers : AreAnswers options entries answers
   pub written : Appends taken taken_now (header ++ answers_text answers)
 
--- The sink failed when it had taken a beginning of the header and of the answers to `earlier`, the first of these
--- entries.
-pub record StopsInAnswers (options : Options) (header : List ℕ) (entries : List (List ℕ)) (taken taken_now : Option (List ℕ)) : Type 0 where
+-- StopsOnPage holds if the sink failed on a page of answers. It had taken the header, the answers to `earlier` and a prefix
+-- of the answers to `on_page`, the entries on the page. The page of 32,768 bytes had room for an answer of 512 bytes before
+-- the last of these answers.
+pub record StopsOnPage (options : Options) (header : List ℕ) (entries : List (List ℕ)) (taken taken_now : Option (List ℕ)) : Type 0 where
   pub earlier : List (List ℕ)
+  pub on_page : List (List ℕ)
   pub later : List (List ℕ)
-  pub entries_are : entries ≡ earlier ++ later
-  pub answers : List Answer
-  pub are_answers : AreAnswers options earlier answers
-  pub written : TakesBeginning taken taken_now (header ++ answers_text answers)
+  pub entries_are : entries ≡ earlier ++ on_page ++ later
+  pub before : List Answer
+  pub are_before : AreAnswers options earlier before
+  pub page : List Answer
+  pub are_page : AreAnswers options on_page page
+  pub fits : LastFits 32768 512 page
+  pub count : ℕ
+  pub within : count ≤ length (answers_text page)
+  pub written : Appends taken taken_now (header ++ answers_text before ++ take count (answers_text page))
 
--- the sink failed when all entries were answered: it took a beginning of the whole listing
+-- StopsAfterAnswers holds if the sink failed after the answers to all entries. It had taken the header, all these answers
+-- and a prefix of the refusal of trailing bytes.
 pub record StopsAfterAnswers (options : Options) (text : List ℕ) (taken taken_now : Option (List ℕ)) : Type 0 where
   pub answers : List Answer
   pub are_answers : AreAnswers options (entries_of options.input text) answers
-  pub written : TakesBeginning taken taken_now (header_text options.format ++ answers_text answers ++ rest_text (left_of options.input text))
+  pub count : ℕ
+  pub within : count ≤ length (rest_text (left_of options.input text))
+  pub written : Appends taken taken_now (header_text options.format ++ answers_text answers ++ take count (rest_text (left_of options.input text)))
 
--- what was written of a text that the source gave, by what is answered: all of its listing, or what came before the
--- failure of a device
-abbrev pub ListsText : Options → (text : List ℕ) (left taken taken_now : Option (List ℕ)) → Result Summary ScriptFault → Type 0
+-- The bytes written for a text that the source gave, by the result: its whole listing, or what came before the failure of
+-- the source or of the sink.
+abbrev pub ListsText : Options → (text : List ℕ) (left taken taken_now : Option (List ℕ)) → Result Summary IoError → Type 0
 ListsText options text left taken taken_now (Ok summary) =
     IsAtEnd left × WritesListing options text taken taken_now summary.any_error
 ListsText options text left taken taken_now (Err Read) =
     WritesAnswers options (header_text options.format) (entries_of options.input text) taken taken_now
 ListsText options text left taken taken_now (Err Write) =
-    StopsInAnswers options (header_text options.format) (entries_of options.input text) taken taken_now
-    ⊎ (IsAtEnd left × StopsAfterAnswers options text taken taken_now)
+    ((text ≡ []) × TakesBeginning taken taken_now (header_text options.format))
+    ⊎ (StopsOnPage options (header_text options.format) (entries_of options.input text) taken taken_now
+    ⊎ (IsAtEnd left × StopsAfterAnswers options text taken taken_now))
 
--- What was written of some text that the source gave. Where the source tells its bytes, this text is a beginning of what
--- was to come.
-pub record Lists (options : Options) (to_come left taken taken_now : Option (List ℕ)) (result : Result Summary ScriptFault) : Type 0 where
+-- Lists holds if the bytes written are those for some text that the source gave. If the source says which bytes are unread,
+-- this text is a prefix of them.
+pub record Lists (options : Options) (to_come left taken taken_now : Option (List ℕ)) (result : Result Summary IoError) : Type 0 where
   pub text : List ℕ
   pub given : Consumes to_come left text
   pub lists : ListsText options text left taken taken_now result
 
--- the source failed when it had given a beginning of the text, and the entries of that were answered
+-- GivesBeginning holds if the source failed after a prefix of the text, and the entries of this prefix were answered.
 pub record GivesBeginning (options : Options) (text : List ℕ) (left taken taken_now : Option (List ℕ)) : Type 0 where
   pub given : List ℕ
   pub rest : List ℕ
@@ -68,11 +81,13 @@ pub record GivesBeginning (options : Options) (text : List ℕ) (left taken take
   pub left_is : left ≡ Some rest
   pub writes : WritesAnswers options (header_text options.format) (entries_of options.input given) taken taken_now
 
--- What was written where the text is all that was to come: its whole listing, or what came before the failure of a
--- device.
-abbrev pub ListsWhole : Options → (text : List ℕ) (left taken taken_now : Option (List ℕ)) → Result Summary ScriptFault → Type 0
+-- The bytes written if the text is all that was unread, by the result: its whole listing, or what came before the failure
+-- of the source or of the sink.
+abbrev pub ListsWhole : Options → (text : List ℕ) (left taken taken_now : Option (List ℕ)) → Result Summary IoError → Type 0
 ListsWhole options text left taken taken_now (Ok summary) =
     (left ≡ Some []) × WritesListing options text taken taken_now summary.any_error
 ListsWhole options text left taken taken_now (Err Read) = GivesBeginning options text left taken taken_now
 ListsWhole options text left taken taken_now (Err Write) =
-    StopsInAnswers options (header_text options.format) (entries_of options.input text) taken taken_now ⊎ StopsAfterAnswers options text taken taken_now
+    TakesBeginning taken taken_now (header_text options.format)
+    ⊎ (StopsOnPage options (header_text options.format) (entries_of options.input text) taken taken_now
+    ⊎ StopsAfterAnswers options text taken taken_now)

@@ -3,4 +3,4 @@ pub mod Input
 pub mod Row
 pub mod Output
 pub mod Correct
-pub mod Engine
+pub mod Decoder

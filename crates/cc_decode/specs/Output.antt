@@ -1,31 +1,29 @@
--- The answers to the entries of a text, and what is written of them.
-use Rattle.std.specs.Prelude.{◌≡◌, ◌⊎◌, ℕ, Bool, true, false, List, [], ◌∷◌, ◌++◌, ⊤}
+-- The answers to the entries of a text.
+use Rattle.std.specs.Prelude.{◌≡◌, ◌⊎◌, ℕ, true, false, List, [], ◌∷◌, ⊤}
 use Rattle.cc_word.specs.declared.refusal.Refusal.TheVariants.{Syntax}
-use Rattle.cc_script.specs.Output.{with_line_feed}
-use Rattle.cc_script.specs.Replies.{refusal_text}
+use Rattle.cc_text.specs.Text.{with_line_feed, refusal_text}
+use Rattle.cc_io.specs.Answers.{Answer}
 use Rattle.cc_decode.specs.Input.{IsWordEntry, word_in}
 use Rattle.cc_decode.specs.Row.{IsWordRow}
+use Rattle.cc_decode.specs.declared.format.Format.{Format}
 use Rattle.cc_decode.specs.declared.options.Options.{Options}
 
--- the answer to an entry, without its line feed, and whether it is an error
-pub record Answer : Type 0 where
-  pub text : List ℕ
-  pub is_error : Bool
+-- IsRowLine holds if the text is the row of the word in the format, and a line feed.
+pub record IsRowLine (format : Format) (word : ℕ) (text : List ℕ) : Type 0 where
+  pub row : List ℕ
+  pub is_row : IsWordRow format word row
+  pub text_is : text ≡ with_line_feed row
 
--- the answer to an entry: to a word its row in the format, and to any other entry `error 1 syntax`, which is an error
+-- IsAnswer holds if the answer is the one to the entry: for a word its row in the format, and for any other entry
+-- `error 1 syntax`, which is an error. Each has a line feed.
 abbrev pub IsAnswer : Options → (entry : List ℕ) → Answer → Type 0
 IsAnswer options entry answer =
-    (IsWordEntry options.input entry × IsWordRow options.format (word_in options.input entry) answer.text × (answer.is_error ≡ false))
-    ⊎ ((¬ IsWordEntry options.input entry) × (answer.text ≡ refusal_text Syntax) × (answer.is_error ≡ true))
+    (IsWordEntry options.input entry × IsRowLine options.format (word_in options.input entry) answer.text × (answer.is_error ≡ false))
+    ⊎ ((¬ IsWordEntry options.input entry) × (answer.text ≡ with_line_feed (refusal_text Syntax)) × (answer.is_error ≡ true))
 
--- these are the answers to these entries, one for each
+-- AreAnswers holds if the answers are those to the entries, one for each.
 abbrev pub AreAnswers : Options → (entries : List (List ℕ)) → List Answer → Type 0
 AreAnswers options [] [] = ⊤
 AreAnswers options (entry ∷ entries) (answer ∷ answers) = IsAnswer options entry answer × AreAnswers options entries answers
 AreAnswers options [] (answer ∷ answers) = ⊥
 AreAnswers options (entry ∷ entries) [] = ⊥
-
--- the texts of answers, each with its line feed
-abbrev pub answers_text : List Answer → List ℕ
-answers_text [] = []
-answers_text (answer ∷ answers) = with_line_feed answer.text ++ answers_text answers

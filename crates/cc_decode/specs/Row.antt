@@ -1,15 +1,14 @@
 -- The answer to one word, on one line.
 use Rattle.std.specs.Prelude.{ℕ, List, [], ◌++◌, codes, decimal, Bool, true, if◌then◌else◌}
 use Rattle.cc_word.specs.Word.{bit_of}
-use Rattle.cc_word.specs.WordText.{digits_of}
+use Rattle.cc_word.specs.WordText.{digits_of, hexadecimal}
 use Rattle.cc_word.specs.declared.fields.Fields.{Fields}
 use Rattle.cc_bounds.specs.declared.span.Span.{Span}
 use Rattle.cc_bounds.specs.Decoding.{stored_exponent}
 use Rattle.cc_cap.specs.LineText.{IsLine}
-use Rattle.cc_script.specs.Output.{with_line_feed}
-use Rattle.cc_script.specs.Replies.{hexadecimal}
-use Rattle.cc_explain.specs.Permissions.{permissions_text}
+use Rattle.cc_text.specs.Text.{with_line_feed}
 use Rattle.cc_explain.specs.WordTelling.{TellsWord}
+use Rattle.cc_explain.specs.Permissions.{permissions_text}
 use Rattle.cc_decode.specs.declared.format.Format.{Format}
 use Rattle.cc_decode.specs.declared.format.Format.TheVariants.{Columns, Csv, Text}
 

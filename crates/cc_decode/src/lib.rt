@@ -1,19 +1,18 @@
-//! Words in bulk: the words of a text or of raw bytes, and the answer to each, between two devices.
+//! Decodes many words: each word of a text or of raw bytes is answered by its row.
 #![tactic(auto)]
 
-mod answers;
-mod batch;
-mod engine;
+mod decoder;
+mod decoding;
 mod entries;
 mod format;
 mod input;
 mod laws;
 mod options;
 mod rows;
-mod writing;
+mod writers;
 
-pub use engine::decode_words;
+pub use decoding::decode_words;
 pub use format::Format;
 pub use input::{ByteOrder, InputForm};
-pub use laws::{one_cut, one_listing};
+pub use laws::one_listing;
 pub use options::Options;

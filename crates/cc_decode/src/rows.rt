@@ -5,16 +5,16 @@ ghost use Rattle.cc_word.specs.WordText.{digits_of, hexadecimal};
 ghost use Rattle.cc_cap.specs.LineText.{letter_of, letters_of, line_of, marks_of};
 ghost use Rattle.cc_cap.specs.Permissions.{bits_of};
 ghost use Rattle.cc_explain.specs.Permissions.{permissions_text};
-ghost use Rattle.cc_decode.specs.Engine.{AppendsRow};
+ghost use Rattle.cc_decode.specs.Decoder.{AppendsRow};
 ghost use Rattle.cc_decode.specs.Row.{columns_text, csv_text, values_text};
 
-use crate::batch::Batch;
 use crate::format::Format;
+use crate::writers::{Batch, push_byte, push_byte_if, push_decimal, push_digits, push_hexadecimal};
 use bitflags::Flags;
 use cc_bounds::{Span, decode, exponent};
 use cc_cap::{Perms, is_canonical};
 use cc_explain::push_permissions;
-use cc_script::Line;
+use cc_text::Line;
 use cc_word::{Fields, unpack};
 
 /// The type of an unsealed capability, of which a line says nothing.
@@ -75,7 +75,7 @@ fn push_address_and_letters(batch: &mut Batch, fields: &Fields)
     ensures value { batch.new ≡ batch.old ++ hexadecimal fields.now.address ++ codes " [" ++ letters_of fields.now.perms }
     ensures fits { length batch.new ≤ length batch.old + 41 }
 {
-    batch.push_hexadecimal(u128::from(fields.address));
+    push_hexadecimal(batch, u128::from(fields.address));
     batch.push(b" [");
     push_letters(batch, Perms::from_bits_retain(fields.perms));
 }
@@ -100,7 +100,7 @@ fn push_letter(batch: &mut Batch, letter: u8, perms: Perms, permission: Perms)
     ensures value { batch.new ≡ batch.old ++ letter_of (letter ∷ []) (bits_of perms) (bits_of permission) }
     ensures fits { length batch.new ≤ length batch.old + 1 }
 {
-    batch.push_byte_if(letter, perms.contains(permission));
+    push_byte_if(batch, letter, perms.contains(permission));
 }
 
 /// Appends a comma, the bounds, the closing bracket, and the mark of a tagged word's type.
@@ -110,9 +110,9 @@ fn push_bounds_and_mark(batch: &mut Batch, fields: &Fields, bounds: &Span)
         ++ codes "]" ++ marks_of fields.now.otype true }
     ensures fits { length batch.new ≤ length batch.old + 90 }
 {
-    batch.push_byte(b',');
+    push_byte(batch, b',');
     push_span(batch, b'-', bounds);
-    batch.push_byte(b']');
+    push_byte(batch, b']');
     push_mark(batch, fields.otype);
 }
 
@@ -157,9 +157,9 @@ fn push_address_and_names(batch: &mut Batch, address: u64, perms: u16)
     ensures value { batch.new ≡ batch.old ++ codes "," ++ hexadecimal address ++ codes "," ++ permissions_text perms }
     ensures fits { length batch.new ≤ length batch.old + 200 }
 {
-    batch.push_byte(b',');
-    batch.push_hexadecimal(u128::from(address));
-    batch.push_byte(b',');
+    push_byte(batch, b',');
+    push_hexadecimal(batch, u128::from(address));
+    push_byte(batch, b',');
     push_names(batch, perms);
 }
 
@@ -199,7 +199,7 @@ fn push_bounds(batch: &mut Batch, separator: u8, word: u128, bounds: &Span)
     ensures fits { length batch.new ≤ length batch.old + 102 }
 {
     batch.push_word(word);
-    batch.push_byte(separator);
+    push_byte(batch, separator);
     push_span(batch, separator, bounds);
 }
 
@@ -210,9 +210,9 @@ fn push_span(batch: &mut Batch, separator: u8, bounds: &Span)
     ensures value { batch.new ≡ batch.old ++ hexadecimal bounds.now.base ++ (separator ∷ []) ++ hexadecimal bounds.now.top }
     ensures fits { length batch.new ≤ length batch.old + 69 }
 {
-    batch.push_hexadecimal(u128::from(bounds.base));
-    batch.push_byte(separator);
-    batch.push_hexadecimal(bounds.top);
+    push_hexadecimal(batch, u128::from(bounds.base));
+    push_byte(batch, separator);
+    push_hexadecimal(batch, bounds.top);
 }
 
 /// Appends permissions, flag and type, with a separator before each.
@@ -221,12 +221,12 @@ fn push_rights(batch: &mut Batch, separator: u8, fields: &Fields)
     ensures value { batch.new ≡ batch.old ++ (separator ∷ []) ++ digits_of 4 fields.now.perms ++ (separator ∷ []) ++ decimal (bit_of fields.now.flag) ++ (separator ∷ []) ++ digits_of 5 fields.now.otype }
     ensures fits { length batch.new ≤ length batch.old + 14 }
 {
-    batch.push_byte(separator);
-    batch.push_digits(u64::from(fields.perms), 4);
-    batch.push_byte(separator);
-    batch.push_decimal(u8::from(fields.flag));
-    batch.push_byte(separator);
-    batch.push_digits(u64::from(fields.otype), 5);
+    push_byte(batch, separator);
+    push_digits(batch, u64::from(fields.perms), 4);
+    push_byte(batch, separator);
+    push_decimal(batch, u8::from(fields.flag));
+    push_byte(batch, separator);
+    push_digits(batch, u64::from(fields.otype), 5);
 }
 
 /// Appends the exponent and whether the word is canonical, with a separator before each.
@@ -236,9 +236,9 @@ fn push_encoding(batch: &mut Batch, separator: u8, exponent: u8, canonical: bool
     ensures value { batch.new ≡ batch.old ++ (separator ∷ []) ++ decimal exponent ++ (separator ∷ []) ++ (if canonical then codes "yes" else codes "no") }
     ensures fits { length batch.new ≤ length batch.old + 7 }
 {
-    batch.push_byte(separator);
-    batch.push_decimal(exponent);
-    batch.push_byte(separator);
+    push_byte(batch, separator);
+    push_decimal(batch, exponent);
+    push_byte(batch, separator);
     if canonical {
         batch.push(b"yes");
     } else {

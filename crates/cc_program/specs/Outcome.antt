@@ -4,6 +4,8 @@ use Rattle.clap.specs.Words.{IsAmong, Kinds}
 use Rattle.clap.specs.declared.error.kind.ErrorKind.{ErrorKind}
 use Rattle.clap.specs.declared.error.kind.ErrorKind.TheVariants.{DisplayHelp, DisplayVersion, OutOfMemory}
 use Rattle.cc_word.specs.Word.{bit_of}
+use Rattle.cc_io.specs.declared.summary.IoError.{IoError}
+use Rattle.cc_io.specs.declared.summary.IoError.TheVariants as io
 use Rattle.cc_program.specs.declared.outcome.Ending.{Ending}
 use Rattle.cc_program.specs.declared.outcome.Ending.TheVariants.{Answered, Refused, Stopped}
 use Rattle.cc_program.specs.declared.outcome.Fault.{Fault}
@@ -16,6 +18,11 @@ use Rattle.cc_script.specs.declared.summary.Summary.{Summary}
 abbrev pub fault_of : ScriptFault → Fault
 fault_of Read = fault.Read
 fault_of Write = fault.Write
+
+-- The fault of the program if the source or the sink of `decode` failed.
+abbrev pub io_fault_of : IoError → Fault
+io_fault_of io.Read = fault.Read
+io_fault_of io.Write = fault.Write
 
 -- how the program ends that was asked for an answer
 abbrev pub ending_of : Result Summary Fault → Ending

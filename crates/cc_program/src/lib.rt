@@ -2,6 +2,7 @@
 #![tactic(auto)]
 
 mod answering;
+mod decoding;
 mod error_writer;
 mod invocation;
 mod mapping;

@@ -1,8 +1,9 @@
 //! How the program ends.
 ghost use Rattle.std.specs.Prelude.{◌≡◌};
 ghost use Rattle.cc_program.specs.declared.outcome.Fault.TheVariants as fault;
-ghost use Rattle.cc_program.specs.Outcome.{ending_of, fault_of, status_of};
+ghost use Rattle.cc_program.specs.Outcome.{ending_of, fault_of, io_fault_of, status_of};
 
+use cc_io::IoError;
 use cc_script::{ScriptFault, Summary};
 use std::alloc::AllocError;
 use thiserror::Error;
@@ -75,6 +76,17 @@ impl From<ScriptFault> for Fault {
         match fault {
             ScriptFault::Read => Fault::Read,
             ScriptFault::Write => Fault::Write,
+        }
+    }
+}
+
+impl From<IoError> for Fault {
+    ghost from_gives = { λ error result. result ≡ io_fault_of error };
+
+    fn from(error: IoError) -> Fault {
+        match error {
+            IoError::Read => Fault::Read,
+            IoError::Write => Fault::Write,
         }
     }
 }

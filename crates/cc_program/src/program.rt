@@ -11,8 +11,8 @@ use crate::invocation::Invocation;
 use crate::outcome::{Ending, Fault, ending_of, ending_status};
 use crate::reading::read_words;
 use crate::telling::{Telling, Terminals};
-use crate::{mapping, running};
-use cc_script::{FromWriter, Sink, Summary};
+use crate::{decoding, mapping, running};
+use cc_script::{FromWriter, Summary};
 use clap::Error;
 use clap::error::ErrorKind;
 use std::alloc::AllocError;
@@ -65,12 +65,7 @@ fn answer_words<R: AllocGlobal + Files + Input + Print + Eprint>(
     ensures ends { (app : App) × IsProgram app × EndsOn (faults_of app (texts words.now)) result }
 {
     match read_words(rt.alloc(), words) {
-        Ok(invocation) => ending_of(answer(
-            rt,
-            terminals,
-            invocation,
-            FromWriter::new(io::writer(rt)),
-        )),
+        Ok(invocation) => ending_of(answer(rt, terminals, invocation)),
         Err(error) => tell(rt, &error),
     }
 }
@@ -93,16 +88,15 @@ fn tell<R: Print + Eprint>(rt: &R, error: &Error) -> Ending
     }
 }
 
-/// Does what was asked for, and writes the answer to `output`.
-fn answer<R: AllocGlobal + Files + Input + Eprint, W: Sink + Drop>(
+/// Does what was asked for, and writes the answer to standard output.
+fn answer<R: AllocGlobal + Files + Input + Print + Eprint>(
     rt: &R,
     terminals: Terminals,
     invocation: Invocation<'_>,
-    mut output: W,
 ) -> Result<Summary, Fault>
     requires invocation { (found : Option (Text × List Row)) × IsInvocation found invocation }
-    requires output { W.has_failed output ≡ false }
 {
+    let mut output = FromWriter::new(io::writer(rt));
     match invocation {
         Invocation::Run { limit, stats, file } => running::run(
             rt,
@@ -133,7 +127,7 @@ fn answer<R: AllocGlobal + Files + Input + Eprint, W: Sink + Drop>(
             svg,
             file,
         } => mapping::map(rt, limit, pool, align, svg, file, output),
-        Invocation::Decode { options, file } => running::decode(rt, options, file, output),
+        Invocation::Decode { options, file } => decoding::decode(rt, options, file),
         Invocation::Ask(question) => Ok(answer_question(question, &mut output)?),
     }
 }

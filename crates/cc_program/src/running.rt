@@ -1,4 +1,4 @@
-//! `run`, `plan` and `decode`: open what is read, and write the answers to the output.
+//! `run` and `plan`: open what is read, and write the answers to the output.
 ghost use Rattle.std.specs.Prelude.{◌≡◌, ◌≢◌, ◌≤◌, ◌↔◌, ◌^◌, [], false, true, Err, IfErr, IfOk, IsTrue, OnErr, OnOk, Some, option_map};
 ghost use Rattle.either.specs.Either.{is_left};
 ghost use Rattle.cc_machine.specs.State.{initial_state};
@@ -12,7 +12,6 @@ use crate::outcome::Fault;
 use crate::pool::Pool;
 use crate::telling::{Telling, tell, tell_waiting};
 use cc_command::{Counted, PoolTexts, Watched, plan_numbers, plan_script, write_refusal};
-use cc_decode::{Options, decode_words};
 use cc_machine::{Align, Machine};
 use cc_script::{
     Buffered, FromReader, FromWriter, MOST_WAITING, Sink, Source, Summary, Waiting, run_script,
@@ -21,9 +20,6 @@ use either::{Either, Left, Right};
 use std::fs;
 use std::io::Read;
 use std::rt::Files;
-
-/// How many bytes `decode` reads at most: more than any file or pipe gives.
-const MOST_DECODED: usize = 1 << 62;
 
 /// Makes a machine of at most `limit` slots and objects, and then opens the script.
 pub fn open<R: AllocGlobal + Files + Input>(
@@ -42,8 +38,8 @@ pub fn open<R: AllocGlobal + Files + Input>(
     Ok((machine, script))
 }
 
-/// Opens what is read: the file, or standard input where none is named or `-` is.
-fn open_input<R: AllocGlobal + Files + Input>(
+/// Opens the named file, or standard input if no file or `-` is named.
+pub fn open_input<R: AllocGlobal + Files + Input>(
     rt: &R,
     file: Option<&str>,
 ) -> Result<Either<R::File, R::Reader>, Fault>
@@ -288,28 +284,4 @@ fn plan_counted<R: AllocGlobal, S: Source, W: Sink, E: Sink>(
         errors,
     )?;
     Ok(summary)
-}
-
-/// The source of `decode`.
-fn words_of<R: Read>(reader: R) -> FromReader<R>
-    ensures to_come { ⟦<FromReader<R> as Source>⟧.to_come result ≡ R.remaining reader }
-    ensures most { ⟦<FromReader<R> as Source>⟧.most_to_come result ≡ 2 ^ 62 }
-    ensures failed { ⟦<FromReader<R> as Source>⟧.has_failed result ≡ false }
-{
-    FromReader::with_limit(reader, MOST_DECODED)
-}
-
-/// `decode`: answers each word of a text or of raw bytes. Want of memory never stops it.
-pub fn decode<R: AllocGlobal + Files + Input, W: Sink + Drop>(
-    rt: &R,
-    options: Options,
-    file: Option<&str>,
-    mut output: W,
-) -> Result<Summary, Fault>
-    requires { W.has_failed output ≡ false }
-    ensures open { result ≡ Err Fault.Open → NamesFile (option_map (λ text. text.now) file.entry) }
-    ensures memory { result ≢ Err Fault.Memory }
-{
-    let mut source = words_of(open_input(rt, file)?);
-    Ok(decode_words(options, &mut source, &mut output)?)
 }

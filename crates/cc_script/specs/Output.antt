@@ -2,16 +2,15 @@
 use Rattle.std.specs.Prelude.{◌≡◌, ℕ, Bool, not, ◌||◌, ◌==◌, List, [], ◌∷◌, ◌++◌, length, map, Result, Ok, Err}
 use Rattle.std.specs.List.{list_any}
 use Rattle.cc_word.specs.declared.refusal.Refusal.{Refusal}
-use Rattle.cc_word.specs.declared.refusal.Refusal.TheVariants.{Unfinished}
 use Rattle.cc_machine.specs.declared.op.Op.{Op}
 use Rattle.cc_machine.specs.declared.reply.Reply.{Reply}
 use Rattle.cc_machine.specs.declared.reply.Reply.TheVariants.{Refused}
 use Rattle.cc_machine.specs.State.{State}
 use Rattle.cc_machine.specs.Step.{Step}
-pub use Rattle.cc_text.specs.Text.{with_line_feed}
+pub use Rattle.cc_text.specs.Text.{with_line_feed, rest_text}
 use Rattle.cc_script.specs.Lines.{lines_of, rest_of}
 use Rattle.cc_script.specs.Commands.{operation_of}
-use Rattle.cc_script.specs.Replies.{reply_text, refusal_text, is_error}
+use Rattle.cc_script.specs.Replies.{reply_text, is_error}
 
 -- What a machine is given: the operations of an opening, and then for each line of the text its operation or its
 -- fault.
@@ -35,11 +34,6 @@ TakesAll old (command ∷ commands) [] new = ⊥
 abbrev pub replies_text : List Reply → List ℕ
 replies_text [] = []
 replies_text (reply ∷ replies) = with_line_feed (reply_text reply) ++ replies_text replies
-
--- the last reply: to a rest that is not empty
-abbrev pub rest_text : (rest : List ℕ) → List ℕ
-rest_text [] = []
-rest_text (byte ∷ rest) = with_line_feed (refusal_text Unfinished)
 
 -- The output of a script: the reply to each operation of the opening and to each line of the text, and the refusal of a
 -- rest that is not empty. `any_error` tells whether a reply is a refusal, or there is such a rest.

@@ -1,9 +1,9 @@
 -- The texts of replies, without their line feed.
 use Rattle.std.specs.Prelude.{ℕ, Bool, true, false, List, [], ◌++◌, codes, decimal, Option, Some, None}
-use Rattle.cc_word.specs.Refusal.{code_of, name_of}
 use Rattle.cc_word.specs.Word.{bit_of}
 use Rattle.cc_word.specs.WordText.{digits_of}
 pub use Rattle.cc_word.specs.WordText.{hexadecimal}
+pub use Rattle.cc_text.specs.Text.{refusal_text}
 use Rattle.cc_word.specs.declared.refusal.Refusal.{Refusal}
 use Rattle.cc_bounds.specs.declared.span.Span.{Span}
 use Rattle.cc_cap.specs.Permissions.{bits_of}
@@ -24,10 +24,6 @@ made_text slot word span = decimal slot ++ codes " " ++ digits_of 32 word ++ cod
 abbrev pub parent_text : Option ℕ → List ℕ
 parent_text None = codes "-"
 parent_text (Some slot) = decimal slot
-
--- a refusal: its code and its name
-abbrev pub refusal_text : Refusal → List ℕ
-refusal_text refusal = codes "error " ++ decimal (code_of refusal) ++ codes " " ++ name_of refusal
 
 -- the alignment of a pool: nothing for 1, and ` align 16` for 16
 abbrev pub align_text : Align → List ℕ

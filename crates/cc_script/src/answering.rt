@@ -18,9 +18,9 @@ use crate::parsing::{
     MOST_BYTES, flag_of, one_of_number, parse_alone, parse_spaced, parse_two, perms_of,
     two_of_number,
 };
-use crate::printing::{push_any_reply, push_reply, refusal_bytes};
+use crate::printing::{push_any_reply, push_reply};
 use cc_machine::{Machine, Op, Reply};
-use cc_text::Page;
+use cc_text::{Page, refusal_bytes};
 use cc_word::Refusal;
 
 /// Has the machine take a line of a script, and appends its reply and a line feed. Tells whether the reply is an error.

@@ -12,10 +12,10 @@ ghost use Rattle.cc_script.specs.Engine.{AnswersOpening, commands_from, Answers}
 use crate::answering::step;
 use crate::devices::{Failed, Sink, Source, write_all};
 use crate::line_start::{LineStart, split_at_line_feed};
-use crate::printing::{push_any_reply, refusal_bytes};
+use crate::printing::push_any_reply;
 use crate::summary::{ScriptFault, Summary};
 use cc_machine::{Machine, Op, Reply};
-use cc_text::WholeLine;
+use cc_text::{WholeLine, refusal_bytes};
 use cc_word::Refusal;
 
 /// The most bytes that are read at once.

@@ -1,12 +1,14 @@
-//! Text in fixed room: pages of any size, lines, and pieces with a number in them.
+//! Text in fixed room: pages of any size, lines, pieces with a number in them, and the texts of refusals.
 #![tactic(auto)]
 
 mod numbered;
 mod page;
+mod refusals;
 mod text;
 
 pub use numbered::{
     end_with_decimal, end_with_hexadecimal, push_decimal, push_digits, push_hexadecimal,
 };
 pub use page::{Line, MOST_LINE, MOST_REPLY, MOST_WAITING, Page, Waiting, WholeLine};
+pub use refusals::refusal_bytes;
 pub use text::{ROOM, Text};

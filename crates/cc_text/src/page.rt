@@ -294,7 +294,8 @@ impl<const N: usize> Page<N> {
     }
 
     /// Forgets the last bytes.
-    fn drop_last(&mut self, count: usize)
+    #[inline(always)]
+    pub fn drop_last(&mut self, count: usize)
         requires { count ≤ length self.old }
         ensures { self.new ≡ take (length self.old - count) self.old }
     {

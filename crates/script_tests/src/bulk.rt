@@ -1,6 +1,6 @@
 //! Words in bulk between devices that fail.
 use cc_decode::{Format, InputForm, Options, decode_words};
-use cc_script::{ScriptFault, SliceSink, SliceSource, Summary};
+use cc_io::{IoError, SliceSink, SliceSource, Summary};
 
 /// Two words, lines that are none, and a rest.
 const TEXT: &[u8] = b"\
@@ -28,7 +28,7 @@ error 2 unfinished
 fn decode(
     pieces: (usize, usize),
     fails: (Option<u32>, Option<u32>),
-) -> Option<(Result<Summary, ScriptFault>, usize)> {
+) -> Option<(Result<Summary, IoError>, usize)> {
     let options = Options {
         input: InputForm::Lines,
         format: Format::Columns,
@@ -59,7 +59,7 @@ fn read_fails(call: u32) -> bool {
     let given = (call as usize).saturating_sub(1).saturating_mul(13);
     let lines = count_lines(&TEXT[..given.min(TEXT.len())]);
     match decode((13, 4096), (Some(call), None)) {
-        Some((Err(ScriptFault::Read), taken)) => {
+        Some((Err(IoError::Read), taken)) => {
             count_lines(&COLUMNS[..taken.min(COLUMNS.len())]) == lines
         }
         _ => false,
@@ -77,7 +77,7 @@ fn each_read_fails_in_turn(rt: HostRuntime) {
 /// behind 27 writes, and is never made.
 fn write_fails(call: u32) -> bool {
     match decode((4096, 11), (None, Some(call))) {
-        Some((Err(ScriptFault::Write), _)) => call < 29,
+        Some((Err(IoError::Write), _)) => call < 29,
         Some((Ok(summary), taken)) => call == 29 && summary.any_error && taken == COLUMNS.len(),
         _ => false,
     }

@@ -1,0 +1,63 @@
+use Rattle.std.proofs.Common.{rules, ◌≡◌, ◌||◌, Bool, Ok, ℕ, List, take, subst, sym}
+use Rattle.std.specs.Io.KnownBytes.{Consumes, Appends}
+use Rattle.cc_io.specs.Devices.{TakesBeginning}
+use Rattle.cc_io.specs.Answers.{EndsWith}
+use Rattle.cc_io.specs.Correct.{Pumps}
+use Rattle.cc_io.proofs.DeviceLemmas.{keeps_consumes}
+use Rattle.cc_io.proofs.EngineLemmas.{reads_begins, stops_pending, reads_more, fails_reading, stops_reading, ends, stops_ending}
+use Rattle.cc_io.proofs.pumping.pump.Goals as goal
+
+pub pieces-init : goal.pieces-init
+pieces-init g c = record {
+  reads = reads_begins _ _ (g.met.F.Framing.is_frame c.args.framing.now) _ _ _ _ _ _ c.new-start.ensures c.in-Ok.ensures.ok;
+  begun = subst (g.F.Framing.IsBegun c.args.framing.now) (sym c.new-start.ensures) (g.met.F.Framing.begins c.args.framing.now);
+  none_waits = c.in-Ok.ensures.empty;
+  gives = search rules;
+  takes = search rules;
+}
+
+pub returns-in-Err-clause-pumps : goal.returns-in-Err-clause-pumps
+returns-in-Err-clause-pumps g c = stops_pending _ _ _ _ _ _ _ _ _ _ c.in-Err.ensures.err c.in-Err.ensures.some
+
+pub returns-in-Err-read-clause-pumps : goal.returns-in-Err-read-clause-pumps
+returns-in-Err-read-clause-pumps g c =
+    fails_reading _ _ _ _ _ _ _ _ _ _ _ _ _ _ _ c.pieces.invariant.reads (keeps_consumes _ _ c.in-Err-read.ensures.gives)
+
+pub pieces-preserved : goal.pieces-preserved
+pieces-preserved g c =
+    let r = c.pieces.invariant.reads in
+    record {
+      reads = reads_more _ _ (g.met.F.Framing.is_frame c.args.framing.now) _ _ _ _ _ _ _ _ _ _ _ _ _ _ _ r c.in-Ok-read.ensures.gives.0 (c.in-Ok-take_piece.ensures.ok _ r.answers.start_is);
+      begun = c.in-Ok-take_piece.ensures.begun;
+      none_waits = c.in-Ok-take_piece.ensures.empty;
+      gives = search rules;
+      takes = search rules;
+    }
+
+pub returns-in-Err-take_piece-clause-pumps : goal.returns-in-Err-take_piece-clause-pumps
+returns-in-Err-take_piece-clause-pumps g c =
+    let r = c.pieces.invariant.reads in
+    stops_reading _ _ _ (g.met.F.Framing.is_frame c.args.framing.now) _ _ _ _ _ _ _ _ _ _ _ _ _ _ _ r c.in-Ok-read.ensures.gives.0 (c.in-Err-take_piece.ensures.err _ r.answers.start_is)
+
+pub returns-in-Ok-write_last-clause-pumps : goal.returns-in-Ok-write_last-clause-pumps
+returns-in-Ok-write_last-clause-pumps g c =
+    let given = c.in-Ok-read.ensures.gives in
+    let none : c.in-Ok-read.count ≡ 0 = search rules in
+    let nothing = subst (λ (n : ℕ). Consumes (g.R.Source.to_come c.pieces.source) (g.R.Source.to_come c.read.new.self) (take n c.read.new.room)) none given.0 in
+    let ended = c.end_rest-end_error.ensures in
+    subst (λ (e : Bool). Pumps g.A.Answerer.Answered g.A.Answerer.Ended (g.F.Framing.frame c.args.framing.now) g.row.N g.A.Answerer.MOST c.args.answerer.now c.args.page.now
+    (g.R.Source.to_come c.args.source.now) (g.R.Source.to_come c.read.new.self) (g.W.Sink.taken_bytes c.args.sink.now) (g.W.Sink.taken_bytes c.write_last.new.sink)
+    (Ok (record { any_error = c.pieces.any_error || e })) c.end_rest-end_error.new.answerer) (sym ended.error_is)
+    (ends _ _ _ _ _ _ _ _ _ _ _ _ _ _ _ _ _ ended.ending c.pieces.invariant.reads nothing (given.1 none (search rules))
+    (subst (λ (start : List ℕ). EndsWith g.A.Answerer.Ended c.pieces.answerer start ended.ending c.end_rest-end_error.new.answerer) c.as_slice.ensures ended.ends)
+    (subst (λ (l : List ℕ). Appends (g.W.Sink.taken_bytes c.pieces.sink) (g.W.Sink.taken_bytes c.write_last.new.sink) l) ended.text_is c.in-Ok-write_last.ensures.ok))
+
+pub returns-in-Err-write_last-clause-pumps : goal.returns-in-Err-write_last-clause-pumps
+returns-in-Err-write_last-clause-pumps g c =
+    let given = c.in-Ok-read.ensures.gives in
+    let none : c.in-Ok-read.count ≡ 0 = search rules in
+    let nothing = subst (λ (n : ℕ). Consumes (g.R.Source.to_come c.pieces.source) (g.R.Source.to_come c.read.new.self) (take n c.read.new.room)) none given.0 in
+    let ended = c.end_rest-end_error.ensures in
+    stops_ending _ _ _ _ _ _ _ _ _ _ _ _ _ _ _ _ _ ended.ending c.pieces.invariant.reads nothing (given.1 none (search rules))
+    (subst (λ (start : List ℕ). EndsWith g.A.Answerer.Ended c.pieces.answerer start ended.ending c.end_rest-end_error.new.answerer) c.as_slice.ensures ended.ends)
+    (subst (λ (l : List ℕ). TakesBeginning (g.W.Sink.taken_bytes c.pieces.sink) (g.W.Sink.taken_bytes c.write_last.new.sink) l) ended.text_is c.in-Err-write_last.ensures.err)

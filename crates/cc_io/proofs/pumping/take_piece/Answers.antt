@@ -1,0 +1,36 @@
+use Rattle.std.proofs.Common.{rules, ℕ, ◌+◌, ◌≤◌, length, ◌∙◌, sym, subst}
+use Rattle.cc_io.proofs.EngineLemmas.{first_begins, first_passes, first_more, first_ends, first_stops}
+use Rattle.cc_io.proofs.pumping.take_piece.Goals as goal
+
+pub entries-init : goal.entries-init
+entries-init g c = record {
+  answers = λ begun is. first_begins _ _ _ _ _ _ begun _ _ _ is c.requires.empty;
+  begun = c.requires.start;
+  works = c.requires.sink;
+}
+
+pub split-requires : goal.split-requires
+split-requires g c = subst (g.F.Framing.IsBegun c.args.framing.now) (sym c.as_slice.ensures) c.entries.invariant.begun
+
+pub returns-in-Err-clause-err : goal.returns-in-Err-clause-err
+returns-in-Err-clause-err g c begun is = first_stops _ _ _ _ _ _ _ _ _ begun _ _ _ _ _ (c.entries.invariant.answers begun is) c.in-Err.ensures.err c.in-Err.ensures.some
+
+pub entries-preserved : goal.entries-preserved
+entries-preserved g c = record {
+  answers = λ begun is.
+      let p = first_passes _ _ _ _ _ _ _ _ _ begun _ _ _ _ _ _ (c.entries.invariant.answers begun is) c.in-Ok.ensures.ok in
+      let ends = c.in-Some.ensures.ends p.begun_now (c.as_slice.ensures ∙ p.start_is) in
+      first_more _ _ _ _ _ _ _ _ _ begun _ _ _ _ _ _ _ _ _ _ p ends (c.end_entry-any_error.ensures.answers p.begun_now p.start_is) (subst (λ (most : ℕ). length c.make_room.new.page + most ≤ g.row.N) c.MOST.ensures c.in-Ok.ensures.room)
+      c.end_entry-any_error.ensures.next;
+  begun = subst (g.F.Framing.IsBegun c.args.framing.now) (sym c.end_entry-any_error.ensures.next) (g.met.F.Framing.begins c.args.framing.now);
+  works = search rules;
+}
+
+pub returns-in-Ok-write_page-clause-ok : goal.returns-in-Ok-write_page-clause-ok
+returns-in-Ok-write_page-clause-ok g c begun is =
+    let p = c.entries.invariant.answers begun is in
+    first_ends _ _ _ _ _ _ _ _ _ begun _ _ _ _ _ _ p (c.in_default.ensures.none p.begun_now (c.as_slice.ensures ∙ p.start_is)) c.extend.ensures c.in-Ok-write_page.ensures.ok
+
+pub returns-in-Err-write_page-clause-err : goal.returns-in-Err-write_page-clause-err
+returns-in-Err-write_page-clause-err g c begun is =
+    first_stops _ _ _ _ _ _ _ _ _ begun _ _ _ _ _ (c.entries.invariant.answers begun is) c.in-Err-write_page.ensures.err c.in-Err-write_page.ensures.some

@@ -1,0 +1,35 @@
+//! The trait of the values that turn an entry of the input into bytes of the output.
+ghost use Rattle.std.specs.Prelude.{ℕ, ◌+◌, ◌≤◌, length};
+ghost use Rattle.cc_io.specs.Answers.{Relation, AnswersInto};
+
+use cc_text::Page;
+
+/// Answers entries on a page of `N` bytes. An answer may depend on the state of the answerer, and may change it.
+// `N` is a parameter of the trait, since a method of a trait cannot have a const parameter
+pub trait Answerer<const N: usize> {
+    // the answers that an entry may get
+    ghost Answered: { Relation Self };
+
+    // the answers that trailing bytes may get, unless there are none
+    ghost Ended: { Relation Self };
+
+    // the maximum length of an answer in bytes
+    ghost MOST: { ℕ };
+
+    /// The maximum length of an answer in bytes.
+    const MOST: usize;
+
+    /// Appends the answer to an entry, and returns whether the answer is an error.
+    ///
+    /// Requires: `MOST` bytes fit the page.
+    fn answer(&mut self, entry: &[u8], out: &mut Page<N>) -> bool
+        requires { length out.old + MOST ≤ N }
+        ensures { AnswersInto Answered self.old entry.now out.old out.new result self.new };
+
+    /// Appends the answer to trailing bytes after the last entry, and returns whether the answer is an error.
+    ///
+    /// Requires: `MOST` bytes fit the page.
+    fn end(&mut self, rest: &[u8], out: &mut Page<N>) -> bool
+        requires { length out.old + MOST ≤ N }
+        ensures { AnswersInto Ended self.old rest.now out.old out.new result self.new };
+}

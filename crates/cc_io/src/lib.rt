@@ -1,0 +1,23 @@
+//! Reads entries from a source, has them answered, and writes the answers to a sink.
+#![tactic(auto)]
+
+mod answerer;
+mod devices;
+mod framing;
+mod laws;
+mod line_start;
+mod pumping;
+mod slice_devices;
+mod std_devices;
+mod summary;
+
+pub use answerer::Answerer;
+pub use cc_text::Page;
+pub use devices::{Failed, Sink, Source, write_all};
+pub use framing::{Blocks, Framing, Lines};
+pub use laws::{one_cut, one_on_page, one_split, parts, stops_begins};
+pub use line_start::{LineStart, split_at_line_feed};
+pub use pumping::pump;
+pub use slice_devices::{SliceSink, SliceSource};
+pub use std_devices::{FromReader, FromWriter};
+pub use summary::{IoError, Summary};

@@ -1,0 +1,241 @@
+//! The engine: reads entries from a source, and writes their answers to a sink.
+ghost use Rattle.std.specs.Prelude.{◌≡◌, ◌≤◌, ◌<◌, ◌+◌, ℕ, true, false, List, [], take, length, ◌↔◌, Err, IfOk, OnOk, OnErr, IsErr, ◌++◌};
+ghost use Rattle.std.specs.Io.KnownBytes.{Appends};
+ghost use Rattle.cc_io.specs.Devices.{TakesBeginning};
+ghost use Rattle.cc_io.specs.Answers.{AnswersInto, seen};
+ghost use Rattle.cc_io.specs.Correct.{Pumps, StopsOnPage};
+ghost use Rattle.cc_io.specs.Engine.{Answers, PassesPage, EndsPage};
+
+use crate::answerer::Answerer;
+use crate::devices::{Failed, Sink, Source, write_all};
+use crate::framing::Framing;
+use crate::line_start::LineStart;
+use crate::summary::{IoError, Summary};
+use cc_text::Page;
+
+/// The maximum number of bytes in one read.
+const PIECE: usize = 65536;
+
+/// The number of bytes of an entry that an answerer sees. The further bytes of a longer entry are dropped.
+const SEEN: usize = 129;
+
+/// Writes the bytes on the page, and then the answer to each entry that the source gives.
+///
+/// The source is read in chunks of up to 64 KiB. The answers to all entries of a chunk are written before the next read, and
+/// none is pending then. An entry that ends in a later chunk is answered then. Bytes after the last entry are answered by
+/// [`Answerer::end`], unless there are none. The sink is flushed once, at the end. Allocates nothing.
+///
+/// Requires: neither the source nor the sink has failed; `A::MOST <= N`.
+/// Errors: `Read` if and only if the source failed. The answers to all complete entries that it gave are then written, and the
+/// answerer has taken these entries alone. `Write` if and only if the sink failed. It has then taken a prefix of the output.
+/// The answerer may be ahead of the sink by the entries whose answers fit one page.
+pub fn pump<F: Framing, A: Answerer<N>, R: Source, W: Sink, const N: usize>(
+    framing: &F,
+    answerer: &mut A,
+    source: &mut R,
+    sink: &mut W,
+    page: &mut Page<N>,
+) -> Result<Summary, IoError>
+    requires source { R.has_failed source.old ≡ false }
+    requires sink { W.has_failed sink.old ≡ false }
+    requires room { A.MOST ≤ N }
+    ensures pumps { Pumps A.Answered A.Ended (F.frame framing.now) N A.MOST answerer.old page.old
+        (R.to_come source.old) (R.to_come source.new) (W.taken_bytes sink.old) (W.taken_bytes sink.new) result answerer.new }
+    ensures read { (result ≡ Err IoError.Read) ↔ (R.has_failed source.new ≡ true) }
+    ensures write { (result ≡ Err IoError.Write) ↔ (W.has_failed sink.new ≡ true) }
+    ensures flushed { OnOk result (W.is_flushed sink.new ≡ true) }
+{
+    let mut start = LineStart::new();
+    let mut piece = [0u8; PIECE];
+    match write_page(page, sink) {
+        Ok(()) => {}
+        Err(Failed) => return Err(IoError::Write),
+    }
+    let mut any_error = false;
+    'pieces: loop {
+        let count = match source.read(&mut piece) {
+            Ok(count) => count,
+            Err(Failed) => return Err(IoError::Read),
+        };
+        if count == 0 {
+            break;
+        }
+        match take_piece(framing, answerer, &mut start, page, &piece[..count], sink) {
+            Ok(is_error) => any_error |= is_error,
+            Err(Failed) => return Err(IoError::Write),
+        }
+    }
+    let end_error = end_rest(answerer, start.as_slice(), page);
+    match write_last(page, sink) {
+        Ok(()) => Ok(Summary {
+            any_error: any_error | end_error,
+        }),
+        Err(Failed) => Err(IoError::Write),
+    }
+}
+
+/// Answers the entries that end in a chunk, keeps the start of the next entry in `start`, and writes all the answers.
+/// Returns whether one of them was an error.
+fn take_piece<F: Framing, A: Answerer<N>, W: Sink, const N: usize>(
+    framing: &F,
+    answerer: &mut A,
+    start: &mut LineStart,
+    page: &mut Page<N>,
+    piece: &[u8],
+    sink: &mut W,
+) -> Result<bool, Failed>
+    requires sink { W.has_failed sink.old ≡ false }
+    requires room { A.MOST ≤ N }
+    requires start { F.IsBegun framing.now start.old }
+    requires empty { page.old ≡ [] }
+    ensures ok { (begun : List ℕ) → start.old ≡ take 129 begun → IfOk result (λ error.
+        Answers A.Answered (F.frame framing.now) answerer.old begun piece.now start.new (W.taken_bytes sink.old) (W.taken_bytes sink.new) error answerer.new) }
+    ensures err { (begun : List ℕ) → start.old ≡ take 129 begun → OnErr result (
+        StopsOnPage A.Answered N A.MOST answerer.old [] (seen ((F.frame framing.now).entries begun piece.now)) (W.taken_bytes sink.old) (W.taken_bytes sink.new) answerer.new) }
+    ensures begun { OnOk result (F.IsBegun framing.now start.new) }
+    ensures empty { OnOk result (page.new ≡ []) }
+    ensures fails { IsErr result ↔ (W.has_failed sink.new ≡ true) }
+{
+    let mut any_error = false;
+    let mut rest = piece;
+    'entries: while let Some((end, after)) = framing.split(start.as_slice(), rest) {
+        match make_room(A::MOST, page, sink) {
+            Ok(()) => {}
+            Err(Failed) => return Err(Failed),
+        }
+        any_error |= end_entry(answerer, start, page, end);
+        rest = after;
+    }
+    start.extend(rest);
+    match write_page(page, sink) {
+        Ok(()) => Ok(any_error),
+        Err(Failed) => Err(Failed),
+    }
+}
+
+/// Answers the entry that ends with these bytes, and returns whether the answer is an error.
+#[inline(always)]
+fn end_entry<A: Answerer<N>, const N: usize>(
+    answerer: &mut A,
+    start: &mut LineStart,
+    page: &mut Page<N>,
+    end: &[u8],
+) -> bool
+    requires { length page.old + A.MOST ≤ N }
+    ensures next { start.new ≡ [] }
+    ensures answers { (begun : List ℕ) → start.old ≡ take 129 begun →
+        AnswersInto A.Answered answerer.old (take 129 (begun ++ end.now)) page.old page.new result answerer.new }
+{
+    if start.is_empty() {
+        // all of the entry is in this chunk
+        answerer.answer(first_bytes(end), page)
+    } else {
+        end_begun(answerer, start, page, end)
+    }
+}
+
+/// Answers an entry that began before the chunk, and returns whether the answer is an error.
+#[cold]
+#[inline(never)]
+fn end_begun<A: Answerer<N>, const N: usize>(
+    answerer: &mut A,
+    start: &mut LineStart,
+    page: &mut Page<N>,
+    end: &[u8],
+) -> bool
+    requires { length page.old + A.MOST ≤ N }
+    ensures next { start.new ≡ [] }
+    ensures answers { (begun : List ℕ) → start.old ≡ take 129 begun →
+        AnswersInto A.Answered answerer.old (take 129 (begun ++ end.now)) page.old page.new result answerer.new }
+{
+    start.extend(end);
+    let is_error = answerer.answer(start.as_slice(), page);
+    start.clear();
+    is_error
+}
+
+/// Returns the bytes of an entry that an answerer sees.
+#[inline(always)]
+fn first_bytes(entry: &[u8]) -> &[u8]
+    ensures { result.now ≡ take 129 entry.now }
+{
+    if entry.len() > SEEN {
+        &entry[..SEEN]
+    } else {
+        entry
+    }
+}
+
+/// Answers trailing bytes, unless there are none, and returns whether the answer is an error.
+fn end_rest<A: Answerer<N>, const N: usize>(
+    answerer: &mut A,
+    rest: &[u8],
+    page: &mut Page<N>,
+) -> bool
+    requires empty { page.old ≡ [] }
+    requires room { A.MOST ≤ N }
+    ensures { EndsPage A.Ended answerer.old rest.now page.new result answerer.new }
+{
+    if rest.is_empty() {
+        return false;
+    }
+    answerer.end(rest, page)
+}
+
+/// Makes room on the page for `most` bytes: writes the page if they do not fit.
+#[inline(always)]
+fn make_room<W: Sink, const N: usize>(
+    most: usize,
+    page: &mut Page<N>,
+    sink: &mut W,
+) -> Result<(), Failed>
+    requires sink { W.has_failed sink.old ≡ false }
+    requires room { most ≤ N }
+    ensures ok { OnOk result (PassesPage (W.taken_bytes sink.old) (W.taken_bytes sink.new) page.old page.new) }
+    ensures room { OnOk result (length page.new + most ≤ N) }
+    ensures err { OnErr result (TakesBeginning (W.taken_bytes sink.old) (W.taken_bytes sink.new) page.old) }
+    ensures some { OnErr result (0 < length page.old) }
+    ensures fails { IsErr result ↔ (W.has_failed sink.new ≡ true) }
+{
+    if most <= N - page.len() {
+        return Ok(());
+    }
+    write_page(page, sink)
+}
+
+/// Writes the page and clears it.
+#[inline(never)]
+fn write_page<W: Sink, const N: usize>(page: &mut Page<N>, sink: &mut W) -> Result<(), Failed>
+    requires { W.has_failed sink.old ≡ false }
+    ensures ok { OnOk result (Appends (W.taken_bytes sink.old) (W.taken_bytes sink.new) page.old) }
+    ensures empty { OnOk result (page.new ≡ []) }
+    ensures err { OnErr result (TakesBeginning (W.taken_bytes sink.old) (W.taken_bytes sink.new) page.old) }
+    ensures some { OnErr result (0 < length page.old) }
+    ensures fails { IsErr result ↔ (W.has_failed sink.new ≡ true) }
+{
+    match write_all(sink, page.bytes()) {
+        Ok(()) => {
+            page.clear();
+            Ok(())
+        }
+        Err(Failed) => Err(Failed),
+    }
+}
+
+/// Writes the last page and flushes the sink.
+fn write_last<W: Sink, const N: usize>(page: &mut Page<N>, sink: &mut W) -> Result<(), Failed>
+    requires { W.has_failed sink.old ≡ false }
+    ensures ok { OnOk result (Appends (W.taken_bytes sink.old) (W.taken_bytes sink.new) page.old) }
+    ensures flushed { OnOk result (W.is_flushed sink.new ≡ true) }
+    ensures err { OnErr result (TakesBeginning (W.taken_bytes sink.old) (W.taken_bytes sink.new) page.old) }
+    ensures fails { IsErr result ↔ (W.has_failed sink.new ≡ true) }
+{
+    match write_page(page, sink) {
+        Ok(()) => {}
+        Err(Failed) => return Err(Failed),
+    }
+    match sink.flush() {
+        Ok(()) => Ok(()),
+        Err(Failed) => Err(Failed),
+    }
+}

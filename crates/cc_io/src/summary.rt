@@ -1,0 +1,17 @@
+//! The outcome of a pump.
+
+/// The outcome of a pump that reached the end of its source.
+#[derive(Clone, Copy, Debug, PartialEq, Eq)]
+pub struct Summary {
+    /// Whether an answer was an error.
+    pub any_error: bool,
+}
+
+/// The device that failed.
+#[derive(Clone, Copy, Debug, PartialEq, Eq)]
+pub enum IoError {
+    /// The source.
+    Read,
+    /// The sink.
+    Write,
+}
