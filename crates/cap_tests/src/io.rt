@@ -70,7 +70,10 @@ fn answered(given: usize) -> usize {
 
 /// Returns whether exactly the lines before the failed read are answered.
 fn read_fails(call: usize) -> bool {
-    pump_bytes(&Lines, TEXT, OUTPUT, (Some(call as u32), None))
+    let Ok(number) = u32::try_from(call) else {
+        return false;
+    };
+    pump_bytes(&Lines, TEXT, OUTPUT, (Some(number), None))
         == Some((Err(IoError::Read), answered(call.saturating_sub(1))))
 }
 
@@ -83,7 +86,10 @@ fn each_read_fails_in_turn(rt: HostRuntime) {
 
 /// Returns whether the bytes before the failed write or flush are taken.
 fn write_fails(call: usize) -> bool {
-    pump_bytes(&Lines, TEXT, OUTPUT, (None, Some(call as u32)))
+    let Ok(number) = u32::try_from(call) else {
+        return false;
+    };
+    pump_bytes(&Lines, TEXT, OUTPUT, (None, Some(number)))
         == Some((Err(IoError::Write), call.saturating_sub(1)))
 }
 
