@@ -9,8 +9,8 @@ use Rattle.cc_program.specs.Invocation.{faults_of, is_taken}
 use Rattle.cc_program.proofs.OutcomeLemmas.{answer_not_refused, ends_by_error, refused_not_for_memory}
 use Rattle.cc_program.proofs.program.answer_words.Goals as goal
 
-pub answer-requires-clause-invocation : goal.answer-requires-clause-invocation
-answer-requires-clause-invocation g c = (_, c.in-Ok.ensures.read.2)
+pub answer-requires : goal.answer-requires
+answer-requires g c = (_, c.in-Ok.ensures.read.2)
 
 pub returns-in-Ok-clause-ends : goal.returns-in-Ok-clause-ends
 returns-in-Ok-clause-ends g c =
