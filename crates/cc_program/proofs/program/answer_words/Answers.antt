@@ -10,7 +10,7 @@ use Rattle.cc_program.proofs.OutcomeLemmas.{answer_not_refused, ends_by_error, r
 use Rattle.cc_program.proofs.program.answer_words.Goals as goal
 
 pub answer-requires : goal.answer-requires
-answer-requires g c = (_, c.in-Ok.ensures.read.2)
+answer-requires g c = record { invocation = (_, c.in-Ok.ensures.read.2) }
 
 pub returns-in-Ok-clause-ends : goal.returns-in-Ok-clause-ends
 returns-in-Ok-clause-ends g c =
