@@ -146,6 +146,13 @@ list_lines() {
   done <"$apart/sources.txt"
 }
 
+# Runs a command in the background and waits for it, so that a signal ends the build at once. While bash waits for a process in
+# the foreground, it may lose a signal.
+aside() {
+  "$@" &
+  wait "$!"
+}
+
 # Makes the view of a crate, with what earlier builds of it left.
 make_view() {
   local name=$1 view=$apart/$1 out=() stand=() it
@@ -167,25 +174,40 @@ make_view() {
   done
 }
 
-# Moves the contents of a view's folder out/, or one entry of it, to the crate's own, and removes the view.
-place() {
+# Moves the contents of a view's folder out/, or one entry of it, to the crate's own:  move_out CRATE [ENTRY]
+move_out() {
   local name=$1 from=$apart/$1/crates/$1/out to=$top/crates/$1/out it
   mkdir -p -- "$to" "$apart/$name/old" || return
-  moving=yes
   for it in "$from/"${2:-*}; do
     [[ -e $it ]] || continue
     [[ ! -e $to/${it##*/} ]] || mv -- "$to/${it##*/}" "$apart/$name/old/" || return
     mv -- "$it" "$to/" || return
   done
+}
+
+# Does the same, and removes the view. A signal meanwhile is kept for later, so that it ends no move.
+place() {
+  local name=$1 mover again status=128
+  moving=yes
+  (
+    trap '' INT TERM HUP
+    move_out "$@" && rm -rf -- "${apart:?}/$name"
+  ) &
+  mover=$!
+  # each signal ends a wait
+  for ((again = 0; status >= 128 && again < 99; again++)); do
+    status=0
+    wait "$mover" || status=$?
+  done
   moving=''
   [[ -z $signal ]] || interrupt "$signal"
-  rm -rf -- "${apart:?}/$name"
+  return "$status"
 }
 
 # Starts the proof of a crate in the background:  begin CRATE JOBS
 begin() {
   local name=$1 how=(rt lib --jobs "$2")
-  make_view "$name" || stop "the sources of $name cannot be copied to $apart"
+  aside make_view "$name" || stop "the sources of $name cannot be copied to $apart"
   [[ $name != "${order[-1]}" ]] || how=(rt "${last[0]}" --jobs "$2" "${last[@]:1}")
   begun=$((begun + 1)) busy=$((busy + $2)) states[$name]=runs given[$name]=$2
   places[$name]="$begun of ${#order[@]}" began[$name]=$SECONDS told[$name]=$SECONDS
@@ -212,6 +234,11 @@ finish() {
   wait "${pids[$name]}" || status=$?
   unset "pids[$name]"
   busy=$((busy - ${given[$name]}))
+  # 129, 130, 143: ended by SIGHUP, SIGINT or SIGTERM, which bash itself may have missed
+  if ((status == 129 || status == 130 || status == 143)); then
+    place "$name" incremental || true
+    interrupt "$(kill -l "$status")"
+  fi
   if ((status)); then
     end_build
     cat -- "$apart/$name/said" >&2
@@ -238,18 +265,20 @@ end_build() {
 
 leave_build() {
   end_build
+  wait 2>/dev/null || true
   rm -rf -- "${apart:?}"
 }
 # Ends the build by a signal, but not while a crate is moved to its place.
 interrupt() {
   if [[ -n $moving ]]; then
     signal=$1
-    return
+    # with no status, bash returns that of the command before the trap, which ends the build
+    return 0
   fi
   signal=''
-  trap - INT TERM HUP
+  trap '' INT TERM HUP
   leave_build
-  trap - EXIT
+  trap - EXIT INT TERM HUP
   say 'interrupted: what is proved so far is kept'
   kill -s "$1" "$BASHPID"
 }
@@ -264,7 +293,7 @@ prove_crates() {
   trap 'interrupt TERM' TERM
   trap 'interrupt HUP' HUP
   rm -rf -- "$apart"
-  copy_sources || stop "the sources cannot be copied to $apart"
+  aside copy_sources || stop "the sources cannot be copied to $apart"
   for name in "${order[@]}"; do states[$name]=waits; done
   # a pipe that nothing writes to, to wait at
   exec {idle}<> <(:)
