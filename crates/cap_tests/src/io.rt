@@ -17,7 +17,9 @@ impl<const N: usize> Answerer<N> for Initials {
 
     ghost MOST = { 2 };
 
-    const MOST: usize = 2;
+    fn most() -> usize {
+        2
+    }
 
     fn answer(&mut self, entry: &[u8], out: &mut Page<N>) -> bool {
         let first = entry.first().copied().unwrap_or(b'-');

@@ -1,7 +1,7 @@
 mod RequestLemmas
 mod TallyLemmas
+mod SessionLemmas
 mod UsageLemmas
-mod WatchLemmas
 mod MapLemmas
 mod WritingLemmas
 mod DrawingLemmas

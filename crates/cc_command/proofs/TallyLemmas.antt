@@ -1,309 +1,328 @@
--- How a tally changes as its text grows.
-use Rattle.std.proofs.Common.{◌≡◌, ◌≢◌, ◌∙◌, ◌+◌, ◌<◌, ◌≤◌, ◌-◌, ◌/◌, ◌%◌, ◌^◌, ℕ, zero, suc, Bool, true, false, cond, List, [], ◌∷◌, ◌++◌, ap, append-nil, arith, codes, decimal, drop, get_or, get_or-set_other, get_or-set_same, set, if◌then◌else◌, length, length-append, length-take, min, refl, inl, inr, subst, sym, take, count_by}
-use Rattle.std.proofs.Math.ListN.{drop_of_length-le}
-use Rattle.std.proofs.lemmas.List.{drop-append-le, get_or_default, length-drop, take_all}
-use Rattle.std.proofs.lemmas.List.Sums.{sum_by_push}
-use Rattle.std.proofs.lemmas.Bool.{cases_lt}
-use Rattle.std.proofs.lemmas.Slice.Eq.{bytes_eq-Decides}
+-- How a tally changes by one more reply.
+use Rattle.std.proofs.Common.{◌≡◌, ◌∙◌, ◌+◌, ◌-◌, ◌<◌, ◌≤◌, ◌^◌, ◌==◌, ◌&&◌, ◌||◌, ℕ, zero, suc, Bool, true, false, cond, List, [], ◌∷◌, ◌++◌, ap, arith, count_by, get_or, subst, if◌then◌else◌, inl, inr, length, length-append, length-take, min, nat_le, nat_lt, refl, sym, take}
+use Rattle.std.specs.List.{list_any}
+use Rattle.std.proofs.lemmas.Bool.{cases_lt, eqb-false, eqb-true, lt-leb, lt-ltb, true≢false}
+use Rattle.std.proofs.Math.Dec.{eqb-suc-zero}
+use Rattle.std.proofs.lemmas.List.{take_all}
+use Rattle.std.proofs.lemmas.List.Sums.{sum_by-cons, sum_by_push}
+use Rattle.cc_word.specs.Refusal.{code_of}
 use Rattle.cc_word.specs.declared.refusal.Refusal.{Refusal}
 use Rattle.cc_word.specs.declared.refusal.Refusal.TheVariants.{Syntax, Unfinished, TooLong, OutOfRange, NoSlot, Revoked, Sealed, Unsealed, OutOfBounds, Inexact, Unrepresentable, MissingPermission, ReservedType, TypeMismatch, NotCanonical, ExceedsAuthority, NoPool, PoolAlreadySet, ZeroSize, NoRoom, NoObject, Full}
-use Rattle.cc_word.specs.Refusal.{code_of, name_of}
-use Rattle.cc_script.specs.Lines.{IsLine, lines_of, rest_of}
-use Rattle.cc_script.specs.Replies.{refusal_text}
-use Rattle.cc_text.proofs.DecimalLemmas.{one_digit, two_digits}
-use Rattle.cc_script.proofs.LineLemmas.{all_rest, lines_further, no_lines, rest_further, start_longer}
-use Rattle.cc_script.proofs.SplitLemmas.{lines_line, rest_line}
-use Rattle.cc_command.specs.declared.tally.TheConstants.{NONE}
-use Rattle.cc_command.specs.declared.tally.Tally.{Tally}
+use Rattle.cc_machine.specs.declared.reply.Reply.{Reply}
+use Rattle.cc_machine.specs.declared.reply.Reply.TheVariants.{Made, Shown, Rounded, PoolSet, Allocated, Freed, Swept, Refused}
+use Rattle.cc_command.specs.Hints.{is_in_opening}
+use Rattle.cc_command.specs.LineHints.{ends_in_return, has_marked_word}
+use Rattle.cc_script.specs.Replies.{is_error}
+use Rattle.cc_command.specs.Tally.{Exchange, HasOneMore, IsTally, count_in, count_more, counted, first_after, first_from, is_refusal}
 use Rattle.cc_command.specs.declared.tally.Count.{Count}
-use Rattle.cc_command.specs.Tally.{IsTally, count_in, counted, first_behind, first_from, is_refusal}
+use Rattle.cc_command.specs.declared.tally.Tally.{Tally}
 
--- the number that was found, or another where none was
-abbrev kept_or : (found other : ℕ) → ℕ
-kept_or zero other = other
-kept_or (suc found) other = suc found
+-- ---- the refusals
 
--- the number of the first line that passes, after one line more
-first-more : (passes : List ℕ → Bool) (number : ℕ) (lines : List (List ℕ)) (line : List ℕ)
-    → first_from passes (suc number) (lines ++ line ∷ [])
-    ≡ kept_or (first_from passes (suc number) lines) (if passes line then suc number + length lines else 0)
-first-more passes number [] line = by_test (passes line)
+-- each code is from 1 to 22
+pub code_within : (refusal : Refusal) → (1 ≤ code_of refusal) × (code_of refusal ≤ 22)
+code_within Syntax = (omega arith, omega arith)
+code_within Unfinished = (omega arith, omega arith)
+code_within TooLong = (omega arith, omega arith)
+code_within OutOfRange = (omega arith, omega arith)
+code_within NoSlot = (omega arith, omega arith)
+code_within Revoked = (omega arith, omega arith)
+code_within Sealed = (omega arith, omega arith)
+code_within Unsealed = (omega arith, omega arith)
+code_within OutOfBounds = (omega arith, omega arith)
+code_within Inexact = (omega arith, omega arith)
+code_within Unrepresentable = (omega arith, omega arith)
+code_within MissingPermission = (omega arith, omega arith)
+code_within ReservedType = (omega arith, omega arith)
+code_within TypeMismatch = (omega arith, omega arith)
+code_within NotCanonical = (omega arith, omega arith)
+code_within ExceedsAuthority = (omega arith, omega arith)
+code_within NoPool = (omega arith, omega arith)
+code_within PoolAlreadySet = (omega arith, omega arith)
+code_within ZeroSize = (omega arith, omega arith)
+code_within NoRoom = (omega arith, omega arith)
+code_within NoObject = (omega arith, omega arith)
+code_within Full = (omega arith, omega arith)
+
+-- a reply that is not a refusal is not this refusal
+no_refusal : (refusal : Refusal) (reply : Reply) → is_error reply ≡ false → is_refusal refusal reply ≡ false
+no_refusal refusal (Made slot word span) is = refl
+no_refusal refusal (Shown word span perms flag otype parent) is = refl
+no_refusal refusal (Rounded rounded granule mask) is = refl
+no_refusal refusal (PoolSet slot span align) is = refl
+no_refusal refusal (Allocated object slot word span held) is = refl
+no_refusal refusal (Freed object revoked held) is = refl
+no_refusal refusal (Swept objects revoked held) is = refl
+no_refusal refusal (Refused other) is = absurd (true≢false is)
+
+-- ---- lists with one more element
+
+count_by-more : {A : Type 0} (passes : A → Bool) (list : List A) (last : A) (b : Bool) → passes last ≡ b
+    → count_by passes (list ++ last ∷ []) ≡ count_by passes list + (if b then 1 else 0)
+count_by-more passes list last b is = sum_by_push (λ x. cond (passes x) 1 0) list last ∙ ap (λ (b : Bool). count_by passes list + cond b 1 0) is
+
+-- the number of those that pass is above 0 if one passes, and 0 if none does
+record HasSome (some : Bool) (number : ℕ) : Type 0 where
+  above : some ≡ true → 0 < number
+  none : some ≡ false → number ≡ 0
+
+any-counted : {A : Type 0} (passes : A → Bool) (list : List A) → HasSome (list_any passes list) (count_by passes list)
+any-counted passes [] = record { above = λ is. absurd (true≢false (sym is)); none = λ is. refl }
+any-counted passes (first ∷ list) = by_test (passes first) (list_any passes list) (sum_by-cons (λ x. cond (passes x) 1 0) first list) (any-counted passes list)
   where
-    by_test : (b : Bool) → (if b then suc number else 0) ≡ (if b then suc number + 0 else 0)
+    by_test : (b some : Bool) → count_by passes (first ∷ list) ≡ cond b 1 0 + count_by passes list → HasSome some (count_by passes list)
+        → HasSome (b || some) (count_by passes (first ∷ list))
+    by_test true some is rest = record { above = λ e. omega (arith, is); none = λ e. absurd (true≢false e) }
+    by_test false some is rest = record {
+      above = λ e. let least = rest.above e in omega (arith, is, least);
+      none = λ e. let same = rest.none e in omega (arith, is, same);
+    }
+
+-- likewise the number of the first
+first-counted : (passes : Exchange → Bool) (number : ℕ) (exchanges : List Exchange) → count_by passes exchanges ≡ 0 → first_from passes (suc number) exchanges ≡ 0
+first-counted passes number [] none = refl
+first-counted passes number (first ∷ exchanges) none =
+    by_test (passes first) (sum_by-cons (λ x. cond (passes x) 1 0) first exchanges) (first-counted passes (suc number) exchanges)
+  where
+    by_test : (b : Bool) → count_by passes (first ∷ exchanges) ≡ cond b 1 0 + count_by passes exchanges
+        → (count_by passes exchanges ≡ 0 → first_from passes (suc (suc number)) exchanges ≡ 0)
+        → (if b then suc number else first_from passes (suc (suc number)) exchanges) ≡ 0
+    by_test true is rest = absurd (omega (arith, is, none))
+    by_test false is rest = rest (omega (arith, is, none))
+
+first-above : (passes : Exchange → Bool) (number : ℕ) (exchanges : List Exchange) → 0 < count_by passes exchanges → 0 < first_from passes (suc number) exchanges
+first-above passes number [] some = absurd (omega (arith, some))
+first-above passes number (first ∷ exchanges) some =
+    by_test (passes first) (sum_by-cons (λ x. cond (passes x) 1 0) first exchanges) (first-above passes (suc number) exchanges)
+  where
+    by_test : (b : Bool) → count_by passes (first ∷ exchanges) ≡ cond b 1 0 + count_by passes exchanges
+        → (0 < count_by passes exchanges → 0 < first_from passes (suc (suc number)) exchanges)
+        → 0 < (if b then suc number else first_from passes (suc (suc number)) exchanges)
+    by_test true is rest = omega arith
+    by_test false is rest = rest (omega (arith, is, some))
+
+-- the number of the first exchange that passes, with one more exchange
+first-more : (passes : Exchange → Bool) (number : ℕ) (exchanges : List Exchange) (last : Exchange)
+    → first_from passes (suc number) (exchanges ++ last ∷ []) ≡ first_after (first_from passes (suc number) exchanges) (passes last) (suc number + length exchanges)
+first-more passes number [] last = by_test (passes last)
+  where
+    by_test : (b : Bool) → (if b then suc number else 0) ≡ first_after 0 b (suc number + 0)
     by_test true = omega arith
     by_test false = refl
-first-more passes number (first ∷ lines) line = by_test (passes first) (first-more passes (suc number) lines line)
+first-more passes number (first ∷ exchanges) last = by_test (passes first) (first-more passes (suc number) exchanges last)
   where
-    further : (found : ℕ) (b : Bool) → kept_or found (if b then suc (suc number) + length lines else 0) ≡ kept_or found (if b then suc number + suc (length lines) else 0)
-    further zero true = omega arith
-    further zero false = refl
-    further (suc found) b = refl
+    further : suc (suc number) + length exchanges ≡ suc number + suc (length exchanges)
+    further = omega arith
 
     by_test : (b : Bool)
-        → first_from passes (suc (suc number)) (lines ++ line ∷ [])
-        ≡ kept_or (first_from passes (suc (suc number)) lines) (if passes line then suc (suc number) + length lines else 0)
-        → (if b then suc number else first_from passes (suc (suc number)) (lines ++ line ∷ []))
-        ≡ kept_or (if b then suc number else first_from passes (suc (suc number)) lines) (if passes line then suc number + suc (length lines) else 0)
+        → first_from passes (suc (suc number)) (exchanges ++ last ∷ []) ≡ first_after (first_from passes (suc (suc number)) exchanges) (passes last) (suc (suc number) + length exchanges)
+        → (if b then suc number else first_from passes (suc (suc number)) (exchanges ++ last ∷ []))
+        ≡ first_after (if b then suc number else first_from passes (suc (suc number)) exchanges) (passes last) (suc number + suc (length exchanges))
     by_test true later = refl
-    by_test false later = later ∙ further (first_from passes (suc (suc number)) lines) (passes line)
+    by_test false later = later ∙ ap (λ (n : ℕ). first_after (first_from passes (suc (suc number)) exchanges) (passes last) n) further
 
-count_by-more : (passes : List ℕ → Bool) (lines : List (List ℕ)) (line : List ℕ) (b : Bool) → passes line ≡ b
-    → count_by passes (lines ++ line ∷ []) ≡ count_by passes lines + (if b then 1 else 0)
-count_by-more passes lines line b is =
-    sum_by_push (λ x. cond (passes x) 1 0) lines line ∙ ap (λ (b : Bool). count_by passes lines + cond b 1 0) is
+first_after-counted : (first found number : ℕ) (b : Bool) → first ≡ counted found → first_after first b (counted number) ≡ counted (first_after found b number)
+first_after-counted zero zero number true is = refl
+first_after-counted zero zero number false is = refl
+first_after-counted zero (suc found) number b is = absurd (omega (arith, is))
+first_after-counted (suc first) zero number b is = absurd (omega (arith, is))
+first_after-counted (suc first) (suc found) number b is = is
 
-pub first-other : (passes : List ℕ → Bool) (lines : List (List ℕ)) (line : List ℕ) → passes line ≡ false → first_from passes 1 (lines ++ line ∷ []) ≡ first_from passes 1 lines
-first-other passes lines line is = first-more passes 0 lines line ∙ by_found (first_from passes 1 lines) (passes line) is
-  where
-    by_found : (found : ℕ) (b : Bool) → b ≡ false → kept_or found (if b then 1 + length lines else 0) ≡ found
-    by_found zero b is = rw is refl
-    by_found (suc found) b is = refl
+-- the number of the first exchange that passes, as counters of 64 bits show it
+first-grows : (passes : Exchange → Bool) (exchanges : List Exchange) (last : Exchange) (first number : ℕ) (b : Bool) → passes last ≡ b
+    → first ≡ counted (first_from passes 1 exchanges) → number ≡ counted (length exchanges + 1)
+    → first_after first b number ≡ counted (first_from passes 1 (exchanges ++ last ∷ []))
+first-grows passes exchanges last first number b is was number_is =
+    let found : ℕ = first_from passes 1 exchanges in
+    let same : number ≡ counted (suc 0 + length exchanges) = omega (arith, number_is) in
+    ap (λ (n : ℕ). first_after first b n) same
+    ∙ first_after-counted first found (suc 0 + length exchanges) b was
+    ∙ ap (λ (b : Bool). counted (first_after found b (suc 0 + length exchanges))) (sym is)
+    ∙ ap counted (sym (first-more passes 0 exchanges last))
 
-pub first-new : (passes : List ℕ → Bool) (lines : List (List ℕ)) (line : List ℕ) → passes line ≡ true → first_from passes 1 lines ≡ 0 → first_from passes 1 (lines ++ line ∷ []) ≡ length lines + 1
-first-new passes lines line is none = first-more passes 0 lines line ∙ by_found (first_from passes 1 lines) (passes line) is none
-  where
-    by_found : (found : ℕ) (b : Bool) → b ≡ true → found ≡ 0 → kept_or found (if b then 1 + length lines else 0) ≡ length lines + 1
-    by_found zero b is none = rw is (omega arith)
-    by_found (suc found) b is none = absurd (omega arith)
+-- ... and one that does not pass changes nothing
+first_after-other : (first number : ℕ) → first_after first false number ≡ first
+first_after-other zero number = refl
+first_after-other (suc first) number = refl
 
-pub first-kept : (passes : List ℕ → Bool) (lines : List (List ℕ)) (line : List ℕ) → (first_from passes 1 lines ≡ 0 → ⊥) → first_from passes 1 (lines ++ line ∷ []) ≡ first_from passes 1 lines
-first-kept passes lines line some = first-more passes 0 lines line ∙ by_found (first_from passes 1 lines) (passes line) some
-  where
-    by_found : (found : ℕ) (b : Bool) → (found ≡ 0 → ⊥) → kept_or found (if b then 1 + length lines else 0) ≡ found
-    by_found zero b some = absurd (some refl)
-    by_found (suc found) b some = refl
+first-kept : (passes : Exchange → Bool) (exchanges : List Exchange) (last : Exchange) → passes last ≡ false
+    → first_from passes 1 (exchanges ++ last ∷ []) ≡ first_from passes 1 exchanges
+first-kept passes exchanges last is =
+    first-more passes 0 exchanges last
+    ∙ ap (λ (b : Bool). first_after (first_from passes 1 exchanges) b (suc 0 + length exchanges)) is
+    ∙ first_after-other (first_from passes 1 exchanges) (suc 0 + length exchanges)
 
--- the number of the first line behind three others that passes, after one line more that is among the three
-behind-few : (passes : List ℕ → Bool) (lines : List (List ℕ)) (line : List ℕ) → length lines < 3 → first_behind 3 passes (lines ++ line ∷ []) ≡ first_behind 3 passes lines
-behind-few passes lines line few =
-    let more = length-append lines (line ∷ []) in
-    let after : drop 3 (lines ++ line ∷ []) ≡ [] = drop_of_length-le (lines ++ line ∷ []) {i = 3} (omega (arith, more, few)) in
-    let before : drop 3 lines ≡ [] = drop_of_length-le lines {i = 3} (omega (arith, few)) in
-    ap (λ (l : List (List ℕ)). first_from passes 4 l) (after ∙ sym before)
-
--- and after one that is behind them
-behind-more : (passes : List ℕ → Bool) (lines : List (List ℕ)) (line : List ℕ) → 3 ≤ length lines
-    → first_behind 3 passes (lines ++ line ∷ []) ≡ kept_or (first_behind 3 passes lines) (if passes line then length lines + 1 else 0)
-behind-more passes lines line many =
-    let number : suc 3 + length (drop 3 lines) ≡ length lines + 1 = omega (arith, many, length-drop 3 lines) in
-    ap (λ (l : List (List ℕ)). first_from passes 4 l) (drop-append-le 3 lines (line ∷ []) many)
-    ∙ first-more passes 3 (drop 3 lines) line
-    ∙ ap (λ (n : ℕ). kept_or (first_behind 3 passes lines) (if passes line then n else 0)) number
-
--- a line that does not pass, or is among the three, changes nothing; nor does one where another was found
-pub behind-other : (passes : List ℕ → Bool) (lines : List (List ℕ)) (line : List ℕ) → passes line ≡ false → first_behind 3 passes (lines ++ line ∷ []) ≡ first_behind 3 passes lines
-behind-other passes lines line is = elim (cases_lt (length lines) 3) [
-  | inl few ↦ behind-few passes lines line few
-  | inr many ↦ behind-more passes lines line many ∙ by_found (first_behind 3 passes lines) (passes line) is
-]
-  where
-    by_found : (found : ℕ) (b : Bool) → b ≡ false → kept_or found (if b then length lines + 1 else 0) ≡ found
-    by_found zero b is = rw is refl
-    by_found (suc found) b is = refl
-
-pub behind-kept : (passes : List ℕ → Bool) (lines : List (List ℕ)) (line : List ℕ) → (first_behind 3 passes lines ≡ 0 → 3 ≤ length lines → ⊥)
-    → first_behind 3 passes (lines ++ line ∷ []) ≡ first_behind 3 passes lines
-behind-kept passes lines line some = elim (cases_lt (length lines) 3) [
-  | inl few ↦ behind-few passes lines line few
-  | inr many ↦ behind-more passes lines line many ∙ by_found (first_behind 3 passes lines) (passes line) (λ none. some none many)
-]
-  where
-    by_found : (found : ℕ) (b : Bool) → (found ≡ 0 → ⊥) → kept_or found (if b then length lines + 1 else 0) ≡ found
-    by_found zero b some = absurd (some refl)
-    by_found (suc found) b some = refl
-
--- a line that passes is the first where none was found
-pub behind-new : (passes : List ℕ → Bool) (lines : List (List ℕ)) (line : List ℕ) → passes line ≡ true → first_behind 3 passes lines ≡ 0 → 3 ≤ length lines
-    → first_behind 3 passes (lines ++ line ∷ []) ≡ length lines + 1
-behind-new passes lines line is none many = behind-more passes lines line many ∙ by_found (first_behind 3 passes lines) (passes line) is none
-  where
-    by_found : (found : ℕ) (b : Bool) → b ≡ true → found ≡ 0 → kept_or found (if b then length lines + 1 else 0) ≡ length lines + 1
-    by_found zero b is none = rw is refl
-    by_found (suc found) b is none = absurd (omega (arith, none))
+-- ---- one count
 
 same_count : (refusal : Refusal) (times first times' first' : ℕ) → times ≡ times' → first ≡ first'
     → ◌≡◌ {A = Count} (record { refusal = refusal; times = times; first = first }) (record { refusal = refusal; times = times'; first = first' })
 same_count refusal times first times' first' p q = λ i. record { refusal = refusal; times = p i; first = q i }
 
--- one line more, which is not the refusal
-pub count_in-other : (refusal : Refusal) (lines : List (List ℕ)) (line : List ℕ) → is_refusal refusal line ≡ false → count_in lines refusal ≡ count_in (lines ++ line ∷ []) refusal
-count_in-other refusal lines line is =
-    let more = count_by-more (is_refusal refusal) lines line false is in
-    same_count refusal _ _ _ _ (omega (arith, more)) (ap counted (sym (first-other (is_refusal refusal) lines line is)))
+-- the first line that got a refusal, with one more line that got it
+first_new : (some : Bool) (before during times found number : ℕ) → HasSome some before → (during ≡ 0 → found ≡ 0) → (0 < during → 0 < found)
+    → times ≡ counted (before + during)
+    → (if times == 0 then counted number else (if some then 0 else counted found)) ≡ (if some then 0 else counted (first_after found true number))
+first_new true before during zero found number has none above is = absurd (let least = has.above refl in omega (arith, is, least))
+first_new true before during (suc times) found number has none above is = ap (λ (b : Bool). if b then counted number else 0) (eqb-suc-zero times)
+first_new false before during zero zero number has none above is = refl
+first_new false before during zero (suc found) number has none above is =
+    absurd (let no = none (omega (arith, is)) in omega (arith, no))
+first_new false before during (suc times) zero number has none above is =
+    absurd (let no = has.none refl in let least = above (omega (arith, is, no)) in omega (arith, least))
+first_new false before during (suc times) (suc found) number has none above is =
+    ap (λ (b : Bool). if b then counted number else counted (suc found)) (eqb-suc-zero times)
 
--- one line more, which is the refusal as the first
-pub count_in-new : (refusal : Refusal) (lines : List (List ℕ)) (line : List ℕ) (count : Count) (times number : ℕ) → is_refusal refusal line ≡ true → count ≡ count_in lines refusal
-    → times ≡ min (count.times + 1) (2 ^ 64 - 1) → number ≡ counted (length lines + 1) → count.first ≡ 0
-    → ◌≡◌ {A = Count} (record { refusal = refusal; times = times; first = number }) (count_in (lines ++ line ∷ []) refusal)
-count_in-new refusal lines line count times number is old times_is number_is none =
-    let more = count_by-more (is_refusal refusal) lines line true is in
-    let had : count.times ≡ counted (count_by (is_refusal refusal) lines) = ap (λ (c : Count). c.times) old in
-    let first_is : count.first ≡ counted (first_from (is_refusal refusal) 1 lines) = ap (λ (c : Count). c.first) old in
-    let no_first : first_from (is_refusal refusal) 1 lines ≡ 0 = omega (arith, none, first_is) in
-    same_count refusal _ _ _ _ (omega (arith, more, had, times_is)) (number_is ∙ ap counted (sym (first-new (is_refusal refusal) lines line is no_first)))
+exchange_is : (opening : List Reply) (exchanges : List Exchange) (last : Exchange) (refusal : Refusal) → is_refusal refusal last.reply ≡ true
+    → count_more (counted (1 + length exchanges)) (count_in opening exchanges refusal) ≡ count_in opening (exchanges ++ last ∷ []) refusal
+exchange_is opening exchanges last refusal is =
+    let passes : Exchange → Bool = λ exchange. is_refusal refusal exchange.reply in
+    let some : Bool = list_any (is_refusal refusal) opening in
+    let before : ℕ = count_by (is_refusal refusal) opening in
+    let during : ℕ = count_by passes exchanges in
+    let found : ℕ = first_from passes 1 exchanges in
+    let more = count_by-more passes exchanges last true is in
+    let first : first_from passes 1 (exchanges ++ last ∷ []) ≡ first_after found true (1 + length exchanges) =
+    first-more passes 0 exchanges last ∙ ap (λ (b : Bool). first_after found b (1 + length exchanges)) is in
+    same_count refusal _ _ _ _ (omega (arith, more))
+    (first_new some before during (counted (before + during)) found (1 + length exchanges) (any-counted (is_refusal refusal) opening)
+    (first-counted passes 0 exchanges) (first-above passes 0 exchanges) refl
+    ∙ ap (λ (n : ℕ). if some then 0 else counted n) (sym first))
 
--- one line more, which is the refusal, and not as the first
-pub count_in-later : (refusal : Refusal) (lines : List (List ℕ)) (line : List ℕ) (count : Count) (times : ℕ) → is_refusal refusal line ≡ true → count ≡ count_in lines refusal
-    → times ≡ min (count.times + 1) (2 ^ 64 - 1) → (count.first ≡ 0 → ⊥)
-    → ◌≡◌ {A = Count} (record { refusal = refusal; times = times; first = count.first }) (count_in (lines ++ line ∷ []) refusal)
-count_in-later refusal lines line count times is old times_is some =
-    let more = count_by-more (is_refusal refusal) lines line true is in
-    let had : count.times ≡ counted (count_by (is_refusal refusal) lines) = ap (λ (c : Count). c.times) old in
-    let first_is : count.first ≡ counted (first_from (is_refusal refusal) 1 lines) = ap (λ (c : Count). c.first) old in
-    let has_first : first_from (is_refusal refusal) 1 lines ≡ 0 → ⊥ = λ none. some (omega (arith, none, first_is)) in
-    same_count refusal _ _ _ _ (omega (arith, more, had, times_is)) (first_is ∙ ap counted (sym (first-kept (is_refusal refusal) lines line has_first)))
+exchange_other : (opening : List Reply) (exchanges : List Exchange) (last : Exchange) (refusal : Refusal) → is_refusal refusal last.reply ≡ false
+    → count_in opening exchanges refusal ≡ count_in opening (exchanges ++ last ∷ []) refusal
+exchange_other opening exchanges last refusal is =
+    let passes : Exchange → Bool = λ exchange. is_refusal refusal exchange.reply in
+    let more = count_by-more passes exchanges last false is in
+    same_count refusal _ _ _ _ (omega (arith, more))
+    (ap (λ (n : ℕ). if list_any (is_refusal refusal) opening then 0 else counted n) (sym (first-kept passes exchanges last is)))
 
--- ---- lines of which the first 129 bytes are kept
+-- ---- all counts
 
-short_code : (number : ℕ) → number < 100 → length (decimal number) ≤ 2
-short_code number small = elim (cases_lt number 10) [
-  | inl one ↦ let is : decimal number ≡ (48 + number % 10) ∷ [] = one_digit number one in rw is (omega arith)
-  | inr two ↦ let is : decimal number ≡ (48 + number / 10 % 10) ∷ (48 + number % 10) ∷ [] = two_digits number two small in rw is (omega arith)
-]
+-- the counts at the indices of their refusals
+abbrev AreCounts : (opening : List Reply) (exchanges : List Exchange) (counts : List Count) → Type 0
+AreCounts opening exchanges counts = (refusal : Refusal) (none : Count) → get_or counts (code_of refusal - 1) none ≡ count_in opening exchanges refusal
 
--- a code has at most two digits, and a name at most 15 letters
-short_parts : (refusal : Refusal) → (code_of refusal < 100) × (length (name_of refusal) ≤ 15)
-short_parts Syntax = (omega arith, omega arith)
-short_parts Unfinished = (omega arith, omega arith)
-short_parts TooLong = (omega arith, omega arith)
-short_parts OutOfRange = (omega arith, omega arith)
-short_parts NoSlot = (omega arith, omega arith)
-short_parts Revoked = (omega arith, omega arith)
-short_parts Sealed = (omega arith, omega arith)
-short_parts Unsealed = (omega arith, omega arith)
-short_parts OutOfBounds = (omega arith, omega arith)
-short_parts Inexact = (omega arith, omega arith)
-short_parts Unrepresentable = (omega arith, omega arith)
-short_parts MissingPermission = (omega arith, omega arith)
-short_parts ReservedType = (omega arith, omega arith)
-short_parts TypeMismatch = (omega arith, omega arith)
-short_parts NotCanonical = (omega arith, omega arith)
-short_parts ExceedsAuthority = (omega arith, omega arith)
-short_parts NoPool = (omega arith, omega arith)
-short_parts PoolAlreadySet = (omega arith, omega arith)
-short_parts ZeroSize = (omega arith, omega arith)
-short_parts NoRoom = (omega arith, omega arith)
-short_parts NoObject = (omega arith, omega arith)
-short_parts Full = (omega arith, omega arith)
-
--- a refusal has fewer than 129 bytes
-small : (refusal : Refusal) → length (refusal_text refusal) < 129
-small refusal =
-    let parts = short_parts refusal in
-    let code = short_code (code_of refusal) parts.0 in
-    let all = length-append (decimal (code_of refusal) ++ codes " ") (name_of refusal) in
-    let first = length-append (decimal (code_of refusal)) (codes " ") in
-    omega (arith, parts.1, code, all, first)
-
-is_refusal-cut : (refusal : Refusal) (line : List ℕ) → is_refusal refusal (take 129 line) ≡ is_refusal refusal line
-is_refusal-cut refusal line = elim (cases_lt (length line) 129) [
-  | inl short ↦ ap (λ (l : List ℕ). is_refusal refusal l) (take_all 129 line (omega arith))
-  | inr long ↦ neither (is_refusal refusal (take 129 line)) (is_refusal refusal line) (cut_no long) (whole_no long)
-]
+counts_refused : (opening : List Reply) (exchanges : List Exchange) (line : List ℕ) (refusal : Refusal) (number : ℕ) (old new : List Count) → HasOneMore refusal number old new
+    → number ≡ counted (length exchanges + 1) → AreCounts opening exchanges old → AreCounts opening (exchanges ++ record { line = line; reply = Refused refusal } ∷ []) new
+counts_refused opening exchanges line refusal number old new one number_is was other none = by_test (code_of other == code_of refusal) refl
   where
-    cut_no : 129 ≤ length line → is_refusal refusal (take 129 line) ≡ true → ⊥
-    cut_no long is =
-        let same : refusal_text refusal ≡ take 129 line = (bytes_eq-Decides (refusal_text refusal) (take 129 line)).0 is in
-        let lengths : length (refusal_text refusal) ≡ length (take 129 line) = ap (λ (l : List ℕ). length l) same in
-        absurd (omega (arith, lengths, small refusal, length-take 129 line))
+    last : Exchange
+    last = record { line = line; reply = Refused refusal }
 
-    whole_no : 129 ≤ length line → is_refusal refusal line ≡ true → ⊥
-    whole_no long is =
-        let same : refusal_text refusal ≡ line = (bytes_eq-Decides (refusal_text refusal) line).0 is in
-        let lengths : length (refusal_text refusal) ≡ length line = ap (λ (l : List ℕ). length l) same in
-        absurd (omega (arith, lengths, small refusal))
+    by_test : (b : Bool) → (code_of other == code_of refusal) ≡ b → get_or new (code_of other - 1) none ≡ count_in opening (exchanges ++ last ∷ []) other
+    by_test true is =
+        one.more other none (eqb-true (code_of other) (code_of refusal) is)
+        ∙ ap (count_more number) (was other none)
+        ∙ ap (λ (n : ℕ). count_more n (count_in opening exchanges other)) (let same : number ≡ counted (1 + length exchanges) = omega (arith, number_is) in same)
+        ∙ exchange_is opening exchanges last other is
+    by_test false is = one.kept other none (eqb-false (code_of other) (code_of refusal) is) ∙ was other none ∙ exchange_other opening exchanges last other is
 
-    neither : (b d : Bool) → (b ≡ true → ⊥) → (d ≡ true → ⊥) → b ≡ d
-    neither true d not_b not_d = absurd (not_b refl)
-    neither false true not_b not_d = absurd (not_d refl)
-    neither false false not_b not_d = refl
+-- ---- the tally
 
-count_in-cut : (refusal : Refusal) (lines : List (List ℕ)) (line : List ℕ) → count_in (lines ++ take 129 line ∷ []) refusal ≡ count_in (lines ++ line ∷ []) refusal
-count_in-cut refusal lines line =
-    let same = is_refusal-cut refusal line in
-    let passes : List ℕ → Bool = is_refusal refusal in
-    same_count refusal _ _ _ _
-    (ap counted (count_by-more passes lines (take 129 line) (passes line) same ∙ sym (count_by-more passes lines line (passes line) refl)))
-    (ap counted
-    (first-more passes 0 lines (take 129 line) ∙ ap (λ (b : Bool). kept_or (first_from passes 1 lines) (if b then 1 + length lines else 0)) same ∙ sym (first-more passes 0 lines line)))
-
-behind-cut : (lines : List (List ℕ)) (line : List ℕ) → first_behind 3 (is_refusal Full) (lines ++ take 129 line ∷ []) ≡ first_behind 3 (is_refusal Full) (lines ++ line ∷ [])
-behind-cut lines line = elim (cases_lt (length lines) 3) [
-  | inl few ↦ behind-few (is_refusal Full) lines (take 129 line) few ∙ sym (behind-few (is_refusal Full) lines line few)
-  | inr many ↦
-      behind-more (is_refusal Full) lines (take 129 line) many
-      ∙ ap (λ (b : Bool). kept_or (first_behind 3 (is_refusal Full) lines) (if b then length lines + 1 else 0)) (is_refusal-cut Full line)
-      ∙ sym (behind-more (is_refusal Full) lines line many)
-]
-
--- ---- more of the text
-
--- the text grows by bytes up to and with a line feed, and each count by that line
-pub tally_line : (text end : List ℕ) (old new : Tally) → IsLine end → IsTally text old → new.lines ≡ min (old.lines + 1) (2 ^ 64 - 1) → new.begun ≡ []
-    → ((index : ℕ) (none : Count) → index < 22 → (lines : List (List ℕ)) → get_or old.counts index none ≡ count_in lines (get_or NONE index none).refusal
-    → new.lines ≡ counted (length lines + 1)
-    → get_or new.counts index none ≡ count_in (lines ++ take 129 (old.begun ++ end) ∷ []) (get_or NONE index none).refusal)
-    → ((lines : List (List ℕ)) → old.full ≡ counted (first_behind 3 (is_refusal Full) lines) → new.lines ≡ counted (length lines + 1)
-    → new.full ≡ counted (first_behind 3 (is_refusal Full) (lines ++ take 129 (old.begun ++ end) ∷ [])))
-    → IsTally (text ++ (end ++ 10 ∷ [])) new
-tally_line text end old new line was lines_are begun_is counts_are full_is =
-    let last : List (List ℕ) = (rest_of text ++ end) ∷ [] in
-    let all : lines_of (text ++ (end ++ 10 ∷ [])) ≡ lines_of text ++ last =
-    lines_further [] text (end ++ 10 ∷ []) ∙ ap (λ (l : List (List ℕ)). lines_of text ++ l) (lines_line (rest_of text) end [] line) in
-    let number : new.lines ≡ counted (length (lines_of text) + 1) = omega (arith, lines_are, was.lines) in
-    let kept : take 129 (old.begun ++ end) ≡ take 129 (rest_of text ++ end) = ap (λ (l : List ℕ). take 129 (l ++ end)) was.begun ∙ start_longer (rest_of text) end in
+-- one more line, whose reply is not a refusal
+pub line_taken : (opening : List Reply) (exchanges : List Exchange) (line : List ℕ) (reply : Reply) (old : Tally) (lines : ℕ) → lines ≡ min (old.lines + 1) (2 ^ 64 - 1)
+    → is_error reply ≡ false → IsTally opening exchanges old
+    → IsTally opening (exchanges ++ record { line = line; reply = reply } ∷ [])
+    (record { lines = lines; counts = old.counts; full = old.full; carriage_return = old.carriage_return; marked_word = old.marked_word })
+line_taken opening exchanges line reply old lines lines_are is was =
+    let last : Exchange = record { line = line; reply = reply } in
+    let is_return : (is_error reply && ends_in_return line) ≡ false = ap (λ (b : Bool). b && ends_in_return line) is in
+    let is_word : (is_error reply && has_marked_word line) ≡ false = ap (λ (b : Bool). b && has_marked_word line) is in
     record {
-      lines = number ∙ ap counted (sym (ap (λ (l : List (List ℕ)). length l) all ∙ length-append (lines_of text) last));
-      begun = begun_is ∙ sym (ap (λ (l : List ℕ). take 129 l) (rest_further [] text (end ++ 10 ∷ []) ∙ rest_line (rest_of text) end [] line));
-      counts = λ index none below.
-          let refusal : Refusal = (get_or NONE index none).refusal in
-          counts_are index none below (lines_of text) (was.counts index none below) number
-          ∙ ap (λ (l : List ℕ). count_in (lines_of text ++ l ∷ []) refusal) kept
-          ∙ count_in-cut refusal (lines_of text) (rest_of text ++ end)
-          ∙ ap (λ (l : List (List ℕ)). count_in l refusal) (sym all);
-      full = full_is (lines_of text) was.full number
-          ∙ ap (λ (l : List ℕ). counted (first_behind 3 (is_refusal Full) (lines_of text ++ l ∷ []))) kept
-          ∙ ap counted (behind-cut (lines_of text) (rest_of text ++ end))
-          ∙ ap (λ (l : List (List ℕ)). counted (first_behind 3 (is_refusal Full) l)) (sym all);
+      lines = omega (arith, lines_are, was.lines, length-append exchanges (last ∷ []));
+      counts = λ refusal none. was.counts refusal none ∙ exchange_other opening exchanges last refusal (no_refusal refusal reply is);
+      full = was.full ∙ ap counted (sym (first-kept (λ (exchange : Exchange). is_refusal Full exchange.reply) exchanges last (no_refusal Full reply is)));
+      carriage_return =
+          was.carriage_return
+          ∙ ap counted (sym (first-kept (λ (exchange : Exchange). is_error exchange.reply && ends_in_return exchange.line) exchanges last is_return));
+      marked_word =
+          was.marked_word
+          ∙ ap counted (sym (first-kept (λ (exchange : Exchange). is_error exchange.reply && has_marked_word exchange.line) exchanges last is_word));
     }
 
--- the text grows by bytes without a line feed
-pub tally_rest : (text rest : List ℕ) (old new : Tally) → IsLine rest → IsTally text old → new.lines ≡ old.lines → new.begun ≡ take 129 (old.begun ++ rest) → new.counts ≡ old.counts → new.full ≡ old.full
-    → IsTally (text ++ rest) new
-tally_rest text rest old new line was lines_are begun_is counts_are full_is =
-    let all : lines_of (text ++ rest) ≡ lines_of text =
-    lines_further [] text rest ∙ ap (λ (l : List (List ℕ)). lines_of text ++ l) (no_lines (rest_of text) rest line) ∙ append-nil (lines_of text) in
+-- the first 129 bytes of a line show whether it has at most 128
+return-cut : (line : List ℕ) → ends_in_return (take 129 line) ≡ ends_in_return line
+return-cut line = elim (cases_lt (length line) 129) [
+  | inl short ↦ ap ends_in_return (take_all 129 line (omega (arith, short)))
+  | inr long ↦
+      let cut : nat_le (length (take 129 line)) 128 ≡ false = lt-leb (length (take 129 line)) 128 (omega (arith, long, length-take 129 line)) in
+      let whole : nat_le (length line) 128 ≡ false = lt-leb (length line) 128 (omega (arith, long)) in
+      rw (cut, whole) refl
+]
+
+word-cut : (line : List ℕ) → has_marked_word (take 129 line) ≡ has_marked_word line
+word-cut line = elim (cases_lt (length line) 129) [
+  | inl short ↦ ap has_marked_word (take_all 129 line (omega (arith, short)))
+  | inr long ↦
+      let cut : nat_le (length (take 129 line)) 128 ≡ false = lt-leb (length (take 129 line)) 128 (omega (arith, long, length-take 129 line)) in
+      let whole : nat_le (length line) 128 ≡ false = lt-leb (length line) 128 (omega (arith, long)) in
+      rw (cut, whole) refl
+]
+
+-- one more line, which is refused
+pub line_refused : (opening : List Reply) (exchanges : List Exchange) (line : List ℕ) (refusal : Refusal) (old new : Tally) → new.lines ≡ min (old.lines + 1) (2 ^ 64 - 1)
+    → HasOneMore refusal new.lines old.counts new.counts
+    → new.full ≡ first_after old.full (is_refusal Full (Refused refusal)) new.lines
+    → new.carriage_return ≡ first_after old.carriage_return (ends_in_return (take 129 line)) new.lines
+    → new.marked_word ≡ first_after old.marked_word (has_marked_word (take 129 line)) new.lines
+    → IsTally opening exchanges old → IsTally opening (exchanges ++ record { line = line; reply = Refused refusal } ∷ []) new
+line_refused opening exchanges line refusal old new lines_are one full_is return_is word_is was =
+    let last : Exchange = record { line = line; reply = Refused refusal } in
+    let number : new.lines ≡ counted (length exchanges + 1) = omega (arith, lines_are, was.lines) in
     record {
-      lines = lines_are ∙ was.lines ∙ ap (λ (l : List (List ℕ)). counted (length l)) (sym all);
-      begun = begun_is ∙ ap (λ (l : List ℕ). take 129 (l ++ rest)) was.begun ∙ start_longer (rest_of text) rest
-          ∙ sym (ap (λ (l : List ℕ). take 129 l) (rest_further [] text rest ∙ all_rest (rest_of text) rest line));
-      counts = λ index none below.
-          ap (λ (l : List Count). get_or l index none) counts_are ∙ was.counts index none below
-          ∙ ap (λ (l : List (List ℕ)). count_in l (get_or NONE index none).refusal) (sym all);
-      full = full_is ∙ was.full ∙ ap (λ (l : List (List ℕ)). counted (first_behind 3 (is_refusal Full) l)) (sym all);
+      lines = omega (arith, number, length-append exchanges (last ∷ []));
+      counts = counts_refused opening exchanges line refusal new.lines old.counts new.counts one number was.counts;
+      full = full_is
+          ∙ first-grows (λ (exchange : Exchange). is_refusal Full exchange.reply) exchanges last old.full new.lines (is_refusal Full (Refused refusal)) refl was.full number;
+      carriage_return =
+          return_is
+          ∙ first-grows (λ (exchange : Exchange). is_error exchange.reply && ends_in_return exchange.line) exchanges last old.carriage_return new.lines
+          (ends_in_return (take 129 line)) (sym (return-cut line)) was.carriage_return number;
+      marked_word =
+          word_is
+          ∙ first-grows (λ (exchange : Exchange). is_error exchange.reply && has_marked_word exchange.line) exchanges last old.marked_word new.lines
+          (has_marked_word (take 129 line)) (sym (word-cut line)) was.marked_word number;
     }
 
--- ---- the counts, one after another
+-- ---- whether a refusal is a reply to the opening
 
--- where the counts before an index have taken one line more, and that at it is set so, those up to it have
-pub count_set : (at : ℕ) (old now : List Count) (count : Count) (number : ℕ) (line : List ℕ) → at < 22 → length now ≡ 22
-    → ((index : ℕ) (none : Count) → index < at → (lines : List (List ℕ)) → get_or old index none ≡ count_in lines (get_or NONE index none).refusal
-    → number ≡ counted (length lines + 1) → get_or now index none ≡ count_in (lines ++ line ∷ []) (get_or NONE index none).refusal)
-    → ((index : ℕ) (none : Count) → at ≤ index → get_or now index none ≡ get_or old index none)
-    → (first : Count) → ((lines : List (List ℕ)) → get_or now at first ≡ count_in lines (get_or now at first).refusal → number ≡ counted (length lines + 1)
-    → count ≡ count_in (lines ++ line ∷ []) (get_or now at first).refusal)
-    → (index : ℕ) (none : Count) → index < at + 1 → (lines : List (List ℕ)) → get_or old index none ≡ count_in lines (get_or NONE index none).refusal
-    → number ≡ counted (length lines + 1) → get_or (set now at count) index none ≡ count_in (lines ++ line ∷ []) (get_or NONE index none).refusal
-count_set at old now count number line within size done rest first made index none below lines had is_number = elim (cases_lt index at) [
-  | inl less ↦ let ne : index ≢ at = omega arith in rw get_or-set_other (done index none less lines had is_number)
-  | inr more ↦
-      let same : index ≡ at = omega arith in
-      let fits : at < length now = omega arith in
-      let read : get_or now at first ≡ get_or now at none = get_or_default now at first none fits in
-      let is : get_or now at first ≡ count_in lines (get_or NONE at none).refusal =
-      read ∙ rest at none (omega arith) ∙ subst (λ (k : ℕ). get_or old k none ≡ count_in lines (get_or NONE k none).refusal) same had in
-      let refusal : (get_or now at first).refusal ≡ (get_or NONE at none).refusal = ap (λ (c : Count). c.refusal) is in
-      subst (λ (k : ℕ). get_or (set now at count) k none ≡ count_in (lines ++ line ∷ []) (get_or NONE k none).refusal) (sym same)
-      (rw get_or-set_same
-      (made lines (is ∙ ap (λ (r : Refusal). count_in lines r) (sym refusal)) is_number ∙ ap (λ (r : Refusal). count_in (lines ++ line ∷ []) r) refusal))
-]
+-- a reply to the opening is the refusal if and only if it was counted, and the number of the first line is 0
+record IsInOpening (some : Bool) (times first : ℕ) : Type 0 where
+  counted_so : some ≡ true → (0 < times) × (first ≡ 0)
+  not_so : some ≡ false → first ≡ 0 → times ≡ 0
+
+in_opening : (opening : List Reply) (exchanges : List Exchange) (refusal : Refusal)
+    → IsInOpening (list_any (is_refusal refusal) opening) (count_in opening exchanges refusal).times (count_in opening exchanges refusal).first
+in_opening opening exchanges refusal =
+    by_some (list_any (is_refusal refusal) opening) (count_by (is_refusal refusal) opening) (count_by passes exchanges) (first_from passes 1 exchanges)
+    (any-counted (is_refusal refusal) opening) (first-above passes 0 exchanges)
+  where
+    passes : Exchange → Bool
+    passes exchange = is_refusal refusal exchange.reply
+
+    by_some : (some : Bool) (before during found : ℕ) → HasSome some before → (0 < during → 0 < found) → IsInOpening some (counted (before + during)) (if some then 0 else counted found)
+    by_some true before during found has above =
+        let least = has.above refl in
+        record { counted_so = λ is. (omega (arith, least), refl); not_so = λ is. absurd (true≢false is) }
+    by_some false before during found has above =
+        let none = has.none refl in
+        record {
+          counted_so = λ is. absurd (true≢false (sym is));
+          not_so = λ is zero_first. elim (cases_lt 0 during) [
+            | inl some ↦ let least = above some in absurd (omega (arith, least, zero_first))
+            | inr less ↦ omega (arith, none, less)
+          ];
+        }
+
+pub any_in_opening : (opening : List Reply) (exchanges : List Exchange) (refusal : Refusal) (count : Count) → count ≡ count_in opening exchanges refusal
+    → is_in_opening count ≡ list_any (is_refusal refusal) opening
+any_in_opening opening exchanges refusal count is =
+    by_some (list_any (is_refusal refusal) opening) count.times count.first
+    (subst (λ (c : Count). IsInOpening (list_any (is_refusal refusal) opening) c.times c.first) (sym is) (in_opening opening exchanges refusal))
+  where
+    by_some : (b : Bool) (times first : ℕ) → IsInOpening b times first → (nat_lt 0 times && (first == 0)) ≡ b
+    by_some true times first so =
+        let both = so.counted_so refl in rw (both.1, lt-ltb 0 times both.0) refl
+    by_some false zero first so = refl
+    by_some false (suc times) zero so = absurd (omega (arith, so.not_so refl refl))
+    by_some false (suc times) (suc first) so = rw (eqb-suc-zero first, lt-ltb 0 (suc times) (omega arith)) refl

@@ -4,8 +4,8 @@ use Rattle.std.proofs.lemmas.List.{take-append-le, take_all}
 use Rattle.std.proofs.Math.Seq.{take-append-add}
 use Rattle.std.specs.Prelude.{OnErr, OnOk}
 use Rattle.std.specs.Io.KnownBytes.{Appends, Keeps}
-use Rattle.cc_script.specs.Devices.{TakesBeginning}
-use Rattle.cc_script.proofs.DeviceLemmas.{appends_none, appends_twice, then_kept}
+use Rattle.cc_io.specs.Devices.{TakesBeginning}
+use Rattle.cc_io.proofs.DeviceLemmas.{appends_none, appends_twice, then_kept}
 
 -- the whole text was written but for the rest
 pub record Writing (old now : Option (List ℕ)) (rest whole : List ℕ) : Type 0 where

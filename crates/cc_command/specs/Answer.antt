@@ -6,11 +6,11 @@ use Rattle.cc_word.specs.WordText.{IsWordText}
 use Rattle.cc_word.specs.declared.refusal.Refusal.{Refusal}
 use Rattle.cc_word.specs.declared.refusal.Refusal.TheVariants.{Syntax}
 use Rattle.cc_machine.specs.declared.reply.Reply.TheVariants.{Refused}
-use Rattle.cc_script.specs.Devices.{TakesBeginning}
+use Rattle.cc_io.specs.Devices.{TakesBeginning}
 use Rattle.cc_script.specs.Output.{with_line_feed}
 use Rattle.cc_script.specs.Replies.{reply_text}
-use Rattle.cc_script.specs.declared.summary.ScriptFault.{ScriptFault}
-use Rattle.cc_script.specs.declared.summary.Summary.{Summary}
+use Rattle.cc_io.specs.declared.summary.IoError.{IoError}
+use Rattle.cc_io.specs.declared.summary.Summary.{Summary}
 
 -- the answer is the line of a refusal
 abbrev pub IsRefusalLine : Refusal → (answer : List ℕ) → Type 0
@@ -27,7 +27,7 @@ AnswersResult IsAnswer (Ok value) answer = IsAnswer value answer
 AnswersResult IsAnswer (Err refusal) answer = IsRefusalLine refusal answer
 
 -- an answer of this kind was written: the whole of it where the call succeeds, and else a beginning
-pub record WritesAnswer (IsAnswer : List ℕ → Type 0) (old new : Option (List ℕ)) (result : Result Summary ScriptFault) : Type 0 where
+pub record WritesAnswer (IsAnswer : List ℕ → Type 0) (old new : Option (List ℕ)) (result : Result Summary IoError) : Type 0 where
   pub answer : List ℕ
   pub is_answer : IsAnswer answer
   pub whole : OnOk result (Appends old new answer)

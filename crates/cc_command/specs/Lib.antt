@@ -6,7 +6,9 @@ pub mod Explanation
 pub mod Rounding
 pub mod Planning
 pub mod Request
+pub mod LineHints
 pub mod Tally
+pub mod Session
 pub mod Usage
 pub mod Statistics
 pub mod Map

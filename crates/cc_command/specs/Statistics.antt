@@ -7,12 +7,12 @@ use Rattle.cc_command.specs.declared.tally.Count.{Count}
 use Rattle.cc_command.specs.declared.tally.Tally.{Tally}
 use Rattle.cc_command.specs.declared.usage.Usage.{Usage}
 
--- how many replies are this refusal, and the number of the script's line that got the first; it is 0 where the first
--- was a reply to the opening
-abbrev pub count_lines : (opening : ℕ) → Count → List ℕ
-count_lines opening count =
+-- how many replies are this refusal, and the number of the script's line that got the first; it is 0 where a reply to the
+-- opening is this refusal
+abbrev pub count_lines : Count → List ℕ
+count_lines count =
     with_line_feed (codes "refused." ++ name_of count.refusal ++ codes " " ++ decimal count.times)
-    ++ with_line_feed (codes "first." ++ name_of count.refusal ++ codes " " ++ decimal (count.first - opening))
+    ++ with_line_feed (codes "first." ++ name_of count.refusal ++ codes " " ++ decimal count.first)
 
 -- the text, unless the number of times is 0
 abbrev pub lines_if : (times : ℕ) → List ℕ → List ℕ
@@ -20,9 +20,9 @@ lines_if zero text = []
 lines_if (suc times) text = text
 
 -- the lines of those counts that are not 0, in the order of the list
-abbrev pub counts_text : (opening : ℕ) → List Count → List ℕ
-counts_text opening [] = []
-counts_text opening (count ∷ counts) = lines_if count.times (count_lines opening count) ++ counts_text opening counts
+abbrev pub counts_text : List Count → List ℕ
+counts_text [] = []
+counts_text (count ∷ counts) = lines_if count.times (count_lines count) ++ counts_text counts
 
 -- the lines of the slots, of the limit, and of the objects by their states
 abbrev pub objects_text : Usage → List ℕ
@@ -58,8 +58,8 @@ holes_text usage =
     line_with_decimal (codes "pool ") usage.pool [] ++ line_with_decimal (codes "free ") (usage.pool - usage.held) []
     ++ line_with_decimal (codes "holes ") usage.holes [] ++ line_with_decimal (codes "largest ") usage.largest [] ++ end_text usage.end
 
--- the summary of a run whose first replies are to an opening of so many operations
-abbrev pub statistics_text : Usage → Tally → (opening : ℕ) → List ℕ
-statistics_text usage tally opening =
-    line_with_decimal (codes "lines ") (tally.lines - opening) [] ++ counts_text opening tally.counts
+-- the summary of a run
+abbrev pub statistics_text : Usage → Tally → List ℕ
+statistics_text usage tally =
+    line_with_decimal (codes "lines ") tally.lines [] ++ counts_text tally.counts
     ++ objects_text usage ++ bytes_text usage ++ holes_text usage

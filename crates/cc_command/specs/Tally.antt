@@ -1,60 +1,73 @@
--- What is counted of the replies to a script: how many there are, and of each refusal how many are it, and which is the
--- first.
-use Rattle.std.specs.Prelude.{ℕ, suc, Bool, ◌≡◌, ◌-◌, ◌^◌, ◌<◌, List, [], ◌∷◌, ◌++◌, count_by, drop, get_or, if◌then◌else◌, length, min, take}
-use Rattle.std.specs.Str.{bytes_eq}
+-- What is counted of the replies to a script.
+use Rattle.std.specs.Prelude.{ℕ, zero, suc, Bool, true, false, ◌≡◌, ◌==◌, ◌&&◌, ◌+◌, ◌-◌, ◌^◌, List, [], ◌∷◌, count_by, get_or, if◌then◌else◌, length, min}
+use Rattle.std.specs.List.{list_any}
+use Rattle.cc_word.specs.Refusal.{code_of}
 use Rattle.cc_word.specs.declared.refusal.Refusal.{Refusal}
 use Rattle.cc_word.specs.declared.refusal.Refusal.TheVariants.{Full}
 use Rattle.cc_machine.specs.declared.reply.Reply.{Reply}
-use Rattle.cc_machine.specs.State.{State}
-use Rattle.cc_script.specs.Lines.{lines_of, rest_of}
-use Rattle.cc_script.specs.Commands.{operation_of}
-use Rattle.cc_script.specs.Replies.{refusal_text, reply_text}
-use Rattle.cc_script.specs.Output.{Takes, with_line_feed}
-use Rattle.cc_command.specs.declared.tally.TheConstants.{NONE}
+use Rattle.cc_machine.specs.declared.reply.Reply.TheVariants.{Refused}
+use Rattle.cc_script.specs.Replies.{is_error}
+use Rattle.cc_command.specs.LineHints.{ends_in_return, has_marked_word}
 use Rattle.cc_command.specs.declared.tally.Count.{Count}
 use Rattle.cc_command.specs.declared.tally.Tally.{Tally}
+
+-- A line of a script and the reply to it. `line` is [] for trailing bytes without a line feed.
+pub record Exchange : Type 0 where
+  pub line : List ℕ
+  pub reply : Reply
 
 -- what a counter of 64 bits shows of a number: it stops at 2^64 - 1
 abbrev pub counted : ℕ → ℕ
 counted number = min number (2 ^ 64 - 1)
 
--- the line is this refusal
-abbrev pub is_refusal : Refusal → (line : List ℕ) → Bool
-is_refusal refusal line = bytes_eq (refusal_text refusal) line
+-- `is_refusal` holds if the reply is this refusal.
+abbrev pub is_refusal : Refusal → Reply → Bool
+is_refusal refusal (Refused other) = code_of refusal == code_of other
+is_refusal refusal reply = false
 
--- the number of the first line that passes, and 0 where none does; the first line of the list has the number `number`
-abbrev pub first_from : (passes : List ℕ → Bool) (number : ℕ) → (lines : List (List ℕ)) → ℕ
+-- the number of the first exchange that passes, or 0 if none does; the first of the list has the number `number`
+abbrev pub first_from : (passes : Exchange → Bool) (number : ℕ) → List Exchange → ℕ
 first_from passes number [] = 0
-first_from passes number (line ∷ lines) = if passes line then number else first_from passes (suc number) lines
+first_from passes number (exchange ∷ exchanges) = if passes exchange then number else first_from passes (suc number) exchanges
 
--- the number, among all lines, of the first line behind so many others that passes, and 0 where none does
-abbrev pub first_behind : (others : ℕ) (passes : List ℕ → Bool) → (lines : List (List ℕ)) → ℕ
-first_behind others passes lines = first_from passes (suc others) (drop others lines)
-
--- how many of the lines are this refusal, and the number of the first of them: lines are numbered from 1, and 0 is none
-abbrev pub count_in : (lines : List (List ℕ)) → Refusal → Count
-count_in lines refusal = record {
+-- The number of replies that are this refusal, and the number of the line that got the first of them. That is 0 if no
+-- reply is, or if a reply to the opening is.
+abbrev pub count_in : (opening : List Reply) (exchanges : List Exchange) → Refusal → Count
+count_in opening exchanges refusal = record {
   refusal = refusal;
-  times = counted (count_by (is_refusal refusal) lines);
-  first = counted (first_from (is_refusal refusal) 1 lines);
+  times = counted (count_by (is_refusal refusal) opening + count_by (λ exchange. is_refusal refusal exchange.reply) exchanges);
+  first = if list_any (is_refusal refusal) opening then 0 else counted (first_from (λ exchange. is_refusal refusal exchange.reply) 1 exchanges);
 }
 
--- The tally is that of the text of replies: how many lines it has, for each refusal the count of the lines that are it,
--- and the number of the first line behind three others that is `Full`. The first 129 bytes are kept of a line that has
--- not ended: no refusal has as many.
-pub record IsTally (text : List ℕ) (tally : Tally) : Type 0 where
-  pub lines : tally.lines ≡ counted (length (lines_of text))
-  pub begun : tally.begun ≡ take 129 (rest_of text)
-  pub counts : (index : ℕ) (none : Count) → index < 22 → get_or tally.counts index none ≡ count_in (lines_of text) (get_or NONE index none).refusal
-  pub full : tally.full ≡ counted (first_behind 3 (is_refusal Full) (lines_of text))
+-- `IsTally` holds if the tally has the number of the exchanges, for each refusal its count at the index of its code less
+-- 1, and the numbers of the first line that is refused as `Full`, of the first refused line that ends in a carriage
+-- return, and of the first refused line with a marked word.
+pub record IsTally (opening : List Reply) (exchanges : List Exchange) (tally : Tally) : Type 0 where
+  pub lines : tally.lines ≡ counted (length exchanges)
+  pub counts : (refusal : Refusal) (none : Count) → get_or tally.counts (code_of refusal - 1) none ≡ count_in opening exchanges refusal
+  pub full : tally.full ≡ counted (first_from (λ exchange. is_refusal Full exchange.reply) 1 exchanges)
+  pub carriage_return : tally.carriage_return ≡ counted (first_from (λ exchange. is_error exchange.reply && ends_in_return exchange.line) 1 exchanges)
+  pub marked_word : tally.marked_word ≡ counted (first_from (λ exchange. is_error exchange.reply && has_marked_word exchange.line) 1 exchanges)
 
--- the line was taken, and its reply with a line feed counted behind what had been
-pub record CountsReply (old : State) (line : List ℕ) (tally tally_now : Tally) (new : State) : Type 0 where
-  pub reply : Reply
-  pub takes : Takes old (operation_of line) reply new
-  pub counts : (text : List ℕ) → IsTally text tally → IsTally (text ++ with_line_feed (reply_text reply)) tally_now
+-- ---- steps of the proof, which no public clause cites
 
--- A sink that counts: the sink behind it, and the tally of what passed.
-pub record CountedState (W : Type 0) : Type 0 where
-  pub inner : W
-  pub tally : Tally
+-- the number of the first line that passes, after one more line: `first`, or if that is 0 the number of the new line,
+-- if it passes
+abbrev pub first_after : (first : ℕ) (passes : Bool) (number : ℕ) → ℕ
+first_after zero true number = number
+first_after zero false number = 0
+first_after (suc before) passes number = suc before
+
+-- the count with one more reply, to the line of this number
+abbrev pub count_more : (number : ℕ) → Count → Count
+count_more number count = record {
+  refusal = count.refusal;
+  times = counted (count.times + 1);
+  first = if count.times == 0 then number else count.first;
+}
+
+-- `HasOneMore` holds if the count of this refusal has one more reply, to the line of this number, and each other count
+-- is unchanged.
+pub record HasOneMore (refusal : Refusal) (number : ℕ) (old new : List Count) : Type 0 where
+  pub more : (other : Refusal) (none : Count) → code_of other ≡ code_of refusal → get_or new (code_of other - 1) none ≡ count_more number (get_or old (code_of other - 1) none)
+  pub kept : (other : Refusal) (none : Count) → (code_of other ≡ code_of refusal → ⊥) → get_or new (code_of other - 1) none ≡ get_or old (code_of other - 1) none

@@ -1,25 +1,25 @@
 //! Writes the answer of a command at once, and an answer that is a refusal.
 ghost use Rattle.std.specs.Prelude.{◌≡◌, ◌↔◌, [], false, true, IfOk, IsErr, OnOk, OnErr};
 ghost use Rattle.std.specs.Io.KnownBytes.{Appends};
-ghost use Rattle.cc_script.specs.Devices.{TakesBeginning};
+ghost use Rattle.cc_io.specs.Devices.{TakesBeginning};
 ghost use Rattle.cc_command.specs.Answer.{IsRefusalLine, WritesAnswer};
 
+use cc_io::{IoError, Sink, Summary, write_all};
 use cc_machine::Reply;
-use cc_script::{ScriptFault, Sink, Summary, reply_line, write_all};
+use cc_script::reply_line;
 use cc_text::Text;
 use cc_word::Refusal;
 
 /// Writes the line of a refusal, `error CODE NAME`, and flushes the sink once after it. The summary tells an error.
 ///
 /// Where the sink fails, a beginning of the line was written.
-pub fn write_refusal<W: Sink>(refusal: Refusal, sink: &mut W) -> Result<Summary, ScriptFault>
+pub fn write_refusal<W: Sink>(refusal: Refusal, sink: &mut W) -> Result<Summary, IoError>
     requires { W.has_failed sink.old ≡ false }
     ensures shown { WritesAnswer (IsRefusalLine refusal) (W.taken_bytes sink.old) (W.taken_bytes sink.new) result }
     ensures any_error { IfOk result (λ summary. summary.any_error ≡ true) }
-    ensures passed { OnOk result (W.waiting_bytes sink.new ≡ []) }
     ensures flushed { OnOk result (W.is_flushed sink.new ≡ true) }
     ensures fails { IsErr result ↔ (W.has_failed sink.new ≡ true) }
-    ensures write { OnErr result (result ≡ Err ScriptFault.Write) }
+    ensures write { OnErr result (result ≡ Err IoError.Write) }
 {
     let mut answer = Text::new();
     push_refusal(&mut answer, refusal);
@@ -36,15 +36,14 @@ pub(crate) fn push_refusal(text: &mut Text, refusal: Refusal)
 }
 
 /// Writes an answer and flushes the sink.
-pub(crate) fn write_answer<W: Sink>(answer: &Text, sink: &mut W) -> Result<(), ScriptFault>
+pub(crate) fn write_answer<W: Sink>(answer: &Text, sink: &mut W) -> Result<(), IoError>
     requires { W.has_failed sink.old ≡ false }
     ensures ok { OnOk result (Appends (W.taken_bytes sink.old) (W.taken_bytes sink.new) answer.now) }
     ensures err { OnErr result (TakesBeginning (W.taken_bytes sink.old) (W.taken_bytes sink.new) answer.now) }
-    ensures passed { OnOk result (W.waiting_bytes sink.new ≡ []) }
     ensures flushed { OnOk result (W.is_flushed sink.new ≡ true) }
     ensures fails { IsErr result ↔ (W.has_failed sink.new ≡ true) }
-    ensures write { OnErr result (result ≡ Err ScriptFault.Write) }
+    ensures write { OnErr result (result ≡ Err IoError.Write) }
 {
-    write_all(sink, answer.bytes()).map_err(|_| ScriptFault::Write)?;
-    sink.flush().map_err(|_| ScriptFault::Write)
+    write_all(sink, answer.bytes()).map_err(|_| IoError::Write)?;
+    sink.flush().map_err(|_| IoError::Write)
 }

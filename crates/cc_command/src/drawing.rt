@@ -2,15 +2,16 @@
 ghost use Rattle.std.specs.Prelude.{◌≡◌, ◌<◌, ◌≤◌, ◌+◌, ◌-◌, ◌*◌, ◌^◌, ◌++◌, ◌↔◌, [], false, true, Bool, IfOk, IsErr, OnErr, OnOk, length, min};
 ghost use Rattle.std.specs.Io.KnownBytes.{Appends};
 ghost use Rattle.cc_machine.specs.Planned.{plan_of};
-ghost use Rattle.cc_script.specs.Devices.{TakesBeginning};
+ghost use Rattle.cc_io.specs.Devices.{TakesBeginning};
 ghost use Rattle.cc_command.specs.Answer.{WritesAnswer};
 ghost use Rattle.cc_command.specs.Drawing.{IsDrawing, bounds_line, drawing_text, end_text, fills_text, head_text, is_in, key_text, laid_out_text, layer_text, layout_of, live_text, mark_count, mark_text, marks_text, moved_text, names_text, object_text, part_text, parts_text, quarantined_text, rectangle_text, row_count, row_text, rows_text, scale_text, stripes_text};
 
 use crate::layout::{Layout, ROW, cells_of};
 use crate::usage::pool_span;
 use cc_bounds::Span;
+use cc_io::{Failed, IoError, Sink, Summary, write_all};
 use cc_machine::{Machine, ObjectState, PlannedObject};
-use cc_script::{Failed, Line, ScriptFault, Sink, Summary, write_all};
+use cc_script::Line;
 use cc_text::{ROOM, Text, end_with_decimal, end_with_hexadecimal, push_hexadecimal};
 
 /// Writes a drawing of the machine's pool, and flushes the sink once after it: an SVG document in which a rectangle
@@ -23,20 +24,17 @@ use cc_text::{ROOM, Text, end_with_decimal, end_with_hexadecimal, push_hexadecim
 /// the live one is seen between them. Without a pool there is no row. Where the sink fails, a beginning of the drawing was
 /// written. Takes no memory from an allocator.
 #[tactic(auto, using(crate::proofs::WritingLemmas::whole_begins))]
-pub fn show_drawing<W: Sink>(machine: &Machine, sink: &mut W) -> Result<Summary, ScriptFault>
+pub fn show_drawing<W: Sink>(machine: &Machine, sink: &mut W) -> Result<Summary, IoError>
     requires { W.has_failed sink.old ≡ false }
     ensures shown { WritesAnswer (IsDrawing (plan_of machine.now)) (W.taken_bytes sink.old) (W.taken_bytes sink.new) result }
     ensures any_error { IfOk result (λ summary. summary.any_error ≡ false) }
-    ensures passed { OnOk result (W.waiting_bytes sink.new ≡ []) }
     ensures flushed { OnOk result (W.is_flushed sink.new ≡ true) }
     ensures fails { IsErr result ↔ (W.has_failed sink.new ≡ true) }
-    ensures write { OnErr result (result ≡ Err ScriptFault.Write) }
+    ensures write { OnErr result (result ≡ Err IoError.Write) }
 {
     let planner = machine.planner();
-    write_drawing(planner.objects(), &pool_span(planner.pool()), sink).map_err(
-        |_| ScriptFault::Write,
-    )?;
-    sink.flush().map_err(|_| ScriptFault::Write)?;
+    write_drawing(planner.objects(), &pool_span(planner.pool()), sink).map_err(|_| IoError::Write)?;
+    sink.flush().map_err(|_| IoError::Write)?;
     Ok(Summary { any_error: false })
 }
 

@@ -10,7 +10,7 @@ use cc_explain::{
     decoding_steps, push_fields, push_mantissas, push_picture, push_window_lines, rows_of,
     standing_of,
 };
-use cc_script::{ScriptFault, Sink, Summary};
+use cc_io::{IoError, Sink, Summary};
 use cc_text::Text;
 use cc_word::{Refusal, read_word, unpack};
 
@@ -20,14 +20,13 @@ use cc_word::{Refusal, read_word, unpack};
 ///
 /// A word is 32 hexadecimal digits of either case. No line has more than 100 bytes. Where the sink fails, a
 /// beginning of the answer was written.
-pub fn explain_word<W: Sink>(text: &[u8], sink: &mut W) -> Result<Summary, ScriptFault>
+pub fn explain_word<W: Sink>(text: &[u8], sink: &mut W) -> Result<Summary, IoError>
     requires { W.has_failed sink.old ≡ false }
     ensures shown { WritesAnswer (IsExplanation text.now) (W.taken_bytes sink.old) (W.taken_bytes sink.new) result }
     ensures any_error { IfOk result (λ summary. IsTrue summary.any_error ↔ (¬ IsWordText text.now)) }
-    ensures passed { OnOk result (W.waiting_bytes sink.new ≡ []) }
     ensures flushed { OnOk result (W.is_flushed sink.new ≡ true) }
     ensures fails { IsErr result ↔ (W.has_failed sink.new ≡ true) }
-    ensures write { OnErr result (result ≡ Err ScriptFault.Write) }
+    ensures write { OnErr result (result ≡ Err IoError.Write) }
 {
     let mut answer = Text::new();
     let summary = push_explanation(&mut answer, text);

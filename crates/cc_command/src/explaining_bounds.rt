@@ -6,7 +6,7 @@ ghost use Rattle.cc_command.specs.Request.{IsLengthExplanation, request_in};
 use crate::answers::{push_refusal, write_answer};
 use crate::explained_request::push_grant;
 use crate::request::{grant_of, read_request};
-use cc_script::{ScriptFault, Sink, Summary};
+use cc_io::{IoError, Sink, Summary};
 use cc_text::Text;
 
 /// Writes what setting bounds grants to a request, whose base and length two texts spell: the granule, and why half
@@ -17,18 +17,13 @@ use cc_text::Text;
 /// The answer is `error 1 syntax` where a text spells no number; else `error 4 range` where the base is above 2^64 - 1
 /// or the length above 2^64; and else `error 9 bounds` where the request ends past 2^64. No line has more than 100
 /// bytes. Where the sink fails, a beginning of the answer was written.
-pub fn explain_length<W: Sink>(
-    base: &str,
-    length: &str,
-    sink: &mut W,
-) -> Result<Summary, ScriptFault>
+pub fn explain_length<W: Sink>(base: &str, length: &str, sink: &mut W) -> Result<Summary, IoError>
     requires { W.has_failed sink.old ≡ false }
     ensures shown { WritesAnswer (IsLengthExplanation base.now length.now) (W.taken_bytes sink.old) (W.taken_bytes sink.new) result }
     ensures any_error { IfOk result (λ summary. IsTrue summary.any_error ↔ IsErr (request_in base.now length.now)) }
-    ensures passed { OnOk result (W.waiting_bytes sink.new ≡ []) }
     ensures flushed { OnOk result (W.is_flushed sink.new ≡ true) }
     ensures fails { IsErr result ↔ (W.has_failed sink.new ≡ true) }
-    ensures write { OnErr result (result ≡ Err ScriptFault.Write) }
+    ensures write { OnErr result (result ≡ Err IoError.Write) }
 {
     let mut answer = Text::new();
     let summary = push_request(&mut answer, base, length);

@@ -1,13 +1,18 @@
 //! Hints after a run, one on each line: what the writer of a script may not see in its replies.
-ghost use Rattle.std.specs.Prelude.{◌≡◌, ◌+◌, ◌≤◌, ◌++◌, ◌↔◌, [], Err, IsErr, OnErr, OnOk, codes, false, length, option_map, true};
+ghost use Rattle.std.specs.Prelude.{◌≡◌, ◌+◌, ◌≤◌, ◌++◌, ◌↔◌, [], Err, IsErr, List, OnErr, OnOk, codes, false, length, option_map, true};
 ghost use Rattle.std.specs.Io.KnownBytes.{Appends};
-ghost use Rattle.cc_script.specs.Devices.{TakesBeginning};
-ghost use Rattle.cc_command.specs.Hints.{hints_text, line_hint, pool_hint};
+ghost use Rattle.cc_io.specs.Devices.{TakesBeginning};
+ghost use Rattle.cc_machine.specs.declared.reply.Reply.{Reply};
+ghost use Rattle.std.specs.List.{list_any};
+ghost use Rattle.cc_word.specs.declared.refusal.Refusal.TheVariants.{Inexact};
+ghost use Rattle.cc_command.specs.Hints.{hints_of, hints_text, is_in_opening, line_hint, pool_hint};
+ghost use Rattle.cc_command.specs.Tally.{Exchange, IsTally, is_refusal};
 
 use crate::answers::write_answer;
+use crate::tally::{Count, Tally};
 use cc_bounds::{granule, round_length};
+use cc_io::{IoError, Sink};
 use cc_machine::Len;
-use cc_script::{ScriptFault, Sink};
 use cc_text::{ROOM, Text, end_with_decimal, end_with_hexadecimal, push_hexadecimal};
 
 /// What is worth a hint after a run. Lines of the script are numbered from 1; 0 says that there is no such line.
@@ -15,23 +20,53 @@ use cc_text::{ROOM, Text, end_with_decimal, end_with_hexadecimal, push_hexadecim
 pub struct Hints {
     /// The length that was asked for the pool, where its bounds cannot be stored exactly.
     pub inexact: Option<Len>,
-    /// The first line that ends in a carriage return.
+    /// The first refused line that ends in a carriage return.
     pub carriage_return: u64,
-    /// The first `rebuild` line whose word is written with `0x` or a colon.
+    /// The first refused `rebuild` line whose word is written with `0x` or a colon.
     pub marked_word: u64,
     /// The first line that is refused as full.
     pub full: u64,
 }
 
+/// The place of `Inexact` among the counts of a tally, which are in the order of the codes.
+const INEXACT: usize = 9;
+
+impl Hints {
+    /// Returns the hints after a run with these counts. `pool` is the length of the pool that the opening asked for, if any.
+    pub fn of(tally: &Tally, pool: Option<Len>) -> Hints
+        ensures { (opening : List Reply) (exchanges : List Exchange) → IsTally opening exchanges tally.now → result ≡ hints_of opening exchanges pool }
+    {
+        Hints {
+            inexact: if is_pool_inexact(tally) { pool } else { None },
+            carriage_return: tally.carriage_return,
+            marked_word: tally.marked_word,
+            full: tally.full,
+        }
+    }
+}
+
+/// Returns whether a reply to the opening is `Inexact`.
+fn is_pool_inexact(tally: &Tally) -> bool
+    ensures { (opening : List Reply) (exchanges : List Exchange) → IsTally opening exchanges tally.now → result ≡ list_any (is_refusal Inexact) opening }
+{
+    is_in_opening(&tally.counts[INEXACT])
+}
+
+/// Returns whether a reply to the opening is the refusal of a count.
+fn is_in_opening(count: &Count) -> bool
+    ensures { result ≡ is_in_opening count.now }
+{
+    count.times > 0 && count.first == 0
+}
+
 /// Writes the hints, and flushes the sink once after them. Where the sink fails, a beginning of them was written.
-pub fn show_hints<W: Sink>(hints: &Hints, sink: &mut W) -> Result<(), ScriptFault>
+pub fn show_hints<W: Sink>(hints: &Hints, sink: &mut W) -> Result<(), IoError>
     requires { W.has_failed sink.old ≡ false }
     ensures ok { OnOk result (Appends (W.taken_bytes sink.old) (W.taken_bytes sink.new) (hints_text hints.now)) }
     ensures err { OnErr result (TakesBeginning (W.taken_bytes sink.old) (W.taken_bytes sink.new) (hints_text hints.now)) }
-    ensures passed { OnOk result (W.waiting_bytes sink.new ≡ []) }
     ensures flushed { OnOk result (W.is_flushed sink.new ≡ true) }
     ensures fails { IsErr result ↔ (W.has_failed sink.new ≡ true) }
-    ensures write { OnErr result (result ≡ Err ScriptFault.Write) }
+    ensures write { OnErr result (result ≡ Err IoError.Write) }
 {
     let mut text = Text::new();
     push_hints(&mut text, hints);

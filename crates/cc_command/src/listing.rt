@@ -12,7 +12,8 @@ use bitflags::Flags;
 use cc_bounds::{Span, decode, exponent};
 use cc_cap::{Perms, is_canonical};
 use cc_explain::push_permissions;
-use cc_script::{Line, ScriptFault, Sink, Summary};
+use cc_io::{IoError, Sink, Summary};
+use cc_script::Line;
 use cc_text::{ROOM, Text};
 use cc_word::{Fields, Refusal, read_word, unpack};
 
@@ -22,14 +23,13 @@ use cc_word::{Fields, Refusal, read_word, unpack};
 /// The listing has thirteen lines: the word, its eight fields, the exponent, base and top that they decode to, and
 /// whether the word is canonical. A word is 32 hexadecimal digits of either case. Where the sink fails, a beginning of
 /// the answer was written.
-pub fn show_word<W: Sink>(text: &[u8], sink: &mut W) -> Result<Summary, ScriptFault>
+pub fn show_word<W: Sink>(text: &[u8], sink: &mut W) -> Result<Summary, IoError>
     requires { W.has_failed sink.old ≡ false }
     ensures shown { WritesAnswer (IsListing text.now) (W.taken_bytes sink.old) (W.taken_bytes sink.new) result }
     ensures any_error { IfOk result (λ summary. IsTrue summary.any_error ↔ (¬ IsWordText text.now)) }
-    ensures passed { OnOk result (W.waiting_bytes sink.new ≡ []) }
     ensures flushed { OnOk result (W.is_flushed sink.new ≡ true) }
     ensures fails { IsErr result ↔ (W.has_failed sink.new ≡ true) }
-    ensures write { OnErr result (result ≡ Err ScriptFault.Write) }
+    ensures write { OnErr result (result ≡ Err IoError.Write) }
 {
     let mut answer = Text::new();
     let summary = push_answer(&mut answer, text);

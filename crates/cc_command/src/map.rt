@@ -10,8 +10,9 @@ use crate::answers::write_answer;
 use crate::usage::pool_span;
 use cc_bounds::Span;
 use cc_explain::{CELLS, Stretch, shares_byte};
+use cc_io::{IoError, Sink, Summary};
 use cc_machine::{Machine, ObjectState, PlannedObject};
-use cc_script::{Line, ScriptFault, Sink, Summary};
+use cc_script::Line;
 use cc_text::{ROOM, Text, end_with_hexadecimal};
 
 /// The most cells of a map.
@@ -23,14 +24,13 @@ const MOST_CELLS: u128 = 1024;
 /// The cells cover the pool, at most 1,024 of them, as small as that allows; their marks are those of [`map_row`]. The
 /// last cell may reach past the pool's top. Without a pool there is no row. Where the sink fails, a beginning of the map
 /// was written.
-pub fn show_map<W: Sink>(machine: &Machine, sink: &mut W) -> Result<Summary, ScriptFault>
+pub fn show_map<W: Sink>(machine: &Machine, sink: &mut W) -> Result<Summary, IoError>
     requires { W.has_failed sink.old ≡ false }
     ensures shown { WritesAnswer (IsMap (plan_of machine.now)) (W.taken_bytes sink.old) (W.taken_bytes sink.new) result }
     ensures any_error { IfOk result (λ summary. summary.any_error ≡ false) }
-    ensures passed { OnOk result (W.waiting_bytes sink.new ≡ []) }
     ensures flushed { OnOk result (W.is_flushed sink.new ≡ true) }
     ensures fails { IsErr result ↔ (W.has_failed sink.new ≡ true) }
-    ensures write { OnErr result (result ≡ Err ScriptFault.Write) }
+    ensures write { OnErr result (result ≡ Err IoError.Write) }
 {
     let mut text = Text::new();
     push_map_of_machine(&mut text, machine);

@@ -5,8 +5,9 @@ ghost use Rattle.cc_command.specs.Answer.{WritesAnswer};
 ghost use Rattle.cc_command.specs.Rounding.{IsRounding};
 
 use crate::answers::{push_refusal, write_answer};
+use cc_io::{IoError, Sink, Summary};
 use cc_machine::Reply;
-use cc_script::{ScriptFault, Sink, Summary, read_length, reply_line};
+use cc_script::{read_length, reply_line};
 use cc_text::Text;
 
 /// Writes the line `round LENGTH GRANULE MASK` for the length that a text spells, and flushes the sink
@@ -15,14 +16,13 @@ use cc_text::Text;
 ///
 /// The line is `error 1 syntax` for a text that spells no number, and else `error 4 range` for a number
 /// above 2^64. Where the sink fails, a beginning of the line was written.
-pub fn show_round<W: Sink>(text: &[u8], sink: &mut W) -> Result<Summary, ScriptFault>
+pub fn show_round<W: Sink>(text: &[u8], sink: &mut W) -> Result<Summary, IoError>
     requires { W.has_failed sink.old ≡ false }
     ensures shown { WritesAnswer (IsRounding text.now) (W.taken_bytes sink.old) (W.taken_bytes sink.new) result }
     ensures any_error { IfOk result (λ summary. IsTrue summary.any_error ↔ IsErr (length_in text.now)) }
-    ensures passed { OnOk result (W.waiting_bytes sink.new ≡ []) }
     ensures flushed { OnOk result (W.is_flushed sink.new ≡ true) }
     ensures fails { IsErr result ↔ (W.has_failed sink.new ≡ true) }
-    ensures write { OnErr result (result ≡ Err ScriptFault.Write) }
+    ensures write { OnErr result (result ≡ Err IoError.Write) }
 {
     let mut answer = Text::new();
     let summary = push_rounding(&mut answer, text);

@@ -1,54 +1,46 @@
 //! The summary of a run: a line for each number.
 ghost use Rattle.std.specs.Prelude.{◌≡◌, ◌+◌, ◌*◌, ◌≤◌, ◌^◌, ◌++◌, ◌↔◌, [], Err, IsErr, OnErr, OnOk, codes, false, length, true};
 ghost use Rattle.std.specs.Io.KnownBytes.{Appends};
-ghost use Rattle.cc_script.specs.Devices.{TakesBeginning};
+ghost use Rattle.cc_io.specs.Devices.{TakesBeginning};
 ghost use Rattle.cc_text.specs.Numbered.{line_with_decimal};
 ghost use Rattle.cc_command.specs.Statistics.{bytes_text, count_lines, counts_text, end_text, holes_text, hundredths_of, objects_text, percent_text, statistics_text};
 
 use crate::answers::write_answer;
 use crate::tally::{Count, Tally};
 use crate::usage::Usage;
-use cc_script::{Line, ScriptFault, Sink};
+use cc_io::{IoError, Sink};
+use cc_script::Line;
 use cc_text::{ROOM, Text, end_with_decimal, end_with_hexadecimal};
 
-/// Writes the summary of a run, a line for each number, and flushes the sink once after the last: how many lines
-/// were answered; of each refusal how many replies are it, and the line of the first; and what the machine uses.
+/// Writes the summary of a run, a line for each number, and flushes the sink once after the last: the number of lines that were
+/// answered; for each refusal the number of replies that are it, and the line that got the first; and what the machine uses.
 ///
-/// The first `opening` replies are those of operations before the script. They are not counted among its lines, and a
-/// refusal that came first among them has the line 0. At most 2^80 bytes may be held, which
-/// [`usage_of`](crate::usage_of) ensures. Where the sink fails, a beginning of the summary was written.
-pub fn show_statistics<W: Sink>(
-    usage: &Usage,
-    tally: &Tally,
-    opening: u64,
-    sink: &mut W,
-) -> Result<(), ScriptFault>
+/// The operations of an opening are not counted as lines, and a refusal that one of them got has the line 0.
+///
+/// Requires: the sink has not failed; at most 2^80 bytes are held, which [`usage_of`](crate::usage_of) ensures.
+/// Errors: `Write` if the sink fails. A prefix of the summary is then written.
+pub fn show_statistics<W: Sink>(usage: &Usage, tally: &Tally, sink: &mut W) -> Result<(), IoError>
     requires sink { W.has_failed sink.old ≡ false }
     requires fits { usage.now.held ≤ 2 ^ 80 }
-    ensures ok { OnOk result (Appends (W.taken_bytes sink.old) (W.taken_bytes sink.new) (statistics_text usage.now tally.now opening)) }
-    ensures err { OnErr result (TakesBeginning (W.taken_bytes sink.old) (W.taken_bytes sink.new) (statistics_text usage.now tally.now opening)) }
-    ensures passed { OnOk result (W.waiting_bytes sink.new ≡ []) }
+    ensures ok { OnOk result (Appends (W.taken_bytes sink.old) (W.taken_bytes sink.new) (statistics_text usage.now tally.now)) }
+    ensures err { OnErr result (TakesBeginning (W.taken_bytes sink.old) (W.taken_bytes sink.new) (statistics_text usage.now tally.now)) }
     ensures flushed { OnOk result (W.is_flushed sink.new ≡ true) }
     ensures fails { IsErr result ↔ (W.has_failed sink.new ≡ true) }
-    ensures write { OnErr result (result ≡ Err ScriptFault.Write) }
+    ensures write { OnErr result (result ≡ Err IoError.Write) }
 {
     let mut text = Text::new();
-    push_statistics(&mut text, usage, tally, opening);
+    push_statistics(&mut text, usage, tally);
     write_answer(&text, sink)
 }
 
 /// Puts the summary of a run into the empty text.
-fn push_statistics(text: &mut Text, usage: &Usage, tally: &Tally, opening: u64)
+fn push_statistics(text: &mut Text, usage: &Usage, tally: &Tally)
     requires empty { text.old ≡ [] }
     requires fits { usage.now.held ≤ 2 ^ 80 }
-    ensures { text.new ≡ statistics_text usage.now tally.now opening }
+    ensures { text.new ≡ statistics_text usage.now tally.now }
 {
-    push_number(
-        text,
-        b"lines ",
-        u128::from(tally.lines.saturating_sub(opening)),
-    );
-    push_counts(text, &tally.counts, opening);
+    push_number(text, b"lines ", u128::from(tally.lines));
+    push_counts(text, &tally.counts);
     push_objects(text, usage);
     push_bytes(text, usage);
     push_holes(text, usage);
@@ -65,25 +57,25 @@ fn push_number(text: &mut Text, name: &[u8], number: u128)
 }
 
 /// Appends the counts of those refusals that were replies, in the order of their codes.
-fn push_counts(text: &mut Text, counts: &[Count], opening: u64)
+fn push_counts(text: &mut Text, counts: &[Count])
     requires few { length counts.now ≤ 22 }
     requires room { length text.old ≤ 100 }
-    ensures value { text.new ≡ text.old ++ counts_text opening counts.now }
+    ensures value { text.new ≡ text.old ++ counts_text counts.now }
     ensures fits { length text.new ≤ 3180 }
 {
     let mut rest = counts;
     'counts: while let Some((count, after)) = rest.split_first() {
         if count.times != 0 {
-            push_count(text, count, opening);
+            push_count(text, count);
         }
         rest = after;
     }
 }
 
 /// Appends two lines of a refusal: how many replies are it, and which line of the script got the first.
-fn push_count(text: &mut Text, count: &Count, opening: u64)
+fn push_count(text: &mut Text, count: &Count)
     requires { length text.old + 140 ≤ ROOM }
-    ensures value { text.new ≡ text.old ++ count_lines opening count.now }
+    ensures value { text.new ≡ text.old ++ count_lines count.now }
     ensures fits { length text.new ≤ length text.old + 140 }
 {
     let name = count.refusal.name().as_bytes();
@@ -97,7 +89,7 @@ fn push_count(text: &mut Text, count: &Count, opening: u64)
     line.push(b"first.");
     line.push(name);
     line.push(b" ");
-    line.push_decimal(u128::from(count.first.saturating_sub(opening)));
+    line.push_decimal(u128::from(count.first));
     text.push_line(&line);
 }
 

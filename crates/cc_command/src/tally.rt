@@ -1,40 +1,43 @@
 //! What is counted of the replies to a script.
-ghost use Rattle.std.specs.Prelude.{◌≡◌, ℕ, ◌+◌, List, [], ◌∷◌, ◌++◌, length};
-ghost use Rattle.cc_script.specs.Lines.{IsLine};
-ghost use Rattle.cc_script.specs.Replies.{refusal_text};
+ghost use Rattle.std.specs.Prelude.{◌≡◌, ◌-◌, ◌<◌, ℕ, List, [], ◌∷◌, ◌++◌, Bool, false, length, take};
+ghost use Rattle.cc_machine.specs.declared.reply.Reply.{Reply as ReplySpec};
+ghost use Rattle.cc_machine.specs.declared.reply.Reply.TheVariants.{Refused};
+ghost use Rattle.cc_word.specs.Refusal.{code_of};
 ghost use Rattle.cc_word.specs.declared.refusal.Refusal.TheVariants.{Full};
-ghost use Rattle.cc_command.specs.Tally.{IsTally, count_in, counted, first_behind, is_refusal};
+ghost use Rattle.cc_script.specs.Replies.{is_error};
+ghost use Rattle.cc_command.specs.Tally.{Exchange, HasOneMore, IsTally, count_more, first_after, is_refusal};
 
-use cc_script::{LineStart, refusal_bytes, split_at_line_feed};
+use crate::line_hints::{ends_in_return, has_marked_word};
+use cc_machine::Reply;
 use cc_word::Refusal;
 
-/// How many replies are one refusal, and which of all replies is the first of them.
+/// The number of replies that are one refusal, and the line that got the first of them.
 #[derive(Clone, Copy, Debug, PartialEq, Eq)]
 pub struct Count {
     /// The refusal.
     pub refusal: Refusal,
-    /// How many replies are this refusal, at most 2^64 - 1.
+    /// The number of replies that are this refusal, at most 2^64 - 1.
     pub times: u64,
-    /// The number of the first of them among all replies, from 1 up; 0 where none is.
+    /// The number of the line that got the first of them, from 1 up. It is 0 if no reply is this refusal, or if a reply
+    /// to the opening is.
     pub first: u64,
 }
 
-/// The counts of some replies: how many there are, of each refusal how many replies are it and which is the first, and
-/// which is the first `Full` behind the replies to the opening of a plan.
+/// The counts of the replies to a script: the number of lines, a count for each refusal, and the first lines that are
+/// worth a hint. Lines are numbered from 1, and 0 is the number of no line.
 #[derive(Drop)]
 pub struct Tally {
-    /// How many replies there are, at most 2^64 - 1.
+    /// The number of lines, at most 2^64 - 1.
     pub lines: u64,
-    /// The first bytes, at most 129, of a reply that has not ended yet.
-    pub begun: LineStart,
     /// The counts of the refusals, in the order of their codes.
     pub counts: [Count; 22],
-    /// The number of the first reply behind three others that is `Full`, from 1 up among all replies; 0 where none is.
+    /// The number of the first line that is refused as `Full`.
     pub full: u64,
+    /// The number of the first refused line that has at most 128 bytes and ends in a carriage return.
+    pub carriage_return: u64,
+    /// The number of the first refused `rebuild` line of at most 128 bytes whose word is written with `0x` or a colon.
+    pub marked_word: u64,
 }
-
-/// How many replies are to the opening of a plan.
-const OPENING: u64 = 3;
 
 /// The count of a refusal that no reply is.
 macro_rules! none {
@@ -73,88 +76,95 @@ const NONE: [Count; 22] = [
     none!(Full),
 ];
 
+/// Returns the index of a refusal among the counts.
+fn index_of(refusal: Refusal) -> usize
+    ensures value { result ≡ code_of refusal - 1 }
+    ensures within { result < 22 }
+{
+    usize::from(refusal.code()) - 1
+}
+
+/// Returns whether a refusal is `Full`.
+fn is_full(refusal: Refusal) -> bool
+    ensures { result ≡ is_refusal Full (Refused refusal) }
+{
+    Refusal::Full.code() == refusal.code()
+}
+
+/// Returns the number of the first line that passes, after one more line: `first`, or if that is 0 the number of the
+/// new line, if it passes.
+fn first_after(first: u64, passes: bool, number: u64) -> u64
+    ensures { result ≡ first_after first passes number }
+{
+    if first == 0 && passes { number } else { first }
+}
+
 impl Count {
-    /// The count after one reply more: this line, with this number among all replies.
-    fn with_line(self, line: &[u8], number: u64) -> Count
-        ensures { (lines : List (List ℕ)) → self ≡ count_in lines self.refusal → number ≡ counted (length lines + 1)
-            → result ≡ count_in (lines ++ line.now ∷ []) self.refusal }
+    /// Returns this count with one more reply, to the line of this number; 0 is the number of an operation of the
+    /// opening.
+    fn more(self, number: u64) -> Count
+        ensures { result ≡ count_more number self }
     {
-        if !is_refusal(self.refusal, line) {
-            return self;
-        }
         Count {
             refusal: self.refusal,
             times: self.times.saturating_add(1),
-            first: if self.first == 0 { number } else { self.first },
+            first: if self.times == 0 { number } else { self.first },
         }
     }
 }
 
-/// The number of the first reply behind the opening that is `Full`, after one reply more: this line, with this number
-/// among all replies.
-fn with_full(full: u64, line: &[u8], number: u64) -> u64
-    ensures { (lines : List (List ℕ)) → full ≡ counted (first_behind 3 (is_refusal Full) lines) → number ≡ counted (length lines + 1)
-        → result ≡ counted (first_behind 3 (is_refusal Full) (lines ++ line.now ∷ [])) }
+/// Counts one more reply that is this refusal, to the line of this number; 0 is the number of an operation of the
+/// opening.
+fn add_reply(counts: &mut [Count; 22], refusal: Refusal, number: u64)
+    ensures { HasOneMore refusal number counts.old counts.new }
 {
-    if full == 0 && number > OPENING && is_refusal(Refusal::Full, line) {
-        number
-    } else {
-        full
-    }
-}
-
-/// Whether a line, without its line feed, is this refusal. All refusals begin with `e`, so most other replies are told
-/// by their first byte.
-fn is_refusal(refusal: Refusal, line: &[u8]) -> bool
-    ensures { result ≡ is_refusal refusal line.now }
-{
-    matches!(line, [b'e', ..]) && text_of(refusal) == line
-}
-
-/// The text of a refusal, without its line feed.
-fn text_of(refusal: Refusal) -> &'static [u8]
-    ensures { result.now ≡ refusal_text refusal }
-{
-    let line = refusal_bytes(refusal);
-    &line[..line.len() - 1]
+    let index = index_of(refusal);
+    counts[index] = counts[index].more(number);
 }
 
 impl Tally {
-    /// The tally of no replies.
+    /// Returns the tally of no replies.
     pub fn new() -> Tally
-        ensures { IsTally [] result }
+        ensures { IsTally [] [] result }
     {
         Tally {
             lines: 0,
-            begun: LineStart::new(),
             counts: NONE,
             full: 0,
+            carriage_return: 0,
+            marked_word: 0,
         }
     }
 
-    /// Counts the replies that end in the next bytes. These may begin and end within a reply.
-    pub fn take(&mut self, bytes: &[u8])
-        ensures { (text : List ℕ) → IsTally text self.old → IsTally (text ++ bytes.now) self.new }
+    /// Counts the reply to an operation of the opening.
+    pub fn take_opening(&mut self, reply: &Reply)
+        ensures { (opening : List ReplySpec) → IsTally opening [] self.old → IsTally (opening ++ reply.now ∷ []) [] self.new }
     {
-        let mut rest = bytes;
-        'lines: while let Some((end, after)) = split_at_line_feed(rest) {
-            self.end_line(end);
-            rest = after;
+        if let Reply::Refused(refusal) = *reply {
+            add_reply(&mut self.counts, refusal, 0);
         }
-        self.begun.extend(rest);
     }
 
-    /// Counts the reply that ends with these bytes and a line feed.
-    fn end_line(&mut self, end: &[u8])
-        requires { IsLine end.now }
-        ensures { (text : List ℕ) → IsTally text self.old → IsTally (text ++ (end.now ++ 10 ∷ [])) self.new }
+    /// Counts a line whose reply is not a refusal.
+    #[inline(always)]
+    pub fn take_line(&mut self)
+        ensures { (opening : List ReplySpec) (exchanges : List Exchange) (line : List ℕ) (reply : ReplySpec) → is_error reply ≡ false → IsTally opening exchanges self.old
+            → IsTally opening (exchanges ++ record { line = line; reply = reply } ∷ []) self.new }
     {
-        self.begun.extend(end);
         self.lines = self.lines.saturating_add(1);
-        self.full = with_full(self.full, self.begun.as_slice(), self.lines);
-        for index in 0..22usize {
-            self.counts[index] = self.counts[index].with_line(self.begun.as_slice(), self.lines);
-        }
-        self.begun.clear();
+    }
+
+    /// Counts a line that is refused. `start` is the line, or its first 129 bytes.
+    #[cold]
+    #[inline(never)]
+    pub fn take_refused(&mut self, start: &[u8], refusal: Refusal)
+        ensures { (opening : List ReplySpec) (exchanges : List Exchange) (line : List ℕ) → start.now ≡ take 129 line → IsTally opening exchanges self.old
+            → IsTally opening (exchanges ++ record { line = line; reply = Refused refusal } ∷ []) self.new }
+    {
+        self.lines = self.lines.saturating_add(1);
+        add_reply(&mut self.counts, refusal, self.lines);
+        self.full = first_after(self.full, is_full(refusal), self.lines);
+        self.carriage_return = first_after(self.carriage_return, ends_in_return(start), self.lines);
+        self.marked_word = first_after(self.marked_word, has_marked_word(start), self.lines);
     }
 }

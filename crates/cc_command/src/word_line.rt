@@ -6,7 +6,7 @@ ghost use Rattle.cc_command.specs.Listing.{IsWordText};
 
 use crate::answers::{push_refusal, write_answer};
 use cc_cap::WordLine;
-use cc_script::{ScriptFault, Sink, Summary};
+use cc_io::{IoError, Sink, Summary};
 use cc_text::Text;
 use cc_word::{Refusal, read_word};
 
@@ -15,14 +15,13 @@ use cc_word::{Refusal, read_word};
 ///
 /// The line is that of a word whose tag is set. A word is 32 hexadecimal digits of either case. Where the sink fails, a
 /// beginning of the line was written.
-pub fn show_line<W: Sink>(text: &[u8], sink: &mut W) -> Result<Summary, ScriptFault>
+pub fn show_line<W: Sink>(text: &[u8], sink: &mut W) -> Result<Summary, IoError>
     requires { W.has_failed sink.old ≡ false }
     ensures shown { WritesAnswer (IsLineAnswer text.now) (W.taken_bytes sink.old) (W.taken_bytes sink.new) result }
     ensures any_error { IfOk result (λ summary. IsTrue summary.any_error ↔ (¬ IsWordText text.now)) }
-    ensures passed { OnOk result (W.waiting_bytes sink.new ≡ []) }
     ensures flushed { OnOk result (W.is_flushed sink.new ≡ true) }
     ensures fails { IsErr result ↔ (W.has_failed sink.new ≡ true) }
-    ensures write { OnErr result (result ≡ Err ScriptFault.Write) }
+    ensures write { OnErr result (result ≡ Err IoError.Write) }
 {
     let mut answer = Text::new();
     let summary = push_line_answer(&mut answer, text);

@@ -24,7 +24,10 @@ impl Answerer<ROOM> for Decoder {
 
     ghost MOST = { 512 };
 
-    const MOST: usize = 512;
+    #[inline(always)]
+    fn most() -> usize {
+        512
+    }
 
     fn answer(&mut self, entry: &[u8], out: &mut Batch) -> bool {
         match read_entry(self.options.input, entry) {

@@ -1,5 +1,5 @@
 //! The trait of the values that turn an entry of the input into bytes of the output.
-ghost use Rattle.std.specs.Prelude.{ℕ, ◌+◌, ◌≤◌, length};
+ghost use Rattle.std.specs.Prelude.{◌≡◌, ℕ, ◌+◌, ◌≤◌, length};
 ghost use Rattle.cc_io.specs.Answers.{Relation, AnswersInto};
 
 use cc_text::Page;
@@ -16,8 +16,10 @@ pub trait Answerer<const N: usize> {
     // the maximum length of an answer in bytes
     ghost MOST: { ℕ };
 
-    /// The maximum length of an answer in bytes.
-    const MOST: usize;
+    /// Returns the maximum length of an answer in bytes.
+    // no constant: an impl for a type that borrows cannot have the clause of one
+    fn most() -> usize
+        ensures { result ≡ MOST };
 
     /// Appends the answer to an entry, and returns whether the answer is an error.
     ///

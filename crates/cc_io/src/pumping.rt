@@ -25,7 +25,7 @@ const SEEN: usize = 129;
 /// none is pending then. An entry that ends in a later chunk is answered then. Bytes after the last entry are answered by
 /// [`Answerer::end`], unless there are none. The sink is flushed once, at the end. Allocates nothing.
 ///
-/// Requires: neither the source nor the sink has failed; `A::MOST <= N`.
+/// Requires: neither the source nor the sink has failed; `A::most() <= N`.
 /// Errors: `Read` if and only if the source failed. The answers to all complete entries that it gave are then written, and the
 /// answerer has taken these entries alone. `Write` if and only if the sink failed. It has then taken a prefix of the output.
 /// The answerer may be ahead of the sink by the entries whose answers fit one page.
@@ -99,7 +99,7 @@ fn take_piece<F: Framing, A: Answerer<N>, W: Sink, const N: usize>(
     let mut any_error = false;
     let mut rest = piece;
     'entries: while let Some((end, after)) = framing.split(start.as_slice(), rest) {
-        match make_room(A::MOST, page, sink) {
+        match make_room(A::most(), page, sink) {
             Ok(()) => {}
             Err(Failed) => return Err(Failed),
         }

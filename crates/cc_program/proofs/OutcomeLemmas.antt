@@ -5,7 +5,7 @@ use Rattle.clap.specs.Words.{HasKind, Kinds, kind_of}
 use Rattle.clap.specs.declared.error.Error.{Error}
 use Rattle.clap.specs.declared.error.kind.ErrorKind.{ErrorKind}
 use Rattle.clap.specs.declared.error.kind.ErrorKind.TheVariants.{OutOfMemory}
-use Rattle.cc_script.specs.declared.summary.Summary.{Summary}
+use Rattle.cc_io.specs.declared.summary.Summary.{Summary}
 use Rattle.cc_program.specs.declared.outcome.Ending.{Ending}
 use Rattle.cc_program.specs.declared.outcome.Ending.TheVariants.{Refused, Stopped}
 use Rattle.cc_program.specs.declared.outcome.Fault.{Fault}

@@ -1,18 +1,15 @@
 -- Which command lines are taken, and what each asks for.
-use Rattle.std.specs.Prelude.{cond, ◌≡◌, ◌≤◌, ◌⊎◌, ◌↔◌, ◌&&◌, ◌||◌, ℕ, Bool, IsTrue, true, not, pos, List, [], ◌∷◌, Option, Some, None, IfSome, IsSome, is_some, codes, option_map, unwrap_or, if◌then◌else◌}
+use Rattle.std.specs.Prelude.{cond, ◌≡◌, ◌≤◌, ◌⊎◌, ◌↔◌, ◌&&◌, ◌||◌, ℕ, Bool, IsTrue, not, List, [], ◌∷◌, Option, Some, None, IfSome, IsSome, is_some, codes, option_map, unwrap_or, if◌then◌else◌}
 use Rattle.std.specs.Borrow.{Bor}
 use Rattle.std.specs.Option.{option_map_or}
 use Rattle.std.specs.Result.{result_ok}
 use Rattle.std.specs.Str.{bytes_eq}
 use Rattle.std.specs.Str.Parse.{IsNumeral, digits_value, without_leading_plus}
 pub use Rattle.cc_table.specs.Usage.{IsProgram, choice_option, flag_option, format_names, order_names, program, slots_option}
-use Rattle.clap.specs.Walk.{texts}
 use Rattle.clap.specs.Kinds.{or_else}
-use Rattle.clap.specs.Words.{App, Kinds, Row, Rule, Text, fault_of, first_of, new_app, new_rule, one_of, subcommand_of, takes, with_rule, with_subcommand}
+use Rattle.clap.specs.Words.{App, Kinds, Row, Text, fault_of, first_of, one_of, subcommand_of, takes}
 use Rattle.clap.specs.declared.error.kind.ErrorKind.{ErrorKind}
 use Rattle.clap.specs.declared.error.kind.ErrorKind.TheVariants.{ArgumentConflict, MissingRequiredArgument}
-use Rattle.clap.specs.declared.builder.action.ArgAction.TheVariants.{Set, SetTrue}
-use Rattle.clap.specs.declared.builder.value_parser.ValueParser.TheVariants.{Names, Signed}
 use Rattle.cc_plan.specs.declared.align.Align.{Align}
 use Rattle.cc_plan.specs.declared.align.Align.TheVariants.{One}
 use Rattle.cc_script.specs.Commands.{align_in}

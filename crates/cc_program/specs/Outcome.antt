@@ -5,24 +5,17 @@ use Rattle.clap.specs.declared.error.kind.ErrorKind.{ErrorKind}
 use Rattle.clap.specs.declared.error.kind.ErrorKind.TheVariants.{DisplayHelp, DisplayVersion, OutOfMemory}
 use Rattle.cc_word.specs.Word.{bit_of}
 use Rattle.cc_io.specs.declared.summary.IoError.{IoError}
-use Rattle.cc_io.specs.declared.summary.IoError.TheVariants as io
 use Rattle.cc_program.specs.declared.outcome.Ending.{Ending}
 use Rattle.cc_program.specs.declared.outcome.Ending.TheVariants.{Answered, Refused, Stopped}
 use Rattle.cc_program.specs.declared.outcome.Fault.{Fault}
 use Rattle.cc_program.specs.declared.outcome.Fault.TheVariants as fault
-use Rattle.cc_script.specs.declared.summary.ScriptFault.{ScriptFault}
-use Rattle.cc_script.specs.declared.summary.ScriptFault.TheVariants.{Read, Write}
-use Rattle.cc_script.specs.declared.summary.Summary.{Summary}
+use Rattle.cc_io.specs.declared.summary.IoError.TheVariants.{Read, Write}
+use Rattle.cc_io.specs.declared.summary.Summary.{Summary}
 
--- the fault of the program where a device failed
-abbrev pub fault_of : ScriptFault → Fault
+-- The fault of the program if a source or a sink failed.
+abbrev pub fault_of : IoError → Fault
 fault_of Read = fault.Read
 fault_of Write = fault.Write
-
--- The fault of the program if the source or the sink of `decode` failed.
-abbrev pub io_fault_of : IoError → Fault
-io_fault_of io.Read = fault.Read
-io_fault_of io.Write = fault.Write
 
 -- how the program ends that was asked for an answer
 abbrev pub ending_of : Result Summary Fault → Ending

@@ -2,7 +2,7 @@
 use Rattle.std.specs.Prelude.{◌≡◌, ◌≢◌, ◌⊎◌, true, ℕ, List, Option, Some, None, Result, Ok, Err, codes}
 use Rattle.clap.specs.Words.{Text}
 use Rattle.cc_word.specs.declared.refusal.Refusal.{Refusal}
-use Rattle.cc_script.specs.declared.summary.Summary.{Summary}
+use Rattle.cc_io.specs.declared.summary.Summary.{Summary}
 use Rattle.cc_command.specs.Planning.{pool_of}
 use Rattle.cc_program.specs.declared.outcome.Fault.{Fault}
 use Rattle.cc_program.specs.declared.outcome.Fault.TheVariants as fault

@@ -5,21 +5,17 @@ ghost use Rattle.cc_program.specs.Answering.{IsAnswerTo, IsUnanswerable};
 
 use crate::question::Question;
 use cc_command::{explain_length, explain_word, show_line, show_round, show_word};
-use cc_script::{ScriptFault, Sink, Summary};
+use cc_io::{IoError, Sink, Summary};
 
 /// Writes the answer to a question. It is an error, and the summary says so, where a text spells no word, no number or
 /// one that is too large, and where the bytes asked for end past 2^64.
-pub fn answer_question<W: Sink>(
-    question: Question<'_>,
-    sink: &mut W,
-) -> Result<Summary, ScriptFault>
+pub fn answer_question<W: Sink>(question: Question<'_>, sink: &mut W) -> Result<Summary, IoError>
     requires { W.has_failed sink.old ≡ false }
     ensures answered { WritesAnswer (IsAnswerTo question.entry) (W.taken_bytes sink.old) (W.taken_bytes sink.new) result }
     ensures any_error { IfOk result (λ summary. IsTrue summary.any_error ↔ IsUnanswerable question.entry) }
-    ensures passed { OnOk result (W.waiting_bytes sink.new ≡ []) }
     ensures flushed { OnOk result (W.is_flushed sink.new ≡ true) }
     ensures fails { IsErr result ↔ (W.has_failed sink.new ≡ true) }
-    ensures write { OnErr result (result ≡ Err ScriptFault.Write) }
+    ensures write { OnErr result (result ≡ Err IoError.Write) }
 {
     match question {
         Question::Show {

@@ -5,8 +5,7 @@ ghost use Rattle.cc_program.specs.Script.{NamesFile};
 use crate::outcome::Fault;
 use crate::running::open_input;
 use cc_decode::{Options, decode_words};
-use cc_io::{FromReader, FromWriter, Source};
-use cc_script::Summary;
+use cc_io::{FromReader, FromWriter, Source, Summary};
 use std::io::{self, Read};
 use std::rt::Files;
 
@@ -26,10 +25,7 @@ pub fn decode<R: AllocGlobal + Files + Input + Print>(
 {
     let mut source = words_of(open_input(rt, file)?);
     let mut sink = FromWriter::new(io::writer(rt));
-    let summary = decode_words(options, &mut source, &mut sink)?;
-    Ok(Summary {
-        any_error: summary.any_error,
-    })
+    Ok(decode_words(options, &mut source, &mut sink)?)
 }
 
 /// Returns the source of `decode` over a reader.

@@ -7,7 +7,6 @@ mod error_writer;
 mod invocation;
 mod mapping;
 mod outcome;
-mod pool;
 mod program;
 mod question;
 mod reading;

@@ -1,10 +1,9 @@
 //! How the program ends.
 ghost use Rattle.std.specs.Prelude.{◌≡◌};
 ghost use Rattle.cc_program.specs.declared.outcome.Fault.TheVariants as fault;
-ghost use Rattle.cc_program.specs.Outcome.{ending_of, fault_of, io_fault_of, status_of};
+ghost use Rattle.cc_program.specs.Outcome.{ending_of, fault_of, status_of};
 
-use cc_io::IoError;
-use cc_script::{ScriptFault, Summary};
+use cc_io::{IoError, Summary};
 use std::alloc::AllocError;
 use thiserror::Error;
 
@@ -69,19 +68,8 @@ pub fn ending_status(ending: Ending) -> u8
     }
 }
 
-impl From<ScriptFault> for Fault {
-    ghost from_gives = { λ fault result. result ≡ fault_of fault };
-
-    fn from(fault: ScriptFault) -> Fault {
-        match fault {
-            ScriptFault::Read => Fault::Read,
-            ScriptFault::Write => Fault::Write,
-        }
-    }
-}
-
 impl From<IoError> for Fault {
-    ghost from_gives = { λ error result. result ≡ io_fault_of error };
+    ghost from_gives = { λ error result. result ≡ fault_of error };
 
     fn from(error: IoError) -> Fault {
         match error {

@@ -12,7 +12,7 @@ use crate::outcome::{Ending, Fault, ending_of, ending_status};
 use crate::reading::read_words;
 use crate::telling::{Telling, Terminals};
 use crate::{decoding, mapping, running};
-use cc_script::{FromWriter, Summary};
+use cc_io::{FromWriter, Summary};
 use clap::Error;
 use clap::error::ErrorKind;
 use std::alloc::AllocError;
@@ -126,7 +126,7 @@ fn answer<R: AllocGlobal + Files + Input + Print + Eprint>(
             align,
             svg,
             file,
-        } => mapping::map(rt, limit, pool, align, svg, file, output),
+        } => mapping::map(rt, limit, pool, align, svg, file),
         Invocation::Decode { options, file } => decoding::decode(rt, options, file),
         Invocation::Ask(question) => Ok(answer_question(question, &mut output)?),
     }

@@ -1,41 +1,39 @@
-//! `run` and `plan`: open what is read, and write the answers to the output.
-ghost use Rattle.std.specs.Prelude.{◌≡◌, ◌≢◌, ◌≤◌, ◌↔◌, ◌^◌, [], false, true, Err, IfErr, IfOk, IsTrue, OnErr, OnOk, Some, option_map};
+//! `run` and `plan`: open the script, have it answered, and report the run.
+ghost use Rattle.std.specs.Prelude.{◌≡◌, ◌≢◌, ◌≤◌, ◌*◌, ◌↔◌, [], false, length, true, Err, IfErr, IfOk, IsTrue, OnErr, Some, None, option_map};
 ghost use Rattle.either.specs.Either.{is_left};
 ghost use Rattle.cc_machine.specs.State.{initial_state};
-ghost use Rattle.cc_command.specs.Planning.{plan_opening};
-ghost use Rattle.cc_program.specs.Running.{RanToEnd};
+ghost use Rattle.cc_command.specs.Tally.{IsTally};
+ghost use Rattle.cc_program.specs.Running.{EndsRun};
 ghost use Rattle.cc_program.specs.Script.{NamesFile, RefusesPool};
-ghost use Rattle.cc_program.specs.Telling.{TellsRun};
 
 use crate::error_writer::ErrorWriter;
 use crate::outcome::Fault;
-use crate::pool::Pool;
 use crate::telling::{Telling, tell, tell_waiting};
-use cc_command::{Counted, PoolTexts, Watched, plan_numbers, plan_script, write_refusal};
-use cc_machine::{Align, Machine};
-use cc_script::{
-    Buffered, FromReader, FromWriter, MOST_WAITING, Sink, Source, Summary, Waiting, run_script,
-};
+use cc_command::{PoolTexts, Session, plan_numbers, plan_opening, run_session, write_refusal};
+use cc_io::{FromReader, FromWriter, Sink, Source, Summary};
+use cc_machine::{Align, Len, Machine, Op};
+use cc_text::Waiting;
 use either::{Either, Left, Right};
 use std::fs;
 use std::io::Read;
 use std::rt::Files;
 
-/// Makes a machine of at most `limit` slots and objects, and then opens the script.
+/// Makes the session of a new machine of at most `limit` slots and objects, and then opens the script.
 pub fn open<R: AllocGlobal + Files + Input>(
     rt: &R,
     limit: u32,
     file: Option<&str>,
-) -> Result<(Machine, Either<R::File, R::Reader>), Fault>
+) -> Result<(Session, Either<R::File, R::Reader>), Fault>
     requires from_one { 1 ≤ limit }
     requires at_most { limit ≤ 65536 }
-    ensures machine { IfOk result (λ opened. opened.0 ≡ initial_state limit) }
+    ensures machine { IfOk result (λ opened. opened.0.machine ≡ initial_state limit) }
+    ensures fresh { IfOk result (λ opened. IsTally [] [] opened.0.tally) }
     ensures script { IfOk result (λ opened. IsTrue (is_left opened.1) ↔ NamesFile (option_map (λ text. text.now) file.entry)) }
     ensures open { result ≡ Err Fault.Open → NamesFile (option_map (λ text. text.now) file.entry) }
 {
     let machine = Machine::with_limit(rt.alloc(), limit)?;
     let script = open_input(rt, file)?;
-    Ok((machine, script))
+    Ok((Session::new(machine), script))
 }
 
 /// Opens the named file, or standard input if no file or `-` is named.
@@ -55,7 +53,7 @@ pub fn open_input<R: AllocGlobal + Files + Input>(
     }
 }
 
-/// `run`: answers a script on a new machine, and tells of the run on standard error as `telling` says.
+/// `run`: answers a script on a new machine, and reports the run on standard error as `telling` says.
 pub fn run<R: AllocGlobal + Files + Input + Eprint, W: Sink + Drop>(
     rt: &R,
     limit: u32,
@@ -68,90 +66,14 @@ pub fn run<R: AllocGlobal + Files + Input + Eprint, W: Sink + Drop>(
     requires output { W.has_failed output ≡ false }
     ensures open { result ≡ Err Fault.Open → NamesFile (option_map (λ text. text.now) file.entry) }
 {
-    let (machine, script) = open(rt, limit, file)?;
+    let (session, script) = open(rt, limit, file)?;
     tell_waiting(telling, file, &mut FromWriter::new(ErrorWriter { to: rt }));
-    if telling.hints {
-        run_watched(rt, machine, script, telling, output)
-    } else {
-        run_alone(machine, script, output)
-    }
+    write_replies(rt, &[], None, session, script, telling, output)
 }
 
-/// Answers a script, and tells nothing of the run.
-fn run_alone<I: Read + Drop, W: Sink + Drop>(
-    mut machine: Machine,
-    script: I,
-    output: W,
-) -> Result<Summary, Fault>
-    requires { W.has_failed output ≡ false }
-    ensures { result ≢ Err Fault.Open }
-{
-    let mut source = FromReader::new(script);
-    let mut page = Waiting::new();
-    let mut sink = Buffered::new(output, &mut page, MOST_WAITING);
-    Ok(run_script(&mut machine, &mut source, &mut sink)?)
-}
-
-/// Answers a script, and tells of the run on standard error as `telling` says.
-fn run_watched<R: AllocGlobal + Eprint, I: Read + Drop, W: Sink + Drop>(
-    rt: &R,
-    mut machine: Machine,
-    script: I,
-    telling: Telling,
-    output: W,
-) -> Result<Summary, Fault>
-    requires { W.has_failed output ≡ false }
-    ensures { result ≢ Err Fault.Open }
-{
-    let mut source = Watched::new(FromReader::new(script));
-    let mut page = Waiting::new();
-    let mut sink = Counted::new(Buffered::new(output, &mut page, MOST_WAITING));
-    let mut errors = FromWriter::new(ErrorWriter { to: rt });
-    run_counted(
-        rt,
-        &mut machine,
-        &mut source,
-        &mut sink,
-        telling,
-        &mut errors,
-    )
-}
-
-/// Answers a script while its bytes and its replies are looked at, and tells of the run where it came to its end.
-fn run_counted<R: AllocGlobal, S: Source, W: Sink, E: Sink>(
-    rt: &R,
-    machine: &mut Machine,
-    source: &mut Watched<S>,
-    sink: &mut Counted<W>,
-    telling: Telling,
-    errors: &mut E,
-) -> Result<Summary, Fault>
-    requires source { S.has_failed source.old.inner ≡ false }
-    requires sink { W.has_failed sink.old.inner ≡ false }
-    requires errors { E.has_failed errors.old ≡ false }
-    ensures open { result ≢ Err Fault.Open }
-    ensures ran { IfOk result (λ summary. RanToEnd machine.old [] (S.to_come source.old.inner) (S.to_come source.new.inner) (W.taken_bytes sink.old.inner) (W.taken_bytes sink.new.inner) summary machine.new) }
-    ensures passed { OnOk result (W.waiting_bytes sink.new.inner ≡ []) }
-    ensures read { (result ≡ Err Fault.Read) ↔ (S.has_failed source.new.inner ≡ true) }
-    ensures write { (result ≡ Err Fault.Write) ↔ (W.has_failed sink.new.inner ≡ true) }
-    ensures told { OnOk result (E.has_failed errors.new ≡ false → TellsRun telling machine.new sink.new.tally source.new.watch None (E.taken_bytes errors.old) (E.taken_bytes errors.new)) }
-    ensures untold { OnErr result (E.taken_bytes errors.new ≡ E.taken_bytes errors.old) }
-{
-    let summary = run_script(machine, source, sink)?;
-    tell(
-        rt,
-        machine,
-        sink.tally(),
-        source.watch(),
-        None,
-        telling,
-        errors,
-    )?;
-    Ok(summary)
-}
-
-/// `plan`: answers a script on a new machine that is given a pool first. Where a text of the pool spells no number, or
-/// one that is too large, the answer is that refusal, and no script is opened.
+/// `plan`: as `run`, on a machine that is given a pool first.
+///
+/// If a text of the pool spells no number, or a number over its limit, the answer is that refusal, and no script is opened.
 pub fn plan<R: AllocGlobal + Files + Input + Eprint, W: Sink + Drop>(
     rt: &R,
     limit: u32,
@@ -169,119 +91,69 @@ pub fn plan<R: AllocGlobal + Files + Input + Eprint, W: Sink + Drop>(
 {
     match plan_numbers(texts.base.as_bytes(), texts.length.as_bytes()) {
         Ok((base, length)) => {
-            let pool = Pool {
-                base,
-                length,
-                align,
-            };
-            plan_pool(rt, limit, pool, telling, file, output)
+            let (session, script) = open(rt, limit, file)?;
+            tell_waiting(telling, file, &mut FromWriter::new(ErrorWriter { to: rt }));
+            let opening = plan_opening(base, length, align);
+            write_replies(rt, &opening, Some(length), session, script, telling, output)
         }
         Err(refusal) => Ok(write_refusal(refusal, &mut output)?),
     }
 }
 
-/// Answers a script on a new machine with this pool, and tells of the run on standard error as `telling` says.
-fn plan_pool<R: AllocGlobal + Files + Input + Eprint, W: Sink + Drop>(
+/// Answers a script, and reports the run on standard error. `pool` is the length of the pool that the opening asks for, if
+/// any.
+fn write_replies<R: AllocGlobal + Eprint, I: Read + Drop, W: Sink + Drop>(
     rt: &R,
-    limit: u32,
-    pool: Pool,
+    opening: &[Op],
+    pool: Option<Len>,
+    mut session: Session,
+    script: I,
     telling: Telling,
-    file: Option<&str>,
-    output: W,
+    mut output: W,
 ) -> Result<Summary, Fault>
-    requires from_one { 1 ≤ limit }
-    requires at_most { limit ≤ 65536 }
     requires output { W.has_failed output ≡ false }
-    ensures { result ≡ Err Fault.Open → NamesFile (option_map (λ text. text.now) file.entry) }
-{
-    let (machine, script) = open(rt, limit, file)?;
-    tell_waiting(telling, file, &mut FromWriter::new(ErrorWriter { to: rt }));
-    if telling.hints {
-        plan_watched(rt, machine, pool, script, telling, output)
-    } else {
-        plan_alone(machine, pool, script, output)
-    }
-}
-
-/// As `run_alone`, on a machine that is given a pool first.
-fn plan_alone<I: Read + Drop, W: Sink + Drop>(
-    mut machine: Machine,
-    pool: Pool,
-    script: I,
-    output: W,
-) -> Result<Summary, Fault>
-    requires { W.has_failed output ≡ false }
+    requires fresh { IsTally [] [] session.tally }
+    requires few { 193 * length opening.now ≤ 65536 }
     ensures { result ≢ Err Fault.Open }
 {
-    let Pool {
-        base,
-        length,
-        align,
-    } = pool;
     let mut source = FromReader::new(script);
-    let mut page = Waiting::new();
-    let mut sink = Buffered::new(output, &mut page, MOST_WAITING);
-    Ok(plan_script(&mut machine, base, length, align, &mut source, &mut sink)?)
-}
-
-/// As `run_watched`, on a machine that is given a pool first.
-fn plan_watched<R: AllocGlobal + Eprint, I: Read + Drop, W: Sink + Drop>(
-    rt: &R,
-    mut machine: Machine,
-    pool: Pool,
-    script: I,
-    telling: Telling,
-    output: W,
-) -> Result<Summary, Fault>
-    requires { W.has_failed output ≡ false }
-    ensures { result ≢ Err Fault.Open }
-{
-    let mut source = Watched::new(FromReader::new(script));
-    let mut page = Waiting::new();
-    let mut sink = Counted::new(Buffered::new(output, &mut page, MOST_WAITING));
     let mut errors = FromWriter::new(ErrorWriter { to: rt });
-    plan_counted(
+    answer_and_tell(
         rt,
-        &mut machine,
+        opening,
         pool,
+        &mut session,
         &mut source,
-        &mut sink,
+        &mut output,
         telling,
         &mut errors,
     )
 }
 
-/// As `run_counted`, on a machine that is given a pool first.
-fn plan_counted<R: AllocGlobal, S: Source, W: Sink, E: Sink>(
+/// Answers a script, and if it came to its end reports the run.
+fn answer_and_tell<R: AllocGlobal, S: Source, W: Sink, E: Sink>(
     rt: &R,
-    machine: &mut Machine,
-    pool: Pool,
-    source: &mut Watched<S>,
-    sink: &mut Counted<W>,
+    opening: &[Op],
+    pool: Option<Len>,
+    session: &mut Session,
+    source: &mut S,
+    sink: &mut W,
     telling: Telling,
     errors: &mut E,
 ) -> Result<Summary, Fault>
-    requires source { S.has_failed source.old.inner ≡ false }
-    requires sink { W.has_failed sink.old.inner ≡ false }
+    requires source { S.has_failed source.old ≡ false }
+    requires sink { W.has_failed sink.old ≡ false }
     requires errors { E.has_failed errors.old ≡ false }
+    requires fresh { IsTally [] [] session.old.tally }
+    requires few { 193 * length opening.now ≤ 65536 }
     ensures open { result ≢ Err Fault.Open }
-    ensures ran { IfOk result (λ summary. RanToEnd machine.old (plan_opening pool.base pool.length pool.align) (S.to_come source.old.inner) (S.to_come source.new.inner) (W.taken_bytes sink.old.inner) (W.taken_bytes sink.new.inner) summary machine.new) }
-    ensures passed { OnOk result (W.waiting_bytes sink.new.inner ≡ []) }
-    ensures read { (result ≡ Err Fault.Read) ↔ (S.has_failed source.new.inner ≡ true) }
-    ensures write { (result ≡ Err Fault.Write) ↔ (W.has_failed sink.new.inner ≡ true) }
-    ensures told { OnOk result (E.has_failed errors.new ≡ false → TellsRun telling machine.new sink.new.tally source.new.watch (Some pool.length) (E.taken_bytes errors.old) (E.taken_bytes errors.new)) }
+    ensures ends { IfOk result (λ summary. EndsRun telling opening.now pool session.old.machine (S.to_come source.old) (S.to_come source.new) (W.taken_bytes sink.old) (W.taken_bytes sink.new) summary session.new (E.taken_bytes errors.old) (E.taken_bytes errors.new) (E.has_failed errors.new)) }
+    ensures read { (result ≡ Err Fault.Read) ↔ (S.has_failed source.new ≡ true) }
+    ensures write { (result ≡ Err Fault.Write) ↔ (W.has_failed sink.new ≡ true) }
     ensures untold { OnErr result (E.taken_bytes errors.new ≡ E.taken_bytes errors.old) }
 {
-    let summary = plan_script(machine, pool.base, pool.length, pool.align, source, sink)?;
-    let length = Some(pool.length);
-    tell(
-        rt,
-        machine,
-        sink.tally(),
-        source.watch(),
-        length,
-        telling,
-        errors,
-    )?;
+    let mut page = Waiting::new();
+    let summary = run_session(opening, session, source, sink, &mut page)?;
+    tell(rt, session, pool, telling, errors)?;
     Ok(summary)
 }

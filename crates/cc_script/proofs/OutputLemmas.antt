@@ -9,11 +9,11 @@ use Rattle.cc_machine.specs.declared.op.Op.{Op}
 use Rattle.cc_machine.specs.declared.reply.Reply.{Reply}
 use Rattle.cc_machine.specs.State.{State}
 use Rattle.cc_machine.proofs.OutcomeLemmas.{Step-one, IsSameOutcome, IsSameRun}
-use Rattle.cc_script.specs.Lines.{rest_of}
+use Rattle.cc_io.specs.Lines.{rest_of}
 use Rattle.cc_script.specs.Replies.{reply_text, is_error}
 use Rattle.cc_script.specs.Output.{commands_of, Takes, TakesAll, ScriptOutput, with_line_feed, replies_text, rest_text}
-use Rattle.cc_script.specs.Correct.{StopsInReply, StopsAfterLines, BeginsOutput}
-use Rattle.cc_script.proofs.EngineLemmas.{takes_further, replies_text-append}
+use Rattle.cc_script.specs.Correct.{StopsInReply, StopsInReplies, StopsAfterLines, BeginsOutput}
+use Rattle.cc_script.proofs.ReplyLemmas.{takes_further, replies_text-append}
 
 -- ---- one output
 
@@ -112,6 +112,23 @@ begins_in_reply old new end t u opening text output any_error s whole =
     let part : take (length front + s.count) output ≡ front ++ take s.count reply =
     ap (take (length front + s.count)) split ∙ take-append-add front (reply ++ is.0) s.count
     ∙ ap (λ (l : List ℕ). front ++ l) (take-append-le s.count reply is.0 s.within) in
+    (length front + s.count, subst (λ (l : List ℕ). Appends t u l) (sym part) s.written)
+
+-- the same where replies were collected on a page
+pub begins_in_replies : (room : ℕ) (old new end : State) (t u : Option (List ℕ)) (opening : List Op) (text output : List ℕ) (any_error : Bool)
+    → StopsInReplies room old (commands_of opening text) (Appends t u) new → ScriptOutput old opening text output any_error end
+    → (count : ℕ) × Appends t u (take count output)
+begins_in_replies room old new end t u opening text output any_error s whole =
+    let page : List ℕ = replies_text s.page in
+    let front : List ℕ = replies_text s.replies in
+    let commands_are = s.commands_are ∙ sym (append_assoc s.earlier s.on_page s.later) in
+    let before = takes_further old s.mid new s.earlier s.on_page s.replies s.page s.before s.takes in
+    let is = output_from old new end opening text output any_error (s.earlier ++ s.on_page) s.later (s.replies ++ s.page) commands_are before whole in
+    let split : output ≡ front ++ (page ++ is.0) =
+    is.1 ∙ ap (λ (l : List ℕ). l ++ is.0) (replies_text-append s.replies s.page) ∙ append_assoc front page is.0 in
+    let part : take (length front + s.count) output ≡ front ++ take s.count page =
+    ap (take (length front + s.count)) split ∙ take-append-add front (page ++ is.0) s.count
+    ∙ ap (λ (l : List ℕ). front ++ l) (take-append-le s.count page is.0 s.within) in
     (length front + s.count, subst (λ (l : List ℕ). Appends t u l) (sym part) s.written)
 
 begins_after_lines : (old new end : State) (t u : Option (List ℕ)) (opening : List Op) (text output : List ℕ) (any_error : Bool)

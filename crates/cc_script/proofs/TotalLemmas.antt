@@ -17,7 +17,7 @@ use Rattle.cc_script.specs.declared.keyword.Keyword.{Keyword}
 use Rattle.cc_script.specs.declared.keyword.Keyword.TheVariants as keyword
 use Rattle.cc_script.specs.Numbers.{number_of, within_limit}
 use Rattle.cc_script.specs.Commands.{words_of, index_in, address_in, length_in, flag_in, align_in, word_in, permissions_in, keyword_of, no_value, one, two, one_value, two_values, command_of, command_in, operation_of}
-use Rattle.cc_script.specs.Lines.{lines_of, rest_of}
+use Rattle.cc_io.specs.Lines.{lines_of, rest_of}
 use Rattle.cc_script.specs.Replies.{is_error}
 use Rattle.cc_script.specs.Output.{commands_of, Takes, TakesAll, ScriptOutput, replies_text, rest_text}
 

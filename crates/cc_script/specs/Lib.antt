@@ -1,5 +1,4 @@
 -- In reading order.
-pub mod Lines
 pub mod Numbers
 pub mod Digits
 pub mod Commands
@@ -8,6 +7,6 @@ pub mod Looks
 pub mod Replies
 pub mod Output
 pub mod Laws
-pub mod Devices
 pub mod Correct
-pub mod Engine
+pub mod Answering
+pub mod Lent

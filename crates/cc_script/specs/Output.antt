@@ -8,7 +8,7 @@ use Rattle.cc_machine.specs.declared.reply.Reply.TheVariants.{Refused}
 use Rattle.cc_machine.specs.State.{State}
 use Rattle.cc_machine.specs.Step.{Step}
 pub use Rattle.cc_text.specs.Text.{with_line_feed, rest_text}
-use Rattle.cc_script.specs.Lines.{lines_of, rest_of}
+use Rattle.cc_io.specs.Lines.{lines_of, rest_of}
 use Rattle.cc_script.specs.Commands.{operation_of}
 use Rattle.cc_script.specs.Replies.{reply_text, is_error}
 

@@ -4,7 +4,6 @@ use Rattle.cc_word.specs.Word.{bit_of}
 use Rattle.cc_word.specs.WordText.{digits_of}
 pub use Rattle.cc_word.specs.WordText.{hexadecimal}
 pub use Rattle.cc_text.specs.Text.{refusal_text}
-use Rattle.cc_word.specs.declared.refusal.Refusal.{Refusal}
 use Rattle.cc_bounds.specs.declared.span.Span.{Span}
 use Rattle.cc_cap.specs.Permissions.{bits_of}
 use Rattle.cc_plan.specs.declared.align.Align.{Align}

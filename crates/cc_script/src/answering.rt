@@ -8,8 +8,9 @@ ghost use Rattle.cc_script.specs.Commands.{command_in, command_of, operation_of,
 ghost use Rattle.cc_script.specs.declared.keyword.Keyword.TheVariants as keywords;
 ghost use Rattle.cc_script.specs.Keywords.{command_alone};
 ghost use Rattle.cc_script.specs.Looks.{takes_number, takes_second_number};
-ghost use Rattle.cc_script.specs.Devices.{AnswersInto};
-ghost use Rattle.cc_script.specs.Engine.{IsAnswered};
+ghost use Rattle.cc_script.specs.Answering.{IsAnswered};
+ghost use Rattle.cc_io.specs.Answers.{AnswersInto};
+ghost use Rattle.cc_script.specs.Lent.{ByLent, ByLentAtEnd};
 
 use crate::digits::Look;
 use crate::keyword::Keyword;
@@ -19,35 +20,64 @@ use crate::parsing::{
     two_of_number,
 };
 use crate::printing::{push_any_reply, push_reply};
+use cc_io::Answerer;
 use cc_machine::{Machine, Op, Reply};
 use cc_text::{Page, refusal_bytes};
 use cc_word::Refusal;
 
-/// Has the machine take a line of a script, and appends its reply and a line feed. Tells whether the reply is an error.
-///
-/// The caller has room for 193 bytes behind the text. For a sink that puts replies together where they wait.
-#[inline(always)]
-pub fn answer_into<const N: usize>(machine: &mut Machine, text: &mut Page<N>, line: &[u8]) -> bool
-    requires { length text.old + 193 ≤ N }
-    ensures answers { AnswersInto machine.old line.now text.old text.new result machine.new }
-    ensures fits { length text.new ≤ length text.old + 193 }
-{
-    match answer(machine, text, line) {
-        Ok(()) => false,
-        Err(refusal) => {
-            text.push(refusal_bytes(refusal));
-            true
+/// Answers the lines of a script by a machine that is lent.
+#[derive(Drop)]
+pub(crate) struct Script<'a> {
+    /// The machine.
+    pub machine: &'a mut Machine,
+}
+
+impl<const N: usize> Answerer<N> for Script<'_> {
+    ghost Answered = { ByLent };
+
+    ghost Ended = { ByLentAtEnd };
+
+    ghost MOST = { 193 };
+
+    #[inline(always)]
+    fn most() -> usize
+        ensures { result ≡ 193 }
+    {
+        193
+    }
+
+    #[inline(always)]
+    fn answer(&mut self, entry: &[u8], out: &mut Page<N>) -> bool
+        requires { length out.old + 193 ≤ N }
+        ensures { AnswersInto ByLent self.old entry.now out.old out.new result self.new }
+    {
+        match answer_line(self.machine, out, entry) {
+            Ok(()) => false,
+            Err(refusal) => {
+                out.push(refusal_bytes(refusal));
+                true
+            }
         }
+    }
+
+    fn end(&mut self, _rest: &[u8], out: &mut Page<N>) -> bool
+        requires { length out.old + 193 ≤ N }
+        ensures { AnswersInto ByLentAtEnd self.old _rest.now out.old out.new result self.new }
+    {
+        out.push(refusal_bytes(Refusal::Unfinished));
+        true
     }
 }
 
-/// Does what a line spells, and appends its reply and a line feed. Where the line or its operation is refused, the
-/// refusal is the answer, and the text is as it was.
+/// Steps the machine by a line of a script, and appends the reply and a line feed.
+///
+/// Requires: 193 bytes fit the page.
+/// Errors: the refusal of the line or of its operation; the text is unchanged then.
 ///
 /// Each operation that is spelled in short numbers has an arm of its own, in which the compiler knows which one it is.
 #[inline(never)]
 #[tactic(auto, unfolding(crate::specs::Commands::operation_of))]
-fn answer<const N: usize>(
+pub fn answer_line<const N: usize>(
     machine: &mut Machine,
     text: &mut Page<N>,
     line: &[u8],

@@ -8,14 +8,8 @@ ghost use Rattle.cc_machine.specs.declared.reply.Reply.{Reply};
 ghost use Rattle.cc_machine.specs.State.{State};
 ghost use Rattle.cc_machine.specs.Run.{Run, IsReached, IsInAddressSpace};
 ghost use Rattle.cc_script.specs.Commands.{OneJoin};
-ghost use Rattle.cc_script.specs.Lines.{OneSplit};
 ghost use Rattle.cc_script.specs.Output.{commands_of, TakesAll, ScriptOutput, operations_of, operation_replies};
 ghost use Rattle.cc_script.specs.Correct.{StopsInReply, StopsAfterLines, BeginsOutput};
-
-/// The lines of a text and its rest are a way to cut it at its line feeds, and the only one.
-pub fn one_split()
-    ensures { (text : List ℕ) → OneSplit text }
-{}
 
 /// The words of a line, with one space between each two, are the line; and no other words are.
 pub fn one_join()

@@ -1,6 +1,6 @@
 //! What a command tells of sinks and writers that fail.
-use cc_command::{Counted, show_word};
-use cc_script::{FromWriter, ScriptFault, Sink, SliceSink, Summary};
+use cc_command::show_word;
+use cc_script::{FromWriter, ScriptFault, SliceSink, Summary};
 use std::io::{self, Write};
 
 const NULL_WORD: &str = "00000000000000000000000000000000";
@@ -47,18 +47,6 @@ fn each_call_fails_in_turn(rt: HostRuntime) {
             assert!(rt; is_so, "call {fail_at}, pieces of {piece}");
         }
     }
-}
-
-/// The first call of the sink behind would fail: `before_read` makes none there, and `flush` does.
-fn is_only_told(sink: &mut Counted<SliceSink>) -> bool {
-    sink.before_read().is_ok() && sink.flush().is_err()
-}
-
-#[test]
-fn counted_sink_is_not_flushed_before_a_read(rt: HostRuntime) {
-    let mut room = [0u8; 4];
-    let behind = SliceSink::new(&mut room, 4, Some(1));
-    assert!(rt; is_only_told(&mut Counted::new(behind)));
 }
 
 /// A writer that answers its calls as it is told to, and counts the flushes.

@@ -1,9 +1,12 @@
-//! One script, cut after each of its bytes, and with each call of its devices failing in turn; to a sink that passes
-//! each reply on, and to sinks in which replies wait.
+//! One script, cut after each of its bytes, and with each call of its devices failing in turn; run by `run_script`, and by
+//! sessions with pages of different sizes.
+ghost use Rattle.std.specs.Prelude.{None, ◌≡◌, false};
+
 use super::End;
+use cc_command::{Session, run_session};
 use cc_machine::Machine;
 use cc_script::{
-    Buffered, MOST_WAITING, ScriptFault, SliceSink, SliceSource, Summary, Waiting, run_script,
+    Failed, Page, ScriptFault, Sink, SliceSink, SliceSource, Waiting, WholeLine, run_script,
 };
 use std::alloc::{AllocError, Global};
 
@@ -50,31 +53,74 @@ fn replies_in(text: &[u8]) -> usize {
     replies_to(lines)
 }
 
-/// How many bytes the source gives at most at once, and the sink takes; which call of each fails; and the size of the
-/// room in which replies wait.
+/// How many bytes the source gives at most at once, and the sink takes; which call of each fails; and which page the
+/// replies are put on.
 #[derive(Clone, Copy)]
 struct Devices {
     pieces: (usize, usize),
     fails: (Option<u32>, Option<u32>),
-    room: usize,
+    page: On,
 }
 
-/// From no room, where each reply is passed on, to more than the script has replies; and on both sides of the 193 bytes
-/// that a reply may have.
-const ROOMS: [usize; 7] = [0, 1, 64, 192, 193, 200, MOST_WAITING];
-
-/// How the run of a text ends, and how many bytes the slice took.
-fn run(machine: &mut Machine, text: &[u8], devices: &Devices, taken: &mut [u8]) -> (End, usize) {
-    let mut page = Waiting::new();
-    let mut source = SliceSource::new(text, devices.pieces.0.max(1), devices.fails.0);
-    let sink = SliceSink::new(taken, devices.pieces.1.max(1), devices.fails.1);
-    let mut sink = Buffered::new(sink, &mut page, devices.room.min(MOST_WAITING));
-    let end = run_script(machine, &mut source, &mut sink);
-    (end, sink.inner().taken())
+/// The page that replies are put on: that of `run_script`, or one that is lent to a session.
+#[derive(Clone, Copy)]
+enum On {
+    Script,
+    OneReply,
+    TwoReplies,
+    All,
 }
 
-/// The same on a new machine; `None` where the bytes are no beginning of this output, which is the replies to whole
-/// lines and `rest`.
+const PAGES: [On; 4] = [On::Script, On::OneReply, On::TwoReplies, On::All];
+
+/// A sink over a slice that records whether its last call was a flush.
+#[derive(Drop)]
+struct Seen<'a> {
+    inner: SliceSink<'a>,
+    is_flushed: bool,
+}
+
+impl Sink for Seen<'_> {
+    ghost taken_bytes = { λ _. None };
+
+    ghost has_failed = { λ s. s.inner.has_failed };
+
+    fn write(&mut self, piece: &[u8]) -> Result<usize, Failed> {
+        self.is_flushed = false;
+        self.inner.write(piece)
+    }
+
+    fn flush(&mut self) -> Result<(), Failed> {
+        self.is_flushed = true;
+        self.inner.flush()
+    }
+}
+
+/// How the run of a text on this page ends.
+fn run(mut machine: Machine, page: On, source: &mut SliceSource, sink: &mut Seen) -> End
+    requires source { source.old.has_failed ≡ false }
+    requires sink { sink.old.inner.has_failed ≡ false }
+{
+    if matches!(page, On::Script) {
+        return run_script(&mut machine, source, sink);
+    }
+    let mut session = Session::new(machine);
+    match page {
+        On::All => run_session(&[], &mut session, source, sink, &mut Waiting::new()),
+        On::TwoReplies => run_session(&[], &mut session, source, sink, &mut Page::<400>::new()),
+        On::Script | On::OneReply => run_session(
+            &[],
+            &mut session,
+            source,
+            sink,
+            &mut WholeLine::new(),
+        ),
+    }
+}
+
+/// How the run of a text on a new machine ends, and how many bytes the slice took; `None` where they are no beginning of
+/// this output, which is the replies to whole lines and `rest`, or where a run that
+/// ends well does not flush the sink last.
 fn run_anew(
     alloc: Global,
     text: &[u8],
@@ -83,13 +129,21 @@ fn run_anew(
     rest: &[u8],
 ) -> Option<(End, usize)> {
     let mut taken = [0u8; 1024];
-    let (end, count) = match Machine::with_limit(alloc, 16) {
-        Ok(mut machine) => run(&mut machine, text, devices, &mut taken),
+    let mut source = SliceSource::new(text, devices.pieces.0.max(1), devices.fails.0);
+    let mut sink = Seen {
+        inner: SliceSink::new(&mut taken, devices.pieces.1.max(1), devices.fails.1),
+        is_flushed: false,
+    };
+    let end = match Machine::with_limit(alloc, 16) {
+        Ok(machine) => run(machine, devices.page, &mut source, &mut sink),
         Err(AllocError) => return None,
     };
+    let count = sink.inner.taken();
+    let is_flushed = sink.is_flushed;
     let whole = count.min(replies);
     if taken.get(..whole) == OUTPUT.get(..whole)
         && taken.get(whole..count) == rest.get(..count.saturating_sub(whole))
+        && (is_flushed || end.is_err())
     {
         Some((end, count))
     } else {
@@ -99,12 +153,12 @@ fn run_anew(
 
 /// The first `cut` bytes of the script, read in pieces of this size, are answered as a script of their own. The eighth
 /// reply is the first error.
-fn is_cut(alloc: Global, cut: usize, size: usize, room: usize) -> bool {
+fn is_cut(alloc: Global, cut: usize, size: usize, page: On) -> bool {
     let text = &SCRIPT[..cut.min(SCRIPT.len())];
     let devices = Devices {
         pieces: (size, 200),
         fails: (None, None),
-        room,
+        page,
     };
     let replies = replies_in(text);
     let is_whole = text.is_empty() || text.ends_with(b"\n");
@@ -118,11 +172,11 @@ fn is_cut(alloc: Global, cut: usize, size: usize, room: usize) -> bool {
     }
 }
 
-/// So they are in pieces of each size, and through each room.
+/// So they are in pieces of each size, and on each page.
 fn is_cut_in_all(alloc: Global, cut: usize) -> bool {
     for size in [1usize, 7, 128] {
-        for room in &ROOMS {
-            if !is_cut(alloc, cut, size, *room) {
+        for page in &PAGES {
+            if !is_cut(alloc, cut, size, *page) {
                 return false;
             }
         }
@@ -138,15 +192,15 @@ fn script_cut_after_each_byte(rt: HostRuntime) {
 }
 
 /// Where this call of the source fails, in pieces of this size, the lines that came whole before it are answered,
-/// whatever the room.
+/// whatever the page.
 fn read_fails(alloc: Global, size: usize, call: u32) -> bool {
     let given = (call as usize).saturating_sub(1).saturating_mul(size);
     let replies = replies_in(&SCRIPT[..given.min(SCRIPT.len())]);
-    for room in &ROOMS {
+    for page in &PAGES {
         let devices = Devices {
             pieces: (size, 200),
             fails: (Some(call), None),
-            room: *room,
+            page: *page,
         };
         match run_anew(alloc, SCRIPT, &devices, replies, b"") {
             Some((Err(ScriptFault::Read), count)) if count == replies => {}
@@ -168,13 +222,13 @@ fn each_read_fails(rt: HostRuntime) {
 
 /// Each call of the sink fails in turn, each after no fewer bytes than the one before, and then none does: the last one
 /// that fails is the flush, behind all bytes.
-fn writes_fail(alloc: Global, pieces: (usize, usize), room: usize) -> bool {
+fn writes_fail(alloc: Global, pieces: (usize, usize), page: On) -> bool {
     let mut before = 0usize;
     for call in 1u32..1000 {
         let devices = Devices {
             pieces,
             fails: (None, Some(call)),
-            room,
+            page,
         };
         match run_anew(alloc, SCRIPT, &devices, OUTPUT.len(), b"") {
             Some((Err(ScriptFault::Write), count)) if count >= before => before = count,
@@ -189,9 +243,9 @@ fn writes_fail(alloc: Global, pieces: (usize, usize), room: usize) -> bool {
 
 /// So they do where a piece has one line at most, and where it has the whole script.
 fn writes_fail_in_all(alloc: Global, size: usize) -> bool {
-    for room in &ROOMS {
-        if !writes_fail(alloc, (6, size), *room)
-            || !writes_fail(alloc, (SCRIPT.len(), size), *room)
+    for page in &PAGES {
+        if !writes_fail(alloc, (6, size), *page)
+            || !writes_fail(alloc, (SCRIPT.len(), size), *page)
         {
             return false;
         }

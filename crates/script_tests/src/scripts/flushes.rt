@@ -29,10 +29,6 @@ impl Sink for Counting {
         Ok(piece.len())
     }
 
-    fn before_read(&mut self) -> Result<(), Failed> {
-        if self.has_failed { Err(Failed) } else { Ok(()) }
-    }
-
     fn flush(&mut self) -> Result<(), Failed> {
         self.flushes = self.flushes.saturating_add(1);
         if self.has_failed { Err(Failed) } else { Ok(()) }

@@ -1,7 +1,7 @@
 use Rattle.std.proofs.Common.{subst}
 use Rattle.std.specs.Prelude.{OnErr, OnOk}
 use Rattle.std.specs.Io.KnownBytes.{Appends}
-use Rattle.cc_script.specs.Devices.{TakesBeginning}
+use Rattle.cc_io.specs.Devices.{TakesBeginning}
 use Rattle.cc_command.specs.Drawing.{laid_out_text}
 use Rattle.cc_command.specs.declared.layout.Layout.{Layout}
 use Rattle.cc_command.proofs.drawing.write_drawing.Goals as goal

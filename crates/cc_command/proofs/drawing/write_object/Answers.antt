@@ -1,5 +1,5 @@
 use Rattle.std.proofs.Common.{rules, ◌≡◌, ◌<◌, ◌+◌, ◌*◌, ◌∙◌, ℕ, List, ap, ap₂, arith, max, min, subst}
-use Rattle.cc_script.specs.Devices.{TakesBeginning}
+use Rattle.cc_io.specs.Devices.{TakesBeginning}
 use Rattle.std.specs.Io.KnownBytes.{Appends}
 use Rattle.cc_command.specs.Drawing.{parts_text, rectangle_text, row_count}
 use Rattle.cc_command.proofs.DrawingLemmas.{parts_drawn, parts_left_out}

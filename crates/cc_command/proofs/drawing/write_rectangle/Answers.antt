@@ -1,7 +1,7 @@
 use Rattle.std.proofs.Common.{ℕ, List, subst, ◌∙◌}
 use Rattle.std.specs.Prelude.{OnErr, OnOk}
 use Rattle.std.specs.Io.KnownBytes.{Appends}
-use Rattle.cc_script.specs.Devices.{TakesBeginning}
+use Rattle.cc_io.specs.Devices.{TakesBeginning}
 use Rattle.cc_command.proofs.drawing.write_rectangle.Goals as goal
 
 pub returns-clause-ok : goal.returns-clause-ok

@@ -4,7 +4,7 @@ use Rattle.cc_command.proofs.statistics.push_counts.Given as goal
 
 abbrev pub invariant-counts : goal.invariant-counts
 invariant-counts l = record {
-  text : l.text ++ counts_text l.opening l.rest ≡ l.initial.text ++ counts_text l.opening l.counts;
+  text : l.text ++ counts_text l.rest ≡ l.initial.text ++ counts_text l.counts;
   fits : length l.text + 140 * length l.rest ≤ 3180;
 }
 

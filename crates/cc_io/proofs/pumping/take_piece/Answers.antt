@@ -20,7 +20,7 @@ entries-preserved g c = record {
   answers = λ begun is.
       let p = first_passes _ _ _ _ _ _ _ _ _ begun _ _ _ _ _ _ (c.entries.invariant.answers begun is) c.in-Ok.ensures.ok in
       let ends = c.in-Some.ensures.ends p.begun_now (c.as_slice.ensures ∙ p.start_is) in
-      first_more _ _ _ _ _ _ _ _ _ begun _ _ _ _ _ _ _ _ _ _ p ends (c.end_entry-any_error.ensures.answers p.begun_now p.start_is) (subst (λ (most : ℕ). length c.make_room.new.page + most ≤ g.row.N) c.MOST.ensures c.in-Ok.ensures.room)
+      first_more _ _ _ _ _ _ _ _ _ begun _ _ _ _ _ _ _ _ _ _ p ends (c.end_entry-any_error.ensures.answers p.begun_now p.start_is) (subst (λ (most : ℕ). length c.make_room.new.page + most ≤ g.row.N) c.most.ensures c.in-Ok.ensures.room)
       c.end_entry-any_error.ensures.next;
   begun = subst (g.F.Framing.IsBegun c.args.framing.now) (sym c.end_entry-any_error.ensures.next) (g.met.F.Framing.begins c.args.framing.now);
   works = search rules;

@@ -1,8 +1,8 @@
 use Rattle.std.proofs.Common.{◌≡◌, ℕ, List, ap, subst, sym}
 use Rattle.std.specs.Borrow.{Bor}
 use Rattle.std.specs.Prelude.{Result, IfOk, IsTrue, ◌↔◌}
-use Rattle.cc_script.specs.declared.summary.ScriptFault.{ScriptFault}
-use Rattle.cc_script.specs.declared.summary.Summary.{Summary}
+use Rattle.cc_io.specs.declared.summary.IoError.{IoError}
+use Rattle.cc_io.specs.declared.summary.Summary.{Summary}
 use Rattle.cc_command.specs.Answer.{WritesAnswer}
 use Rattle.cc_command.specs.Explanation.{IsExplanation}
 use Rattle.cc_command.specs.Listing.{IsWordText}
@@ -11,13 +11,13 @@ use Rattle.cc_program.specs.Answering.{IsAnswerTo, IsUnanswerable}
 use Rattle.cc_program.proofs.answering.answer_question.Goals as goal
 
 -- what is told of the bytes of a word is told of the word
-word_told : (result : Result Summary ScriptFault) (bytes word : List ℕ) → bytes ≡ word
+word_told : (result : Result Summary IoError) (bytes word : List ℕ) → bytes ≡ word
     → IfOk result (λ summary. IsTrue summary.any_error ↔ (¬ IsWordText bytes))
     → IfOk result (λ summary. IsTrue summary.any_error ↔ (¬ IsWordText word))
 word_told result bytes word same told = subst (λ (text : List ℕ). IfOk result (λ summary. IsTrue summary.any_error ↔ (¬ IsWordText text))) same told
 
 -- what is told of a question is told of one that is the same
-question_told : (result : Result Summary ScriptFault) (question other : Question) → question ≡ other
+question_told : (result : Result Summary IoError) (question other : Question) → question ≡ other
     → IfOk result (λ summary. IsTrue summary.any_error ↔ IsUnanswerable other)
     → IfOk result (λ summary. IsTrue summary.any_error ↔ IsUnanswerable question)
 question_told result question other same told = subst (λ (q : Question). IfOk result (λ summary. IsTrue summary.any_error ↔ IsUnanswerable q)) (sym same) told

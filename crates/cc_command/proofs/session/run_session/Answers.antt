@@ -1,0 +1,16 @@
+use Rattle.cc_script.proofs.RunLemmas.{laws_kept}
+use Rattle.cc_command.proofs.session.run_session.Goals as goal
+
+pub returns : goal.returns
+returns g c =
+    let runs = c.answer_session-result.ensures in
+    record {
+      runs = record {
+        answers = runs.answers.answers;
+        read = runs.read;
+        write = runs.write;
+        flushed = runs.flushed;
+        laws = laws_kept _ _ c.tell_reached.ensures c.tell_reached-2.ensures;
+      };
+      counts = runs.answers.counts;
+    }

@@ -1,0 +1,162 @@
+//! Runs a script.
+ghost use Rattle.std.specs.Prelude.{◌≡◌, [], Ok, Err, IfOk, OnErr, OnOk, IsErr, map, ◌↔◌, false, true};
+ghost use Rattle.std.specs.Io.KnownBytes.{Appends};
+ghost use Rattle.cc_io.specs.Devices.{TakesBeginning};
+ghost use Rattle.cc_machine.specs.Run.{IsReached};
+ghost use Rattle.cc_script.specs.Replies.{reply_text, is_error};
+ghost use Rattle.cc_script.specs.Output.{with_line_feed};
+ghost use Rattle.cc_script.specs.Correct.{AnswersScript, RunsScript, StopsInReply, stand};
+ghost use Rattle.cc_script.specs.Answering.{AnswersOpening};
+
+use crate::answering::{Script, step};
+use crate::printing::push_any_reply;
+use cc_io::{Failed, IoError, Lines, Sink, Source, Summary, pump, write_all};
+use cc_machine::{Machine, Op, Reply};
+use cc_text::WholeLine;
+
+/// Runs the script that the source gives: each line is stepped by the machine, and its reply is written before the next
+/// line is taken.
+///
+/// The sink is flushed once, at the end of the script. Allocates nothing. Whatever the result, the machine then keeps the
+/// laws of every run.
+///
+/// Requires: neither the source nor the sink has failed.
+/// Errors: `Read` if and only if the source failed. The replies to all complete lines that it gave are then written, and the
+/// machine has taken these lines alone. `Write` if and only if the sink failed. A prefix of the output is then written, and
+/// the machine has taken the line whose reply was cut, and none after it.
+pub fn run_script<R: Source, W: Sink>(
+    machine: &mut Machine,
+    source: &mut R,
+    sink: &mut W,
+) -> Result<Summary, IoError>
+    requires source { R.has_failed source.old ≡ false }
+    requires sink { W.has_failed sink.old ≡ false }
+    ensures { RunsScript StopsInReply []
+        (stand machine.old (R.to_come source.old) (R.has_failed source.old) (W.taken_bytes sink.old) (W.is_flushed sink.old) (W.has_failed sink.old))
+        result
+        (stand machine.new (R.to_come source.new) (R.has_failed source.new) (W.taken_bytes sink.new) (W.is_flushed sink.new) (W.has_failed sink.new)) }
+{
+    run_script_after(&[], machine, source, sink)
+}
+
+/// Runs the script that begins with these operations and goes on as the source gives, as [`run_script`] runs one that is all
+/// from the source. An operation gets the reply that a line which spells it gets.
+pub fn run_script_after<R: Source, W: Sink>(
+    opening: &[Op],
+    machine: &mut Machine,
+    source: &mut R,
+    sink: &mut W,
+) -> Result<Summary, IoError>
+    requires source { R.has_failed source.old ≡ false }
+    requires sink { W.has_failed sink.old ≡ false }
+    ensures { RunsScript StopsInReply opening.now
+        (stand machine.old (R.to_come source.old) (R.has_failed source.old) (W.taken_bytes sink.old) (W.is_flushed sink.old) (W.has_failed sink.old))
+        result
+        (stand machine.new (R.to_come source.new) (R.has_failed source.new) (W.taken_bytes sink.new) (W.is_flushed sink.new) (W.has_failed sink.new)) }
+{
+    tell_reached(machine);
+    let result = lend_machine(opening, machine, source, sink);
+    tell_reached(machine);
+    result
+}
+
+/// Proves of the machine what is true of every machine: a run leads to its state.
+pub fn tell_reached(machine: &Machine)
+    ensures { IsReached machine.now }
+{
+    let _ = machine.slots();
+}
+
+/// Lends the machine, and has the opening and the script answered by it.
+fn lend_machine<R: Source, W: Sink>(
+    opening: &[Op],
+    machine: &mut Machine,
+    source: &mut R,
+    sink: &mut W,
+) -> Result<Summary, IoError>
+    requires source { R.has_failed source.old ≡ false }
+    requires sink { W.has_failed sink.old ≡ false }
+    ensures answers { AnswersScript StopsInReply machine.old opening.now (R.to_come source.old) (R.to_come source.new) (Appends (W.taken_bytes sink.old) (W.taken_bytes sink.new)) result machine.new }
+    ensures read { (result ≡ Err IoError.Read) ↔ (R.has_failed source.new ≡ true) }
+    ensures write { (result ≡ Err IoError.Write) ↔ (W.has_failed sink.new ≡ true) }
+    ensures flushed { OnOk result (W.is_flushed sink.new ≡ true) }
+{
+    let mut script = Script { machine };
+    answer_script(opening, &mut script, source, sink)
+}
+
+/// Answers the opening, and then the script.
+fn answer_script<R: Source, W: Sink>(
+    opening: &[Op],
+    script: &mut Script<'_>,
+    source: &mut R,
+    sink: &mut W,
+) -> Result<Summary, IoError>
+    requires source { R.has_failed source.old ≡ false }
+    requires sink { W.has_failed sink.old ≡ false }
+    ensures same_reference { script.new.machine.ghost_name ≡ script.old.machine.ghost_name }
+    ensures answers { AnswersScript StopsInReply script.old.machine.now opening.now (R.to_come source.old) (R.to_come source.new) (Appends (W.taken_bytes sink.old) (W.taken_bytes sink.new)) result script.new.machine.now }
+    ensures read { (result ≡ Err IoError.Read) ↔ (R.has_failed source.new ≡ true) }
+    ensures write { (result ≡ Err IoError.Write) ↔ (W.has_failed sink.new ≡ true) }
+    ensures flushed { OnOk result (W.is_flushed sink.new ≡ true) }
+{
+    let opening_error = match take_opening(script.machine, opening, sink) {
+        Ok(is_error) => is_error,
+        Err(Failed) => return Err(IoError::Write),
+    };
+    let mut page = WholeLine::new();
+    match pump(&Lines, script, source, sink, &mut page) {
+        Ok(summary) => Ok(Summary {
+            any_error: opening_error | summary.any_error,
+        }),
+        Err(error) => Err(error),
+    }
+}
+
+/// Steps the machine by the operations of the opening, and writes their replies. Returns whether a reply is an error.
+fn take_opening<W: Sink>(
+    machine: &mut Machine,
+    opening: &[Op],
+    sink: &mut W,
+) -> Result<bool, Failed>
+    requires { W.has_failed sink.old ≡ false }
+    ensures ok { IfOk result (λ error.
+        AnswersOpening machine.old opening.now (W.taken_bytes sink.old) (W.taken_bytes sink.new) error machine.new) }
+    ensures err { OnErr result (
+        StopsInReply machine.old (map Ok opening.now) (Appends (W.taken_bytes sink.old) (W.taken_bytes sink.new)) machine.new) }
+    ensures fails { IsErr result ↔ (W.has_failed sink.new ≡ true) }
+{
+    let mut any_error = false;
+    for op in opening {
+        let reply = step(machine, op);
+        match write_reply(&reply, sink) {
+            Ok(is_error) => any_error |= is_error,
+            Err(Failed) => return Err(Failed),
+        }
+    }
+    Ok(any_error)
+}
+
+/// Writes a reply. Returns whether it is an error.
+fn write_reply<W: Sink>(reply: &Reply, sink: &mut W) -> Result<bool, Failed>
+    requires { W.has_failed sink.old ≡ false }
+    ensures error { IfOk result (λ error. error ≡ is_error reply.now) }
+    ensures ok { OnOk result (Appends (W.taken_bytes sink.old) (W.taken_bytes sink.new) (with_line_feed (reply_text reply.now))) }
+    ensures err { OnErr result (TakesBeginning (W.taken_bytes sink.old) (W.taken_bytes sink.new) (with_line_feed (reply_text reply.now))) }
+    ensures fails { IsErr result ↔ (W.has_failed sink.new ≡ true) }
+{
+    let mut text = WholeLine::new();
+    push_any_reply(&mut text, reply);
+    text.push_known(*b"\n");
+    match write_all(sink, text.bytes()) {
+        Ok(()) => Ok(is_refusal(reply)),
+        Err(Failed) => Err(Failed),
+    }
+}
+
+/// Returns whether a reply is an error.
+pub fn is_refusal(reply: &Reply) -> bool
+    ensures { result ≡ is_error reply.now }
+{
+    matches!(reply, Reply::Refused(_))
+}
