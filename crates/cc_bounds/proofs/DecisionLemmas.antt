@@ -16,6 +16,7 @@ use Rattle.cc_bounds.proofs.GranuleLemmas.{div_ceil-le, least-granule}
 use Rattle.cc_bounds.proofs.LawLemmas.{granted_law}
 use Rattle.cc_bounds.proofs.EncodingLemmas.{sound-fit}
 use Rattle.cc_bounds.proofs.WindowLemmas.{above_start, near-representable, representable-near}
+use Rattle.cc_bounds.proofs.SoundDecodingLemmas.{represents-computed}
 use Rattle.cc_bounds.proofs.TightestLemmas.{decoded-sound}
 use Rattle.cc_bounds.proofs.FieldsLemmas.{stored-decodes, stored-fields, found-stored}
 use Rattle.cc_bounds.proofs.ExactlyOneLemmas.{one-span}
@@ -154,8 +155,9 @@ dec-IsGranted request granted is_request =
 pub dec-Represents : (span : Span) (address : ℕ) → IsSpan span → IsSound span → address < 2 ^ 64 → Dec (Represents span address)
 dec-Represents span address is_span sound fits =
     let small = (sound-fit span is_span sound).exponent_fits in
-    map_dec (near-representable span.base (exponent_of span) address small is_span.base_fits fits)
-    (representable-near span.base (exponent_of span) address small is_span.base_fits fits)
+    let law = represents-computed span address is_span in
+    map_dec (λ near. law.0 (near-representable span.base (exponent_of span) address small is_span.base_fits fits near))
+    (λ represents. representable-near span.base (exponent_of span) address small is_span.base_fits fits (law.1 represents))
     (dec_lt (above_start span.base (exponent_of span) address) (8 * section_of (exponent_of span)))
 
 -- ---- fields

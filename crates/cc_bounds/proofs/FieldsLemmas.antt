@@ -5,14 +5,12 @@ use Rattle.cc_word.specs.declared.fields.Fields.{Fields}
 use Rattle.cc_bounds.specs.declared.span.Span.{Span}
 use Rattle.cc_bounds.specs.Span.{IsSpan}
 use Rattle.cc_bounds.specs.Granule.{IsGranted, IsSound}
-use Rattle.cc_bounds.specs.Window.{IsRepresentable}
 use Rattle.cc_bounds.specs.Encoding.{Encoding, HasBoundsFields, StoresSpan, ie_of, t_of, b_of}
 use Rattle.cc_bounds.specs.Decoding.{DecodesTo}
-use Rattle.cc_bounds.proofs.DecodedSpanLemmas.{word_representable}
 use Rattle.cc_bounds.proofs.GranuleLemmas.{granted_same}
 use Rattle.cc_bounds.proofs.LawLemmas.{fields_law}
 use Rattle.cc_bounds.proofs.TightestLemmas.{decoded-sound}
-use Rattle.cc_bounds.proofs.SoundDecodingLemmas.{sound-decodes, stored_exponent-is}
+use Rattle.cc_bounds.proofs.SoundDecodingLemmas.{decodes-representable, sound-decodes}
 
 -- what fields that store a span decode to
 pub stored-decodes : (fields : Fields) (span : Span) → StoresSpan fields span → DecodesTo fields span
@@ -53,7 +51,6 @@ module _ (fields : Fields) (own : Span) (set : Encoding) (decodes : DecodesTo fi
       let is : own ≡ set.granted = granted_same own own set.granted sound granted in
       let has_own = subst (λ (s : Span). HasBoundsFields s fields.ie fields.t fields.b) (sym is)
       ((fields_law set.granted fields.ie fields.t fields.b (subst IsSpan is is_span)).1 has) in
-      let at = subst (λ (n : ℕ). IsRepresentable own.base n fields.address) (stored_exponent-is own fields is_span sound has_own)
-      (word_representable fields own decodes) in
+      let at = decodes-representable own fields is_span sound has_own decodes in
       subst (λ (s : Span). StoresSpan fields s) is
       (record { is_span = is_span; sound = sound; bounds_fields = has_own; representable = at })

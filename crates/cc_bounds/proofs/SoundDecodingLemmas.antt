@@ -14,7 +14,7 @@ use Rattle.cc_bounds.specs.Encoding.{HasBoundsFields, ie_of, t_of, b_of}
 use Rattle.cc_bounds.specs.Decoding.{exponent_digits, stored_exponent, without_exponent, base_mantissa, IsTopMantissa, DecodesTo}
 use Rattle.cc_bounds.specs.Tightest.{DecodesBack, IsDecoded}
 use Rattle.cc_bounds.proofs.DecodedSpanLemmas.{word_representable}
-use Rattle.cc_bounds.proofs.ComputingLemmas.{bounds_fields-is, bounds_fields-are, AreBoundsFields, exponent_of-short}
+use Rattle.cc_bounds.proofs.ComputingLemmas.{bounds_fields-is, bounds_fields-are, AreBoundsFields, exponent_of-short, exponent_of-is, exponent-exponent_of}
 use Rattle.cc_bounds.proofs.EncodingLemmas.{IsLongSpan, sound-long, granule-units, sound-fit}
 use Rattle.cc_bounds.proofs.RoundTripLemmas.{IsSpanOf, IsRaised, raise_of, decodes_back}
 
@@ -52,8 +52,16 @@ long_stores span fields first last long h are =
       };
     }
 
+-- an address is representable for a span if it is in the window of the computed exponent
+pub represents-computed : (span : Span) (address : ℕ) → IsSpan span → IsRepresentable span.base (exponent_of span) address ↔ Represents span address
+unfolding Represents
+represents-computed span address is_span = (
+  λ within. (exponent_of span, exponent_of-is span is_span, within),
+  λ at. subst (λ (e : ℕ). IsRepresentable span.base e address) (exponent-exponent_of span at.0 is_span at.1) at.2,
+)
+
 long_decodes : (span : Span) (fields : Fields) (first last : ℕ) → IsSpan span → 4096 ≤ length_of span → IsLongSpan span first last
-    → AreBoundsFields span fields.ie fields.t fields.b → Represents span fields.address → DecodesTo fields span
+    → AreBoundsFields span fields.ie fields.t fields.b → IsRepresentable span.base (exponent_of span) fields.address → DecodesTo fields span
 long_decodes span fields first last is_span long h are at =
     let e : ℕ = exponent_of span in
     let stores = long_stores span fields first last long h are in
@@ -91,7 +99,7 @@ long_decodes span fields first last is_span long h are at =
 
 -- a shorter span
 short_decodes : (span : Span) (fields : Fields) → IsSpan span → length_of span < 4096
-    → AreBoundsFields span fields.ie fields.t fields.b → Represents span fields.address → DecodesTo fields span
+    → AreBoundsFields span fields.ie fields.t fields.b → IsRepresentable span.base (exponent_of span) fields.address → DecodesTo fields span
 short_decodes span fields is_span short are at =
     let e = exponent_of-short span short in
     let flag : ie_of span ≡ false = grind arith in
@@ -124,8 +132,9 @@ short_decodes span fields is_span short are at =
 
 -- fields with the encoding of a sound span decode to it at each representable address
 pub sound-decodes : (span : Span) → IsSpan span → IsSound span → DecodesBack span
-sound-decodes span is_span sound fields has at =
+sound-decodes span is_span sound fields has represents =
     let are = bounds_fields-are span fields.ie fields.t fields.b is_span has in
+    let at = (represents-computed span fields.address is_span).1 represents in
     elim (cases_lt (length_of span) 4096) [
       | inl short ↦ short_decodes span fields is_span short are at
       | inr long ↦
@@ -152,8 +161,9 @@ stored_exponent-is span fields is_span sound has =
 pub decodes-representable : (span : Span) (fields : Fields) → IsSpan span → IsSound span
     → HasBoundsFields span fields.ie fields.t fields.b → DecodesTo fields span → Represents span fields.address
 decodes-representable span fields is_span sound has decoded =
-    subst (λ (n : ℕ). IsRepresentable span.base n fields.address) (stored_exponent-is span fields is_span sound has)
-    (word_representable fields span decoded)
+    (represents-computed span fields.address is_span).0
+    (subst (λ (n : ℕ). IsRepresentable span.base n fields.address) (stored_exponent-is span fields is_span sound has)
+    (word_representable fields span decoded))
 
 -- each address of a span, and its top, is representable
 pub inside-representable : (base top e address : ℕ) → e ≤ 52 → top < base + 2 ^ (e + 13) → base ≤ address → address ≤ top
@@ -176,7 +186,8 @@ pub inside-Represents : (span : Span) (address : ℕ) → IsSpan span → IsSoun
     → Represents span address
 inside-Represents span address is_span sound from to =
     let fit = sound-fit span is_span sound in
-    inside-representable span.base span.top (exponent_of span) address fit.exponent_fits fit.close from to
+    (represents-computed span address is_span).0
+    (inside-representable span.base span.top (exponent_of span) address fit.exponent_fits fit.close from to)
 
 -- to a sound span some word decodes
 pub sound-IsDecoded : (span : Span) → IsSpan span → IsSound span → IsDecoded span

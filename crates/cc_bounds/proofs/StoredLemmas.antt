@@ -10,18 +10,17 @@ use Rattle.cc_word.specs.declared.fields.Fields.{Fields}
 use Rattle.cc_bounds.specs.declared.span.Span.{Span}
 use Rattle.cc_bounds.specs.Span.{IsSpan, length_of}
 use Rattle.cc_bounds.specs.Granule.{granule_count, IsExponent, exponent_of}
-use Rattle.cc_bounds.specs.Window.{IsRepresentable}
 use Rattle.cc_bounds.specs.Encoding.{HasBoundsFields, StoresSpan, IsEncoding, ie_of}
 use Rattle.cc_bounds.specs.Decoding.{stored_exponent, base_mantissa, exponent_digits, DecodesTo, EveryBitCounts}
 use Rattle.cc_bounds.proofs.PlaceLemmas.{units_lt, stored_exponent-le}
 use Rattle.cc_bounds.proofs.StandingLemmas.{mantissa_length, mantissa_length-fits, base_mantissa-fits, standing}
-use Rattle.cc_bounds.proofs.DecodedSpanLemmas.{top-above, length-fits, word_short, word_representable}
+use Rattle.cc_bounds.proofs.DecodedSpanLemmas.{top-above, length-fits, word_short}
 use Rattle.cc_bounds.proofs.DecodedTopLemmas.{mantissa_kept}
 use Rattle.cc_bounds.proofs.GranuleLemmas.{granule_count-covered, granule_count-many, IsLeastExponent, first-least, least-exponent}
 use Rattle.cc_bounds.proofs.EncodingLemmas.{granule-units, sound-long, sound-fit}
 use Rattle.cc_bounds.proofs.ComputingLemmas.{exponent_of-is, bounds_fields-are}
 use Rattle.cc_bounds.proofs.TightestLemmas.{decoded-sound}
-use Rattle.cc_bounds.proofs.SoundDecodingLemmas.{stored_exponent-is, long_stores}
+use Rattle.cc_bounds.proofs.SoundDecodingLemmas.{decodes-representable, stored_exponent-is, long_stores}
 
 -- ---- in units
 
@@ -219,8 +218,7 @@ module _ (fields : Fields) (span : Span) (decoded : DecodesTo fields span) (is_s
         is_span = is_span;
         sound = sound;
         bounds_fields = has;
-        representable = subst (λ (n : ℕ). IsRepresentable span.base n fields.address) (stored_exponent-is span fields is_span sound has)
-            (word_representable fields span decoded);
+        representable = decodes-representable span fields is_span sound has decoded;
       }
     where
       by_ie : (ie : Bool) → fields.ie ≡ ie → HasBoundsFields span fields.ie fields.t fields.b

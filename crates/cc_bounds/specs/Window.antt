@@ -1,7 +1,7 @@
 -- The window of addresses at which a word's bounds decode to themselves.
 use Rattle.std.specs.Prelude.{ℕ, ◌+◌, ◌-◌, ◌*◌, ◌/◌, ◌^◌, ◌<◌, ◌≤◌}
 use Rattle.cc_bounds.specs.declared.span.Span.{Span}
-use Rattle.cc_bounds.specs.Granule.{exponent_of}
+use Rattle.cc_bounds.specs.Granule.{IsExponent}
 
 -- an eighth of the window, in bytes
 abbrev pub section_of : ℕ → ℕ
@@ -20,6 +20,6 @@ pub record IsRepresentable (base exponent address : ℕ) : Type 0 where
   pub from_start : window_start_of base exponent ≤ address + laps * 2 ^ 64
   pub below_end : address + laps * 2 ^ 64 < window_start_of base exponent + 8 * section_of exponent
 
--- the address is representable for the span
-abbrev pub Represents : Span → ℕ → Type 0
-Represents span address = IsRepresentable span.base (exponent_of span) address
+-- Represents holds if the address is representable for the span: it is in the window that the span's exponent gives.
+unfoldable pub Represents : Span → ℕ → Type 0
+Represents span address = (exponent : ℕ) × IsExponent span exponent × IsRepresentable span.base exponent address

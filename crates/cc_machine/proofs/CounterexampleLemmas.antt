@@ -8,6 +8,7 @@ use Rattle.cc_bounds.specs.Granule.{IsSound, exponent_of}
 use Rattle.cc_bounds.specs.Window.{IsRepresentable, Represents}
 use Rattle.cc_bounds.proofs.ComputingLemmas.{exponent_of-long, granule_of-short}
 use Rattle.cc_bounds.proofs.GranuleLemmas.{least-fits}
+use Rattle.cc_bounds.proofs.SoundDecodingLemmas.{represents-computed}
 use Rattle.cc_word.specs.declared.refusal.Refusal.{Refusal}
 use Rattle.cc_cap.specs.ObjType.{unsealed_type}
 use Rattle.cc_cap.specs.Permissions.{unseal_permission}
@@ -265,8 +266,9 @@ whole-exponent =
 -- for which the first address past the end is representable
 past_end-representable : Represents (from_zero (2 ^ 64)) (2 ^ 64)
 past_end-representable =
-    subst (λ (e : ℕ). IsRepresentable 0 e (2 ^ 64)) (sym whole-exponent)
-    (record { laps = 0; from_start = omega arith; below_end = omega arith })
+    (represents-computed (from_zero (2 ^ 64)) (2 ^ 64) (record { in_order = omega arith; base_fits = omega arith; top_fits = omega arith })).0
+    (subst (λ (e : ℕ). IsRepresentable 0 e (2 ^ 64)) (sym whole-exponent)
+    (record { laps = 0; from_start = omega arith; below_end = omega arith }))
 
 -- so the root moves there, and has no word then
 pub past_end-breaks : (reply : Reply) (new : State) → ¬ Step (initial_state 8) (Addr 0 (2 ^ 64)) reply new
