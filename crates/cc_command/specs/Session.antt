@@ -12,7 +12,7 @@ use Rattle.cc_machine.specs.State.{State}
 use Rattle.cc_machine.specs.Step.{Step}
 use Rattle.cc_script.specs.Answering.{AnswersLine, RefusesRest}
 use Rattle.cc_script.specs.Commands.{operation_of}
-use Rattle.cc_script.specs.Correct.{AnswersScript, RunsScript, Stand, StopsInReplies}
+use Rattle.cc_script.specs.Correct.{AnswersScript, RunsScript, IoState, StopsInReplies}
 use Rattle.cc_script.specs.Output.{TakesAll, with_line_feed, replies_text}
 use Rattle.cc_script.specs.Replies.{reply_text, is_error}
 use Rattle.cc_command.specs.Tally.{Exchange, IsTally}
@@ -84,6 +84,6 @@ pub record AnswersSession (room : ℕ) (old : State) (opening : List Op) (to_com
 
 -- RunsSession holds if a run is that of the script, on a page of `room` bytes, and the tally at the end has counted the replies
 -- of this run.
-pub record RunsSession (room : ℕ) (opening : List Op) (before : Stand) (result : Result Summary IoError) (tally : Tally) (after : Stand) : Type 0 where
+pub record RunsSession (room : ℕ) (opening : List Op) (before : IoState) (result : Result Summary IoError) (tally : Tally) (after : IoState) : Type 0 where
   pub runs : RunsScript (StopsInReplies room) opening before result after
   pub counts : OnOk result (CountsRun before.machine opening runs.answers.given tally after.machine)

@@ -2,7 +2,7 @@
 ghost use Rattle.std.specs.Prelude.{◌≡◌, ◌+◌, ◌*◌, ◌≤◌, ◌↔◌, [], Err, OnOk, false, length, true};
 ghost use Rattle.std.specs.Io.KnownBytes.{Appends};
 ghost use Rattle.cc_machine.specs.Run.{IsReached};
-ghost use Rattle.cc_script.specs.Correct.{stand};
+ghost use Rattle.cc_script.specs.Laws.{KeepsLaws};
 ghost use Rattle.cc_command.specs.Session.{AnswersSession, OpensSession, RunsSession, SessionAnswers, SessionRefuses, TakesOperation};
 ghost use Rattle.cc_command.specs.Tally.{IsTally};
 
@@ -149,10 +149,22 @@ pub fn run_session<R: Source, W: Sink, const N: usize>(
     requires fresh { IsTally [] [] session.old.tally }
     requires room { 193 ≤ N }
     requires opening { 193 * length opening.now ≤ N }
-    ensures { RunsSession N opening.now
-        (stand session.old.machine (R.to_come source.old) (R.has_failed source.old) (W.taken_bytes sink.old) (W.is_flushed sink.old) (W.has_failed sink.old))
-        result session.new.tally
-        (stand session.new.machine (R.to_come source.new) (R.has_failed source.new) (W.taken_bytes sink.new) (W.is_flushed sink.new) (W.has_failed sink.new)) }
+    ensures runs { RunsSession N opening.now (record {
+      machine = session.old.machine;
+      unread = R.to_come source.old;
+      source_failed = R.has_failed source.old;
+      taken = W.taken_bytes sink.old;
+      flushed = W.is_flushed sink.old;
+      sink_failed = W.has_failed sink.old;
+    }) result session.new.tally (record {
+      machine = session.new.machine;
+      unread = R.to_come source.new;
+      source_failed = R.has_failed source.new;
+      taken = W.taken_bytes sink.new;
+      flushed = W.is_flushed sink.new;
+      sink_failed = W.has_failed sink.new;
+    }) }
+    ensures laws { KeepsLaws session.old.machine session.new.machine }
 {
     session.tell_reached();
     let result = answer_session(opening, session, source, sink, page);

@@ -8,7 +8,6 @@ use Rattle.cc_machine.specs.State.{State}
 use Rattle.cc_io.specs.Lines.{rest_of}
 use Rattle.cc_script.specs.Replies.{reply_text}
 use Rattle.cc_script.specs.Output.{commands_of, Takes, TakesAll, with_line_feed, replies_text, rest_text, ScriptOutput}
-use Rattle.cc_script.specs.Laws.{KeepsLaws}
 use Rattle.cc_io.specs.declared.summary.IoError.{IoError}
 use Rattle.cc_io.specs.declared.summary.IoError.TheVariants.{Read, Write}
 use Rattle.cc_io.specs.declared.summary.Summary.{Summary}
@@ -101,35 +100,22 @@ pub record AnswersScript (Stops : StopsAt) (old : State) (opening : List Op) (to
 
 -- ---- The theorem.
 
--- What a run finds, or what it leaves: the machine's state; the bytes still to come of the source, and the bytes that
--- the sink has taken, where these devices tell them; whether the sink is flushed; and of each device whether a call of it
--- has failed.
-pub record Stand : Type 0 where
+-- The state of the machine and of the devices of a run: the bytes that the source has unread and those that the sink has taken,
+-- if the devices say which they are; whether the sink is flushed; and whether a call of each device has failed.
+pub record IoState : Type 0 where
   pub machine : State
-  pub to_come : Option (List ℕ)
+  pub unread : Option (List ℕ)
   pub source_failed : Bool
   pub taken : Option (List ℕ)
   pub flushed : Bool
   pub sink_failed : Bool
 
--- a stand by its parts, in this order
-abbrev pub stand : State → (to_come : Option (List ℕ)) (source_failed : Bool) (taken : Option (List ℕ)) (flushed sink_failed : Bool) → Stand
-stand machine to_come source_failed taken flushed sink_failed = record {
-  machine = machine;
-  to_come = to_come;
-  source_failed = source_failed;
-  taken = taken;
-  flushed = flushed;
-  sink_failed = sink_failed;
-}
-
--- A run took the operations of `opening` and then the script that the source gave. What was written is the machine's
--- answer, up to a device's failure. `Read` is answered exactly if the source failed, `Write` if the sink did. At the end
--- the sink is flushed. The laws of every run are kept.
-pub record RunsScript (Stops : StopsAt) (opening : List Op) (before : Stand) (result : Result Summary IoError) (after : Stand) : Type 0 where
+-- RunsScript holds if the machine took the operations of `opening` and then the script that the source gave, and the bytes written
+-- are its replies, up to a failure of a device. The result is `Read` if and only if the source failed, and `Write` if and only if
+-- the sink failed. At the end the sink is flushed.
+pub record RunsScript (Stops : StopsAt) (opening : List Op) (before : IoState) (result : Result Summary IoError) (after : IoState) : Type 0 where
   pub answers :
-      AnswersScript Stops before.machine opening before.to_come after.to_come (Appends before.taken after.taken) result after.machine
+      AnswersScript Stops before.machine opening before.unread after.unread (Appends before.taken after.taken) result after.machine
   pub read : (result ≡ Err Read) ↔ (after.source_failed ≡ true)
   pub write : (result ≡ Err Write) ↔ (after.sink_failed ≡ true)
   pub flushed : OnOk result (after.flushed ≡ true)
-  pub laws : KeepsLaws before.machine after.machine

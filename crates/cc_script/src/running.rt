@@ -5,7 +5,8 @@ ghost use Rattle.cc_io.specs.Devices.{TakesBeginning};
 ghost use Rattle.cc_machine.specs.Run.{IsReached};
 ghost use Rattle.cc_script.specs.Replies.{reply_text, is_error};
 ghost use Rattle.cc_script.specs.Output.{with_line_feed};
-ghost use Rattle.cc_script.specs.Correct.{AnswersScript, RunsScript, StopsInReply, stand};
+ghost use Rattle.cc_script.specs.Correct.{AnswersScript, RunsScript, StopsInReply};
+ghost use Rattle.cc_script.specs.Laws.{KeepsLaws};
 ghost use Rattle.cc_script.specs.Answering.{AnswersOpening};
 
 use crate::answering::{Script, step};
@@ -31,10 +32,22 @@ pub fn run_script<R: Source, W: Sink>(
 ) -> Result<Summary, IoError>
     requires source { R.has_failed source.old ≡ false }
     requires sink { W.has_failed sink.old ≡ false }
-    ensures { RunsScript StopsInReply []
-        (stand machine.old (R.to_come source.old) (R.has_failed source.old) (W.taken_bytes sink.old) (W.is_flushed sink.old) (W.has_failed sink.old))
-        result
-        (stand machine.new (R.to_come source.new) (R.has_failed source.new) (W.taken_bytes sink.new) (W.is_flushed sink.new) (W.has_failed sink.new)) }
+    ensures runs { RunsScript StopsInReply [] (record {
+      machine = machine.old;
+      unread = R.to_come source.old;
+      source_failed = R.has_failed source.old;
+      taken = W.taken_bytes sink.old;
+      flushed = W.is_flushed sink.old;
+      sink_failed = W.has_failed sink.old;
+    }) result (record {
+      machine = machine.new;
+      unread = R.to_come source.new;
+      source_failed = R.has_failed source.new;
+      taken = W.taken_bytes sink.new;
+      flushed = W.is_flushed sink.new;
+      sink_failed = W.has_failed sink.new;
+    }) }
+    ensures laws { KeepsLaws machine.old machine.new }
 {
     run_script_after(&[], machine, source, sink)
 }
@@ -49,10 +62,22 @@ pub fn run_script_after<R: Source, W: Sink>(
 ) -> Result<Summary, IoError>
     requires source { R.has_failed source.old ≡ false }
     requires sink { W.has_failed sink.old ≡ false }
-    ensures { RunsScript StopsInReply opening.now
-        (stand machine.old (R.to_come source.old) (R.has_failed source.old) (W.taken_bytes sink.old) (W.is_flushed sink.old) (W.has_failed sink.old))
-        result
-        (stand machine.new (R.to_come source.new) (R.has_failed source.new) (W.taken_bytes sink.new) (W.is_flushed sink.new) (W.has_failed sink.new)) }
+    ensures runs { RunsScript StopsInReply opening.now (record {
+      machine = machine.old;
+      unread = R.to_come source.old;
+      source_failed = R.has_failed source.old;
+      taken = W.taken_bytes sink.old;
+      flushed = W.is_flushed sink.old;
+      sink_failed = W.has_failed sink.old;
+    }) result (record {
+      machine = machine.new;
+      unread = R.to_come source.new;
+      source_failed = R.has_failed source.new;
+      taken = W.taken_bytes sink.new;
+      flushed = W.is_flushed sink.new;
+      sink_failed = W.has_failed sink.new;
+    }) }
+    ensures laws { KeepsLaws machine.old machine.new }
 {
     tell_reached(machine);
     let result = lend_machine(opening, machine, source, sink);
