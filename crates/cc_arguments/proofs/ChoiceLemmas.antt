@@ -9,7 +9,7 @@ use Rattle.clap.specs.Words.{App, FailsBy, HasKind, Kinds, fault_of, kind_of, su
 use Rattle.clap.specs.declared.error.Error.{Error}
 use Rattle.clap.specs.declared.error.kind.ErrorKind.{ErrorKind}
 use Rattle.clap.specs.declared.error.kind.ErrorKind.TheVariants.{OutOfMemory}
-use Rattle.cc_program.specs.Invocation.{choice_fault, choice_fault_in, faults_of, is_taken, kinds_in}
+use Rattle.cc_arguments.specs.Invocation.{choice_fault, choice_fault_in, faults_of, is_taken, kinds_in}
 
 -- ---- the values of `explain`
 

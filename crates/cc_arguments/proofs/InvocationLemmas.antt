@@ -34,9 +34,9 @@ use Rattle.cc_decode.specs.declared.input.InputForm.TheVariants.{Bytes, Lines}
 use Rattle.cc_decode.specs.declared.format.Format.{Format}
 use Rattle.cc_decode.specs.declared.format.Format.TheVariants.{Columns}
 use Rattle.cc_decode.specs.declared.format.Format.TheVariants as format
-use Rattle.cc_program.specs.Invocation.{HasChoice, HasItsTexts, HasLimit, HasValues, HasWanted, IsChosen, IsGiven, IsLimit, IsInvocation, IsLimitText, choice_fault_in, align_named, decimal_value, format_named, format_names, program, slots_option, choice_option, command_of, input_named, order_names, HasFlag, flag_option}
-use Rattle.cc_program.specs.declared.invocation.Invocation.{Invocation}
-use Rattle.cc_program.proofs.GivenLemmas.{GiveValues, GivesValue, IsTaken, flag_gives, level-given, level_parts, no_default-given, required_given, set_gives, taken}
+use Rattle.cc_arguments.specs.Invocation.{HasChoice, HasItsTexts, HasLimit, HasValues, HasWanted, IsChosen, IsGiven, IsLimit, IsInvocation, IsLimitText, choice_fault_in, align_named, decimal_value, format_named, format_names, program, slots_option, choice_option, command_of, input_named, order_names, HasFlag, flag_option}
+use Rattle.cc_arguments.specs.declared.invocation.Invocation.{Invocation}
+use Rattle.cc_arguments.proofs.GivenLemmas.{GiveValues, GivesValue, IsTaken, flag_gives, level-given, level_parts, no_default-given, required_given, set_gives, taken}
 
 -- ---- numbers
 

@@ -2,7 +2,6 @@
 use Rattle.std.specs.Prelude.{cond, ◌≡◌, ◌≤◌, ◌⊎◌, ◌↔◌, ◌&&◌, ◌||◌, ℕ, Bool, IsTrue, not, List, [], ◌∷◌, Option, Some, None, IfSome, IsSome, is_some, codes, option_map, unwrap_or, if◌then◌else◌}
 use Rattle.std.specs.Borrow.{Bor}
 use Rattle.std.specs.Option.{option_map_or}
-use Rattle.std.specs.Result.{result_ok}
 use Rattle.std.specs.Str.{bytes_eq}
 use Rattle.std.specs.Str.Parse.{IsNumeral, digits_value, without_leading_plus}
 pub use Rattle.cc_table.specs.Usage.{IsProgram, choice_option, flag_option, format_names, order_names, program, slots_option}
@@ -11,19 +10,18 @@ use Rattle.clap.specs.Words.{App, Kinds, Row, Text, fault_of, first_of, one_of, 
 use Rattle.clap.specs.declared.error.kind.ErrorKind.{ErrorKind}
 use Rattle.clap.specs.declared.error.kind.ErrorKind.TheVariants.{ArgumentConflict, MissingRequiredArgument}
 use Rattle.cc_plan.specs.declared.align.Align.{Align}
-use Rattle.cc_plan.specs.declared.align.Align.TheVariants.{One}
-use Rattle.cc_script.specs.Commands.{align_in}
-use Rattle.cc_command.specs.declared.planning.PoolTexts.{PoolTexts}
+use Rattle.cc_plan.specs.declared.align.Align.TheVariants.{One, Sixteen}
+use Rattle.cc_arguments.specs.declared.invocation.PoolTexts.{PoolTexts}
 use Rattle.cc_decode.specs.declared.input.ByteOrder.TheVariants.{Little, Big}
 use Rattle.cc_decode.specs.declared.input.InputForm.{InputForm}
 use Rattle.cc_decode.specs.declared.input.InputForm.TheVariants.{Lines, Bytes}
 use Rattle.cc_decode.specs.declared.format.Format.{Format}
 use Rattle.cc_decode.specs.declared.format.Format.TheVariants.{Columns, Csv}
 use Rattle.cc_decode.specs.declared.format.Format.TheVariants as format
-use Rattle.cc_program.specs.declared.invocation.Invocation.{Invocation}
-use Rattle.cc_program.specs.declared.invocation.Invocation.TheVariants.{Ask, Decode, Map, Plan, Run}
-use Rattle.cc_program.specs.declared.question.Question.{Question}
-use Rattle.cc_program.specs.declared.question.Question.TheVariants.{Explain, ExplainLength, Round, Show}
+use Rattle.cc_arguments.specs.declared.invocation.Invocation.{Invocation}
+use Rattle.cc_arguments.specs.declared.invocation.Invocation.TheVariants.{Ask, Decode, Map, Plan, Run}
+use Rattle.cc_arguments.specs.declared.question.Question.{Question}
+use Rattle.cc_arguments.specs.declared.question.Question.TheVariants.{Explain, ExplainLength, Round, Show}
 
 -- ---- what clap found, and what it asks for
 
@@ -44,7 +42,7 @@ IsChosen named default (Some text) value = named text ≡ Some value
 
 -- the alignment that a text names
 abbrev pub align_named : Text → Option Align
-align_named text = result_ok (align_in text)
+align_named text = if bytes_eq text (codes "1") then Some One else if bytes_eq text (codes "16") then Some Sixteen else None
 
 -- the format that a text names
 abbrev pub format_named : Text → Option Format

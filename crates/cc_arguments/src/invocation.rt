@@ -1,8 +1,16 @@
 //! What the command line asks for.
 use crate::question::Question;
-use cc_command::PoolTexts;
 use cc_decode::Options;
-use cc_machine::Align;
+use cc_plan::Align;
+
+/// The bounds of a pool, as they were typed.
+#[derive(Clone, Copy, Debug, PartialEq, Eq)]
+pub struct PoolTexts<'a> {
+    /// The base.
+    pub base: &'a str,
+    /// The length.
+    pub length: &'a str,
+}
 
 /// A command and its values.
 #[derive(Clone, Copy)]

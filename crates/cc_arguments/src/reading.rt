@@ -2,7 +2,7 @@
 ghost use Rattle.std.specs.Prelude.{◌≡◌, ◌∷◌, [], IfErr, IfOk, None, codes, is_some, true};
 ghost use Rattle.clap.specs.Walk.{texts};
 ghost use Rattle.clap.specs.Words.{App, FailsBy, first_of, found_of, kind_of, rows_of, subcommand_of, subcommand_rows_of};
-ghost use Rattle.cc_program.specs.Invocation.{HasChoice, HasFlag, HasItsTexts, HasLimit, HasPoolTexts, HasText, HasValues, IsInvocation, IsProgram, align_named, choice_fault_in, choice_fault_of, command_of, faults_of, format_named, format_names, input_named, is_taken, kinds_in, order_names};
+ghost use Rattle.cc_arguments.specs.Invocation.{HasChoice, HasFlag, HasItsTexts, HasLimit, HasPoolTexts, HasText, HasValues, IsInvocation, IsProgram, align_named, choice_fault_in, choice_fault_of, command_of, faults_of, format_named, format_names, input_named, is_taken, kinds_in, order_names};
 
 use crate::invocation::Invocation;
 use crate::question::Question;

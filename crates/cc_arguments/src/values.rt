@@ -1,11 +1,11 @@
 //! The values that clap found for arguments and options.
 ghost use Rattle.std.specs.Prelude.{◌≡◌, Some, codes, option_map, unwrap_or};
 ghost use Rattle.clap.specs.Words.{first_of, found_of, rows_of};
-ghost use Rattle.cc_program.specs.Invocation.{HasChoice, HasFlag, HasLimit, HasPool, HasPoolTexts, HasText, IsChosen, IsGiven, IsLimit, align_named, format_named, input_named};
+ghost use Rattle.cc_arguments.specs.Invocation.{HasChoice, HasFlag, HasLimit, HasPool, HasPoolTexts, HasText, IsChosen, IsGiven, IsLimit, align_named, format_named, input_named};
 
-use cc_command::PoolTexts;
+use crate::invocation::PoolTexts;
 use cc_decode::{ByteOrder, Format, InputForm};
-use cc_machine::Align;
+use cc_plan::Align;
 use clap::ArgMatches;
 
 /// The value of `--slots` where it is not given.

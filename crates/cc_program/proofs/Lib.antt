@@ -1,5 +1,2 @@
-mod GivenLemmas
-mod InvocationLemmas
 mod OutcomeLemmas
-mod ChoiceLemmas
-mod TellingLemmas
+mod ReportLemmas

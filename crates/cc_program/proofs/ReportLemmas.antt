@@ -10,8 +10,8 @@ use Rattle.cc_command.specs.Statistics.{statistics_text}
 use Rattle.cc_command.specs.Tally.{Exchange}
 use Rattle.cc_command.specs.Usage.{IsUsage}
 use Rattle.cc_command.specs.declared.usage.Usage.{Usage}
-use Rattle.cc_program.specs.Telling.{IsSummary, TellsRun, hints_given}
-use Rattle.cc_program.specs.declared.telling.Telling.{Telling}
+use Rattle.cc_program.specs.Report.{IsSummary, WritesReport, hints_given}
+use Rattle.cc_program.specs.declared.report.Report.{Report}
 
 -- what holds of an answer holds where the device did not fail
 pub of_answer : {A E : Type 0} → (result : Result A E) (failed : Bool) (P : Type 0) → (IsErr result ↔ (failed ≡ true)) → failed ≡ false → OnOk result P → P
@@ -46,10 +46,10 @@ no_hints false opening exchanges pool not_given = refl
 no_hints true opening exchanges pool not_given = absurd (false≢true (sym not_given))
 
 -- the summary is written, and then the hints
-pub tells : (telling : Telling) (session : SessionState) (opening : List Reply) (exchanges : List Exchange) (pool : Option ℕ) (t m u : Option (List ℕ)) (summary hints : List ℕ)
-    → IsSummary telling.stats session summary → hints ≡ hints_given telling.hints opening exchanges pool → Appends t m summary → Appends m u hints
-    → TellsRun telling session opening exchanges pool t u
-tells telling session opening exchanges pool t m u summary hints is_summary are_hints first second = record {
+pub tells : (report : Report) (session : SessionState) (opening : List Reply) (exchanges : List Exchange) (pool : Option ℕ) (t m u : Option (List ℕ)) (summary hints : List ℕ)
+    → IsSummary report.stats session summary → hints ≡ hints_given report.hints opening exchanges pool → Appends t m summary → Appends m u hints
+    → WritesReport report session opening exchanges pool t u
+tells report session opening exchanges pool t m u summary hints is_summary are_hints first second = record {
   summary = summary;
   is_summary = is_summary;
   written = subst (λ (l : List ℕ). Appends t u (summary ++ l)) are_hints (Appends-trans t m u summary hints first second);

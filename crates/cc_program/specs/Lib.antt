@@ -1,7 +1,7 @@
 -- In reading order.
-pub mod Script
 pub mod Outcome
-pub mod Invocation
-pub mod Answering
-pub mod Running
-pub mod Telling
+pub mod Input
+pub mod Questions
+pub mod Report
+pub mod Execution
+pub mod Ending

@@ -6,8 +6,8 @@ use Rattle.cc_command.specs.LineAnswer.{IsLineAnswer}
 use Rattle.cc_command.specs.Listing.{IsListing, IsWordText}
 use Rattle.cc_command.specs.Request.{IsLengthExplanation, request_in}
 use Rattle.cc_command.specs.Rounding.{IsRounding}
-use Rattle.cc_program.specs.declared.question.Question.{Question}
-use Rattle.cc_program.specs.declared.question.Question.TheVariants.{Explain, ExplainLength, Round, Show}
+use Rattle.cc_arguments.specs.declared.question.Question.{Question}
+use Rattle.cc_arguments.specs.declared.question.Question.TheVariants.{Explain, ExplainLength, Round, Show}
 
 -- the bytes are the answer to the question
 abbrev pub IsAnswerTo : Question → (answer : List ℕ) → Type 0

@@ -1,22 +1,18 @@
 //! The program `cheri-cap` but for its entry: its command line, and what each of its commands does.
 #![tactic(auto)]
 
-mod answering;
-mod decoding;
+mod discard;
 mod error_writer;
-mod invocation;
-mod mapping;
+mod execution;
+mod input;
 mod outcome;
 mod program;
-mod question;
-mod reading;
-mod running;
-mod telling;
-mod values;
+mod questions;
+mod report;
 
-pub use invocation::Invocation;
+pub use cc_arguments::{Invocation, PoolTexts, Question, read_words};
+pub use execution::execute;
+pub use input::{InputName, Inputs, file_input};
 pub use outcome::{Ending, Fault, status};
 pub use program::{answer_arguments, finish};
-pub use question::Question;
-pub use reading::read_words;
-pub use telling::Terminals;
+pub use report::Terminals;

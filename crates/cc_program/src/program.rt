@@ -1,23 +1,26 @@
 //! What the program does with its arguments.
-ghost use Rattle.std.specs.Prelude.{◌≡◌, false, List, Option};
+ghost use Rattle.std.specs.Prelude.{◌≡◌, false, true, Err, List, Option};
 ghost use Rattle.clap.specs.Walk.{texts};
-ghost use Rattle.clap.specs.Words.{App, Row, Text, kind_of};
+ghost use Rattle.clap.specs.Words.{App, Row, Text, kind_of, subcommand_of};
 ghost use Rattle.cc_program.specs.declared.outcome.Ending.TheVariants as ending;
-ghost use Rattle.cc_program.specs.Invocation.{IsInvocation, IsProgram, faults_of, is_taken};
+ghost use Rattle.cc_program.specs.Ending.{EndsCommand};
+ghost use Rattle.cc_program.specs.Execution.{Executes, OnDevices, Traffic};
+ghost use Rattle.cc_program.specs.Input.{ReadsFile};
+ghost use Rattle.cc_arguments.specs.Invocation.{IsInvocation, IsProgram, faults_of, is_taken};
 ghost use Rattle.cc_program.specs.Outcome.{EndsBy, EndsOn, status_of};
 
-use crate::answering::answer_question;
-use crate::invocation::Invocation;
+use crate::error_writer::ErrorWriter;
+use crate::execution::execute;
+use crate::input::{ProcessInputs, writes_replies};
 use crate::outcome::{Ending, Fault, ending_of, ending_status};
-use crate::reading::read_words;
-use crate::telling::{Telling, Terminals};
-use crate::{decoding, mapping, running};
+use crate::report::Terminals;
+use cc_arguments::{Invocation, read_words};
 use cc_io::{FromWriter, Summary};
 use clap::Error;
 use clap::error::ErrorKind;
 use std::alloc::AllocError;
 use std::env::{self, Env};
-use std::io;
+use std::io::{self, BufWriter};
 use std::rt::Files;
 
 /// Does what the program's arguments ask for; they have to be UTF-8.
@@ -63,9 +66,10 @@ fn answer_words<R: AllocGlobal + Files + Input + Print + Eprint>(
 ) -> Ending
     ensures refused { result ≡ ending.Refused → (app : App) × IsProgram app × (is_taken app (texts words.now) ≡ false) }
     ensures ends { (app : App) × IsProgram app × EndsOn (faults_of app (texts words.now)) result }
+    ensures executes { (app : App) × IsProgram app × (is_taken app (texts words.now) ≡ true → EndsCommand (subcommand_of app (texts words.now)) terminals result) }
 {
     match read_words(rt.alloc(), words) {
-        Ok(invocation) => ending_of(answer(rt, terminals, invocation)),
+        Ok(invocation) => ending_of(execute_in_process(rt, terminals, invocation)),
         Err(error) => tell(rt, &error),
     }
 }
@@ -88,47 +92,27 @@ fn tell<R: Print + Eprint>(rt: &R, error: &Error) -> Ending
     }
 }
 
-/// Does what was asked for, and writes the answer to standard output.
-fn answer<R: AllocGlobal + Files + Input + Print + Eprint>(
+/// Executes a command on the files and the standard streams of the process.
+///
+/// Errors: those of [`execute`], and `Memory` if the buffer of an SVG document cannot be allocated.
+fn execute_in_process<R: AllocGlobal + Files + Input + Print + Eprint>(
     rt: &R,
     terminals: Terminals,
     invocation: Invocation<'_>,
 ) -> Result<Summary, Fault>
     requires invocation { (found : Option (Text × List Row)) × IsInvocation found invocation }
+    ensures executes { (traffic : Traffic) × OnDevices (Executes invocation terminals traffic) result }
+    ensures open { result ≡ Err Fault.Open → ReadsFile invocation }
 {
-    let mut output = FromWriter::new(io::writer(rt));
-    match invocation {
-        Invocation::Run { limit, stats, file } => running::run(
-            rt,
-            limit,
-            Telling::new(stats, terminals),
-            file,
-            output,
-        ),
-        Invocation::Plan {
-            limit,
-            pool,
-            align,
-            stats,
-            file,
-        } => running::plan(
-            rt,
-            limit,
-            pool,
-            align,
-            Telling::new(stats, terminals),
-            file,
-            output,
-        ),
-        Invocation::Map {
-            limit,
-            pool,
-            align,
-            svg,
-            file,
-        } => mapping::map(rt, limit, pool, align, svg, file),
-        Invocation::Decode { options, file } => decoding::decode(rt, options, file),
-        Invocation::Ask(question) => Ok(answer_question(question, &mut output)?),
+    let is_typed = writes_replies(invocation) && terminals.input && terminals.errors;
+    let inputs = ProcessInputs { rt, is_typed };
+    let mut errors = FromWriter::new(ErrorWriter { to: rt });
+    if let Invocation::Map { svg: true, .. } = invocation {
+        let mut sink = FromWriter::new(BufWriter::new(rt.alloc(), io::writer(rt))?);
+        execute(rt, invocation, terminals, &inputs, &mut sink, &mut errors)
+    } else {
+        let mut sink = FromWriter::new(io::writer(rt));
+        execute(rt, invocation, terminals, &inputs, &mut sink, &mut errors)
     }
 }
 

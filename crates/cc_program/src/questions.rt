@@ -1,9 +1,9 @@
 //! `show`, `explain` and `round`: which call answers each question.
 ghost use Rattle.std.specs.Prelude.{◌≡◌, ◌↔◌, [], Err, false, true, IfOk, IsErr, IsTrue, OnErr, OnOk};
 ghost use Rattle.cc_command.specs.Answer.{WritesAnswer};
-ghost use Rattle.cc_program.specs.Answering.{IsAnswerTo, IsUnanswerable};
+ghost use Rattle.cc_program.specs.Questions.{IsAnswerTo, IsUnanswerable};
 
-use crate::question::Question;
+use cc_arguments::Question;
 use cc_command::{explain_length, explain_word, show_line, show_round, show_word};
 use cc_io::{IoError, Sink, Summary};
 

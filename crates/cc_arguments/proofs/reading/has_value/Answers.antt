@@ -1,7 +1,7 @@
 use Rattle.std.proofs.Common.{◌∙◌, Option, ap, is_some, sym}
 use Rattle.clap.specs.Walk.{Text}
-use Rattle.cc_program.proofs.ChoiceLemmas.{is_some-now}
-use Rattle.cc_program.proofs.reading.has_value.Goals as goal
+use Rattle.cc_arguments.proofs.ChoiceLemmas.{is_some-now}
+use Rattle.cc_arguments.proofs.reading.has_value.Goals as goal
 
 pub returns : goal.returns
 returns c =

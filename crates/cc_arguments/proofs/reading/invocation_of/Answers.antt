@@ -1,8 +1,8 @@
 use Rattle.std.proofs.Common.{rules, ◌∙◌, ap, codes, option_map, sym, Some}
 use Rattle.clap.specs.Words.{found_of, rows_of}
-use Rattle.cc_program.proofs.InvocationLemmas.{command_wanted, found_name, invocation_is, known}
-use Rattle.cc_program.proofs.reading.invocation_of.Goals.{in_default-via-in-Some+in_default, in_default-via-in_default}
-use Rattle.cc_program.proofs.reading.invocation_of.Goals as goal
+use Rattle.cc_arguments.proofs.InvocationLemmas.{command_wanted, found_name, invocation_is, known}
+use Rattle.cc_arguments.proofs.reading.invocation_of.Goals.{in_default-via-in-Some+in_default, in_default-via-in_default}
+use Rattle.cc_arguments.proofs.reading.invocation_of.Goals as goal
 
 pub read_show-requires-clause-word : goal.read_show-requires-clause-word
 read_show-requires-clause-word c =

@@ -1,9 +1,9 @@
 use Rattle.std.proofs.Common.{◌≡◌, ◌∙◌, Option, Some, None, ap, codes, is_some, option_map, subst}
 use Rattle.clap.specs.Walk.{Text}
 use Rattle.clap.specs.Words.{first_of, found_of, rows_of}
-use Rattle.cc_program.specs.Invocation.{choice_fault}
-use Rattle.cc_program.proofs.ChoiceLemmas.{length_wanted, word_alone}
-use Rattle.cc_program.proofs.reading.read_explain.Goals as goal
+use Rattle.cc_arguments.specs.Invocation.{choice_fault}
+use Rattle.cc_arguments.proofs.ChoiceLemmas.{length_wanted, word_alone}
+use Rattle.cc_arguments.proofs.reading.read_explain.Goals as goal
 
 pub wanted_text-requires : goal.wanted_text-requires
 wanted_text-requires c =

@@ -7,10 +7,10 @@ use Rattle.clap.specs.Walk.{Row, Text, texts}
 use Rattle.clap.specs.Words.{App, FailsBy, HasKind, is_simple, kind_of, subcommand_of, subcommand_rows_of, takes}
 use Rattle.clap.specs.declared.error.Error.{Error}
 use Rattle.clap.specs.declared.error.kind.ErrorKind.TheVariants.{OutOfMemory}
-use Rattle.cc_program.specs.Invocation.{HasItsTexts, IsInvocation, IsProgram, choice_fault_in, faults_of, format_names, is_taken, kinds_in, order_names, program}
-use Rattle.cc_program.proofs.ChoiceLemmas.{choice_fails, choice_refuses, clap_fails, taken_parts}
-use Rattle.cc_program.proofs.InvocationLemmas.{found}
-use Rattle.cc_program.proofs.reading.read_words.Goals as goal
+use Rattle.cc_arguments.specs.Invocation.{HasItsTexts, IsInvocation, IsProgram, choice_fault_in, faults_of, format_names, is_taken, kinds_in, order_names, program}
+use Rattle.cc_arguments.proofs.ChoiceLemmas.{choice_fails, choice_refuses, clap_fails, taken_parts}
+use Rattle.cc_arguments.proofs.InvocationLemmas.{found}
+use Rattle.cc_arguments.proofs.reading.read_words.Goals as goal
 
 -- the program of these texts
 is_program_of : (aligns formats orders : Bor (List (Bor Text))) → texts aligns.now ≡ codes "1" ∷ codes "16" ∷ [] → texts formats.now ≡ format_names

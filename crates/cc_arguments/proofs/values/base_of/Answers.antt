@@ -3,8 +3,8 @@ use Rattle.std.specs.Prelude.{unwrap_or}
 use Rattle.std.specs.Borrow.{Bor}
 use Rattle.clap.specs.Walk.{Text}
 use Rattle.clap.specs.Words.{found_of}
-use Rattle.cc_program.proofs.ChoiceLemmas.{text_or}
-use Rattle.cc_program.proofs.values.base_of.Goals as goal
+use Rattle.cc_arguments.proofs.ChoiceLemmas.{text_or}
+use Rattle.cc_arguments.proofs.values.base_of.Goals as goal
 
 pub returns : goal.returns
 returns c =

@@ -2,9 +2,9 @@ use Rattle.std.proofs.Common.{◌∙◌, ◌≡◌, ap, codes, option_map, refl,
 use Rattle.clap.specs.Walk.{Text}
 use Rattle.clap.specs.Words.{first_of, found_of, rows_of}
 use Rattle.cc_decode.specs.declared.format.Format.TheVariants as format
-use Rattle.cc_program.specs.Invocation.{IsChosen, format_named}
-use Rattle.cc_program.proofs.InvocationLemmas.{format_columns}
-use Rattle.cc_program.proofs.values.format_of.Goals as goal
+use Rattle.cc_arguments.specs.Invocation.{IsChosen, format_named}
+use Rattle.cc_arguments.proofs.InvocationLemmas.{format_columns}
+use Rattle.cc_arguments.proofs.values.format_of.Goals as goal
 
 pub returns-in-Some-text : goal.returns-in-Some-text
 returns-in-Some-text c =

@@ -4,9 +4,9 @@ use Rattle.clap.specs.Words.{first_of, found_of, rows_of}
 use Rattle.std.specs.Prelude.{IfSome, IsSome}
 use Rattle.cc_decode.specs.declared.input.ByteOrder.TheVariants.{Little, Big}
 use Rattle.cc_decode.specs.declared.input.InputForm.TheVariants.{Lines, Bytes}
-use Rattle.cc_program.specs.Invocation.{IsChosen, input_named}
-use Rattle.cc_program.proofs.InvocationLemmas.{order_little}
-use Rattle.cc_program.proofs.values.input_of.Goals as goal
+use Rattle.cc_arguments.specs.Invocation.{IsChosen, input_named}
+use Rattle.cc_arguments.proofs.InvocationLemmas.{order_little}
+use Rattle.cc_arguments.proofs.values.input_of.Goals as goal
 
 pub returns-in-None : goal.returns-in-None
 returns-in-None c =

@@ -1,8 +1,8 @@
 use Rattle.std.proofs.Common.{◌∙◌}
 use Rattle.clap.specs.Words.{first_of, found_of, rows_of}
 use Rattle.clap.proofs.WalkLemmas.{one_text-rows}
-use Rattle.cc_program.proofs.InvocationLemmas.{flag_read}
-use Rattle.cc_program.proofs.values.is_given.Goals as goal
+use Rattle.cc_arguments.proofs.InvocationLemmas.{flag_read}
+use Rattle.cc_arguments.proofs.values.is_given.Goals as goal
 
 pub returns : goal.returns
 returns c =

@@ -2,9 +2,9 @@ use Rattle.std.proofs.Common.{◌∙◌, ℕ, codes, subst, sym}
 use Rattle.std.specs.Str.Parse.{ExplainsUnsignedError, HasUnsignedDigitsIfOk, ParsesUnsigned}
 use Rattle.clap.specs.Words.{first_of, found_of, rows_of}
 use Rattle.clap.proofs.WalkLemmas.{one_text-rows}
-use Rattle.cc_program.specs.Invocation.{IsLimit}
-use Rattle.cc_program.proofs.InvocationLemmas.{limit_read}
-use Rattle.cc_program.proofs.values.limit_of.Goals as goal
+use Rattle.cc_arguments.specs.Invocation.{IsLimit}
+use Rattle.cc_arguments.proofs.InvocationLemmas.{limit_read}
+use Rattle.cc_arguments.proofs.values.limit_of.Goals as goal
 
 pub returns : goal.returns
 returns c =

@@ -5,7 +5,7 @@ use Rattle.clap.specs.Walk.{texts}
 use Rattle.clap.specs.Words.{kind_of}
 use Rattle.cc_program.specs.declared.outcome.Ending.{Ending}
 use Rattle.cc_program.specs.declared.outcome.Ending.TheVariants.{Refused}
-use Rattle.cc_program.specs.Invocation.{faults_of, is_taken}
+use Rattle.cc_arguments.specs.Invocation.{faults_of, is_taken}
 use Rattle.cc_program.proofs.OutcomeLemmas.{answer_not_refused, ends_by_error, refused_not_for_memory}
 use Rattle.cc_program.proofs.program.answer_words.Goals as goal
 

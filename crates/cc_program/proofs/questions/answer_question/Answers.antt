@@ -6,9 +6,9 @@ use Rattle.cc_io.specs.declared.summary.Summary.{Summary}
 use Rattle.cc_command.specs.Answer.{WritesAnswer}
 use Rattle.cc_command.specs.Explanation.{IsExplanation}
 use Rattle.cc_command.specs.Listing.{IsWordText}
-use Rattle.cc_program.specs.declared.question.Question.{Question}
-use Rattle.cc_program.specs.Answering.{IsAnswerTo, IsUnanswerable}
-use Rattle.cc_program.proofs.answering.answer_question.Goals as goal
+use Rattle.cc_arguments.specs.declared.question.Question.{Question}
+use Rattle.cc_program.specs.Questions.{IsAnswerTo, IsUnanswerable}
+use Rattle.cc_program.proofs.questions.answer_question.Goals as goal
 
 -- what is told of the bytes of a word is told of the word
 word_told : (result : Result Summary IoError) (bytes word : List ℕ) → bytes ≡ word

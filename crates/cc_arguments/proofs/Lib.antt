@@ -1,0 +1,3 @@
+mod GivenLemmas
+mod InvocationLemmas
+mod ChoiceLemmas

@@ -1,0 +1,11 @@
+//! The command line: reads the words of a command line as a command and its values.
+#![tactic(auto)]
+
+mod invocation;
+mod question;
+mod reading;
+mod values;
+
+pub use invocation::{Invocation, PoolTexts};
+pub use question::Question;
+pub use reading::read_words;

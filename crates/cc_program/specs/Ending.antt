@@ -1,0 +1,26 @@
+-- How a command line that is taken ends the program.
+use Rattle.std.specs.Prelude.{◌≡◌, ◌⊎◌, List, Option, Result}
+use Rattle.clap.specs.Words.{Row, Text}
+use Rattle.cc_io.specs.declared.summary.Summary.{Summary}
+use Rattle.cc_program.specs.Execution.{Executes, OnDevices, Traffic}
+use Rattle.cc_arguments.specs.Invocation.{IsInvocation}
+use Rattle.cc_program.specs.Outcome.{ending_of}
+use Rattle.cc_arguments.specs.declared.invocation.Invocation.{Invocation}
+use Rattle.cc_program.specs.declared.outcome.Ending.{Ending}
+use Rattle.cc_program.specs.declared.outcome.Ending.TheVariants.{Stopped}
+use Rattle.cc_program.specs.declared.outcome.Fault.{Fault}
+use Rattle.cc_program.specs.declared.outcome.Fault.TheVariants as fault
+use Rattle.cc_program.specs.declared.report.Terminals.{Terminals}
+
+-- ExecutesCommand holds if the command that clap found was executed, and its result ends the program.
+pub record ExecutesCommand (found : Option (Text × List Row)) (terminals : Terminals) (ending : Ending) : Type 0 where
+  pub invocation : Invocation
+  pub is_invocation : IsInvocation found invocation
+  pub traffic : Traffic
+  pub result : Result Summary Fault
+  pub executes : OnDevices (Executes invocation terminals traffic) result
+  pub ends : ending ≡ ending_of result
+
+-- EndsCommand holds if the command that clap found was executed, or memory ran out before it began.
+abbrev pub EndsCommand : (found : Option (Text × List Row)) → Terminals → Ending → Type 0
+EndsCommand found terminals ending = ExecutesCommand found terminals ending ⊎ (ending ≡ Stopped fault.Memory)

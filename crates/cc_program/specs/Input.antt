@@ -1,0 +1,33 @@
+-- The input that a command reads.
+use Rattle.std.specs.Prelude.{Option, Some, None, codes, if◌then◌else◌, ⊤, ⊥}
+use Rattle.std.specs.Borrow.{Bor}
+use Rattle.std.specs.Str.{bytes_eq}
+use Rattle.clap.specs.Words.{Text}
+use Rattle.cc_arguments.specs.declared.invocation.Invocation.{Invocation}
+use Rattle.cc_arguments.specs.declared.invocation.Invocation.TheVariants.{Ask, Decode, Map, Plan, Run}
+use Rattle.cc_program.specs.declared.input.InputName.{InputName}
+use Rattle.cc_program.specs.declared.input.InputName.TheVariants.{Standard, File}
+
+-- The input that FILE names: standard input for `-`, and if FILE is not given.
+abbrev pub file_input : Option (Bor Text) → InputName
+file_input None = Standard
+file_input (Some path) = if bytes_eq path.now (codes "-") then Standard else File path
+
+-- IsFile holds if the input is a file.
+abbrev pub IsFile : InputName → Type 0
+IsFile Standard = ⊥
+IsFile (File path) = ⊤
+
+-- ReadsFile holds if the command reads a file.
+abbrev pub ReadsFile : Invocation → Type 0
+ReadsFile (Ask question) = ⊥
+ReadsFile (Run limit stats file) = IsFile (file_input file)
+ReadsFile (Plan limit pool align stats file) = IsFile (file_input file)
+ReadsFile (Map limit pool align svg file) = IsFile (file_input file)
+ReadsFile (Decode options file) = IsFile (file_input file)
+
+-- WritesReplies holds of `run` and `plan`, which write the replies to a script.
+abbrev pub WritesReplies : Invocation → Type 0
+WritesReplies (Run limit stats file) = ⊤
+WritesReplies (Plan limit pool align stats file) = ⊤
+WritesReplies _ = ⊥

@@ -1,0 +1,21 @@
+//! A sink that discards its bytes.
+ghost use Rattle.std.specs.Prelude.{false, None};
+
+use cc_io::{Failed, Sink};
+
+/// A sink that takes all bytes and keeps none of them. No call of it fails.
+pub struct Discard;
+
+impl Sink for Discard {
+    ghost taken_bytes = { λ _. None };
+
+    ghost has_failed = { λ _. false };
+
+    fn write(&mut self, piece: &[u8]) -> Result<usize, Failed> {
+        Ok(piece.len())
+    }
+
+    fn flush(&mut self) -> Result<(), Failed> {
+        Ok(())
+    }
+}

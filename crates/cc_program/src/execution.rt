@@ -1,0 +1,216 @@
+//! Executes a command on given devices.
+ghost use Rattle.std.specs.Prelude.{◌≡◌, ◌≢◌, ◌≤◌, ◌*◌, ◌↔◌, [], false, length, true, Err, IfOk, Option, List, OnErr, OnOk};
+ghost use Rattle.clap.specs.Words.{Row, Text};
+ghost use Rattle.cc_machine.specs.State.{initial_state};
+ghost use Rattle.cc_command.specs.Tally.{IsTally};
+ghost use Rattle.cc_arguments.specs.Invocation.{IsInvocation};
+ghost use Rattle.cc_program.specs.Execution.{DrawsRun, Executes, ListsWords, OnDevices, ReportsRun};
+ghost use Rattle.cc_program.specs.Input.{IsFile, ReadsFile};
+
+use crate::discard::Discard;
+use crate::input::{InputName, Inputs, file_input};
+use crate::outcome::Fault;
+use crate::questions::answer_question;
+use crate::report::{Report, Terminals, write_report};
+use cc_arguments::Invocation;
+use cc_command::{
+    Session, plan_numbers, plan_opening, run_session, show_drawing, show_map, show_statistics,
+    usage_of, write_refusal,
+};
+use cc_decode::{Options, decode_words};
+use cc_io::{FromReader, Sink, Summary};
+use cc_machine::{Len, Machine, Op};
+use cc_text::Waiting;
+use std::alloc::{AllocError, Global};
+
+/// The limit of the input of `decode` in bytes, more than any file or pipe gives.
+const MOST_DECODED: usize = 1 << 62;
+
+/// Executes a command: reads its input, writes its output to `sink`, and reports a run on `errors`.
+///
+/// BASE and LENGTH of `plan` and `map` are read first. If one is refused, the output is that refusal, and nothing is read.
+/// The machine is created next, and then the input is opened.
+///
+/// Requires: no device has failed.
+/// Errors: `Memory` if an allocation fails; `Open` if the input cannot be opened; `Read` if a read fails; `Write` if and
+/// only if the sink failed. Nothing is reported then.
+pub fn execute<R: AllocGlobal, I: Inputs, W: Sink, E: Sink>(
+    rt: &R,
+    invocation: Invocation<'_>,
+    terminals: Terminals,
+    inputs: &I,
+    sink: &mut W,
+    errors: &mut E,
+) -> Result<Summary, Fault>
+    requires invocation { (found : Option (Text × List Row)) × IsInvocation found invocation }
+    requires sink { W.has_failed sink.old ≡ false }
+    requires errors { E.has_failed errors.old ≡ false }
+    ensures executes { OnDevices (Executes invocation terminals (record {
+      input = I.bytes_of inputs.now;
+      output = W.taken_bytes sink.old;
+      output_now = W.taken_bytes sink.new;
+      errors = E.taken_bytes errors.old;
+      errors_now = E.taken_bytes errors.new;
+      errors_failed = E.has_failed errors.new;
+    })) result }
+    ensures open { result ≡ Err Fault.Open → ReadsFile invocation }
+    ensures write { (result ≡ Err Fault.Write) ↔ (W.has_failed sink.new ≡ true) }
+    ensures flushed { OnOk result (W.is_flushed sink.new ≡ true) }
+    ensures unreported { OnErr result (E.taken_bytes errors.new ≡ E.taken_bytes errors.old) }
+{
+    match invocation {
+        Invocation::Ask(question) => Ok(answer_question(question, sink)?),
+        Invocation::Run { limit, stats, file } => {
+            let report = Report::new(stats, terminals);
+            run(
+                rt,
+                limit,
+                &[],
+                None,
+                inputs,
+                file_input(file),
+                report,
+                sink,
+                errors,
+            )
+        }
+        Invocation::Plan {
+            limit,
+            pool,
+            align,
+            stats,
+            file,
+        } => match plan_numbers(pool.base.as_bytes(), pool.length.as_bytes()) {
+            Ok((base, length)) => {
+                let opening = plan_opening(base, length, align);
+                let report = Report::new(stats, terminals);
+                run(
+                    rt,
+                    limit,
+                    &opening,
+                    Some(length),
+                    inputs,
+                    file_input(file),
+                    report,
+                    sink,
+                    errors,
+                )
+            }
+            Err(refusal) => Ok(write_refusal(refusal, sink)?),
+        },
+        Invocation::Map {
+            limit,
+            pool,
+            align,
+            svg,
+            file,
+        } => match plan_numbers(pool.base.as_bytes(), pool.length.as_bytes()) {
+            Ok((base, length)) => {
+                let opening = plan_opening(base, length, align);
+                draw(rt, limit, &opening, svg, inputs, file_input(file), sink)
+            }
+            Err(refusal) => Ok(write_refusal(refusal, sink)?),
+        },
+        Invocation::Decode { options, file } => list_words(options, inputs, file_input(file), sink),
+    }
+}
+
+/// Creates the session of a new machine with at most `limit` slots and objects.
+fn new_session(alloc: Global, limit: u32) -> Result<Session, AllocError>
+    requires from_one { 1 ≤ limit }
+    requires at_most { limit ≤ 65536 }
+    ensures machine { IfOk result (λ session. session.machine ≡ initial_state limit) }
+    ensures fresh { IfOk result (λ session. IsTally [] [] session.tally) }
+{
+    Ok(Session::new(Machine::with_limit(alloc, limit)?))
+}
+
+/// Runs a script on a new machine, and reports the run if it came to its end.
+fn run<R: AllocGlobal, I: Inputs, W: Sink, E: Sink>(
+    rt: &R,
+    limit: u32,
+    opening: &[Op],
+    pool: Option<Len>,
+    inputs: &I,
+    input: InputName<'_>,
+    report: Report,
+    sink: &mut W,
+    errors: &mut E,
+) -> Result<Summary, Fault>
+    requires from_one { 1 ≤ limit }
+    requires at_most { limit ≤ 65536 }
+    requires few { 193 * length opening.now ≤ 65536 }
+    requires sink { W.has_failed sink.old ≡ false }
+    requires errors { E.has_failed errors.old ≡ false }
+    ensures runs { OnDevices (ReportsRun report opening.now pool limit input (record {
+      input = I.bytes_of inputs.now;
+      output = W.taken_bytes sink.old;
+      output_now = W.taken_bytes sink.new;
+      errors = E.taken_bytes errors.old;
+      errors_now = E.taken_bytes errors.new;
+      errors_failed = E.has_failed errors.new;
+    })) result }
+    ensures open { result ≡ Err Fault.Open → IsFile input }
+    ensures write { (result ≡ Err Fault.Write) ↔ (W.has_failed sink.new ≡ true) }
+    ensures flushed { OnOk result (W.is_flushed sink.new ≡ true) }
+    ensures unreported { OnErr result (E.taken_bytes errors.new ≡ E.taken_bytes errors.old) }
+{
+    let mut session = new_session(rt.alloc(), limit)?;
+    let mut source = FromReader::new(inputs.open(input)?);
+    let mut page = Waiting::new();
+    let summary = run_session(opening, &mut session, &mut source, sink, &mut page)?;
+    write_report(rt, &session, pool, report, errors)?;
+    Ok(summary)
+}
+
+/// Runs a script on a new machine without writing the replies, and draws the pool if the script came to its end: an SVG
+/// document, or a map and the summary of the run.
+fn draw<R: AllocGlobal, I: Inputs, W: Sink>(
+    rt: &R,
+    limit: u32,
+    opening: &[Op],
+    svg: bool,
+    inputs: &I,
+    input: InputName<'_>,
+    sink: &mut W,
+) -> Result<Summary, Fault>
+    requires from_one { 1 ≤ limit }
+    requires at_most { limit ≤ 65536 }
+    requires few { 193 * length opening.now ≤ 65536 }
+    requires sink { W.has_failed sink.old ≡ false }
+    ensures draws { OnDevices (DrawsRun svg opening.now limit input (I.bytes_of inputs.now) (W.taken_bytes sink.old) (W.taken_bytes sink.new)) result }
+    ensures open { result ≡ Err Fault.Open → IsFile input }
+    ensures write { (result ≡ Err Fault.Write) ↔ (W.has_failed sink.new ≡ true) }
+    ensures flushed { OnOk result (W.is_flushed sink.new ≡ true) }
+{
+    let mut session = new_session(rt.alloc(), limit)?;
+    let mut source = FromReader::new(inputs.open(input)?);
+    let mut page = Waiting::new();
+    let summary = run_session(opening, &mut session, &mut source, &mut Discard, &mut page)?;
+    if svg {
+        show_drawing(session.machine(), sink)?;
+    } else {
+        let usage = usage_of(rt.alloc(), session.machine())?;
+        show_map(session.machine(), sink)?;
+        show_statistics(&usage, session.tally(), sink)?;
+    }
+    Ok(summary)
+}
+
+/// Writes a row for each word of an input.
+fn list_words<I: Inputs, W: Sink>(
+    options: Options,
+    inputs: &I,
+    input: InputName<'_>,
+    sink: &mut W,
+) -> Result<Summary, Fault>
+    requires { W.has_failed sink.old ≡ false }
+    ensures lists { OnDevices (ListsWords options input (I.bytes_of inputs.now) (W.taken_bytes sink.old) (W.taken_bytes sink.new)) result }
+    ensures open { result ≡ Err Fault.Open → IsFile input }
+    ensures memory { result ≢ Err Fault.Memory }
+    ensures write { (result ≡ Err Fault.Write) ↔ (W.has_failed sink.new ≡ true) }
+    ensures flushed { OnOk result (W.is_flushed sink.new ≡ true) }
+{
+    let mut source = FromReader::with_limit(inputs.open(input)?, MOST_DECODED);
+    Ok(decode_words(options, &mut source, sink)?)
+}
