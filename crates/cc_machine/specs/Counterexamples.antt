@@ -1,5 +1,5 @@
 -- States that break the laws, each one of them, so that no law holds for everything. No run leads
--- to them. Only the tests of the laws cite this file.
+-- to a state that breaks a law. Only the tests of the laws cite this file.
 use Rattle.std.specs.Prelude.{ℕ, Bool, true, ◌^◌, ◌==◌, List, [], ◌∷◌, ◌++◌, Some, None}
 use Rattle.cc_word.specs.declared.refusal.Refusal.TheVariants.{Full}
 use Rattle.cc_bounds.specs.Span.{span_from}
