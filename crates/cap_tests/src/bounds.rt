@@ -1,3 +1,3 @@
-//! Bounds that are set.
+//! Setting bounds.
 mod plain_search;
 mod values;

@@ -1,4 +1,4 @@
-//! Capabilities: the rules on words, names of permissions, types, and many words at once.
+//! Capabilities: the rules on words, names of permissions, types, and the batch functions on words.
 mod many;
 mod names;
 mod rules;

@@ -6,7 +6,8 @@ use cc_io::{
     SliceSink, SliceSource, Source, Summary, pump, write_all,
 };
 
-/// Answers an entry with its first byte, and an empty entry with `-`, which is an error. Answers trailing bytes with `.`.
+/// Replies to an entry with its first byte, and to an empty entry with `-`, which is an error.
+/// Replies to trailing bytes with `.`.
 #[derive(Drop)]
 struct Initials;
 
@@ -37,8 +38,11 @@ const TEXT: &[u8] = b"abc\n\nd\nefghi\nj\nk\nlmn";
 
 const OUTPUT: &[u8] = b"head\na\n-\nd\ne\nj\nk\n.\n";
 
-/// Returns the result for the text and the number of bytes taken, or `None` if the sink took other bytes. The source gives,
-/// and the sink takes, one byte a call; `fails` says which call of each fails, if one does. The page has 8 bytes.
+/// Returns the result for the text and the number of bytes taken, or `None` if the sink took other
+/// bytes.
+///
+/// The source gives, and the sink takes, one byte a call. `fails` says which call of each fails, if
+/// one does. The page has 8 bytes.
 fn pump_bytes<F: Framing>(
     framing: &F,
     text: &[u8],
@@ -59,7 +63,7 @@ fn pump_bytes<F: Framing>(
     }
 }
 
-/// Returns the number of bytes that answer the first `given` bytes of the text.
+/// Returns the number of bytes of `OUTPUT` for the first `given` bytes of the text.
 fn answered(given: usize) -> usize {
     let mut count = 5usize;
     for byte in &TEXT[..given.min(TEXT.len())] {
@@ -70,7 +74,7 @@ fn answered(given: usize) -> usize {
     count
 }
 
-/// Returns whether exactly the lines before the failed read are answered.
+/// Returns whether exactly the lines before the failed read get replies.
 fn read_fails(call: usize) -> bool {
     let Ok(number) = u32::try_from(call) else {
         return false;
@@ -116,7 +120,7 @@ fn gives_three(source: &mut FromReader<&[u8]>) -> bool {
     source.read(&mut room) == Ok(3) && room.starts_with(b"abc") && source.read(&mut room) == Ok(0)
 }
 
-/// The bytes go into this list.
+/// Returns whether a sink over `taken` takes three bytes.
 fn takes_three(taken: &mut Vec<u8>) -> bool {
     let mut sink = FromWriter::new(&mut *taken);
     let is_taken = write_all(&mut sink, b"abc") == Ok(()) && sink.flush() == Ok(());
@@ -131,7 +135,7 @@ fn reader_and_writer_move_bytes(rt: HostRuntime) {
     assert!(rt; gives_then_fails(&mut short));
 }
 
-/// The read after the limit fails, though the reader has no more.
+/// Returns whether the read after the limit fails, though the reader has no more.
 fn gives_then_fails(source: &mut FromReader<&[u8]>) -> bool {
     let mut room = [0u8; 8];
     source.read(&mut room) == Ok(3) && source.read(&mut room) == Err(Failed)

@@ -1,3 +1,3 @@
-//! Words and their texts.
+//! Words and their digits.
 mod digits;
 mod values;

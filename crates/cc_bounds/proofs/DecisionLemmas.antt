@@ -1,4 +1,5 @@
--- What is decided, one way or the other: of spans, of granules and windows, and of what fields store.
+-- Claims decided, one way or the other: of spans, of granules and windows, and of the spans that
+-- fields store.
 use Rattle.std.proofs.Common.{ℕ, zero, suc, Bool, true, false, ◌≡◌, ◌⊎◌, ◌+◌, ◌*◌, ◌^◌, ◌<◌, ◌≤◌, max, refl, ap, subst, inl, inr, arith}
 use Rattle.std.proofs.lemmas.Bool.{cases_lt}
 use Rattle.std.proofs.lemmas.Nat.{pow_pos}

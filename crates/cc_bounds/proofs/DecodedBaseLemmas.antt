@@ -1,4 +1,4 @@
--- Where B stands, found in 64 bits from the section of the address.
+-- The place of B, found in 64 bits from the section of the address.
 use Rattle.std.proofs.Common.{◌≡◌, ℕ, ◌+◌, ◌-◌, ◌*◌, ◌<◌, ◌≤◌, ◌/◌, ◌%◌, ◌^◌, sym, ◌∙◌, ap, arith, bit_and}
 use Rattle.std.proofs.Math.Nat.{add-mul-div_right, div-le_self}
 use Rattle.std.proofs.lemmas.Nat.{pow-add, mul-mod_first}
@@ -10,7 +10,8 @@ use Rattle.cc_bounds.specs.Decoding.{stored_exponent, base_mantissa, raised, fir
 use Rattle.cc_bounds.proofs.PlaceLemmas.{start_section, stored_exponent-le, section_is, address_section-ge, placed}
 use Rattle.cc_bounds.proofs.StandingLemmas.{base_mantissa-fits}
 
--- how many sections the address stands above the window's start, and the section of B, in 64 bits
+-- the number of sections from the window's start up to the address, and the section of B, in 64
+-- bits
 abbrev pub sections_above : (address mantissa : ℕ) → ℕ
 sections_above address mantissa = (address + (2 ^ 64 - (mantissa / 2 ^ 11 + (2 ^ 64 - 1)) % 2 ^ 64)) % 2 ^ 64 % 8
 
@@ -26,7 +27,7 @@ above_is : (address raised mantissa laps : ℕ) → raised ≡ address + laps �
     → sections_above address mantissa ≡ (raised + 8 - (mantissa / 2 ^ 11 + 7) % 8) % 8
 above_is address raised mantissa laps is_raised fits eight = omega arith
 
--- over plain numbers: the address `raised` stands `above` sections above the window's start
+-- over plain numbers: the address `raised` is `above` sections above the window's start
 units_kept : (address raised above mantissa laps : ℕ) → raised ≡ address + laps → above < 8 → 8 ≤ raised
     → (((address + (2 ^ 64 - above)) % 2 ^ 64 + 1) % 2 ^ 64 * 2 ^ 11 % 2 ^ 64 + mantissa % 2 ^ 11 + laps * 2 ^ 11) % 2 ^ 64
     ≡ ((raised - above + 1) * 2 ^ 11 + mantissa % 2 ^ 11) % 2 ^ 64
@@ -49,7 +50,7 @@ place_is section unit eight start mantissa is_section is_eight is_start fits =
     let multiplied = ap (λ (n : ℕ). n * unit) units in
     omega (arith, scaled, multiplied)
 
--- whole laps of the address space are not kept, over plain numbers
+-- whole multiples of 2 ^ 64 are not kept, over plain numbers
 laps_dropped : (units laps other place unit : ℕ) → (units + laps * 2 ^ 11) % 2 ^ 64 ≡ other % 2 ^ 64
     → laps * (2 ^ 11 * unit) ≡ 2 ^ 66 → place ≡ other * unit → units * unit % 2 ^ 64 ≡ place % 2 ^ 64
 laps_dropped units laps other place unit same whole is_place =
@@ -68,7 +69,7 @@ module _ (fields : Fields) where
   abbrev mantissa : ℕ
   mantissa = base_mantissa fields
 
-  -- four laps of the address space, in sections
+  -- 2 ^ 66, four times the address space, in sections
   abbrev laps : ℕ
   laps = 2 ^ (55 - stored_exponent fields)
 
@@ -90,7 +91,7 @@ module _ (fields : Fields) where
         raised_is = rw (sym sections) (add-mul-div_right fields.address laps (section_is fields).positive);
       }
 
-  -- B stands where so many units say, of which 64 bits are kept
+  -- the place of B in units, of which 64 bits are kept
   pub decoded_base-is : IsDecodedBase fields (base_units address mantissa * 2 ^ stored_exponent fields % 2 ^ 64)
   decoded_base-is =
       let unit : ℕ = 2 ^ stored_exponent fields in
@@ -123,7 +124,7 @@ windows_same : (units address low mantissa : ℕ) → units ≡ address * 2 ^ 11
     → (above_start units mantissa / 2 ^ 14 * 2 ^ 14 + mantissa) % 2 ^ 64 % 2 ^ 64 ≡ base_units address mantissa % 2 ^ 64
 windows_same units address low mantissa is_units low_fits units_fit fits = omega arith
 
--- B stands in the window as the code finds it, by whole windows in units of 2 ^ exponent
+-- the place of B in the window as the code finds it, by whole windows in units of 2 ^ exponent
 pub decoded_base_masked : (fields : Fields) (scale mantissa : ℕ) → scale ≡ stored_exponent fields → mantissa ≡ base_mantissa fields
     → let start : ℕ = (bit_and mantissa 14336 + (2 ^ 64 - 2048)) % 2 ^ 64 in
     let above : ℕ = (fields.address / 2 ^ scale + (2 ^ 64 - start)) % 2 ^ 64 in

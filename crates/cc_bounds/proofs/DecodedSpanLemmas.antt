@@ -1,4 +1,4 @@
--- What is known of the span that a word decodes to.
+-- Properties of the span that a word decodes to.
 use Rattle.std.proofs.Common.{◌≡◌, ℕ, ◌+◌, ◌-◌, ◌*◌, ◌<◌, ◌≤◌, ◌/◌, ◌%◌, ◌^◌, true, false, refl, sym, ◌∙◌, ap, arith, inl, inr}
 use Rattle.std.proofs.Math.Nat.{div-add-mod', mod-eq_of_lt, mod-lt, mul-add-mod_self_right}
 use Rattle.std.proofs.Math.Pow.{pow_mono, mod-mod-pow}
@@ -12,7 +12,7 @@ use Rattle.cc_bounds.specs.Decoding.{stored_exponent, base_mantissa, raised, IsT
 use Rattle.cc_bounds.proofs.PlaceLemmas.{units_lt, stored_exponent-le, section_is}
 use Rattle.cc_bounds.proofs.StandingLemmas.{mantissa_length, mantissa_length-fits, base_mantissa-fits, standing}
 
--- below exponent 51 the top stands as far above the base as their places
+-- below exponent 51 the top is as far above the base as their places
 pub top-above : (exponent base place length top : ℕ) → exponent < 51 → length < 2 ^ 63 → base ≡ place % 2 ^ 64
     → IsTopBeside exponent base (place + length) top → top ≡ base + length
 top-above exponent base place length top small fits is_base is_top =
@@ -135,7 +135,7 @@ word_long fields span decoded is_ie =
 
 -- ---- the address
 
--- a number of sections with a rest keeps the rest where 64 bits are kept
+-- a number of sections and a remainder keeps the remainder if 64 bits are kept
 rest_kept : (exponent sections rest place base : ℕ) → exponent ≤ 52 → place ≡ sections * section_of exponent + rest
     → rest < section_of exponent → base ≡ place % 2 ^ 64 → base / section_of exponent * section_of exponent + rest ≡ base
 rest_kept exponent sections rest place base exponent_fits is_place fits is_base =
@@ -148,7 +148,7 @@ rest_kept exponent sections rest place base exponent_fits is_place fits is_base 
     let split = div-add-mod' base section in
     omega (arith, split, base_rest)
 
--- an address in a window is representable for a base that stands one section above the window's start
+-- an address in a window is representable for a base that is one section above the window's start
 representable : (exponent address start rest place base : ℕ) → section_of exponent ≤ 2 ^ 63 → address < 2 ^ 64
     → start ≤ raised address → raised address < start + 8 * section_of exponent → place ≡ start + section_of exponent + rest
     → rest < section_of exponent → base ≡ place % 2 ^ 64 → base / section_of exponent * section_of exponent + rest ≡ base

@@ -1,4 +1,4 @@
--- The top of a word, found from its base and how far T stands above B.
+-- The top of a word, found from its base and the distance from B up to T.
 use Rattle.std.proofs.Common.{◌≡◌, ℕ, ◌+◌, ◌-◌, ◌*◌, ◌<◌, ◌≤◌, ◌%◌, ◌^◌, ◌∙◌, arith, inl, inr, bit_and}
 use Rattle.std.proofs.Math.Nat.{mod-eq_of_lt}
 use Rattle.std.proofs.lemmas.Nat.{and_mask}

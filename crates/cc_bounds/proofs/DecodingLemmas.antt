@@ -33,7 +33,7 @@ near_same size one other below above same =
 
 -- ---- the top mantissa
 
--- a field without the exponent's bits is no larger
+-- a field without the exponent's bits is not larger
 pub without_exponent-le : (ie : Bool) (field : ℕ) → without_exponent ie field ≤ field
 without_exponent-le true field = omega arith
 without_exponent-le false field = omega arith
@@ -52,7 +52,7 @@ IsTopMantissa-same fields one other is_one is_other =
     mantissa_same (base_mantissa fields) (without_exponent fields.ie fields.t) (bit_of fields.ie) one other (omega arith)
     is_one.fits is_other.fits is_one.stored is_other.stored is_one.implied is_other.implied
 
--- ---- the window and what stands in it
+-- ---- the window and the places in it
 
 -- fields have one window
 pub IsWindow-same : (fields : Fields) (one other : ℕ) → IsWindow fields one → IsWindow fields other → one ≡ other
@@ -61,7 +61,7 @@ IsWindow-same fields one other is_one is_other =
     let there = is_other.holds_address in
     near_same (window_size fields) one other (omega arith) (omega arith) (is_one.begins ∙ sym is_other.begins)
 
--- a mantissa stands at one place
+-- a mantissa has one place
 pub IsPlaced-same : (fields : Fields) (mantissa one other : ℕ) → IsPlaced fields mantissa one → IsPlaced fields mantissa other → one ≡ other
 IsPlaced-same fields mantissa one other is_one is_other =
     let window = IsWindow-same fields is_one.start is_other.start is_one.is_window is_other.is_window in
@@ -71,7 +71,7 @@ IsPlaced-same fields mantissa one other is_one is_other =
 
 -- ---- the top
 
--- one top stands beside a base
+-- there is one top for a base and a place
 pub IsTopBeside-same : (exponent base place one other : ℕ) → base < 2 ^ 64 → IsTopBeside exponent base place one
     → IsTopBeside exponent base place other → one ≡ other
 IsTopBeside-same exponent base place one other fits is_one is_other =
@@ -93,7 +93,7 @@ IsDecodedBase-same fields one other is_one is_other =
     let place = IsPlaced-same fields (base_mantissa fields) is_one.place is_other.place is_one.is_place is_other.is_place in
     is_one.kept ∙ ap (λ (n : ℕ). n % 2 ^ 64) place ∙ sym is_other.kept
 
--- fields have one top beside a base
+-- fields have one top for a base
 pub IsDecodedTop-same : (fields : Fields) (base one other : ℕ) → base < 2 ^ 64 → IsDecodedTop fields base one
     → IsDecodedTop fields base other → one ≡ other
 IsDecodedTop-same fields base one other fits is_one is_other =

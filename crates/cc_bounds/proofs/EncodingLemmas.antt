@@ -1,4 +1,4 @@
--- What a `Set` stores: the exponent and the fields of a sound span.
+-- The contents of a `Set`: the exponent and the fields of a sound span.
 use Rattle.std.proofs.Common.{subst, ◌≡◌, ℕ, ◌+◌, ◌-◌, ◌*◌, ◌<◌, ◌≤◌, ◌/◌, ◌%◌, ◌^◌, sym, ◌∙◌, ap, arith, inl, inr, nat_lt, bit_and}
 use Rattle.std.proofs.Math.Nat.{div-add-mod', mul-le-mul_right, mul-add-div_right, mul-add-mod_self_right}
 use Rattle.std.proofs.lemmas.Nat.{pow_pos, pow-add, shl-shr, and_mask}
@@ -52,7 +52,7 @@ sound-long span is_span sound long =
       };
     }
 
--- the exponent and the fields fit where they are stored
+-- the exponent and the fields fit the widths in which they are stored
 pub record Fit (span : Span) : Type 0 where
   pub exponent_fits : exponent_of span ≤ 52
   pub t_fits : t_of span < 2 ^ 12

@@ -60,7 +60,7 @@ one-window fields =
 SomeTop : (exponent base place : ℕ) → Type 0
 SomeTop exponent base place = (top : ℕ) × IsTopBeside exponent base place top
 
--- some top stands beside a base
+-- there is a top for a base and a place
 some-top : (exponent base place : ℕ) → base < 2 ^ 64 → SomeTop exponent base place
 unfolding SomeTop
 some-top exponent base place fits =
@@ -73,7 +73,7 @@ some-top exponent base place fits =
       | inr large ↦ (place % 2 ^ 65, record { fits = omega arith; large = λ _. refl; small = λ small. absurd (omega arith); near = λ small. absurd (omega arith) })
     ]
 
--- exactly one top stands beside a base
+-- there is exactly one top for a base and a place
 pub one-top : (exponent base place : ℕ) → base < 2 ^ 64 → ExactlyOne (IsTopBeside exponent base place)
 unfolding SomeTop
 one-top exponent base place fits =

@@ -1,4 +1,5 @@
--- Granules: how many a request touches, the least that is coarse enough, and rounding to them.
+-- Granules: the number that a request touches, the smallest that is coarse enough, and rounding to
+-- them.
 use Rattle.std.proofs.Common.{subst, ◌≡◌, ℕ, zero, suc, ◌+◌, ◌-◌, ◌*◌, ◌<◌, ◌≤◌, ◌/◌, ◌^◌, refl, sym, ◌∙◌, ap, arith, inl, inr}
 use Rattle.std.specs.Int.{div_ceil}
 use Rattle.std.specs.Int.Count.{count_leading_zeros}
@@ -36,7 +37,7 @@ div_ceil-multiple m g pos =
     let least = le_of_mul-le-mul_right up pos in
     omega (arith, most, least)
 
--- a division rounds up where the divisor less one was added before it
+-- a division rounds up if the divisor less one was added before it
 pub div_ceil_by_sum : (n g rest : ℕ) → 0 < g → rest ≡ g - 1 → (n + rest) / g ≡ div_ceil n g
 div_ceil_by_sum n g rest pos is =
     let down = div-mul-le_self (n + rest) g in
@@ -93,7 +94,7 @@ granule_count-within inner outer g pos base top =
     let bases = le-div (outer.base / g) inner.base g pos (omega (arith, down, base)) in
     omega (arith, tops, bases)
 
--- how many granules a request touches that a span of whole granules covers
+-- the number of granules that a request touches, if a span of whole granules covers it
 pub granule_count-covered : (request : Span) (g n m : ℕ) → 0 < g → n * g ≤ request.base → request.top ≤ m * g
     → granule_count request g ≤ m - n
 granule_count-covered request g n m pos base top =
@@ -279,7 +280,7 @@ power-exponent request power h small large = record {
 
 -- ---- the granule of a length, and its growth by the rounding of the ends
 
--- a request not longer than so many granules touches at most one more
+-- a request not longer than `n` granules touches at most one more
 pub granule_count-few : (request : Span) (g n : ℕ) → 0 < g → request.base ≤ request.top → length_of request ≤ n * g
     → granule_count request g ≤ n + 1
 granule_count-few request g n pos order short =
@@ -287,7 +288,7 @@ granule_count-few request g n pos order short =
     let up = div_ceil-le request.top g (request.base / g + 1 + n) pos (omega (arith, down, short)) in
     omega (arith, up)
 
--- a request of at least so many granules' length touches as many
+-- a request at least as long as `n` granules touches at least `n`
 pub granule_count-many : (request : Span) (g n : ℕ) → 0 < g → request.base ≤ request.top → n * g ≤ length_of request
     → n ≤ granule_count request g
 granule_count-many request g n pos order long =
@@ -306,14 +307,14 @@ length-before request power order least k three less =
     let many = granule_count-many request (2 ^ k) 1024 (pow_pos k) order (omega (arith, least, p, q)) in
     omega (arith, many)
 
--- the power of the length is that of the granule where the request touches few enough
+-- the power of the length is that of the granule if the request touches few enough
 pub length_granule : (request : Span) (size power : ℕ) → 512 * 2 ^ power ≤ size → size ≡ length_of request
     → 4096 ≤ length_of request → 3 ≤ power → granule_count request (2 ^ power) ≤ 1023 → IsGranule request (2 ^ power)
 length_granule request size power least is long three few =
     let least' : 512 * 2 ^ power ≤ length_of request = omega (arith, least, is) in
     first_granule request power long three few (length-before request power (omega arith) least')
 
--- where the request touches more, the next power is that of the granule
+-- if the request touches more, the next power is that of the granule
 pub grown_granule : (request : Span) (size power : ℕ) → 512 * 2 ^ power ≤ size → size < 1024 * 2 ^ power
     → size ≡ length_of request → 4096 ≤ length_of request → 3 ≤ power → 1023 < granule_count request (2 ^ power)
     → IsGranule request (2 ^ (power + 1))

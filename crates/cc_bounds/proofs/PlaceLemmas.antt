@@ -1,4 +1,4 @@
--- Where a mantissa stands: from sections of the window to numbers.
+-- The place of a mantissa: from sections of the window to numbers.
 use Rattle.std.proofs.Common.{◌≡◌, ℕ, ◌+◌, ◌-◌, ◌*◌, ◌<◌, ◌≤◌, ◌/◌, ◌%◌, ◌^◌, ◌∙◌, ap, arith}
 use Rattle.std.proofs.Math.Nat.{mul-le-mul_right, div-add-mod', mod-lt, mod-eq_of_lt, mul-add-mod_self_right}
 use Rattle.std.proofs.Math.Pow.{pow_mono}
@@ -7,8 +7,8 @@ use Rattle.cc_word.specs.declared.fields.Fields.{Fields}
 use Rattle.cc_bounds.specs.Window.{section_of}
 use Rattle.cc_bounds.specs.Decoding.{stored_exponent, raised, first_section, IsPlaced}
 
--- numbers of units are in the order of their bytes, also with a rest: any above the greater, or one below a unit
--- above the less
+-- numbers of units are in the order of their bytes, also with a remainder: any above the larger, or
+-- one below a unit above the smaller
 pub units_le : (few many unit rest : ℕ) → few ≤ many → few * unit ≤ many * unit + rest
 units_le few many unit rest in_order = let scaled = mul-le-mul_right unit in_order in omega (arith, scaled)
 
@@ -20,7 +20,7 @@ units_lt few many unit rest in_order fits = let scaled = mul-le-mul_right unit i
 abbrev pub start_section : (address first : ℕ) → ℕ
 start_section address first = address - (address + 8 - first) % 8
 
--- sections of this size, the first of the window, and an address in sections with a rest
+-- sections of this size, the first of the window, and an address in sections with a remainder
 module _ (section first address rest : ℕ) (rest_fits : rest < section) (first_fits : first < 8) (high : 8 ≤ address) where
   -- the window, in numbers
   pub record Starts (start number : ℕ) : Type 0 where

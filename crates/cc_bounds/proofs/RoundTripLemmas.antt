@@ -14,7 +14,7 @@ same_modulo : (size x y s v : ℕ) → x + s * size ≡ y + v * size → x % siz
 same_modulo size x y s v h =
     sym (add-mul-mod_self_right x s size) ∙ ap (λ (n : ℕ). n % size) h ∙ add-mul-mod_self_right y v size
 
--- a number that is a small one and whole sizes has the small one as its rest
+-- a number that is a small one and whole sizes has the small one as its remainder
 rest_is : (size x rest v : ℕ) → rest < size → (s : ℕ) → x + s * size ≡ rest + v * size → x % size ≡ rest
 rest_is size x rest v fits s h = same_modulo size x rest s v h ∙ mod-eq_of_lt fits
 
@@ -27,8 +27,8 @@ section_fits e fits = let l : e + 11 ≤ 63 = omega arith in pow_mono l
 
 -- ---- the window of a representable address, raised
 
--- The window of an address for a span whose base stands in section `n` of the address space: raised by
--- `laps`, which whole windows make up, it holds the raised address.
+-- The window of an address for a span whose base is in section `n` of the address space: raised by
+-- `laps` times 2 ^ 64, which whole windows make up, it holds the raised address.
 pub record IsRaised (n e a laps windows : ℕ) : Type 0 where
   pub positive : 1 ≤ laps
   pub whole : windows * (8 * 2 ^ (e + 11)) ≡ laps * 2 ^ 64
@@ -55,7 +55,7 @@ raise_52 n a fits a_fits = record {
   raise = record { positive = omega arith; whole = refl; even = λ _. refl; from_start = omega arith; below_end = omega arith };
 }
 
--- below exponent 51 whole windows make up a lap
+-- below exponent 51 whole windows make up 2 ^ 64
 windows-lap : (e : ℕ) → e ≤ 50 → 2 ^ (50 - e) * (8 * 2 ^ (e + 11)) ≡ 2 ^ 64
 windows-lap e small =
     let s : 50 - e + (e + 14) ≡ 64 = omega arith in
@@ -165,7 +165,7 @@ module _ (p q e base top a laps windows : ℕ) (span : IsSpanOf p q e base top) 
       rest_is (8 * u) start (first * u) ((p / 2 ^ 11 + 7) / 8 + windows) (omega (arith, fits)) 1
       (omega (arith, n.start_is, laps_is, turns'))
 
-  -- where a mantissa of the span stands
+  -- the place of a mantissa of the span
   scaled : (number mantissa : ℕ) → number ≡ mantissa * 2 ^ e → (number + laps * 2 ^ 64) % (8 * u) ≡ mantissa % 2 ^ 14 * 2 ^ e
   unfolding u
   scaled number mantissa is =

@@ -11,7 +11,7 @@ use Rattle.cc_bounds.proofs.GranuleLemmas.{le-div_ceil, div_ceil-lt, div_ceil-le
 
 -- ---- rounding
 
--- spans are equal where their ends are
+-- spans are equal if their ends are
 pub same_span : (one other : Span) → one.base ≡ other.base → one.top ≡ other.top → one ≡ other
 same_span one other base top = λ i. record { base = base i; top = top i }
 

@@ -1,4 +1,4 @@
--- Where the base and the top of a word stand, in units of 2 ^ exponent.
+-- The places of the base and the top of a word, in units of 2 ^ exponent.
 use Rattle.std.proofs.Common.{◌≡◌, ℕ, ◌+◌, ◌-◌, ◌*◌, ◌<◌, ◌≤◌, ◌/◌, ◌%◌, ◌^◌, Bool, true, false, refl, sym, ◌∙◌, ap, arith}
 use Rattle.std.proofs.Math.Nat.{div-add-mod', le_of_mul-le-mul_right, lt_of_mul-lt-mul_right}
 use Rattle.std.proofs.lemmas.Nat.{pow_pos}
@@ -9,7 +9,7 @@ use Rattle.cc_bounds.specs.Decoding.{stored_exponent, base_mantissa, IsTopMantis
 use Rattle.cc_bounds.proofs.PlaceLemmas.{section_is}
 use Rattle.cc_bounds.proofs.DecodingLemmas.{without_exponent-le, IsWindow-same}
 
--- where the rest of a number, by `many` units, is whole units, the number is whole units
+-- if the remainder of a number, by `many` units, is whole units, the number is whole units
 pub in_units : (number unit many rest : ℕ) → number % (many * unit) ≡ rest * unit → number ≡ (number / (many * unit) * many + rest) * unit
 in_units number unit many rest is_rest = let split = div-add-mod' number (many * unit) in omega (arith, split, is_rest)
 
@@ -70,16 +70,16 @@ module _ (fields : Fields) where
 
 -- ---- base and top in one window
 
--- how far the top mantissa stands above the base mantissa, going round
+-- the distance from the base mantissa up to the top mantissa, modulo 2 ^ 14
 abbrev pub mantissa_length : (base top : ℕ) → ℕ
 mantissa_length base top = (top + 2 ^ 14 - base) % 2 ^ 14
 
--- B stands one section above the window's start
+-- B is one section above the window's start
 base-above-start : (start place mantissa : ℕ) → mantissa < 2 ^ 14 → start % 2 ^ 14 ≡ (mantissa / 2 ^ 11 + 7) % 8 * 2 ^ 11
     → place % 2 ^ 14 ≡ mantissa → start ≤ place → place < start + 2 ^ 14 → place ≡ start + 2 ^ 11 + mantissa % 2 ^ 11
 base-above-start start place mantissa fits start_rest place_rest from_start below_end = omega arith
 
--- T stands as far above B as the mantissas say
+-- T is as far above B as the mantissas are apart
 top-above-base : (start base top base_mantissa top_mantissa : ℕ) → base_mantissa < 2 ^ 14 → top_mantissa < 2 ^ 14
     → base ≡ start + 2 ^ 11 + base_mantissa % 2 ^ 11 → base % 2 ^ 14 ≡ base_mantissa → top % 2 ^ 14 ≡ top_mantissa
     → start ≤ top → top < start + 2 ^ 14 → mantissa_length base_mantissa top_mantissa < 2 ^ 13
@@ -116,7 +116,7 @@ sum_units : (unit base top base_units top_units length : ℕ) → base ≡ base_
     → top_units ≡ base_units + length → top ≡ base + length * unit
 sum_units unit base top base_units top_units length is_base is_top apart = let scaled = ap (λ (n : ℕ). n * unit) apart in omega (arith, scaled)
 
--- where the base and the top of a word stand
+-- the places of the base and the top of a word
 pub record Standing (fields : Fields) (mantissa start base top : ℕ) : Type 0 where
   pub base_units : ℕ
   pub start_units : ℕ
@@ -127,7 +127,7 @@ pub record Standing (fields : Fields) (mantissa start base top : ℕ) : Type 0 w
   pub above_start : base_units ≡ start_units + 2 ^ 11 + base_mantissa fields % 2 ^ 11
   pub top_is : top ≡ base + mantissa_length (base_mantissa fields) mantissa * 2 ^ stored_exponent fields
 
--- where the base and the top of a word stand, from what it decodes to
+-- the places of the base and the top of a word, from the span that it decodes to
 pub standing : (fields : Fields) (span : Span) (decoded : DecodesTo fields span)
     → Standing fields decoded.is_top.mantissa decoded.is_base.is_place.start decoded.is_base.place decoded.is_top.place
 standing fields span decoded =

@@ -1,4 +1,4 @@
--- What a word decodes to is stored in the word's own fields, where every bit of them counts.
+-- The span that a word decodes to is stored in the word's own fields, if every bit of them counts.
 use Rattle.std.proofs.Common.{◌≡◌, ℕ, suc, ◌+◌, ◌-◌, ◌*◌, ◌<◌, ◌≤◌, ◌/◌, ◌%◌, ◌^◌, Bool, true, false, refl, sym, ◌∙◌, ap, subst, arith, inl, inr}
 use Rattle.std.specs.Prelude.{◌↔◌}
 use Rattle.std.proofs.Math.Nat.{mul-le-mul_right, lt_of_mul-lt-mul_right, lt-div-mul-add, div-eq_of_lt, mul-mod_left, pow-suc}
@@ -24,7 +24,7 @@ use Rattle.cc_bounds.proofs.SoundDecodingLemmas.{decodes-representable, stored_e
 
 -- ---- in units
 
--- of a number of units so many bits are kept
+-- the units that are kept of a number of units, if `bits` bits of it are kept
 kept_units : (units exponent bits : ℕ) → exponent ≤ bits
     → units * 2 ^ exponent % 2 ^ bits ≡ units % 2 ^ (bits - exponent) * 2 ^ exponent
 kept_units units exponent bits fits =
@@ -42,7 +42,8 @@ record IsInUnits (fields : Fields) (span : Span) (mantissa units : ℕ) : Type 0
   top_is : span.top ≡ (units + mantissa_length (base_mantissa fields) mantissa) * 2 ^ stored_exponent fields
   rest : units % 2 ^ 14 ≡ base_mantissa fields
 
--- from exponent 51 up B has no bit that is dropped, and the top is not dropped where it is not below the base
+-- at exponents of at least 51 B has no bit that is dropped, and the top is not dropped if it is not
+-- below the base
 large_same : (e low length all units base top : ℕ) → 51 ≤ e → e ≤ 52 → length < 2 ^ 13 → all % 2 ^ 14 ≡ low
     → units ≡ all % 2 ^ (64 - e) → base ≡ units * 2 ^ e → top ≡ (low + length) * 2 ^ e % 2 ^ 65 → low * 2 ^ e < 2 ^ 64
     → base ≤ top → top ≤ 2 ^ 64 → (top ≡ (units + length) * 2 ^ e) × (units % 2 ^ 14 ≡ low)

@@ -1,4 +1,4 @@
--- Whether an address stands in the window, from how far it is above the window's start.
+-- Whether an address is in the window, from its distance above the window's start.
 use Rattle.std.proofs.Common.{refl, ap, ◌∙◌, zero, suc, ◌≡◌, nat_lt, ℕ, ◌+◌, ◌-◌, ◌*◌, ◌<◌, ◌≤◌, ◌/◌, ◌%◌, ◌^◌, arith, inl, inr}
 use Rattle.std.specs.Prelude.{IsTrue, ◌↔◌}
 use Rattle.std.proofs.Math.Nat.{div-mul-le_self, div-le_self, div-lt_iff_lt-mul}
@@ -7,7 +7,7 @@ use Rattle.std.proofs.lemmas.Nat.{pow_pos}
 use Rattle.std.proofs.lemmas.Bool.{cases_lt}
 use Rattle.cc_bounds.specs.Window.{section_of, window_start_of, IsRepresentable}
 
--- how far the address stands above the window's start, going round the end of the address space
+-- the distance from the window's start up to the address, modulo 2 ^ 64
 abbrev pub above_start : (base exponent address : ℕ) → ℕ
 above_start base exponent address = (address + 2 * 2 ^ 64 - window_start_of base exponent) % 2 ^ 64
 

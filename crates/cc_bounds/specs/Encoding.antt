@@ -1,4 +1,4 @@
--- The fields in which the bounds of a sound span are stored, and what a `Set` is.
+-- The fields that store the bounds of a sound span, and the value of a `Set`.
 use Rattle.std.specs.Prelude.{ℕ, Bool, ◌≡◌, ◌+◌, ◌/◌, ◌%◌, ◌^◌, ◌<◌, ◌≤◌, ◌↔◌, IsTrue, nat_le}
 use Rattle.cc_word.specs.declared.fields.Fields.{Fields}
 use Rattle.cc_bounds.specs.declared.span.Span.{Span}
@@ -6,14 +6,15 @@ use Rattle.cc_bounds.specs.Span.{IsSpan, length_of}
 use Rattle.cc_bounds.specs.Granule.{IsExponent, IsSound, exponent_of}
 use Rattle.cc_bounds.specs.Window.{Represents}
 
--- what a `Set` is: the span that was granted, and whether the request was exact
+-- The value of a `Set`: the granted span, and whether the request was exact.
 pub record Encoding : Type 0 where
   pub granted : Span
   pub exact : Bool
 
--- The bounds fields of a sound span. T has the low 12 bits of the top, and B the low 14 of the base, in units of
--- 2 ^ exponent. IE is set from 4,096 bytes up: then the low three bits of both are zero, and hold the exponent's
--- digits to base 8, the high one in T. For a shorter span the exponent is 0.
+-- `HasBoundsFields` holds if `ie`, `t` and `b` are the bounds fields of a sound span. T has the low
+-- 12 bits of the top, and B the low 14 bits of the base, in units of 2 ^ exponent. IE is set for at
+-- least 4,096 bytes: the low three bits of both are then zero, and hold the exponent's octal
+-- digits, the high one in T. For a shorter span, the exponent is 0.
 pub record HasBoundsFields (span : Span) (ie : Bool) (t b : ℕ) : Type 0 where
   pub exponent : ℕ
   pub is_exponent : IsExponent span exponent
@@ -21,31 +22,32 @@ pub record HasBoundsFields (span : Span) (ie : Bool) (t b : ℕ) : Type 0 where
   pub is_t : t ≡ span.top / 2 ^ exponent % 2 ^ 12 + exponent / 8
   pub is_b : b ≡ span.base / 2 ^ exponent % 2 ^ 14 + exponent % 8
 
--- The fields store the span: it is sound, its bounds fields are theirs, and their address is
--- representable for it.
+-- `StoresSpan` holds if the fields store the span: it is sound, they have its bounds fields, and
+-- their address is representable for it.
 pub record StoresSpan (fields : Fields) (span : Span) : Type 0 where
   pub is_span : IsSpan span
   pub sound : IsSound span
   pub bounds_fields : HasBoundsFields span fields.ie fields.t fields.b
   pub representable : Represents span fields.address
 
--- ---- Computing forms of the three fields. The law `every_request_is_encoded_once` says that just these
--- meet `HasBoundsFields`.
+-- ---- Executable definitions of the three fields. By the law `every_request_is_encoded_once`, just
+-- these satisfy `HasBoundsFields`.
 
--- IE of a span
+-- The IE bit of a span: whether it has at least 4,096 bytes.
 abbrev pub ie_of : Span → Bool
 ie_of span = nat_le 4096 (length_of span)
 
--- the T field of a span
+-- The T field of a span.
 abbrev pub t_of : Span → ℕ
 t_of span = span.top / 2 ^ exponent_of span % 2 ^ 12 + exponent_of span / 8
 
--- the B field of a span
+-- The B field of a span.
 abbrev pub b_of : Span → ℕ
 b_of span = span.base / 2 ^ exponent_of span % 2 ^ 14 + exponent_of span % 8
 
--- What a `Set` stores, for its model alone: a sound span, and the exponent and the bounds fields that the span
--- determines, each within its width.
+-- `IsEncoding` holds if a `Set` can store these values: a sound span, and the exponent and the
+-- bounds fields that the span determines, each within its width. It is for the model of `Set`
+-- alone.
 pub record IsEncoding (span : Span) (e : ℕ) (ie : Bool) (t b : ℕ) : Type 0 where
   pub is_span : IsSpan span
   pub sound : IsSound span

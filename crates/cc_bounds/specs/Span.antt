@@ -2,36 +2,36 @@
 use Rattle.std.specs.Prelude.{ℕ, ◌+◌, ◌-◌, ◌^◌, ◌<◌, ◌≤◌}
 use Rattle.cc_bounds.specs.declared.span.Span.{Span}
 
--- the pair is a span of the address space
+-- `IsSpan` holds if the pair is a span of the address space.
 pub record IsSpan (span : Span) : Type 0 where
   pub in_order : span.base ≤ span.top
   pub base_fits : span.base < 2 ^ 64
   pub top_fits : span.top ≤ 2 ^ 64
 
--- how many bytes the span has
+-- The number of bytes of the span.
 abbrev pub length_of : Span → ℕ
 length_of span = span.top - span.base
 
--- the byte is one of the span's
+-- `HasByte` holds if `byte` is a byte of the span.
 pub record HasByte (span : Span) (byte : ℕ) : Type 0 where
   pub from_base : span.base ≤ byte
   pub below_top : byte < span.top
 
--- the inner span begins and ends within the outer
+-- `IsWithin` holds if the inner span begins and ends within the outer.
 pub record IsWithin (inner outer : Span) : Type 0 where
   pub from_base : outer.base ≤ inner.base
   pub to_top : inner.top ≤ outer.top
 
--- some byte is in both spans
+-- `SharesByte` holds if some byte is in both spans.
 pub record SharesByte (one other : Span) : Type 0 where
   pub byte : ℕ
   pub in_one : HasByte one byte
   pub in_other : HasByte other byte
 
--- the span of so many bytes from a base on
+-- The span of `size` bytes from `base` on.
 abbrev pub span_from : (base size : ℕ) → Span
 span_from base size = record { base = base; top = base + size }
 
--- the span of so many bytes from address 0 on
+-- The span of `size` bytes from address 0 on.
 abbrev pub from_zero : ℕ → Span
 from_zero size = span_from 0 size

@@ -1,4 +1,4 @@
--- How close a granted span is to its request, and to what any word could store.
+-- How close a granted span is to its request, and to the bounds that any word could store.
 use Rattle.std.specs.Prelude.{ℕ, ◌≡◌, ◌+◌, ◌*◌, ◌<◌, ◌≤◌}
 use Rattle.cc_word.specs.declared.fields.Fields.{Fields}
 use Rattle.cc_bounds.specs.declared.span.Span.{Span}
@@ -8,18 +8,20 @@ use Rattle.cc_bounds.specs.Window.{Represents}
 use Rattle.cc_bounds.specs.Encoding.{HasBoundsFields}
 use Rattle.cc_bounds.specs.Decoding.{DecodesTo}
 
--- fields with the encoding of the span, at an address that is representable for it, decode to it
+-- `DecodesBack` holds if all fields with the bounds fields of the span, at an address that is
+-- representable for it, decode to it.
 abbrev pub DecodesBack : Span → Type 0
 DecodesBack span =
     (fields : Fields) → HasBoundsFields span fields.ie fields.t fields.b → Represents span fields.address
     → DecodesTo fields span
 
--- some word decodes to the span
+-- `IsDecoded` holds if some word decodes to the span.
 abbrev pub IsDecoded : Span → Type 0
 IsDecoded span = (fields : Fields) × DecodesTo fields span
 
--- The granted span covers the request, and exceeds it by less than a granule at each end. A request below 4,096
--- bytes is granted as it is; any other is longer than 511 granules.
+-- `IsTight` holds if the granted span covers the request, and exceeds it by less than a granule at
+-- each end. A request of less than 4,096 bytes is granted as it is. Any other request is longer
+-- than 511 granules.
 pub record IsTight (request granted : Span) : Type 0 where
   pub granule : ℕ
   pub is_granule : IsGranule request granule
@@ -29,7 +31,8 @@ pub record IsTight (request granted : Span) : Type 0 where
   pub near_top : granted.top < request.top + granule
   pub short : 4096 ≤ length_of request → 511 * granule < length_of request
 
--- the granted span lies within the span of every word whose bounds cover the request
+-- `IsTightest` holds if the granted span is within the span of every word whose bounds cover the
+-- request.
 abbrev pub IsTightest : Span → Span → Type 0
 IsTightest request granted =
     (fields : Fields) (span : Span) → DecodesTo fields span → IsWithin request span → IsWithin granted span

@@ -7,23 +7,23 @@ ghost use Rattle.cc_bounds.specs.declared.span.Span.{Span as SpanSpec};
 use crate::span::Span;
 use cc_word::Fields;
 
-/// The largest exponent that bounds decode with. A larger exponent field counts as this.
+/// The largest exponent of decoded bounds. A larger exponent field counts as this.
 const MAX_EXPONENT: u8 = 52;
 
-/// From this exponent up T reaches bit 64, so that T alone gives all 65 bits of the top.
+/// At this exponent and above, T reaches bit 64, so that T alone gives all 65 bits of the top.
 pub(crate) const FIRST_LARGE_EXPONENT: u8 = 51;
 
 /// The 14 bits of a mantissa, which counts units of 2^exponent bytes.
 const MANTISSA_BITS: u64 = 0x3fff;
 
-/// The bits of a mantissa that tell its section of the window.
+/// The bits of a mantissa that give its section of the window.
 const SECTION_BITS: u64 = 0x3800;
 
-/// How many units of 2^exponent a section has.
+/// The number of units of 2^exponent bytes in a section.
 const SECTION: u64 = 0x800;
 
-/// The exponent's digits to base 8, as they are stored: the high one in T's low three bits, the low one in
-/// B's.
+/// Returns the exponent's octal digits as one number, as they are stored: the high one in the low
+/// three bits of T, the low one in those of B.
 fn exponent_digits(fields: &Fields) -> u8
     ensures { result ≡ exponent_digits fields.now }
 {
@@ -32,31 +32,33 @@ fn exponent_digits(fields: &Fields) -> u8
     ((high << 3) | low) as u8
 }
 
-/// The bits of a stored field that are the exponent's: with IE the low three, else none.
+/// Returns the bits of a stored field that are the exponent's: with IE the low three, otherwise
+/// none.
 fn exponent_bits(ie: bool) -> u16
     ensures { result ≡ (if ie then 7 else 0) }
 {
     if ie { 0x7 } else { 0 }
 }
 
-/// The exponent's digit in a stored field: with IE its low three bits, else 0.
+/// Returns the exponent's digit in a stored field: with IE its low three bits, otherwise 0.
 fn exponent_digit(ie: bool, field: u16) -> u16
     ensures { result ≡ (if ie then field % 8 else 0) }
 {
     field & exponent_bits(ie)
 }
 
-/// A stored field without the exponent's bits: with IE its low three bits are cleared.
+/// Returns a stored field without the exponent's bits: with IE its low three bits are cleared.
 fn without_exponent(ie: bool, field: u16) -> u16
     ensures { result ≡ without_exponent ie field }
 {
     field & !exponent_bits(ie)
 }
 
-/// The exponent of a word's bounds, from 0 to 52.
+/// Returns the exponent of a word's bounds, from 0 to 52.
 ///
-/// It is 0 without IE. With IE the low three bits of the T and the B field hold it. The standard:
-/// UCAM-CL-TR-987, the decoding of the bounds; Woodruff et al. 2019.
+/// It is 0 without IE. With IE, the low three bits of the T field and of the B field hold it.
+///
+/// Source: UCAM-CL-TR-987, the decoding of the bounds; Woodruff et al. 2019.
 pub fn exponent(fields: &Fields) -> u8
     ensures { result ≡ stored_exponent fields.now }
 {
@@ -65,8 +67,8 @@ pub fn exponent(fields: &Fields) -> u8
     (((high << 3) | low) as u8).min(MAX_EXPONENT)
 }
 
-/// Whether every bit of the bounds fields counts in what they decode to: the exponent's digits say at most 52,
-/// and no bit of B stands above bit 63 of the base.
+/// Returns whether every bit of the bounds fields counts in the bounds that they decode to: the
+/// exponent's digits are at most 52, and no bit of B is above bit 63 of the base.
 #[inline(always)]
 #[tactic(auto, using(crate::proofs::StoredLemmas::base_dropped))]
 pub(crate) fn every_bit_counts(fields: &Fields) -> bool
@@ -76,17 +78,17 @@ pub(crate) fn every_bit_counts(fields: &Fields) -> bool
     dropped == 0 && !(fields.ie && exponent_digits(fields) > MAX_EXPONENT)
 }
 
-/// The mantissa B, of 14 bits: the B field without the exponent's bits.
+/// Returns the mantissa B, 14 bits: the B field without the exponent's bits.
 fn base_mantissa(fields: &Fields) -> u16
     ensures { result ≡ base_mantissa fields.now }
 {
     without_exponent(fields.ie, fields.b)
 }
 
-/// How far the mantissa T stands above the mantissa B, going round at 2^14.
+/// Returns the distance from the mantissa B up to the mantissa T, modulo 2^14.
 ///
-/// The T field stores the low twelve bits of T. No word stores the two upper bits: they are those that make
-/// this length less than 2^12 without IE, and from 2^12 to 2^13 - 1 with IE.
+/// The T field stores the low 12 bits of T. No word stores the two upper bits: they are those that
+/// make this length less than 2^12 without IE, and from 2^12 to 2^13 - 1 with IE.
 fn mantissa_length(fields: &Fields) -> u16
     ensures top { IsTopMantissa fields.now ((base_mantissa fields.now + result) % 2 ^ 14) }
     ensures fits { result < 2 ^ 13 }
@@ -96,10 +98,11 @@ fn mantissa_length(fields: &Fields) -> u16
     (u16::from(fields.ie) << 12) | low
 }
 
-/// The base: the low 64 bits of the place where B stands.
+/// Returns the base: the low 64 bits of the place of B.
 ///
-/// A window has 2^14 units of 2^exponent bytes, and begins one section below B's own. The address stands some
-/// whole windows and a rest above `start`; B stands as many whole windows above what its 14 bits say.
+/// A window has 2^14 units of 2^exponent bytes, and begins one section below that of B. The address
+/// is some whole windows and a remainder above `start`. B is as many whole windows above the value
+/// of its 14 bits.
 #[tactic(auto, using(crate::proofs::DecodedBaseLemmas::decoded_base_masked))]
 fn decoded_base(fields: &Fields) -> u64
     ensures { IsDecodedBase fields.now result }
@@ -111,7 +114,7 @@ fn decoded_base(fields: &Fields) -> u64
     (above_start & !MANTISSA_BITS).wrapping_add(mantissa) << scale
 }
 
-/// The top of the bounds with this base: T stands as far above B as the mantissas are apart.
+/// Returns the top of the bounds with this base: T is as far above B as the mantissas are apart.
 #[tactic(auto, using(crate::proofs::DecodedTopLemmas::small_top_shifted, crate::proofs::DecodedTopLemmas::large_top_masked))]
 fn top_above(fields: &Fields, base: u64) -> u128
     requires { IsDecodedBase fields.now base }
@@ -127,10 +130,12 @@ fn top_above(fields: &Fields, base: u64) -> u128
     }
 }
 
-/// The bounds of a word.
+/// Returns the bounds of a word.
 ///
-/// Every word has them. Those of a word that belongs to no capability may have a top below the base, or one
-/// above 2^64, but below 2^65. The standard: UCAM-CL-TR-987, the decoding of the bounds; Woodruff et al. 2019.
+/// Every word has bounds. If the word is not canonical, its top can be below its base, or above
+/// 2^64 but below 2^65.
+///
+/// Source: UCAM-CL-TR-987, the decoding of the bounds; Woodruff et al. 2019.
 #[inline(always)]
 pub fn decode(fields: &Fields) -> Span
     ensures decodes { DecodesTo fields.now result }

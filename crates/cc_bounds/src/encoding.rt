@@ -13,14 +13,16 @@ use crate::span::{ADDRESS_SPACE, Span};
 use cc_word::Fields;
 use std::marker::Model;
 
-/// The bounds of a capability as its word stores them: a sound span with its exponent and its bounds
-/// fields, and whether the request that asked for it was exact.
+/// The bounds of a capability as its word stores them: a sound span with its exponent and its
+/// bounds fields, and whether the request for it was exact.
 ///
-/// Only [`set_bounds`] and [`Set::of_fields`] make one. The standard: UCAM-CL-TR-987, the compressed
-/// capability encoding; Woodruff et al. 2019.
+/// Only [`set_bounds`] and [`Set::of_fields`] create a `Set`.
+///
+/// Source: UCAM-CL-TR-987, the compressed capability encoding; Woodruff et al. 2019.
 #[derive(Clone, Copy, PartialEq, Eq, Debug)]
 pub struct Set {
-    // the granted span, and behind it the rest in eight bytes: no padding stands between the fields
+    // the granted span, then the other fields in eight bytes: there is no padding between the
+    // fields
     top: u128,
     base: u64,
     t: u16,
@@ -63,10 +65,11 @@ impl Model for Set {
 }
 
 impl Set {
-    /// The encoding that these fields store: `Some` exactly if their bounds fields are those of a sound span
-    /// for which their address is representable. It grants that span, and is exact.
+    /// Returns the encoding that these fields store: `Some` if and only if their bounds fields are
+    /// those of a sound span for which their address is representable.
     ///
-    /// The permissions, the reserved bits, the flag and the type are not looked at.
+    /// The encoding grants that span, and is exact. The permissions, the reserved bits, the flag
+    /// and the type are not examined.
     #[inline(always)]
     pub fn of_fields(fields: &Fields) -> Option<Set>
         ensures found { IfSome result (λ set. StoresSpan fields.now set.granted) }
@@ -81,7 +84,9 @@ impl Set {
         }
     }
 
-    /// The exponent E, from 0 to 52. The granule is 2^(E+3) bytes where [`Set::ie`] is true, else 1.
+    /// Returns the exponent E, from 0 to 52.
+    ///
+    /// The granule is 2^(E+3) bytes if [`Set::ie`] is true, otherwise 1 byte.
     pub fn e(&self) -> u8
         ensures exponent { IsExponent self.now.granted result }
         ensures computed { result ≡ exponent_of self.now.granted }
@@ -90,8 +95,10 @@ impl Set {
         self.exponent
     }
 
-    /// The internal exponent IE: whether the exponent is stored in the low bits of the T and B fields. It
-    /// is, for spans of 4,096 bytes and more.
+    /// Returns the internal exponent bit IE: whether the low bits of the T and B fields store the
+    /// exponent.
+    ///
+    /// They do for spans of at least 4,096 bytes.
     pub fn ie(&self) -> bool
         ensures internal { IsTrue result ↔ (4096 ≤ length_of self.now.granted) }
         ensures computed { result ≡ ie_of self.now.granted }
@@ -99,7 +106,8 @@ impl Set {
         self.ie
     }
 
-    /// The T field as stored, of 12 bits, with the exponent's high digit where [`Set::ie`] is true.
+    /// Returns the T field as stored, 12 bits, with the exponent's high digit if [`Set::ie`] is
+    /// true.
     pub fn t(&self) -> u16
         ensures computed { result ≡ t_of self.now.granted }
         ensures fits { result < 2 ^ 12 }
@@ -107,7 +115,8 @@ impl Set {
         self.t
     }
 
-    /// The B field as stored, of 14 bits, with the exponent's low digit where [`Set::ie`] is true.
+    /// Returns the B field as stored, 14 bits, with the exponent's low digit if [`Set::ie`] is
+    /// true.
     pub fn b(&self) -> u16
         ensures computed { result ≡ b_of self.now.granted }
         ensures fits { result < 2 ^ 14 }
@@ -115,7 +124,7 @@ impl Set {
         self.b
     }
 
-    /// The span that was granted, which is sound: setting bounds to it gives it back.
+    /// Returns the granted span, which is sound: setting bounds to it grants the span itself.
     pub fn granted(&self) -> Span
         ensures granted { result ≡ self.now.granted }
         ensures is_span { IsSpan self.now.granted }
@@ -127,14 +136,15 @@ impl Set {
         }
     }
 
-    /// Whether the request was granted as it was, with neither end rounded.
+    /// Returns whether the request was granted as it was, with neither end rounded.
     pub fn exact(&self) -> bool
         ensures { result ≡ self.now.exact }
     {
         self.exact
     }
 
-    /// The same bounds with [`Set::exact`] true: what setting bounds to the granted span gives.
+    /// Returns these bounds with [`Set::exact`] true: the result of setting bounds to the granted
+    /// span.
     pub fn as_exact(self) -> Set
         ensures { result ≡ record self { exact = true } }
     {
@@ -145,17 +155,17 @@ impl Set {
     }
 }
 
-/// Whether a base and a top are those of a span of the address space.
+/// Returns whether a base and a top are those of a span of the address space.
 fn is_span(span: &Span) -> bool
     ensures { IsTrue result ↔ IsSpan span.now }
 {
     u128::from(span.base) <= span.top && span.top <= ADDRESS_SPACE
 }
 
-/// Whether the fields store the span that they decode to.
+/// Returns whether the fields store the span that they decode to.
 ///
-/// Below exponent 51 only the top has to be tested: it is never below the base, and every bit of the bounds
-/// fields counts.
+/// Below exponent 51, only the top is tested: it is never below the base, and every bit of the
+/// bounds fields counts.
 #[inline(always)]
 fn is_stored(fields: &Fields, span: &Span) -> bool
     requires { DecodesTo fields.now span.now }
@@ -168,7 +178,7 @@ fn is_stored(fields: &Fields, span: &Span) -> bool
     }
 }
 
-/// The encoding of the span that the fields store.
+/// Returns the encoding of the span that the fields store.
 #[inline(always)]
 fn stored_encoding(fields: &Fields, span: Span) -> Set
     requires { StoresSpan fields.now span }
@@ -185,7 +195,8 @@ fn stored_encoding(fields: &Fields, span: Span) -> Set
     }
 }
 
-/// The T field of a granted span: its top in units of 2^exponent bytes, with the exponent's high digit.
+/// Returns the T field of a granted span: its top in units of 2^exponent bytes, with the exponent's
+/// high digit.
 ///
 /// No bit of the field comes from the top's bit 64.
 #[tactic(auto, using(crate::proofs::EncodingLemmas::low_bits_masked))]
@@ -197,7 +208,8 @@ fn t_field(granted: &Span, exponent: u32) -> u16
     ((top >> exponent) & 0xfff) as u16 + (exponent >> 3) as u16
 }
 
-/// The B field of a granted span: its base in units of 2^exponent bytes, with the exponent's low digit.
+/// Returns the B field of a granted span: its base in units of 2^exponent bytes, with the
+/// exponent's low digit.
 fn b_field(granted: &Span, exponent: u32) -> u16
     requires { exponent ≤ 52 }
     ensures { result ≡ granted.now.base / 2 ^ exponent % 2 ^ 14 + exponent % 8 }
@@ -205,7 +217,7 @@ fn b_field(granted: &Span, exponent: u32) -> u16
     ((granted.base >> exponent) & 0x3fff) as u16 + (exponent & 0x7) as u16
 }
 
-/// The encoding of what a request is granted.
+/// Returns the encoding of the span that a request is granted.
 #[inline(always)]
 fn encode(request: &Span) -> Set
     requires { IsSpan request.now }
@@ -226,12 +238,15 @@ fn encode(request: &Span) -> Set
     }
 }
 
-/// The encoding of the least bounds that cover a request.
+/// Returns the encoding of the tightest bounds that cover the request [base, base + len).
 ///
-/// The request is `[base, base + len)`; the caller has `base + len <= 2^64`. Below 4,096 bytes it is
-/// granted as it is. Else its ends are rounded outwards to the granule, and the granted bounds lie within
-/// those of every word whose bounds cover the request. The standard: UCAM-CL-TR-987, `CSetBounds`;
-/// Woodruff et al. 2019.
+/// A request of less than 4,096 bytes is granted as it is. Otherwise, its ends are rounded outward
+/// to the granule, and the granted bounds are within those of every word whose bounds cover the
+/// request.
+///
+/// Requires: `base + len <= 2^64`.
+/// Instruction: CSetBounds.
+/// Source: UCAM-CL-TR-987; Woodruff et al. 2019.
 pub fn set_bounds(base: u64, len: u128) -> Set
     requires { base + len ≤ 2 ^ 64 }
     ensures granted { IsGranted (span_from base len) result.granted }

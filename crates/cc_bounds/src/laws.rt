@@ -1,5 +1,5 @@
-//! What holds of every word, of every request and of every sound span. Each function's contract is a law, and its
-//! body is empty.
+//! Laws of every word, of every request and of every sound span. The contract of each function is a
+//! law, and its body is empty.
 ghost use Rattle.std.specs.Prelude.{ℕ, Bool, ◌≡◌, ◌+◌, ◌%◌, ◌/◌, ◌^◌, ◌<◌, ◌≤◌, ◌↔◌};
 ghost use Rattle.cc_word.specs.declared.fields.Fields.{Fields as FieldsSpec};
 ghost use Rattle.cc_bounds.specs.declared.span.Span.{Span as SpanSpec};
@@ -9,7 +9,8 @@ ghost use Rattle.cc_bounds.specs.Encoding.{HasBoundsFields, StoresSpan, ie_of, t
 ghost use Rattle.cc_bounds.specs.Decoding.{IsTopMantissa, IsWindow, IsPlaced, IsTopBeside, DecodesTo, EveryBitCounts, ExactlyOne};
 ghost use Rattle.cc_bounds.specs.Tightest.{IsDecoded};
 
-/// Each relation by which decoding is defined has exactly one number, and so every word one span.
+/// Proves that each relation that defines decoding has exactly one number, and so every word one
+/// span.
 pub fn every_word_decodes_once()
     ensures top_mantissa { (fields : FieldsSpec) → ExactlyOne (IsTopMantissa fields) }
     ensures window { (fields : FieldsSpec) → ExactlyOne (IsWindow fields) }
@@ -18,8 +19,8 @@ pub fn every_word_decodes_once()
     ensures span { (fields : FieldsSpec) → ExactlyOne (DecodesTo fields) }
 {}
 
-/// Every request has exactly one granule, one exponent and one granted span, and every span has one set of
-/// bounds fields: those that the computing forms give.
+/// Proves that every request has exactly one granule, one exponent and one granted span, and that
+/// every span has one set of bounds fields: those of the executable definitions.
 pub fn every_request_is_encoded_once()
     ensures granule { (request : SpanSpec) (granule : ℕ) → IsSpan request
         → (IsGranule request granule ↔ (granule ≡ granule_of request)) }
@@ -31,7 +32,7 @@ pub fn every_request_is_encoded_once()
         → (HasBoundsFields span ie t b ↔ ((ie ≡ ie_of span) × (t ≡ t_of span) × (b ≡ b_of span))) }
 {}
 
-/// What a request is granted is a sound span, of the same exponent.
+/// Proves that the granted span of a request is sound, and has the exponent of the request.
 pub fn granted_spans_are_sound()
     ensures is_span { (request granted : SpanSpec) → IsSpan request → IsGranted request granted → IsSpan granted }
     ensures sound { (request granted : SpanSpec) → IsSpan request → IsGranted request granted → IsSound granted }
@@ -39,20 +40,24 @@ pub fn granted_spans_are_sound()
         → exponent_of granted ≡ exponent_of request }
 {}
 
-/// A span is sound exactly if some word decodes to it.
+/// Proves that a span is sound if and only if some word decodes to it.
 pub fn sound_spans_are_those_decoded()
     ensures { (span : SpanSpec) → IsSpan span → (IsSound span ↔ IsDecoded span) }
 {}
 
-/// A word stores the span that it decodes to, exactly if that is a span of the address space and every bit
-/// of the word's bounds fields counts. So nothing has to be encoded to tell whether a word is canonical.
+/// Proves that a word stores the span that it decodes to if and only if this is a span of the
+/// address space and every bit of the word's bounds fields counts.
+///
+/// So a test of whether a word is canonical needs to encode nothing.
 pub fn words_store_what_they_decode_to()
     ensures { (fields : FieldsSpec) (span : SpanSpec) → DecodesTo fields span
         → (StoresSpan fields span ↔ (IsSpan span × EveryBitCounts fields)) }
 {}
 
-/// A span that begins at a multiple of the granule of a length, and has its representable length, is
-/// sound. The representable length is no less than the length, at most a 512th more, and at most 2^64.
+/// Proves that a span is sound if it begins at a multiple of the granule of a length and has the
+/// representable length of that length.
+///
+/// The representable length is at least the length, at most 1/512 more, and at most 2^64.
 pub fn padded_spans_are_sound()
     ensures sound { (start size : ℕ) → size ≤ 2 ^ 64 → start % granule_of (from_zero size) ≡ 0
         → IsSpan (span_from start (padded_size size)) → IsSound (span_from start (padded_size size)) }

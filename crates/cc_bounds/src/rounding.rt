@@ -6,16 +6,17 @@ ghost use Rattle.cc_bounds.specs.Granule.{granule_count, IsGranule, rounded_to, 
 
 use crate::span::Span;
 
-/// From this length up a request has a granule of more than one byte.
+/// The smallest length in bytes of a request with a granule of more than 1 byte.
 const FIRST_COARSE_LENGTH: u128 = 4096;
 
-/// The most granules that a request of that length may touch: the most that ten bits count.
+/// The maximum number of granules that a request of at least 4,096 bytes may touch: the largest
+/// number of ten bits.
 const MAX_GRANULES: u64 = 1023;
 
 /// The power of two of the largest granule.
 const MAX_POWER: u32 = 55;
 
-/// The bits below bit `power`.
+/// Returns the mask of the bits below bit `power`.
 fn low_bits(power: u32) -> u64
     requires { power ≤ MAX_POWER }
     ensures { result ≡ 2 ^ power - 1 }
@@ -23,7 +24,8 @@ fn low_bits(power: u32) -> u64
     (1 << power) - 1
 }
 
-/// How many granules of 2^power bytes the request touches: from that of its first byte to that of its last.
+/// Returns the number of granules of 2^power bytes that the request touches, from that of its first
+/// byte to that of its last.
 #[tactic(auto, using(crate::proofs::GranuleLemmas::last_granule, crate::proofs::GranuleLemmas::first_granule_within, crate::proofs::GranuleLemmas::last_granule_fits))]
 fn granules_touched(request: &Span, power: u32) -> u64
     requires is_span { IsSpan request.now }
@@ -36,8 +38,10 @@ fn granules_touched(request: &Span, power: u32) -> u64
     (last_byte >> power) + 1 - (request.base >> power)
 }
 
-/// The power of two of the granule of which a length of 4,096 bytes or more has at least 512 and less than
-/// 1,024. It is 3, and one more for each bit from bit 13 to the highest that is set in the length.
+/// Returns the power of two of the granule of which a length of at least 4,096 bytes has at least
+/// 512 and less than 1,024.
+///
+/// It is 3, and one more for each bit from bit 13 to the highest that is set in the length.
 #[tactic(auto, using(crate::proofs::GranuleLemmas::leading_power))]
 fn power_of_length(len: u128) -> u32
     requires coarse { 4096 ≤ len }
@@ -50,9 +54,11 @@ fn power_of_length(len: u128) -> u32
     67 - ((len >> 13) as u64).leading_zeros()
 }
 
-/// The granule of a request as a power of two: 0 below 4,096 bytes, else from 3 to 55.
+/// Returns the granule of a request as a power of two: 0 for less than 4,096 bytes, otherwise from
+/// 3 to 55.
 ///
-/// It is the power of the length, or one more where the request touches more than 1,023 granules of that.
+/// It is the power of the length, or one more if the request touches more than 1,023 granules of
+/// that size.
 #[tactic(auto, using(crate::proofs::GranuleLemmas::length_granule, crate::proofs::GranuleLemmas::grown_granule, crate::proofs::GranuleLemmas::grown_fits))]
 pub(crate) fn granule_power(request: &Span) -> u32
     requires { IsSpan request.now }
@@ -73,7 +79,7 @@ pub(crate) fn granule_power(request: &Span) -> u32
     }
 }
 
-/// The number rounded up to a multiple of 2^power.
+/// Returns the number rounded up to a multiple of 2^power.
 #[tactic(auto, using(crate::proofs::GranuleLemmas::rounded_up_masked))]
 fn round_up(number: u128, power: u32) -> u128
     requires number_fits { number ≤ 2 ^ 64 }
@@ -84,7 +90,8 @@ fn round_up(number: u128, power: u32) -> u128
     (number + low_bits) & !low_bits
 }
 
-/// The request with its base rounded down and its top rounded up to a multiple of 2^power bytes.
+/// Returns the request with its base rounded down and its top rounded up to a multiple of 2^power
+/// bytes.
 pub(crate) fn rounded(request: &Span, power: u32) -> Span
     requires is_span { IsSpan request.now }
     requires fits { power ≤ MAX_POWER }
@@ -96,7 +103,8 @@ pub(crate) fn rounded(request: &Span, power: u32) -> Span
     }
 }
 
-/// The granule of a length as a power of two: 0 below 4,096 bytes, else from 3 to 55.
+/// Returns the granule of a length as a power of two: 0 for less than 4,096 bytes, otherwise from 3
+/// to 55.
 #[tactic(auto, using(crate::proofs::ComputingLemmas::granule_power_of))]
 fn length_power(len: u128) -> u32
     requires { len ≤ 2 ^ 64 }
@@ -107,10 +115,13 @@ fn length_power(len: u128) -> u32
     granule_power(&Span { base: 0, top: len })
 }
 
-/// The granule of a length, in bytes: the unit in which the bounds of that many bytes from address 0 up
-/// are stored. It is 1 below 4,096 bytes, else a power of two from 8 to 2^55.
+/// Returns the granule of a length, in bytes.
 ///
-/// The caller has `len <= 2^64`. The standard: UCAM-CL-TR-987, `CRRL` and `CRAM`; Woodruff et al. 2019.
+/// It is the unit that stores the bounds of that many bytes from address 0 up: 1 for less than
+/// 4,096 bytes, otherwise a power of two from 8 to 2^55.
+///
+/// Requires: `len <= 2^64`.
+/// Source: UCAM-CL-TR-987, `CRRL` and `CRAM`; Woodruff et al. 2019.
 pub fn granule(len: u128) -> u64
     requires { len ≤ 2 ^ 64 }
     ensures granule { IsGranule (from_zero len) result }
@@ -119,12 +130,14 @@ pub fn granule(len: u128) -> u64
     1 << length_power(len)
 }
 
-/// The representable length: the length rounded up to a multiple of its granule. That of the whole
-/// address space is 2^64, and not 0.
+/// Returns the representable length: the length rounded up to a multiple of its granule, in bytes.
 ///
-/// So many bytes, from a multiple of the granule up, have exact bounds. The caller has `len <= 2^64`. The
-/// standard: UCAM-CL-TR-987, `CRRL` (CRepresentableLength), which answers 0 where the length
-/// rounds to 2^64.
+/// That of the whole address space is 2^64, and not 0. A request for this many bytes, from a
+/// multiple of the granule up, has exact bounds.
+///
+/// Requires: `len <= 2^64`.
+/// Instruction: CRRL (CRepresentableLength), which returns 0 if the length rounds to 2^64.
+/// Source: UCAM-CL-TR-987.
 pub fn round_length(len: u128) -> u128
     requires { len ≤ 2 ^ 64 }
     ensures { result ≡ padded_size len }
@@ -132,10 +145,14 @@ pub fn round_length(len: u128) -> u128
     round_up(len, length_power(len))
 }
 
-/// The representable alignment mask: all ones, but for the bits below the granule of the length. An address
-/// "and" the mask is the address rounded down to a multiple of the granule.
+/// Returns the representable alignment mask: all ones, except the bits below the granule of the
+/// length.
 ///
-/// The caller has `len <= 2^64`. The standard: UCAM-CL-TR-987, `CRAM` (CRepresentableAlignmentMask).
+/// An address "and" the mask is the address rounded down to a multiple of the granule.
+///
+/// Requires: `len <= 2^64`.
+/// Instruction: CRAM (CRepresentableAlignmentMask).
+/// Source: UCAM-CL-TR-987.
 pub fn alignment_mask(len: u128) -> u64
     requires { len ≤ 2 ^ 64 }
     ensures { result ≡ 2 ^ 64 - granule_of (from_zero len) }

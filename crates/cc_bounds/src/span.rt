@@ -1,24 +1,26 @@
-//! A base and a top.
+//! Spans of bytes: a base and a top.
 ghost use Rattle.std.specs.Prelude.{◌≡◌, ◌≤◌, ◌↔◌, IsTrue};
 ghost use Rattle.cc_bounds.specs.Span.{HasByte, IsWithin, SharesByte, length_of};
 
-/// How many bytes the address space has: the longest length, and the greatest top of a span.
+/// The number of bytes of the address space: the maximum length, and the maximum top of a span.
 pub const ADDRESS_SPACE: u128 = 1 << 64;
 
-/// The bytes from `base` up to, and without, `top`.
+/// The bytes [base, top).
 ///
-/// A plain pair, with no order asked: a word that belongs to no capability may decode to a top below
-/// its base, or to one past 2^64. The span of a capability has `base <= top <= 2^64`.
+/// A plain pair, with no order required: a word that is not canonical can decode to a top below its
+/// base, or above 2^64. The span of a capability has `base <= top <= 2^64`.
 #[derive(Clone, Copy, PartialEq, Eq, Debug, Default)]
 pub struct Span {
-    /// The first byte's address.
+    /// The address of the first byte.
     pub base: u64,
-    /// The address after the last byte's. That of the whole address space is 2^64.
+    /// The address after the last byte. That of the whole address space is 2^64.
     pub top: u128,
 }
 
 impl Span {
-    /// How many bytes the span has. The caller has `base <= top`.
+    /// Returns the number of bytes of the span.
+    ///
+    /// Requires: `base <= top`.
     #[inline(always)]
     pub fn len(&self) -> u128
         requires { self.now.base ≤ self.now.top }
@@ -27,7 +29,7 @@ impl Span {
         self.top - u128::from(self.base)
     }
 
-    /// Whether the byte of this address is one of the span's.
+    /// Returns whether the byte at this address is in the span.
     #[inline(always)]
     pub fn contains(&self, address: u64) -> bool
         ensures { IsTrue result ↔ HasByte self.now address }
@@ -35,7 +37,7 @@ impl Span {
         self.base <= address && u128::from(address) < self.top
     }
 
-    /// Whether the span begins and ends within another.
+    /// Returns whether the span begins and ends within another.
     #[inline(always)]
     pub fn is_within(&self, outer: &Span) -> bool
         ensures { IsTrue result ↔ IsWithin self.now outer.now }
@@ -43,7 +45,7 @@ impl Span {
         outer.base <= self.base && self.top <= outer.top
     }
 
-    /// Whether some byte is in both spans.
+    /// Returns whether some byte is in both spans.
     #[inline(always)]
     pub fn shares_byte(&self, other: &Span) -> bool
         ensures { IsTrue result ↔ SharesByte self.now other.now }

@@ -7,9 +7,10 @@ ghost use Rattle.cc_bounds.specs.Decoding.{DecodesTo};
 
 use crate::encoding::Set;
 
-/// Whether the address stands in the window, which goes round the end of the address space.
+/// Returns whether the address is in the window, which wraps around the end of the address space.
 ///
-/// Sections are counted from address 0 up, and the window begins one below the base's own.
+/// Sections are counted from address 0 up, and the window begins one section below that of the
+/// base.
 #[tactic(auto, using(crate::proofs::WindowLemmas::representable_test))]
 fn is_representable(base: u64, exponent: u8, address: u64) -> bool
     requires { exponent ≤ 52 }
@@ -20,11 +21,13 @@ fn is_representable(base: u64, exponent: u8, address: u64) -> bool
     address.wrapping_sub(start) >> section_width < 8
 }
 
-/// Whether the address is representable for the bounds: whether a word with these bounds fields decodes
-/// to these bounds at this address.
+/// Returns whether the address is representable for the bounds: whether a word with these bounds
+/// fields decodes to these bounds at this address.
 ///
-/// Every address within the bounds is, and so is their top where it is below 2^64. From exponent 50 on
-/// every address is. The standard: UCAM-CL-TR-987, the representable region; Woodruff et al. 2019.
+/// Every address within the bounds is representable, and so is their top if it is below 2^64. At
+/// exponents of at least 50, every address is.
+///
+/// Source: UCAM-CL-TR-987, the representable region; Woodruff et al. 2019.
 pub fn represents(set: &Set, address: u64) -> bool
     ensures window { IsTrue result ↔ Represents set.now.granted address }
     ensures decodes { (fields : FieldsSpec) → HasBoundsFields set.now.granted fields.ie fields.t fields.b

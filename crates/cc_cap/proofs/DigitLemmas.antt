@@ -1,4 +1,4 @@
--- How many hexadecimal digits a number of 65 bits has.
+-- The number of hexadecimal digits of a number of 65 bits.
 use Rattle.std.proofs.Common.{◌≡◌, ℕ, ◌+◌, ◌*◌, ◌/◌, ◌^◌, ◌<◌, ◌≤◌, max, ◌∙◌, ap, arith, suc, zero, ◌-◌, inl, inr, ◌⊎◌}
 use Rattle.std.proofs.Math.Nat.{pow-suc}
 use Rattle.std.proofs.Math.Pow.{pow_mono}

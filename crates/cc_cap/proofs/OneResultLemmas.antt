@@ -11,7 +11,7 @@ use Rattle.cc_cap.specs.Capability.{Capability, IsUnsealed, GrantsNoMore, with_s
 use Rattle.cc_cap.specs.Derivation.{request_of, SetsAddress, Increments, SetsBounds, SetsExactBounds, MasksPermissions, SetsFlag, Seals, Unseals, Rebuilds}
 use Rattle.cc_cap.proofs.CanonicalLemmas.{IsWordOf-same}
 
--- a check has one result where what follows it has one
+-- a check has one result if the claim after it has one
 one_result : {condition rest rest' : Type 0} {refusal : Refusal} {result result' : Result Capability Refusal}
     → RefusedUnless condition (result ≡ Err refusal) rest → RefusedUnless condition (result' ≡ Err refusal) rest'
     → (rest → rest' → result ≡ result') → result ≡ result'

@@ -34,7 +34,7 @@ pub words_made : (rule : Capability → Capability → Result Capability Refusal
 words_made rule word authority cap by made result has has' is in_words =
     inl ((cap, has), (cap, has, word_made (rule cap) authority by made result has' is in_words))
 
--- a rule on two words refuses where no capability has the authority's word
+-- a rule on two words refuses if no capability has the authority's word
 pub words_refused : (rule : Capability → Capability → Result Capability Refusal → Type 0) (word authority : ℕ) (cap : Capability) (result : Result ℕ Refusal)
     → IsWordOf cap word → (¬ IsCanonical authority) → result ≡ Err NotCanonical → OnWords rule word authority result
 words_refused rule word authority cap result has not e = inl ((cap, has), (cap, has, inr (not, e)))
@@ -89,7 +89,7 @@ Rebuilds-word authority word (Ok cap) (inl (unsealed, inl (canonical, (own, has,
 
 -- ---- subsets
 
--- a subset, told of any spans that the fields decode to
+-- a subset, for any spans that the fields decode to
 pub IsSubset-spans : (inner outer : Fields) (one other : Span) → DecodesTo inner one → DecodesTo outer other
     → IsSubset inner outer → IsWithin one other × HasAll outer.perms inner.perms
 IsSubset-spans inner outer one other decodes decodes' is =

@@ -3,6 +3,6 @@ use Rattle.std.specs.Prelude.{true}
 use Rattle.cc_bounds.specs.declared.span.Span.{Span}
 use Rattle.cc_bounds.specs.Encoding.{Encoding}
 
--- the encoding of a sound span, as of an exact request
+-- The encoding of a sound span, as for an exact request.
 abbrev pub encoding_of : Span → Encoding
 encoding_of span = record { granted = span; exact = true }

@@ -1,12 +1,12 @@
--- The word of a capability, and the words that are the word of one.
+-- The word of a capability, and canonical words: those that are the word of a capability.
 use Rattle.std.specs.Prelude.{ℕ, ◌≡◌, ◌-◌}
 use Rattle.cc_word.specs.declared.fields.Fields.{Fields}
 use Rattle.cc_word.specs.Word.{bit_of, turned, layout_of, word_of}
 use Rattle.cc_bounds.specs.Encoding.{HasBoundsFields, ie_of, t_of, b_of}
 use Rattle.cc_cap.specs.Capability.{Capability, IsCapability}
 
--- the fields of a capability: its bounds as they are encoded, nothing in the reserved bits, and the rest as
--- it is
+-- `IsFieldsOf` holds if `fields` are those of the capability: its bounds as they are encoded, zeros
+-- in the reserved bits, and its permissions, flag, type and address as they are.
 pub record IsFieldsOf (cap : Capability) (fields : Fields) : Type 0 where
   pub permissions : fields.perms ≡ cap.permissions
   pub reserved : fields.reserved ≡ 0
@@ -15,20 +15,22 @@ pub record IsFieldsOf (cap : Capability) (fields : Fields) : Type 0 where
   pub bounds : HasBoundsFields cap.span fields.ie fields.t fields.b
   pub address : fields.address ≡ cap.address
 
--- the word of a capability that can exist
+-- `IsWordOf` holds if `word` is the word of the capability, and this is a capability that can
+-- exist.
 pub record IsWordOf (cap : Capability) (word : ℕ) : Type 0 where
   pub is_capability : IsCapability cap
   pub fields : Fields
   pub is_fields : IsFieldsOf cap fields
   pub is_word : word ≡ word_of fields
 
--- a canonical word: the word of some capability
+-- `IsCanonical` holds if the word is the word of some capability.
 abbrev pub IsCanonical : ℕ → Type 0
 IsCanonical word = (cap : Capability) × IsWordOf cap word
 
--- ---- A computing form, for what is built of words. `Cap::word` joins it to the definition above.
+-- ---- An executable definition, for definitions that use words. The contract of `Cap::word`
+-- relates it to the definition above.
 
--- the word of a capability
+-- The word of a capability.
 unfoldable pub word_of_capability : Capability → ℕ
 word_of_capability cap =
     layout_of cap.permissions 0 (bit_of cap.flag) (0x3ffff - cap.otype) (1 - bit_of (ie_of cap.span))

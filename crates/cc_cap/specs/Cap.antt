@@ -1,4 +1,4 @@
--- How a `Cap` keeps its capability. No public clause cites this file.
+-- The representation of a capability in a `Cap`. No public clause cites this file.
 use Rattle.std.proofs.Common.{sym}
 use Rattle.std.specs.Prelude.{ℕ, true, ◌≡◌, ◌⊎◌, ◌↔◌, IsTrue, Result, Err, IsOk, MatchResult}
 use Rattle.cc_word.specs.Refusal.{RefusedUnless}
@@ -15,7 +15,7 @@ use Rattle.cc_cap.specs.Capability.{Capability, IsCapability, IsUnsealed, Grants
 use Rattle.cc_cap.specs.Canonical.{IsWordOf, IsCanonical}
 use Rattle.cc_cap.specs.Derivation.{request_of}
 
--- the capability that a `Cap` stands for
+-- The capability that a `Cap` represents.
 abbrev pub value_of : Inside → Capability
 value_of inside = record {
   span = inside.set.granted;
@@ -25,12 +25,13 @@ value_of inside = record {
   otype = inside.otype;
 }
 
--- the capability can exist, and its encoding is marked exact, also where its bounds were rounded
+-- `IsWellFormed` holds if the capability can exist, and its encoding is marked exact, even if its
+-- bounds were rounded.
 pub record IsWellFormed (inside : Inside) : Type 0 where
   pub exact : inside.set.exact ≡ true
   pub is_capability : IsCapability (value_of inside)
 
--- the one inside of a `Cap` that stands for this capability
+-- The one inside of a `Cap` that represents this capability.
 abbrev pub inside_of : Capability → Inside
 inside_of cap = record {
   set = encoding_of cap.span;
@@ -40,12 +41,13 @@ inside_of cap = record {
   otype = cap.otype;
 }
 
--- the inside made of what a well-formed inside stands for is that inside
+-- The inside of the capability that a well-formed inside represents is that inside.
 pub inside_of-value_of : (inside : Inside) → IsWellFormed inside → inside_of (value_of inside) ≡ inside
 inside_of-value_of inside formed =
     λ i. record inside { set = record { granted = inside.set.granted; exact = sym formed.exact i } }
 
--- the encoding of bounds of this length, where the capability is unsealed and the request lies within its span
+-- `IsEncodingFor` holds if the capability is unsealed, the request for bounds of this length is
+-- within its span, and `set` is the encoding of these bounds.
 pub record IsEncodingFor (cap : Capability) (length : ℕ) (set : Encoding) : Type 0 where
   pub unsealed : IsUnsealed cap
   pub inside : IsWithin (request_of cap length) cap.span
@@ -57,20 +59,23 @@ pub record IsEncodingFor (cap : Capability) (length : ℕ) (set : Encoding) : Ty
   pub within : IsWithin set.granted cap.span
   pub holds_address : Represents set.granted cap.address
 
--- why bounds of this length are refused: the capability is sealed, or else the request leaves its span
+-- `IsRefusedBounds` holds if `refusal` is that of bounds of this length: `Sealed` for a sealed
+-- capability, otherwise `OutOfBounds` if the request is not within its span.
 abbrev pub IsRefusedBounds : Capability → ℕ → Refusal → Type 0
 IsRefusedBounds cap length refusal =
     ((¬ IsUnsealed cap) × (refusal ≡ Sealed))
     ⊎ (IsUnsealed cap × (¬ IsWithin (request_of cap length) cap.span) × (refusal ≡ OutOfBounds))
 
--- the two checks of an authority in order: it has the permission, and it grants its own address
+-- `ChecksAuthority` holds if `result` is that of the two checks of an authority, in order: it has
+-- the permission, and it grants its own address.
 abbrev pub ChecksAuthority : Capability → ℕ → Result Unit Refusal → Type 0
 ChecksAuthority authority permission result =
     RefusedUnless (HasAll authority.permissions permission) (result ≡ Err MissingPermission) (
     RefusedUnless (Grants authority authority.address) (result ≡ Err OutOfBounds) (
     IsOk result))
 
--- reading a word gives its capability, or `NotCanonical` where no capability has the word
+-- `IsReadFrom` holds if `result` is that of reading the word: its capability, or `NotCanonical` if
+-- no capability has the word.
 abbrev pub IsReadFrom : ℕ → Result Capability Refusal → Type 0
 IsReadFrom word result =
     MatchResult result (λ cap. IsWordOf cap word) (λ refusal. (¬ IsCanonical word) × (refusal ≡ NotCanonical))

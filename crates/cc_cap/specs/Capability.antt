@@ -1,4 +1,5 @@
--- What a capability is, what it grants, and what differs from it in one part.
+-- Capabilities, the bytes and permissions that they grant, and capabilities that differ in one
+-- part.
 use Rattle.std.specs.Prelude.{ℕ, Bool, false, ◌≡◌, ◌≤◌, ◌<◌, ◌^◌}
 use Rattle.cc_bounds.specs.declared.span.Span.{Span}
 use Rattle.cc_bounds.specs.Span.{IsSpan, HasByte, IsWithin, from_zero}
@@ -7,7 +8,8 @@ use Rattle.cc_bounds.specs.Window.{Represents}
 use Rattle.cc_cap.specs.Permissions.{HasAll, unsealed_permissions}
 use Rattle.cc_cap.specs.ObjType.{IsObjType, last_sealing_type, unsealed_type}
 
--- a capability: the span that it grants, its own address, its permissions as bits, its flag and its type
+-- A capability: the span that it grants, its own address, its permissions as bits, its flag and its
+-- type.
 pub record Capability : Type 0 where
   pub span : Span
   pub address : ℕ
@@ -15,8 +17,9 @@ pub record Capability : Type 0 where
   pub flag : Bool
   pub otype : ℕ
 
--- What is true of every capability that exists: its span is sound, its address is representable for the
--- span, its permissions are among the sixteen, and its type is unsealed or one that sealing gives.
+-- `IsCapability` holds of every capability that exists: its span is sound, its address is
+-- representable for the span, its permissions are among the sixteen, and its type is unsealed or
+-- one that sealing gives.
 pub record IsCapability (cap : Capability) : Type 0 where
   pub is_span : IsSpan cap.span
   pub sound : IsSound cap.span
@@ -25,24 +28,25 @@ pub record IsCapability (cap : Capability) : Type 0 where
   pub permissions_fit : cap.permissions < 2 ^ 16
   pub is_type : IsObjType cap.otype
 
--- the type says that it is unsealed
+-- `IsUnsealed` holds if the type is that of an unsealed capability.
 abbrev pub IsUnsealed : Capability → Type 0
 IsUnsealed cap = cap.otype ≡ unsealed_type
 
--- the type is one that sealing gives
+-- `IsSealed` holds if the type is one that sealing gives.
 abbrev pub IsSealed : Capability → Type 0
 IsSealed cap = cap.otype ≤ last_sealing_type
 
--- the capability grants the byte
+-- `Grants` holds if the capability grants the byte.
 abbrev pub Grants : Capability → ℕ → Type 0
 Grants cap byte = HasByte cap.span byte
 
--- the child's span lies within the parent's, and its permissions are among the parent's
+-- `GrantsNoMore` holds if the child's span is within the parent's, and its permissions are among
+-- the parent's.
 pub record GrantsNoMore (child parent : Capability) : Type 0 where
   pub bytes : IsWithin child.span parent.span
   pub permissions : HasAll parent.permissions child.permissions
 
--- the root capability: every permission over every address
+-- The root capability: every permission over every address.
 abbrev pub root_capability : Capability
 root_capability = record {
   span = from_zero (2 ^ 64);
@@ -52,27 +56,27 @@ root_capability = record {
   otype = unsealed_type;
 }
 
--- the same at another address
+-- The capability with this address.
 abbrev pub at_address : Capability → ℕ → Capability
 at_address cap address = record cap { address = address }
 
--- the same with other bounds
+-- The capability with this span.
 abbrev pub with_span : Capability → Span → Capability
 with_span cap span = record cap { span = span }
 
--- the same with other permissions
+-- The capability with these permissions.
 abbrev pub with_permissions : Capability → ℕ → Capability
 with_permissions cap permissions = record cap { permissions = permissions }
 
--- the same with another flag
+-- The capability with this flag.
 abbrev pub with_flag : Capability → Bool → Capability
 with_flag cap flag = record cap { flag = flag }
 
--- the same, sealed with this type
+-- The capability, sealed with this type.
 abbrev pub sealed_with : Capability → ℕ → Capability
 sealed_with cap otype = record cap { otype = otype }
 
--- the same, unsealed by an authority
+-- The capability, unsealed by an authority.
 abbrev pub unsealed_by : Capability → Capability → Capability
 unsealed_by cap authority = record cap {
   permissions = unsealed_permissions cap.permissions authority.permissions;

@@ -1,5 +1,5 @@
--- The rules by which one capability is derived from another. The checks of a rule stand in the order in
--- which they are made, and the first that fails answers.
+-- The rules by which one capability is derived from another. The checks of a rule are in the order
+-- in which they are made, and the first that fails decides the result.
 use Rattle.std.specs.Prelude.{ℕ, Bool, ◌≡◌, ◌+◌, ◌%◌, ◌^◌, ◌≤◌, Result, Ok, Err}
 use Rattle.std.specs.Int.RustNames.{bit_and}
 use Rattle.cc_word.specs.Refusal.{RefusedUnless}
@@ -14,29 +14,29 @@ use Rattle.cc_cap.specs.Permissions.{HasAll, seal_permission, unseal_permission}
 use Rattle.cc_cap.specs.Capability.{Capability, IsUnsealed, IsSealed, Grants, GrantsNoMore, at_address, with_span, with_permissions, with_flag, sealed_with, unsealed_by}
 use Rattle.cc_cap.specs.Canonical.{IsWordOf, IsCanonical}
 
--- moving the address
+-- `SetsAddress` holds if `result` is that of setting the address.
 abbrev pub SetsAddress : Capability → ℕ → Result Capability Refusal → Type 0
 SetsAddress cap address result =
     RefusedUnless (IsUnsealed cap) (result ≡ Err Sealed) (
     RefusedUnless (Represents cap.span address) (result ≡ Err Unrepresentable) (
     result ≡ Ok (at_address cap address)))
 
--- moving the address by an amount, round the end of the address space
+-- `Increments` holds if `result` is that of adding `amount` to the address, modulo 2 ^ 64.
 abbrev pub Increments : Capability → ℕ → Result Capability Refusal → Type 0
 Increments cap amount result = SetsAddress cap ((cap.address + amount) % 2 ^ 64) result
 
--- the span that is asked for when bounds of a length are set: it begins at the address
+-- The span that is requested when bounds of this length are set: it begins at the address.
 abbrev pub request_of : Capability → ℕ → Span
 request_of cap length = span_from cap.address length
 
--- setting bounds, which may be rounded
+-- `SetsBounds` holds if `result` is that of setting bounds, which may be rounded.
 abbrev pub SetsBounds : Capability → ℕ → Result Capability Refusal → Type 0
 SetsBounds cap length result =
     RefusedUnless (IsUnsealed cap) (result ≡ Err Sealed) (
     RefusedUnless (IsWithin (request_of cap length) cap.span) (result ≡ Err OutOfBounds) (
     (granted : Span) × IsGranted (request_of cap length) granted × (result ≡ Ok (with_span cap granted))))
 
--- setting bounds that may not be rounded
+-- `SetsExactBounds` holds if `result` is that of setting bounds that must not be rounded.
 abbrev pub SetsExactBounds : Capability → ℕ → Result Capability Refusal → Type 0
 SetsExactBounds cap length result =
     RefusedUnless (IsUnsealed cap) (result ≡ Err Sealed) (
@@ -44,19 +44,20 @@ SetsExactBounds cap length result =
     RefusedUnless (IsExact (request_of cap length)) (result ≡ Err Inexact) (
     result ≡ Ok (with_span cap (request_of cap length)))))
 
--- keeping the permissions that are in the mask too
+-- `MasksPermissions` holds if `result` is that of keeping the permissions that are also in the
+-- mask.
 abbrev pub MasksPermissions : Capability → ℕ → Result Capability Refusal → Type 0
 MasksPermissions cap mask result =
     RefusedUnless (IsUnsealed cap) (result ≡ Err Sealed) (
     result ≡ Ok (with_permissions cap (bit_and cap.permissions mask)))
 
--- setting the flag
+-- `SetsFlag` holds if `result` is that of setting the flag.
 abbrev pub SetsFlag : Capability → Bool → Result Capability Refusal → Type 0
 SetsFlag cap flag result =
     RefusedUnless (IsUnsealed cap) (result ≡ Err Sealed) (
     result ≡ Ok (with_flag cap flag))
 
--- sealing with the authority's address as the type
+-- `Seals` holds if `result` is that of sealing with the authority's address as the type.
 abbrev pub Seals : Capability → Capability → Result Capability Refusal → Type 0
 Seals cap authority result =
     RefusedUnless (IsUnsealed cap × IsUnsealed authority) (result ≡ Err Sealed) (
@@ -65,7 +66,8 @@ Seals cap authority result =
     RefusedUnless (authority.address ≤ last_sealing_type) (result ≡ Err ReservedType) (
     result ≡ Ok (sealed_with cap authority.address)))))
 
--- unsealing what is sealed with the authority's address; GLOBAL is kept only where both have it
+-- `Unseals` holds if `result` is that of unsealing a capability that is sealed with the authority's
+-- address. GLOBAL is kept only if both have it.
 abbrev pub Unseals : Capability → Capability → Result Capability Refusal → Type 0
 Unseals cap authority result =
     RefusedUnless (IsSealed cap) (result ≡ Err Unsealed) (
@@ -75,7 +77,8 @@ Unseals cap authority result =
     RefusedUnless (authority.address ≡ cap.otype) (result ≡ Err TypeMismatch) (
     result ≡ Ok (unsealed_by cap authority))))))
 
--- rebuilding the capability of a word that grants no more than the authority
+-- `Rebuilds` holds if `result` is that of rebuilding the capability of a word, which must be
+-- unsealed and grant no more than the authority.
 abbrev pub Rebuilds : Capability → ℕ → Result Capability Refusal → Type 0
 Rebuilds authority word result =
     RefusedUnless (IsUnsealed authority) (result ≡ Err Sealed) (

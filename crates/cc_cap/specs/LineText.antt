@@ -1,4 +1,4 @@
--- The text of a word on one line.
+-- The one-line form of a word.
 use Rattle.std.specs.Prelude.{ℕ, Bool, ◌≡◌, ◌==◌, ◌-◌, ◌<◌, ◌≤◌, ◌^◌, List, [], ◌++◌, codes, if◌then◌else◌}
 use Rattle.std.specs.Int.RustNames.{bit_and}
 use Rattle.cc_word.specs.declared.fields.Fields.{Fields}
@@ -8,33 +8,33 @@ use Rattle.cc_bounds.specs.declared.span.Span.{Span}
 use Rattle.cc_bounds.specs.Decoding.{DecodesTo}
 use Rattle.cc_cap.specs.ObjType.{sentry_type, unsealed_type}
 
--- the letter of a permission where the set has it, else nothing
+-- The letter of a permission if the set has it, otherwise nothing.
 abbrev pub letter_of : (letter : List ℕ) (permissions permission : ℕ) → List ℕ
 letter_of letter permissions permission = if bit_and permissions permission == permission then letter else []
 
--- The letters of LOAD, STORE, EXECUTE, LOAD_CAP and STORE_CAP, of those that the set has. The other
--- permissions have none.
+-- The letters of LOAD, STORE, EXECUTE, LOAD_CAP and STORE_CAP, for those that the set has. The
+-- other permissions have no letter.
 abbrev pub letters_of : ℕ → List ℕ
 letters_of permissions =
     letter_of (codes "r") permissions (2 ^ 2) ++ letter_of (codes "w") permissions (2 ^ 3)
     ++ letter_of (codes "x") permissions (2 ^ 1) ++ letter_of (codes "R") permissions (2 ^ 4)
     ++ letter_of (codes "W") permissions (2 ^ 5)
 
--- what is said of the type and the tag: nothing of a tagged word that is unsealed
+-- The mark of the type and the tag, which is empty for a tagged word that is unsealed.
 abbrev pub marks_of : (otype : ℕ) (tagged : Bool) → List ℕ
 marks_of otype tagged =
     if otype == unsealed_type then (if tagged then [] else codes " (invalid)")
     else if otype == sentry_type then (if tagged then codes " (sentry)" else codes " (invalid,sentry)")
     else (if tagged then codes " (sealed)" else codes " (invalid,sealed)")
 
--- the address, then in brackets the letters, the base and the top, and then the marks
+-- The address, then in brackets the letters, the base and the top, and then the mark.
 abbrev pub line_of : (fields : Fields) (bounds : Span) (tagged : Bool) → List ℕ
 line_of fields bounds tagged =
     hexadecimal fields.address ++ codes " [" ++ letters_of fields.perms ++ codes ","
     ++ hexadecimal bounds.base ++ codes "-" ++ hexadecimal bounds.top ++ codes "]" ++ marks_of fields.otype tagged
 
--- The line of a word: that of its fields and of the bounds that they decode to. There are no other such
--- fields, and no other such bounds.
+-- `IsLine` holds if `line` is the one-line form of the word: that of its fields and of the bounds
+-- that they decode to. No other fields and no other bounds are such.
 pub record IsLine (word : ℕ) (tagged : Bool) (line : List ℕ) : Type 0 where
   pub fields : Fields
   pub bounds : Span
@@ -44,7 +44,7 @@ pub record IsLine (word : ℕ) (tagged : Bool) (line : List ℕ) : Type 0 where
 
 -- ---- For the body alone.
 
--- a number of this many hexadecimal digits, and of no fewer
+-- `HasDigits` holds if `number` has `count` hexadecimal digits, and no fewer.
 pub record HasDigits (count number : ℕ) : Type 0 where
   pub some : 1 ≤ count
   pub most : count ≤ 17

@@ -1,24 +1,26 @@
--- Sets of permissions, as numbers of 16 bits.
+-- Sets of permissions, as 16-bit numbers.
 use Rattle.std.specs.Prelude.{ℕ, ◌≡◌, ◌==◌, ◌^◌, List, [], ◌∷◌, codes, if◌then◌else◌}
 use Rattle.std.specs.Int.RustNames.{bit_and}
 use Rattle.bitflags.specs.Sets.{without}
 use Rattle.cc_cap.specs.declared.perms.Perms.{Perms}
 
--- the bits of a set
+-- The bits of a set.
 abbrev pub bits_of : Perms → ℕ
 bits_of perms = perms.0
 
--- the sets of one permission that the rules of derivation name
+-- The set of GLOBAL alone, which the rules of derivation name.
 abbrev pub global_permission : ℕ
 global_permission = 2 ^ 0
 
+-- The set of SEAL alone, which the rules of derivation name.
 abbrev pub seal_permission : ℕ
 seal_permission = 2 ^ 7
 
+-- The set of UNSEAL alone, which the rules of derivation name.
 abbrev pub unseal_permission : ℕ
 unseal_permission = 2 ^ 9
 
--- the name and the bit of each permission
+-- The name and the bit of each permission.
 abbrev pub permission_table : List (List ℕ × ℕ)
 permission_table =
     (codes "GLOBAL", global_permission)
@@ -39,11 +41,12 @@ permission_table =
     ∷ (codes "USER3", 2 ^ 15)
     ∷ []
 
--- each permission of the second set is in the first
+-- `HasAll` holds if each permission of `others` is in `permissions`.
 abbrev pub HasAll : (permissions others : ℕ) → Type 0
 HasAll permissions others = bit_and permissions others ≡ others
 
--- what unsealing leaves of a capability's permissions: GLOBAL stays only where the authority has it too
+-- The permissions that unsealing leaves of a capability's permissions: GLOBAL stays only if the
+-- authority has it too.
 abbrev pub unsealed_permissions : (permissions authority : ℕ) → ℕ
 unsealed_permissions permissions authority =
     if bit_and authority global_permission == global_permission then permissions

@@ -1,11 +1,12 @@
--- What is reached from a capability by the calls that derive one.
+-- The capabilities that are reached from a capability by the functions that derive one.
 use Rattle.std.specs.Prelude.{Ok}
 use Rattle.cc_bounds.specs.Span.{length_of}
 use Rattle.cc_cap.specs.Capability.{Capability}
 use Rattle.cc_cap.specs.Derivation.{SetsAddress, SetsExactBounds, MasksPermissions, SetsFlag}
 
--- Five calls in a row, none refused, lead from the first capability to the second: they set the address to the
--- base of the second, exact bounds of its length, its address, its permissions as the mask, and its flag.
+-- `IsReachable` holds if five calls in a row, none refused, lead from the first capability to the
+-- second. They set the address to the base of the second, exact bounds of its length, its address,
+-- its permissions as the mask, and its flag.
 pub record IsReachable (from to : Capability) : Type 0 where
   pub at_base : Capability
   pub in_bounds : Capability

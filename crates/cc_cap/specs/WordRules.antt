@@ -1,4 +1,4 @@
--- The rules of derivation on words: a word goes in, and a word or a refusal comes out.
+-- The rules of derivation on words: from a word to a word or a refusal.
 use Rattle.std.specs.Prelude.{ℕ, ◌≡◌, Result, Ok, Err}
 use Rattle.cc_word.specs.declared.fields.Fields.{Fields}
 use Rattle.cc_word.specs.Refusal.{RefusedUnless}
@@ -11,45 +11,50 @@ use Rattle.cc_cap.specs.Permissions.{HasAll}
 use Rattle.cc_cap.specs.Capability.{Capability}
 use Rattle.cc_cap.specs.Canonical.{IsWordOf, IsCanonical}
 
--- a result in words: the word of the capability that was made, or the same refusal
+-- `InWords` holds if `result` is `made` in words: the word of the capability that was made, or the
+-- same refusal.
 abbrev pub InWords : (made : Result Capability Refusal) (result : Result ℕ Refusal) → Type 0
 InWords (Ok cap) (Ok word) = IsWordOf cap word
 InWords (Err refusal) (Err told) = told ≡ refusal
 InWords (Ok cap) (Err told) = ⊥
 InWords (Err refusal) (Ok word) = ⊥
 
--- the rule makes something, or refuses, and the result is that in words
+-- `MakesWord` holds if the rule makes a capability or refuses, and `result` is this in words.
 pub record MakesWord (rule : Result Capability Refusal → Type 0) (result : Result ℕ Refusal) : Type 0 where
   pub made : Result Capability Refusal
   pub is_made : rule made
   pub in_words : InWords made result
 
--- A rule on a word: `NotCanonical` where no capability has the word, else what the rule makes of its capability.
+-- `OnWord` holds if `result` is that of a rule on a word: `NotCanonical` if no capability has the
+-- word, otherwise the result of the rule for its capability, in words.
 abbrev pub OnWord : (rule : Capability → Result Capability Refusal → Type 0) (word : ℕ) (result : Result ℕ Refusal) → Type 0
 OnWord rule word result =
     RefusedUnless (IsCanonical word) (result ≡ Err NotCanonical) (
     (cap : Capability) × IsWordOf cap word × MakesWord (rule cap) result)
 
--- a rule on a word and the word of an authority: `NotCanonical` of the one, then of the other, then the rule
+-- `OnWords` holds if `result` is that of a rule on a word and the word of an authority:
+-- `NotCanonical` for the one, then for the other, and then the result of the rule.
 abbrev pub OnWords : (rule : Capability → Capability → Result Capability Refusal → Type 0) (word authority : ℕ) (result : Result ℕ Refusal) → Type 0
 OnWords rule word authority result =
     RefusedUnless (IsCanonical word) (result ≡ Err NotCanonical) (
     (cap : Capability) × IsWordOf cap word × OnWord (rule cap) authority result)
 
--- where a capability has the word, the result is what the rule makes of that capability
+-- `IsLikeCalls` holds if, for a capability that has the word, the result on the word is that of the
+-- rule for the capability, in words.
 abbrev pub IsLikeCalls : (rule : Capability → Result Capability Refusal → Type 0) (word : ℕ) → Type 0
 IsLikeCalls rule word =
     (result : Result ℕ Refusal) → OnWord rule word result
     → (cap : Capability) → IsWordOf cap word → (made : Result Capability Refusal) → rule cap made → InWords made result
 
--- where capabilities have the two words, the result is what the rule makes of them
+-- `AreLikeCalls` holds if, for capabilities that have the two words, the result on the words is
+-- that of the rule for the capabilities, in words.
 abbrev pub AreLikeCalls : (rule : Capability → Capability → Result Capability Refusal → Type 0) (word authority : ℕ) → Type 0
 AreLikeCalls rule word authority =
     (result : Result ℕ Refusal) → OnWords rule word authority result
     → (cap by : Capability) → IsWordOf cap word → IsWordOf by authority → (made : Result Capability Refusal) → rule cap by made → InWords made result
 
--- the span that the inner fields decode to begins and ends within that of the outer, and the outer have each
--- permission of the inner
+-- `IsSubset` holds if the span that the inner fields decode to begins and ends within that of the
+-- outer, and the outer fields have each permission of the inner.
 pub record IsSubset (inner outer : Fields) : Type 0 where
   pub inner_span : Span
   pub outer_span : Span

@@ -1,13 +1,14 @@
-//! Which words are the word of a capability.
+//! Canonical words: those that are the word of a capability.
 ghost use Rattle.std.specs.Prelude.{◌↔◌, IsTrue};
 ghost use Rattle.cc_cap.specs.Canonical.{IsCanonical};
 
 use crate::cap::Cap;
 
-/// Whether the word is canonical: the word of some capability, sealed or not.
+/// Returns whether the word is canonical: the word of some capability, sealed or not.
 ///
-/// It is not where a reserved bit is set, the type is reserved, or the bounds fields and the address are
-/// those of no sound span: another exponent field or other mantissas may decode to the same bounds.
+/// It is not canonical if a reserved bit is set, if the type is reserved, or if the bounds fields
+/// and the address are those of no sound span: another exponent field or other mantissas may decode
+/// to the same bounds.
 #[inline(always)]
 pub fn is_canonical(word: u128) -> bool
     ensures { IsTrue result ↔ IsCanonical word }

@@ -1,4 +1,4 @@
-//! Capabilities, and the calls that derive them.
+//! Capabilities, and the functions that derive them.
 use crate::obj_type::ObjType;
 use crate::perms::Perms;
 use bitflags::Flags;
@@ -8,9 +8,10 @@ use std::marker::Model;
 
 /// A capability: bounds, an address, permissions, a flag and an object type.
 ///
-/// It is tagged, and can't be forged: only the calls of this type make one, and each but [`Cap::root`]
-/// derives it from one or two others, or refuses. Its word is canonical. The standard: UCAM-CL-TR-987,
-/// the capability instructions.
+/// It is tagged, and cannot be forged: only the functions of this type create one. Each of these
+/// except [`Cap::root`] derives it from one or two others, or refuses. Its word is canonical.
+///
+/// Source: UCAM-CL-TR-987, the capability instructions.
 #[derive(Clone, Copy, Debug)]
 pub struct Cap {
     set: Set,
@@ -42,7 +43,7 @@ impl PartialEq for Cap {
     ghost use Rattle.std.specs.Cmp.Rules.{comparing};
     ghost use Rattle.cc_cap.specs.Canonical.{word_of_capability};
 
-    // Two capabilities are equal exactly if their words are equal.
+    // Two capabilities are equal if and only if their words are equal.
     ghost eq = { λ one other. word_of_capability one == word_of_capability other };
 
     ghost laws = { Prim.search (comparing, rules) };
@@ -69,7 +70,7 @@ impl Cap {
     ghost use Rattle.cc_cap.specs.Reach.{IsReachable};
     ghost use Rattle.cc_cap.specs.Derivation.{SetsAddress, Increments, SetsBounds, SetsExactBounds, MasksPermissions, SetsFlag, Seals, Unseals, Rebuilds};
 
-    /// The root capability: every permission over every address, at address 0 and unsealed.
+    /// Returns the root capability: every permission over every address, at address 0 and unsealed.
     pub fn root() -> Cap
         ensures { result ≡ root_capability }
     {
@@ -82,11 +83,13 @@ impl Cap {
         }
     }
 
-    /// This capability at another address, with the same bounds.
+    /// Returns this capability at another address, with the same bounds.
     ///
-    /// The address may leave the bounds; nothing is granted there. Refusals in order: `Sealed`;
-    /// `Unrepresentable`, where at that address the word would decode to other bounds. The instruction
-    /// CSetAddr.
+    /// The address may be outside the bounds. Nothing is granted there.
+    ///
+    /// Errors, in order: `Sealed`; `Unrepresentable`, if the word would decode to other bounds at
+    /// this address.
+    /// Instruction: CSetAddr.
     #[inline(always)]
     pub fn set_address(&self, address: u64) -> Result<Cap, Refusal>
         ensures made { SetsAddress self.now address result }
@@ -101,9 +104,10 @@ impl Cap {
         Ok(Cap { address, ..*self })
     }
 
-    /// This capability with its address moved up by `amount` bytes, modulo 2^64.
+    /// Returns this capability with `amount` added to its address, modulo 2^64.
     ///
-    /// Refusals in order: `Sealed`, `Unrepresentable`. The instruction CIncOffset.
+    /// Errors, in order: `Sealed`; `Unrepresentable`.
+    /// Instruction: CIncOffset.
     #[inline(always)]
     pub fn increment(&self, amount: u64) -> Result<Cap, Refusal>
         ensures made { Increments self.now amount result }
@@ -112,11 +116,14 @@ impl Cap {
         self.set_address(self.address.wrapping_add(amount))
     }
 
-    /// This capability with the bounds of `len` bytes from its address on, rounded where they can't be
-    /// stored exactly. The address stays.
+    /// Returns this capability with the bounds of `len` bytes from its address.
     ///
-    /// The caller has `len <= 2^64`. Refusals in order: `Sealed`; `OutOfBounds`, unless the bytes asked for
-    /// lie within the bounds. Rounding never leaves them. The instruction CSetBounds.
+    /// Bounds that cannot be stored exactly are rounded outward, but never beyond the current
+    /// bounds. The address does not change.
+    ///
+    /// Requires: `len <= 2^64`.
+    /// Errors, in order: `Sealed`; `OutOfBounds`, unless the requested bytes are within the bounds.
+    /// Instruction: CSetBounds.
     #[inline(always)]
     pub fn set_bounds(&self, len: u128) -> Result<Cap, Refusal>
         requires { len ≤ 2 ^ 64 }
@@ -129,11 +136,14 @@ impl Cap {
         })
     }
 
-    /// This capability with exactly the bounds of `len` bytes from its address on. The address stays.
+    /// Returns this capability with exactly the bounds of `len` bytes from its address.
     ///
-    /// The caller has `len <= 2^64`. Refusals in order: `Sealed`; `OutOfBounds`, as for
-    /// [`Cap::set_bounds`]; `Inexact`, where the bounds can't be stored without rounding. The instruction
-    /// CSetBoundsExact.
+    /// The address does not change.
+    ///
+    /// Requires: `len <= 2^64`.
+    /// Errors, in order: `Sealed`; `OutOfBounds`, unless the requested bytes are within the bounds;
+    /// `Inexact`, if the bounds cannot be stored without rounding.
+    /// Instruction: CSetBoundsExact.
     #[inline(always)]
     pub fn set_bounds_exact(&self, len: u128) -> Result<Cap, Refusal>
         requires { len ≤ 2 ^ 64 }
@@ -147,9 +157,10 @@ impl Cap {
         Ok(Cap { set, ..*self })
     }
 
-    /// This capability with the permissions that are also in the mask.
+    /// Returns this capability with the permissions that are also in the mask.
     ///
-    /// Refusals: `Sealed`. The instruction CAndPerm.
+    /// Errors: `Sealed`.
+    /// Instruction: CAndPerm.
     #[tactic(auto, using(crate::proofs::DerivationLemmas::permissions_stay))]
     #[inline(always)]
     pub fn and_perms(&self, mask: Perms) -> Result<Cap, Refusal>
@@ -163,9 +174,10 @@ impl Cap {
         Ok(Cap { perms, ..*self })
     }
 
-    /// This capability with its flag set to `flag`.
+    /// Returns this capability with its flag set to `flag`.
     ///
-    /// Refusals: `Sealed`. The instruction CSetFlags.
+    /// Errors: `Sealed`.
+    /// Instruction: CSetFlags.
     #[inline(always)]
     pub fn set_flag(&self, flag: bool) -> Result<Cap, Refusal>
         ensures made { SetsFlag self.now flag result }
@@ -177,11 +189,12 @@ impl Cap {
         Ok(Cap { flag, ..*self })
     }
 
-    /// This capability sealed with the authority's address as its type.
+    /// Returns this capability sealed with the authority's address as its type.
     ///
-    /// Refusals in order: `Sealed`, where either is sealed; `MissingPermission`, unless the authority has
-    /// SEAL; `OutOfBounds`, unless its address is in its bounds; `ReservedType`, for an address above
-    /// 0x3ffef. The instruction CSeal.
+    /// Errors, in order: `Sealed`, if either is sealed; `MissingPermission`, unless the authority
+    /// has SEAL; `OutOfBounds`, unless its address is in its bounds; `ReservedType`, for an address
+    /// above 0x3ffef.
+    /// Instruction: CSeal.
     pub fn seal(&self, authority: &Cap) -> Result<Cap, Refusal>
         ensures made { Seals self.now authority.now result }
         ensures monotonic { IfOk result (λ cap. GrantsNoMore cap self.now) }
@@ -196,11 +209,14 @@ impl Cap {
         Ok(Cap { otype, ..*self })
     }
 
-    /// This sealed capability unsealed. It keeps GLOBAL only where the authority has it too.
+    /// Returns this sealed capability unsealed.
     ///
-    /// Refusals in order: `Unsealed`, where it is not sealed; `Sealed`, where the authority is;
-    /// `MissingPermission`, unless the authority has UNSEAL; `OutOfBounds`, unless its address is in its
-    /// bounds; `TypeMismatch`, unless its address is the type. The instruction CUnseal.
+    /// It keeps GLOBAL only if the authority has it too.
+    ///
+    /// Errors, in order: `Unsealed`, if it is not sealed; `Sealed`, if the authority is sealed;
+    /// `MissingPermission`, unless the authority has UNSEAL; `OutOfBounds`, unless its address is
+    /// in its bounds; `TypeMismatch`, unless its address is the type.
+    /// Instruction: CUnseal.
     #[tactic(auto, using(crate::proofs::DerivationLemmas::permissions_stay))]
     pub fn unseal(&self, authority: &Cap) -> Result<Cap, Refusal>
         ensures made { Unseals self.now authority.now result }
@@ -224,12 +240,14 @@ impl Cap {
         })
     }
 
-    /// The capability of a word, where it grants no more than the authority does.
+    /// Returns the capability of a word, if it grants no more than the authority.
     ///
-    /// Refusals in order: `Sealed`, where the authority is; `NotCanonical`, where the word is the word of
-    /// no capability; `ExceedsAuthority`, where its capability is sealed, has bounds that are not within
-    /// the authority's, or has a permission that the authority lacks. Either flag is accepted. It adds no
-    /// power: the other calls make the same from the authority.
+    /// Either flag is accepted. This function adds no power: the other functions derive the same
+    /// capability from the authority.
+    ///
+    /// Errors, in order: `Sealed`, if the authority is sealed; `NotCanonical`, if no capability has
+    /// the word; `ExceedsAuthority`, if its capability is sealed, has bounds that are not within
+    /// the authority's, or has a permission that the authority lacks.
     pub fn rebuild(authority: &Cap, word: u128) -> Result<Cap, Refusal>
         ensures made { Rebuilds authority.now word result }
         ensures monotonic { IfOk result (λ cap. GrantsNoMore cap authority.now) }
@@ -247,8 +265,9 @@ impl Cap {
         Ok(cap)
     }
 
-    /// The capability's word, which is canonical, and which no other capability has. The standard:
-    /// UCAM-CL-TR-987, the compressed capability encoding.
+    /// Returns the capability's word, which is canonical, and which no other capability has.
+    ///
+    /// Source: UCAM-CL-TR-987, the compressed capability encoding.
     #[inline(always)]
     pub fn word(&self) -> u128
         ensures word { IsWordOf self.now result }
@@ -259,8 +278,9 @@ impl Cap {
         pack(&self.fields())
     }
 
-    /// The bounds. They are sound, and the address is representable for them. The instructions CGetBase and
-    /// CGetLen.
+    /// Returns the bounds, which are sound, and for which the address is representable.
+    ///
+    /// Instructions: CGetBase and CGetLen.
     pub fn span(&self) -> Span
         ensures span { result ≡ self.now.span }
         ensures is_capability { IsCapability self.now }
@@ -268,35 +288,45 @@ impl Cap {
         self.set.granted()
     }
 
-    /// The capability's own address, in its bounds or not. The instruction CGetAddr.
+    /// Returns the capability's own address, in its bounds or not.
+    ///
+    /// Instruction: CGetAddr.
     pub fn address(&self) -> u64
         ensures { result ≡ self.now.address }
     {
         self.address
     }
 
-    /// The permissions. The instruction CGetPerm.
+    /// Returns the permissions.
+    ///
+    /// Instruction: CGetPerm.
     pub fn perms(&self) -> Perms
         ensures { bits_of result ≡ self.now.permissions }
     {
         self.perms
     }
 
-    /// The flag: whether code runs in capability mode. The instruction CGetFlags.
+    /// Returns the flag: whether code runs in capability mode.
+    ///
+    /// Instruction: CGetFlags.
     pub fn flag(&self) -> bool
         ensures { result ≡ self.now.flag }
     {
         self.flag
     }
 
-    /// The object type. The instruction CGetType, which answers -1 for the unsealed type.
+    /// Returns the object type.
+    ///
+    /// Instruction: CGetType, which returns -1 for the unsealed type.
     pub fn otype(&self) -> ObjType
         ensures { result ≡ self.now.otype }
     {
         self.otype
     }
 
-    /// Whether the capability is sealed. The instruction CGetSealed.
+    /// Returns whether the capability is sealed.
+    ///
+    /// Instruction: CGetSealed.
     pub fn is_sealed(&self) -> bool
         ensures sealed { IsTrue result ↔ IsSealed self.now }
         ensures unsealed { (result ≡ false) ↔ IsUnsealed self.now }
@@ -304,7 +334,6 @@ impl Cap {
         ObjType::is_sealed(self.otype)
     }
 
-    // The fields of the capability's word.
     fn fields(&self) -> Fields
         ensures permissions { result.perms ≡ self.now.permissions }
         ensures reserved { result.reserved ≡ 0 }
@@ -328,8 +357,8 @@ impl Cap {
         }
     }
 
-    // The encoding of the bounds of `len` bytes from the address on; or `Sealed`, or `OutOfBounds` where
-    // these bytes leave the bounds.
+    // Returns the encoding of the bounds of `len` bytes from the address, or `Sealed`, or
+    // `OutOfBounds` if these bytes are not within the bounds.
     fn encode(&self, len: u128) -> Result<Set, Refusal>
         requires { len ≤ 2 ^ 64 }
         ensures { MatchResult result (IsEncodingFor self.now len) (IsRefusedBounds self.now len) }
@@ -344,7 +373,8 @@ impl Cap {
         Ok(cc_bounds::set_bounds(self.address, len))
     }
 
-    // Checks the permission, and then that the address is in the bounds: `MissingPermission`, `OutOfBounds`.
+    // Checks the permission, and then that the address is in the bounds: `MissingPermission`,
+    // `OutOfBounds`.
     fn check_authority(&self, permission: Perms) -> Result<(), Refusal>
         ensures { ChecksAuthority self.now (bits_of permission) result }
     {
@@ -358,7 +388,8 @@ impl Cap {
         Ok(())
     }
 
-    // Whether the authority may rebuild this capability: it is unsealed, and grants no more.
+    // Returns whether the authority may rebuild this capability: it is unsealed, and grants no
+    // more.
     fn is_allowed_by(&self, authority: &Cap) -> bool
         ensures allowed { IsTrue result ↔ (IsUnsealed self.now × GrantsNoMore self.now authority.now) }
         ensures authority { IsCapability authority.now }
@@ -368,7 +399,7 @@ impl Cap {
             && !self.is_sealed()
     }
 
-    // The capability of a word, and `None` for a word that is not canonical.
+    // Returns the capability of a word, or `None` for a word that is not canonical.
     #[inline(always)]
     pub(crate) fn of_word(word: u128) -> Option<Cap>
         ensures { MatchOption result (¬ IsCanonical word) (λ cap. IsWordOf cap word) }

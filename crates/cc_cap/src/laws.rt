@@ -1,26 +1,32 @@
-//! What holds of all capabilities, and of their words.
+//! Laws of all capabilities, and of their words.
 ghost use Rattle.std.specs.Prelude.{ℕ, Bool};
 ghost use Rattle.cc_cap.specs.Capability.{Capability, IsCapability, IsUnsealed, GrantsNoMore};
 ghost use Rattle.cc_cap.specs.Reach.{IsReachable};
 ghost use Rattle.cc_cap.specs.Derivation.{SetsAddress, Increments, SetsBounds, SetsExactBounds, MasksPermissions, SetsFlag, Seals, Unseals, Rebuilds};
 ghost use Rattle.cc_cap.specs.WordRules.{IsLikeCalls, AreLikeCalls};
 
-/// Each capability grants no more than itself. If one grants no more than two, and two no more than three,
-/// then one grants no more than three. So what is derived in any number of steps grants no more than what it
-/// began with.
+/// Proves that each capability grants no more than itself, and that granting no more is transitive.
+///
+/// If `one` grants no more than `two`, and `two` no more than `three`, then `one` grants no more
+/// than `three`. So a capability that is derived in any number of steps grants no more than the one
+/// that the derivation began with.
 pub fn granting_no_more_is_an_order()
     ensures itself { (cap : Capability) → GrantsNoMore cap cap }
     ensures chain { (one two three : Capability) → GrantsNoMore one two → GrantsNoMore two three → GrantsNoMore one three }
 {}
 
-/// Every unsealed capability that grants no more than an unsealed one is reached from it.
+/// Proves that every unsealed capability that grants no more than an unsealed one is reached from
+/// it.
 pub fn all_that_grants_no_more_is_reached()
     ensures { (from to : Capability) → IsCapability from → IsCapability to → IsUnsealed from → IsUnsealed to
         → GrantsNoMore to from → IsReachable from to }
 {}
 
-/// A rule on words answers what the call of `Cap` answers for the capability that has the word, in words.
-/// `InWords made result` says that `result` is the word of what was made, or the same refusal.
+/// Proves that a rule on words returns the result of the function of `Cap` for the capability that
+/// has the word, in words.
+///
+/// `InWords made result` holds if `result` is the word of the capability that was made, or the same
+/// refusal.
 pub fn rules_on_words_are_those_of_capabilities()
     ensures set_address { (address word : ℕ) → IsLikeCalls (λ cap. SetsAddress cap address) word }
     ensures increment { (amount word : ℕ) → IsLikeCalls (λ cap. Increments cap amount) word }

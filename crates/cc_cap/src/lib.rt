@@ -1,4 +1,4 @@
-//! Capabilities of the 128-bit CHERI Concentrate format, and how one is derived from another.
+//! Capabilities of the 128-bit CHERI Concentrate format, and the derivation of one from another.
 #![tactic(auto)]
 
 mod canonical;

@@ -1,7 +1,7 @@
-//! The calls for many words at once: an answer for each word, at its place.
+//! Batch functions on words: a result for each word, at its index.
 //!
-//! Each answer is the one that the call for a single word gives. The room for the answers has as many
-//! places as there are words.
+//! Each result is that of the function for a single word. The slice for the results has as many
+//! elements as there are words.
 ghost use Rattle.std.specs.Prelude.{◌≡◌, ◌↔◌, IsTrue, length, slice_index};
 ghost use Rattle.cc_cap.specs.Canonical.{IsCanonical};
 ghost use Rattle.cc_cap.specs.Many.{AnswersEach, IsSpanOf, TellsRepresentable};
@@ -9,7 +9,9 @@ ghost use Rattle.cc_cap.specs.Many.{AnswersEach, IsSpanOf, TellsRepresentable};
 use cc_bounds::{Set, Span};
 use cc_word::unpack;
 
-/// Writes the bounds that each word decodes to, as [`cc_bounds::decode`] has them.
+/// Writes the bounds that each word decodes to, as [`cc_bounds::decode`] returns them.
+///
+/// Requires: `words` and `spans` have the same length.
 pub fn decode(words: &[u128], spans: &mut [Span])
     requires { length words.now ≡ length spans.old }
     ensures { AnswersEach (λ i span. IsSpanOf (slice_index words.now i) span) spans.new (length words.now) }
@@ -19,7 +21,9 @@ pub fn decode(words: &[u128], spans: &mut [Span])
     }
 }
 
-/// Writes whether each word is canonical, as [`crate::is_canonical`] tells it.
+/// Writes whether each word is canonical, as [`crate::is_canonical`] returns it.
+///
+/// Requires: `words` and `answers` have the same length.
 pub fn is_canonical(words: &[u128], answers: &mut [bool])
     requires { length words.now ≡ length answers.old }
     ensures { AnswersEach (λ i answer. IsTrue answer ↔ IsCanonical (slice_index words.now i)) answers.new (length words.now) }
@@ -29,8 +33,12 @@ pub fn is_canonical(words: &[u128], answers: &mut [bool])
     }
 }
 
-/// Writes, for each word and the address at its place, whether the word stores a sound span for which the
-/// address is representable, as [`Set::of_fields`] and [`cc_bounds::represents`] tell it.
+/// Writes whether each word stores a sound span for which the address at its index is
+/// representable.
+///
+/// Each result is that of [`Set::of_fields`] and [`cc_bounds::represents`].
+///
+/// Requires: `words`, `addresses` and `answers` have the same length.
 pub fn represents(words: &[u128], addresses: &[u64], answers: &mut [bool])
     requires addresses { length words.now ≡ length addresses.now }
     requires answers { length words.now ≡ length answers.old }
@@ -41,14 +49,13 @@ pub fn represents(words: &[u128], addresses: &[u64], answers: &mut [bool])
     }
 }
 
-// The bounds that a word decodes to.
 fn decoded(word: u128) -> Span
     ensures { IsSpanOf word result }
 {
     cc_bounds::decode(&unpack(word))
 }
 
-// Whether a word stores a sound span for which the address is representable.
+// Returns whether a word stores a sound span for which the address is representable.
 fn represented(word: u128, address: u64) -> bool
     ensures { TellsRepresentable word address result }
 {

@@ -4,16 +4,19 @@ ghost use Rattle.cc_cap.specs.ObjType.{IsObjType, last_sealing_type};
 
 use std::marker::Model;
 
-/// The last type that sealing gives. Of the sixteen above it the last is unsealed, the others are reserved.
+/// The last type that sealing gives. Of the 16 types above it, the last is unsealed and the others
+/// are reserved.
 pub(crate) const LAST_SEALING_TYPE: u32 = 0x3ffef;
 
 /// The type of an unsealed capability.
 pub(crate) const UNSEALED_TYPE: u32 = 0x3ffff;
 
-/// The object type of a capability: unsealed, or one of the types from 0 to 0x3ffef that sealing gives.
+/// The object type of a capability: unsealed, or one of the types from 0 to 0x3ffef that sealing
+/// gives.
 ///
-/// No value is one of the reserved types from 0x3fff0 to 0x3fffe. The standard: UCAM-CL-TR-987, the object
-/// types of 128-bit capabilities.
+/// No value is one of the reserved types from 0x3fff0 to 0x3fffe.
+///
+/// Source: UCAM-CL-TR-987, the object types of 128-bit capabilities.
 #[derive(Clone, Copy, PartialEq, Eq, Debug)]
 pub struct ObjType {
     bits: u32,
@@ -35,8 +38,8 @@ impl ObjType {
         bits: UNSEALED_TYPE,
     };
 
-    /// The type that sealing gives for this number, an authority's address, and `None` for a number above
-    /// 0x3ffef.
+    /// Returns the type that sealing gives for this number, an authority's address, or `None` for a
+    /// number above 0x3ffef.
     pub fn sealing(number: u64) -> Option<ObjType>
         ensures found { IsSome result ↔ (number ≤ last_sealing_type) }
         ensures value { IfSome result (λ otype. otype ≡ number) }
@@ -50,7 +53,8 @@ impl ObjType {
         }
     }
 
-    /// The type of these 18 bits, and `None` for a reserved type, 0x3fff0 to 0x3fffe, or a number above 0x3ffff.
+    /// Returns the type of these 18 bits, or `None` for a reserved type, 0x3fff0 to 0x3fffe, or a
+    /// number above 0x3ffff.
     pub fn from_bits(bits: u32) -> Option<ObjType>
         ensures found { IsSome result ↔ IsObjType bits }
         ensures value { IfSome result (λ otype. otype ≡ bits) }
@@ -62,7 +66,7 @@ impl ObjType {
         }
     }
 
-    /// The type's 18 bits: from 0 to 0x3ffef, or 0x3ffff.
+    /// Returns the type's 18 bits: from 0 to 0x3ffef, or 0x3ffff.
     pub fn bits(self) -> u32
         ensures value { result ≡ self }
         ensures allowed { IsObjType self }
@@ -70,7 +74,7 @@ impl ObjType {
         self.bits
     }
 
-    /// Whether a capability of this type is sealed.
+    /// Returns whether a capability of this type is sealed.
     pub fn is_sealed(self) -> bool
         ensures { IsTrue result ↔ (self ≤ last_sealing_type) }
     {

@@ -1,4 +1,4 @@
-//! The text of a word on one line, in fixed room.
+//! The one-line form of a word, in a fixed-size buffer.
 ghost use Rattle.std.specs.Prelude.{◌≡◌, ◌+◌, ◌-◌, ◌^◌, ◌<◌, ◌≤◌, ◌++◌, [], length};
 ghost use Rattle.cc_word.specs.WordText.{hexadecimal};
 ghost use Rattle.cc_word.specs.declared.fields.Fields.{Fields as FieldsSpec};
@@ -12,13 +12,13 @@ use cc_bounds::{Span, decode};
 use cc_word::{Fields, unpack, write_word_fast};
 use std::marker::Model;
 
-/// More bytes than any line has.
+/// The size of the buffer in bytes, which is more than any line has.
 const ROOM: usize = 96;
 
 /// The type of a sealed entry.
 const SENTRY_TYPE: u32 = 0x3fffe;
 
-/// The line of a word: at most 95 bytes, which stand in the value itself.
+/// The one-line form of a word: at most 95 bytes, which are stored in the value itself.
 #[derive(Drop)]
 pub struct WordLine {
     room: [u8; ROOM],
@@ -37,12 +37,15 @@ impl Model for WordLine {
 }
 
 impl WordLine {
-    /// The line of a word, for every word, in the form that `%#p` has in CheriBSD: its address, and in
-    /// brackets the letters of its permissions, its base and its top as the word decodes; then ` (sealed)` or
-    /// ` (sentry)` by its type, ` (invalid)` where `tagged` is false, or both as ` (invalid,sealed)`.
+    /// Returns the one-line form of a word, for every word, in the format of `%#p` in CheriBSD.
     ///
-    /// LOAD is `r`, STORE `w`, EXECUTE `x`, LOAD_CAP `R`, STORE_CAP `W`; the others have no letter. A type
-    /// but unsealed and sentry is sealed, reserved ones too. As `0x10070 [rwxRW,0x10070-0x12070]`.
+    /// It is the word's address, and in brackets the letters of its permissions, and its base and
+    /// its top as the word decodes. Then comes ` (sealed)` or ` (sentry)`, by its type,
+    /// ` (invalid)` if `tagged` is false, or both, as ` (invalid,sealed)`. An example is
+    /// `0x10070 [rwxRW,0x10070-0x12070]`.
+    ///
+    /// LOAD is `r`, STORE `w`, EXECUTE `x`, LOAD_CAP `R`, and STORE_CAP `W`. The other permissions
+    /// have no letter. A type other than unsealed and sentry is sealed, including reserved types.
     pub fn of_word(word: u128, tagged: bool) -> WordLine
         ensures { IsLine word tagged result }
     {
@@ -53,7 +56,7 @@ impl WordLine {
         line
     }
 
-    /// The bytes of the line.
+    /// Returns the bytes of the line.
     pub fn bytes(&self) -> &[u8]
         ensures value { result.now ≡ self.now }
         ensures fits { length result.now < 96 }
@@ -61,7 +64,6 @@ impl WordLine {
         &self.room[..self.len]
     }
 
-    // No text yet.
     fn new() -> WordLine
         ensures { result ≡ [] }
     {
@@ -71,7 +73,7 @@ impl WordLine {
         }
     }
 
-    // Writes the line of these fields and bounds into an empty one.
+    // Writes the line of these fields and bounds into an empty line.
     fn push_line(&mut self, fields: &Fields, bounds: &Span, tagged: bool)
         requires empty { self.old ≡ [] }
         requires top { bounds.now.top < 2 ^ 65 }
@@ -88,7 +90,6 @@ impl WordLine {
         self.push(marks(fields.otype, tagged));
     }
 
-    // Appends bytes as they are.
     fn push(&mut self, bytes: &[u8])
         requires { length self.old + length bytes.now < 96 }
         ensures { self.new ≡ self.old ++ bytes.now }
@@ -109,7 +110,6 @@ impl WordLine {
         self.push(&write_word_fast(number)[32 - digit_count(number)..]);
     }
 
-    // Appends the letters of permissions.
     fn push_letters(&mut self, perms: Perms)
         requires { length self.old + 5 < 96 }
         ensures value { self.new ≡ self.old ++ letters_of (bits_of perms) }
@@ -123,7 +123,7 @@ impl WordLine {
     }
 }
 
-// The letter of a permission where the set has it, else nothing.
+// Returns the letter of a permission if the set has it, otherwise nothing.
 fn letter<'a>(letter: &'a [u8], perms: Perms, permission: Perms) -> &'a [u8]
     ensures value { result.now ≡ letter_of letter.now (bits_of perms) (bits_of permission) }
     ensures fits { length result.now ≤ length letter.now }
@@ -135,7 +135,8 @@ fn letter<'a>(letter: &'a [u8], perms: Perms, permission: Perms) -> &'a [u8]
     }
 }
 
-// The mark of a type and a tag, with the space before it: none for a tagged word that is unsealed.
+// Returns the mark of a type and a tag, with the space before it: nothing for a tagged word that is
+// unsealed.
 fn marks(otype: u32, tagged: bool) -> &'static [u8]
     ensures value { result.now ≡ marks_of otype tagged }
     ensures fits { length result.now ≤ 17 }
@@ -150,7 +151,7 @@ fn marks(otype: u32, tagged: bool) -> &'static [u8]
     }
 }
 
-// How many hexadecimal digits a number has, without leading zeros.
+// Returns the number of hexadecimal digits, without leading zeros.
 fn digit_count(number: u128) -> usize
     requires { number < 2 ^ 65 }
     ensures { HasDigits result number }

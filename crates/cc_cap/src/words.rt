@@ -1,9 +1,11 @@
-//! The rules of derivation on words, for callers that keep words and tags and have no use for a [`Cap`].
+//! The rules of derivation on words, for callers that keep words and tags and do not need a
+//! [`Cap`].
 //!
-//! Each rule takes any words, and answers the word that the call of the same name of [`Cap`] makes of their
-//! capabilities, or a refusal: first `NotCanonical`, for a word that no capability has, and then what that
-//! call refuses. [`rebuild`] looks at its authority before its word; [`is_subset`] refuses nothing. Tags are
-//! the caller's: a word goes in as if it were tagged, and no [`Cap`] comes out.
+//! Each rule accepts any words. It returns the word that the function of the same name of [`Cap`]
+//! derives from their capabilities, or a refusal: first `NotCanonical`, for a word that no
+//! capability has, and then the refusals of that function. [`rebuild`] checks its authority before
+//! its word. [`is_subset`] refuses nothing. Tags are up to the caller: each word is treated as
+//! tagged, and no [`Cap`] is returned.
 ghost use Rattle.std.specs.Prelude.{◌≡◌, ◌↔◌, ◌<◌, ◌^◌, IsTrue, IfOk};
 ghost use Rattle.cc_word.specs.Word.{word_of};
 ghost use Rattle.cc_word.specs.declared.fields.Fields.{Fields as FieldsSpec};
@@ -19,9 +21,10 @@ use crate::perms::Perms;
 use cc_bounds::{ADDRESS_SPACE, decode};
 use cc_word::{Fields, Refusal, unpack};
 
-/// The word at another address, with the same bounds.
+/// Returns the word at another address, with the same bounds.
 ///
-/// Refusals in order: `NotCanonical`, `Sealed`, `Unrepresentable`. The instruction CSetAddr.
+/// Errors, in order: `NotCanonical`; `Sealed`; `Unrepresentable`.
+/// Instruction: CSetAddr.
 pub fn set_address(word: u128, address: u64) -> Result<u128, Refusal>
     ensures made { OnWord (λ cap. SetsAddress cap address) word result }
 {
@@ -29,9 +32,10 @@ pub fn set_address(word: u128, address: u64) -> Result<u128, Refusal>
     in_words(cap.set_address(address))
 }
 
-/// The word with its address moved up by `amount` bytes, modulo 2^64.
+/// Returns the word with `amount` added to its address, modulo 2^64.
 ///
-/// Refusals in order: `NotCanonical`, `Sealed`, `Unrepresentable`. The instruction CIncOffset.
+/// Errors, in order: `NotCanonical`; `Sealed`; `Unrepresentable`.
+/// Instruction: CIncOffset.
 pub fn increment(word: u128, amount: u64) -> Result<u128, Refusal>
     ensures made { OnWord (λ cap. Increments cap amount) word result }
 {
@@ -39,10 +43,13 @@ pub fn increment(word: u128, amount: u64) -> Result<u128, Refusal>
     in_words(cap.increment(amount))
 }
 
-/// The word with the bounds of `len` bytes from its address on, rounded where they can't be stored exactly.
+/// Returns the word with the bounds of `len` bytes from its address, rounded if they cannot be
+/// stored exactly.
 ///
-/// Every `len` may be asked for; above 2^64 it is out of bounds. Refusals in order: `NotCanonical`,
-/// `Sealed`, `OutOfBounds`. The instruction CSetBounds.
+/// Every `len` is accepted: above 2^64 it is out of bounds.
+///
+/// Errors, in order: `NotCanonical`; `Sealed`; `OutOfBounds`.
+/// Instruction: CSetBounds.
 pub fn set_bounds(word: u128, len: u128) -> Result<u128, Refusal>
     ensures made { OnWord (λ cap. SetsBounds cap len) word result }
 {
@@ -53,10 +60,12 @@ pub fn set_bounds(word: u128, len: u128) -> Result<u128, Refusal>
     in_words(cap.set_bounds(len))
 }
 
-/// The word with exactly the bounds of `len` bytes from its address on.
+/// Returns the word with exactly the bounds of `len` bytes from its address.
 ///
-/// Every `len` may be asked for; above 2^64 it is out of bounds. Refusals in order: `NotCanonical`,
-/// `Sealed`, `OutOfBounds`, `Inexact`. The instruction CSetBoundsExact.
+/// Every `len` is accepted: above 2^64 it is out of bounds.
+///
+/// Errors, in order: `NotCanonical`; `Sealed`; `OutOfBounds`; `Inexact`.
+/// Instruction: CSetBoundsExact.
 pub fn set_bounds_exact(word: u128, len: u128) -> Result<u128, Refusal>
     ensures made { OnWord (λ cap. SetsExactBounds cap len) word result }
 {
@@ -67,9 +76,10 @@ pub fn set_bounds_exact(word: u128, len: u128) -> Result<u128, Refusal>
     in_words(cap.set_bounds_exact(len))
 }
 
-/// The word with the permissions that are also in the mask.
+/// Returns the word with the permissions that are also in the mask.
 ///
-/// Refusals in order: `NotCanonical`, `Sealed`. The instruction CAndPerm.
+/// Errors, in order: `NotCanonical`; `Sealed`.
+/// Instruction: CAndPerm.
 pub fn and_perms(word: u128, mask: Perms) -> Result<u128, Refusal>
     ensures made { OnWord (λ cap. MasksPermissions cap (bits_of mask)) word result }
 {
@@ -77,9 +87,10 @@ pub fn and_perms(word: u128, mask: Perms) -> Result<u128, Refusal>
     in_words(cap.and_perms(mask))
 }
 
-/// The word with its flag set to `flag`.
+/// Returns the word with its flag set to `flag`.
 ///
-/// Refusals in order: `NotCanonical`, `Sealed`. The instruction CSetFlags.
+/// Errors, in order: `NotCanonical`; `Sealed`.
+/// Instruction: CSetFlags.
 pub fn set_flag(word: u128, flag: bool) -> Result<u128, Refusal>
     ensures made { OnWord (λ cap. SetsFlag cap flag) word result }
 {
@@ -87,10 +98,11 @@ pub fn set_flag(word: u128, flag: bool) -> Result<u128, Refusal>
     in_words(cap.set_flag(flag))
 }
 
-/// The word sealed with the authority's address as its type.
+/// Returns the word sealed with the authority's address as its type.
 ///
-/// Refusals in order: `NotCanonical`, of the word or of the authority; then those of [`Cap::seal`]:
-/// `Sealed`, `MissingPermission`, `OutOfBounds`, `ReservedType`. The instruction CSeal.
+/// Errors, in order: `NotCanonical`, for the word or the authority; then those of [`Cap::seal`]:
+/// `Sealed`; `MissingPermission`; `OutOfBounds`; `ReservedType`.
+/// Instruction: CSeal.
 pub fn seal(word: u128, authority: u128) -> Result<u128, Refusal>
     ensures made { OnWords Seals word authority result }
 {
@@ -99,10 +111,13 @@ pub fn seal(word: u128, authority: u128) -> Result<u128, Refusal>
     in_words(cap.seal(&authority))
 }
 
-/// The sealed word unsealed. It keeps GLOBAL only where the authority has it too.
+/// Returns the sealed word unsealed.
 ///
-/// Refusals in order: `NotCanonical`, of the word or of the authority; then those of [`Cap::unseal`]:
-/// `Unsealed`, `Sealed`, `MissingPermission`, `OutOfBounds`, `TypeMismatch`. The instruction CUnseal.
+/// It keeps GLOBAL only if the authority has it too.
+///
+/// Errors, in order: `NotCanonical`, for the word or the authority; then those of [`Cap::unseal`]:
+/// `Unsealed`; `Sealed`; `MissingPermission`; `OutOfBounds`; `TypeMismatch`.
+/// Instruction: CUnseal.
 pub fn unseal(word: u128, authority: u128) -> Result<u128, Refusal>
     ensures made { OnWords Unseals word authority result }
 {
@@ -111,10 +126,11 @@ pub fn unseal(word: u128, authority: u128) -> Result<u128, Refusal>
     in_words(cap.unseal(&authority))
 }
 
-/// The word again, where its capability grants no more than the authority does.
+/// Returns the word itself, if its capability grants no more than the authority.
 ///
-/// Refusals in order: `NotCanonical`, of the authority; then those of [`Cap::rebuild`]: `Sealed` (the
-/// authority), `NotCanonical` (the word), `ExceedsAuthority`. The instruction CBuildCap.
+/// Errors, in order: `NotCanonical`, for the authority; then those of [`Cap::rebuild`]: `Sealed`,
+/// for the authority; `NotCanonical`, for the word; `ExceedsAuthority`.
+/// Instruction: CBuildCap.
 pub fn rebuild(authority: u128, word: u128) -> Result<u128, Refusal>
     ensures made { OnWord (λ cap. Rebuilds cap word) authority result }
 {
@@ -122,9 +138,13 @@ pub fn rebuild(authority: u128, word: u128) -> Result<u128, Refusal>
     own_word(Cap::rebuild(&authority, word), word)
 }
 
-/// Whether the inner word begins and ends within the outer, and the outer has all its permissions, for any two
-/// words, by the bounds that they decode to. Their types, flags and reserved bits are not looked at. The
-/// instruction CTestSubset, for words of equal tags.
+/// Returns whether the inner word begins and ends within the outer, and the outer has all its
+/// permissions.
+///
+/// It accepts any two words, and compares the bounds that they decode to. Their types, flags and
+/// reserved bits are not examined.
+///
+/// Instruction: CTestSubset, for words with equal tags.
 pub fn is_subset(inner: u128, outer: u128) -> bool
     ensures words { (one other : FieldsSpec) → word_of one ≡ inner → word_of other ≡ outer → (IsTrue result ↔ IsSubset one other) }
     ensures capabilities { (one other : Capability) → IsWordOf one inner → IsWordOf other outer → (IsTrue result ↔ GrantsNoMore one other) }
@@ -132,7 +152,7 @@ pub fn is_subset(inner: u128, outer: u128) -> bool
     is_subset_of(&unpack(inner), &unpack(outer))
 }
 
-// Whether the bounds and the permissions of these fields are within those of others.
+// Returns whether the bounds and the permissions of these fields are within those of others.
 fn is_subset_of(inner: &Fields, outer: &Fields) -> bool
     ensures { IsTrue result ↔ IsSubset inner.now outer.now }
 {
@@ -140,7 +160,7 @@ fn is_subset_of(inner: &Fields, outer: &Fields) -> bool
     bytes && outer.perms & inner.perms == inner.perms
 }
 
-// The capability of a word, or `NotCanonical` where no capability has it.
+// Returns the capability of a word, or `NotCanonical` if no capability has it.
 #[inline(always)]
 fn read(word: u128) -> Result<Cap, Refusal>
     ensures { IsReadFrom word result }
@@ -151,7 +171,7 @@ fn read(word: u128) -> Result<Cap, Refusal>
     }
 }
 
-// The word of what was made, or the same refusal.
+// Returns the word of the capability that was made, or the same refusal.
 fn in_words(made: Result<Cap, Refusal>) -> Result<u128, Refusal>
     ensures { InWords made result }
 {
@@ -161,7 +181,7 @@ fn in_words(made: Result<Cap, Refusal>) -> Result<u128, Refusal>
     }
 }
 
-// The word again where its capability was made, without packing it anew; or the same refusal.
+// Returns `word` if its capability was made, without packing it again, or the same refusal.
 fn own_word(made: Result<Cap, Refusal>, word: u128) -> Result<u128, Refusal>
     requires { IfOk made (λ cap. IsWordOf cap word) }
     ensures { InWords made result }
@@ -172,7 +192,8 @@ fn own_word(made: Result<Cap, Refusal>, word: u128) -> Result<u128, Refusal>
     }
 }
 
-// Why bounds of more than 2^64 bytes are refused: `Sealed` for a sealed capability, else `OutOfBounds`.
+// Returns the refusal of bounds of more than 2^64 bytes: `Sealed` for a sealed capability,
+// otherwise `OutOfBounds`.
 fn too_long(cap: &Cap, len: u128) -> Refusal
     requires capability { IsCapability cap.now }
     requires long { 2 ^ 64 < len }

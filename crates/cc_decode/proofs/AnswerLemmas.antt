@@ -1,4 +1,4 @@
--- The answers of a decoder are those to the whole entries.
+-- The replies of a decoder are those to the whole entries.
 use Rattle.std.proofs.Common.{◌≡◌, ℕ, ◌<◌, List, [], ◌∷◌, length, take, sym, ◌∙◌, ap, subst, not, ◌==◌, arith, length-take, inl, inr}
 use Rattle.std.proofs.lemmas.Bool.{cases_lt}
 use Rattle.std.proofs.lemmas.List.{take_all}
@@ -18,7 +18,7 @@ word_short : (input : InputForm) (entry : List ℕ) → IsWordEntry input entry 
 word_short Lines entry word = omega (arith, word.0)
 word_short (Bytes order) entry word = omega (arith, word)
 
--- the first 129 bytes of an entry have the answer of the whole entry
+-- the first 129 bytes of an entry have the reply of the whole entry
 start_enough : (options : Options) (entry : List ℕ) (answer : Answer) → IsAnswer options (take 129 entry) answer → IsAnswer options entry answer
 start_enough options entry answer is = elim (cases_lt (length entry) 129) [
   | inl short ↦ subst (λ (l : List ℕ). IsAnswer options l answer) (take_all 129 entry (omega arith)) is
@@ -47,7 +47,7 @@ are_answers old new (entry ∷ entries) (answer ∷ answers) t = (
 are_answers old new [] (answer ∷ answers) t = absurd t
 are_answers old new (entry ∷ entries) [] t = absurd t
 
--- trailing bytes are refused, and nothing is answered if there are none
+-- trailing bytes are refused, and without them there is no reply
 pub rest_refused : (old new : Decoder) (rest : List ℕ) (ending : Answer) → EndsWith RefusesRest old (take 129 rest) ending new → ending.text ≡ rest_text rest
 rest_refused old new [] ending e = e.0
 rest_refused old new (byte ∷ rest) ending e = e.0

@@ -136,7 +136,7 @@ frame_laws : (input : InputForm) → IsFrame (frame_of input)
 frame_laws Lines = lines_frame
 frame_laws (Bytes order) = blocks_frame
 
--- entries that a longer text has further ones behind
+-- entries that a longer text has further ones after
 stops_earlier : (options : Options) (t u : Option (List ℕ)) (header xs ys : List ℕ)
     → StopsOnPage options header (entries_of options.input xs) t u → StopsOnPage options header (entries_of options.input (xs ++ ys)) t u
 stops_earlier options t u header xs ys s =

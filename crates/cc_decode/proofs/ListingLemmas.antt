@@ -19,7 +19,7 @@ use Rattle.cc_decode.specs.declared.format.Format.{Format}
 use Rattle.cc_decode.specs.declared.format.Format.TheVariants.{Columns, Csv, Text}
 use Rattle.cc_decode.specs.declared.options.Options.{Options}
 
--- two tests of one fact have the same answer
+-- two tests of one fact have the same result
 same_test : {P : Type 0} (a b : Bool) → (IsTrue a ↔ P) → (IsTrue b ↔ P) → a ≡ b
 same_test true true p q = refl
 same_test false false p q = refl

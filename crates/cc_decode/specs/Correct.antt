@@ -1,4 +1,5 @@
--- The theorem of decoding a text: the bytes that the sink took, and those left in the source, by the result.
+-- The theorem of decoding an input: the bytes that the sink took, and those left in the source, by
+-- the result.
 use Rattle.std.specs.Prelude.{◌≡◌, ◌≤◌, ℕ, Bool, not, ◌||◌, ◌==◌, List, [], ◌++◌, length, take, Option, Some, Result, Ok, Err, ◌⊎◌}
 use Rattle.std.specs.Io.KnownBytes.{Appends, Consumes, IsAtEnd}
 use Rattle.std.specs.List.{list_any}
@@ -13,24 +14,24 @@ use Rattle.cc_decode.specs.Output.{AreAnswers}
 use Rattle.cc_decode.specs.Row.{header_text}
 use Rattle.cc_decode.specs.declared.options.Options.{Options}
 
--- WritesListing holds if the sink took the whole listing of the text: the header of the format, the answer to each entry,
--- and the refusal of trailing bytes, unless there are none. `any_error` says whether an answer is an error, or there are
--- trailing bytes.
+-- WritesListing holds if the sink took the whole listing of `text`: the header of the format, the
+-- reply to each entry, and the refusal of trailing bytes, if any. `any_error` says whether a reply
+-- is an error, or there are trailing bytes.
 pub record WritesListing (options : Options) (text : List ℕ) (taken taken_now : Option (List ℕ)) (any_error : Bool) : Type 0 where
   pub answers : List Answer
   pub are_answers : AreAnswers options (entries_of options.input text) answers
   pub written : Appends taken taken_now (header_text options.format ++ answers_text answers ++ rest_text (left_of options.input text))
   pub error_is : any_error ≡ (list_any (λ answer. answer.is_error) answers || not (length (left_of options.input text) == 0))
 
--- WritesAnswers holds if the sink took the header and the answers to these entries.
+-- WritesAnswers holds if the sink took the header and the replies to these entries.
 pub record WritesAnswers (options : Options) (header : List ℕ) (entries : List (List ℕ)) (taken taken_now : Option (List ℕ)) : Type 0 where
   pub answers : List Answer
   pub are_answers : AreAnswers options entries answers
   pub written : Appends taken taken_now (header ++ answers_text answers)
 
--- StopsOnPage holds if the sink failed on a page of answers. It had taken the header, the answers to `earlier` and a prefix
--- of the answers to `on_page`, the entries on the page. The page of 32,768 bytes had room for an answer of 512 bytes before
--- the last of these answers.
+-- StopsOnPage holds if the sink failed on a page of replies. It had taken the header, the replies
+-- to `earlier` and a prefix of the replies to `on_page`, the entries on the page. Before the last
+-- of these replies, at least 512 bytes of the page of 32,768 bytes were free.
 pub record StopsOnPage (options : Options) (header : List ℕ) (entries : List (List ℕ)) (taken taken_now : Option (List ℕ)) : Type 0 where
   pub earlier : List (List ℕ)
   pub on_page : List (List ℕ)
@@ -45,8 +46,8 @@ pub record StopsOnPage (options : Options) (header : List ℕ) (entries : List (
   pub within : count ≤ length (answers_text page)
   pub written : Appends taken taken_now (header ++ answers_text before ++ take count (answers_text page))
 
--- StopsAfterAnswers holds if the sink failed after the answers to all entries. It had taken the header, all these answers
--- and a prefix of the refusal of trailing bytes.
+-- StopsAfterAnswers holds if the sink failed after the replies to all entries. It had taken the
+-- header, all these replies and a prefix of the refusal of trailing bytes.
 pub record StopsAfterAnswers (options : Options) (text : List ℕ) (taken taken_now : Option (List ℕ)) : Type 0 where
   pub answers : List Answer
   pub are_answers : AreAnswers options (entries_of options.input text) answers
@@ -54,8 +55,8 @@ pub record StopsAfterAnswers (options : Options) (text : List ℕ) (taken taken_
   pub within : count ≤ length (rest_text (left_of options.input text))
   pub written : Appends taken taken_now (header_text options.format ++ answers_text answers ++ take count (rest_text (left_of options.input text)))
 
--- The bytes written for a text that the source gave, by the result: its whole listing, or what came before the failure of
--- the source or of the sink.
+-- ListsText holds if the bytes written are those for `text`, which the source gave. By the result
+-- they are its whole listing, or the part before the failure of the source or of the sink.
 abbrev pub ListsText : Options → (text : List ℕ) (left taken taken_now : Option (List ℕ)) → Result Summary IoError → Type 0
 ListsText options text left taken taken_now (Ok summary) =
     IsAtEnd left × WritesListing options text taken taken_now summary.any_error
@@ -66,14 +67,15 @@ ListsText options text left taken taken_now (Err Write) =
     ⊎ (StopsOnPage options (header_text options.format) (entries_of options.input text) taken taken_now
     ⊎ (IsAtEnd left × StopsAfterAnswers options text taken taken_now))
 
--- Lists holds if the bytes written are those for some text that the source gave. If the source says which bytes are unread,
--- this text is a prefix of them.
+-- Lists holds if the bytes written are those for some text that the source gave. If the source says
+-- which bytes are unread, this text is a prefix of them.
 pub record Lists (options : Options) (to_come left taken taken_now : Option (List ℕ)) (result : Result Summary IoError) : Type 0 where
   pub text : List ℕ
   pub given : Consumes to_come left text
   pub lists : ListsText options text left taken taken_now result
 
--- GivesBeginning holds if the source failed after a prefix of the text, and the entries of this prefix were answered.
+-- GivesBeginning holds if the source failed after a prefix of `text`, and the replies to the
+-- entries of this prefix were written.
 pub record GivesBeginning (options : Options) (text : List ℕ) (left taken taken_now : Option (List ℕ)) : Type 0 where
   pub given : List ℕ
   pub rest : List ℕ
@@ -81,8 +83,8 @@ pub record GivesBeginning (options : Options) (text : List ℕ) (left taken take
   pub left_is : left ≡ Some rest
   pub writes : WritesAnswers options (header_text options.format) (entries_of options.input given) taken taken_now
 
--- The bytes written if the text is all that was unread, by the result: its whole listing, or what came before the failure
--- of the source or of the sink.
+-- ListsWhole holds if the bytes written are those for `text`, which is all that was unread. By the
+-- result they are its whole listing, or the part before the failure of the source or of the sink.
 abbrev pub ListsWhole : Options → (text : List ℕ) (left taken taken_now : Option (List ℕ)) → Result Summary IoError → Type 0
 ListsWhole options text left taken taken_now (Ok summary) =
     (left ≡ Some []) × WritesListing options text taken taken_now summary.any_error

@@ -1,4 +1,4 @@
--- The words that an input holds, and what follows the last of them.
+-- The words of an input, and the bytes after the last of them.
 use Rattle.std.specs.Prelude.{◌≡◌, ℕ, List, [], length}
 use Rattle.std.specs.Int.{w128, from_be_bytes, from_le_bytes}
 use Rattle.std.specs.Str.Parse.{digits_value}
@@ -14,25 +14,26 @@ abbrev pub frame_of : InputForm → Frame
 frame_of Lines = lines
 frame_of (Bytes order) = blocks
 
--- The entries of a text.
+-- The entries of an input.
 abbrev pub entries_of : InputForm → List ℕ → List (List ℕ)
 entries_of input text = (frame_of input).entries [] text
 
--- The bytes of a text after its last entry.
+-- The bytes of an input after its last entry.
 abbrev pub left_of : InputForm → List ℕ → List ℕ
 left_of input text = (frame_of input).left [] text
 
--- the entry is a word: a line of 32 hexadecimal digits, or any block of sixteen bytes
+-- IsWordEntry holds if the entry is a word: a line of 32 hexadecimal digits, or any block of
+-- sixteen bytes.
 abbrev pub IsWordEntry : InputForm → (entry : List ℕ) → Type 0
 IsWordEntry Lines line = IsWordText line
 IsWordEntry (Bytes order) block = length block ≡ 16
 
--- the number that sixteen bytes are in an order of bytes
+-- The number that sixteen bytes are in a byte order.
 abbrev pub block_value : ByteOrder → (block : List ℕ) → ℕ
 block_value Little block = from_le_bytes w128 block
 block_value Big block = from_be_bytes w128 block
 
--- the word of an entry that is one
+-- The word of an entry that is one.
 abbrev pub word_in : InputForm → (entry : List ℕ) → ℕ
 word_in Lines line = digits_value 16 line
 word_in (Bytes order) block = block_value order block

@@ -1,4 +1,4 @@
--- The answers to the entries of a text.
+-- The replies to the entries of an input.
 use Rattle.std.specs.Prelude.{◌≡◌, ◌⊎◌, ℕ, true, false, List, [], ◌∷◌, ⊤}
 use Rattle.cc_word.specs.declared.refusal.Refusal.TheVariants.{Syntax}
 use Rattle.cc_text.specs.Text.{with_line_feed, refusal_text}
@@ -8,20 +8,20 @@ use Rattle.cc_decode.specs.Row.{IsWordRow}
 use Rattle.cc_decode.specs.declared.format.Format.{Format}
 use Rattle.cc_decode.specs.declared.options.Options.{Options}
 
--- IsRowLine holds if the text is the row of the word in the format, and a line feed.
+-- IsRowLine holds if `text` is the row of the word in the format, and a line feed.
 pub record IsRowLine (format : Format) (word : ℕ) (text : List ℕ) : Type 0 where
   pub row : List ℕ
   pub is_row : IsWordRow format word row
   pub text_is : text ≡ with_line_feed row
 
--- IsAnswer holds if the answer is the one to the entry: for a word its row in the format, and for any other entry
--- `error 1 syntax`, which is an error. Each has a line feed.
+-- IsAnswer holds if the reply is the one to the entry. For a word it is the row in the format, and
+-- for any other entry `error 1 syntax`, which is an error. Each has a line feed.
 abbrev pub IsAnswer : Options → (entry : List ℕ) → Answer → Type 0
 IsAnswer options entry answer =
     (IsWordEntry options.input entry × IsRowLine options.format (word_in options.input entry) answer.text × (answer.is_error ≡ false))
     ⊎ ((¬ IsWordEntry options.input entry) × (answer.text ≡ with_line_feed (refusal_text Syntax)) × (answer.is_error ≡ true))
 
--- AreAnswers holds if the answers are those to the entries, one for each.
+-- AreAnswers holds if the replies are those to the entries, one for each.
 abbrev pub AreAnswers : Options → (entries : List (List ℕ)) → List Answer → Type 0
 AreAnswers options [] [] = ⊤
 AreAnswers options (entry ∷ entries) (answer ∷ answers) = IsAnswer options entry answer × AreAnswers options entries answers

@@ -1,4 +1,4 @@
--- The answer to one word, on one line.
+-- The reply to one word, on one line.
 use Rattle.std.specs.Prelude.{ℕ, List, [], ◌++◌, codes, decimal, Bool, true, if◌then◌else◌}
 use Rattle.cc_word.specs.Word.{bit_of}
 use Rattle.cc_word.specs.WordText.{digits_of, hexadecimal}
@@ -12,30 +12,33 @@ use Rattle.cc_explain.specs.Permissions.{permissions_text}
 use Rattle.cc_decode.specs.declared.format.Format.{Format}
 use Rattle.cc_decode.specs.declared.format.Format.TheVariants.{Columns, Csv, Text}
 
--- word, base, top, permissions, flag, type, exponent, and whether the word is canonical, with the separator between
+-- The word, base, top, permissions, flag, type and exponent, and whether the word is canonical,
+-- with the separator between.
 abbrev pub values_text : (separator : List ℕ) (word : ℕ) (fields : Fields) (bounds : Span) (canonical : Bool) → List ℕ
 values_text separator word fields bounds canonical =
     digits_of 32 word ++ separator ++ hexadecimal bounds.base ++ separator ++ hexadecimal bounds.top
     ++ separator ++ digits_of 4 fields.perms ++ separator ++ decimal (bit_of fields.flag) ++ separator ++ digits_of 5 fields.otype
     ++ separator ++ decimal (stored_exponent fields) ++ separator ++ (if canonical then codes "yes" else codes "no")
 
--- the values with one space between
+-- The values with one space between.
 abbrev pub columns_text : (word : ℕ) (fields : Fields) (bounds : Span) (canonical : Bool) → List ℕ
 columns_text = values_text (codes " ")
 
--- the values, the address and the names of the permissions, with commas between
+-- The values, the address and the names of the permissions, with commas between.
 abbrev pub csv_text : (word : ℕ) (fields : Fields) (bounds : Span) (canonical : Bool) → List ℕ
 csv_text word fields bounds canonical =
     values_text (codes ",") word fields bounds canonical
     ++ codes "," ++ hexadecimal fields.address ++ codes "," ++ permissions_text fields.perms
 
--- the answer to a word: its columns, the line that a tagged word has, or its comma-separated values
+-- IsWordRow holds if `row` is the reply to the word: its columns, the line of a tagged word, or its
+-- comma-separated values.
 abbrev pub IsWordRow : Format → (word : ℕ) (row : List ℕ) → Type 0
 IsWordRow Columns word row = TellsWord columns_text word row
 IsWordRow Text word row = IsLine word true row
 IsWordRow Csv word row = TellsWord csv_text word row
 
--- the header of a format: for comma-separated values the names of the columns, and else nothing
+-- The header of a format: the names of the columns for comma-separated values, and otherwise
+-- nothing.
 abbrev pub header_text : Format → List ℕ
 header_text Columns = []
 header_text Text = []

@@ -1,4 +1,4 @@
-//! The answers to entries, and the refusal of trailing bytes.
+//! The replies to entries, and the refusal of trailing bytes.
 ghost use Rattle.std.specs.Prelude.{ℕ};
 ghost use Rattle.cc_decode.specs.Decoder.{AnswersEntry, RefusesRest};
 
@@ -10,7 +10,8 @@ use cc_io::Answerer;
 use cc_text::refusal_bytes;
 use cc_word::Refusal;
 
-/// Answers an entry with the row of its word, or with `error 1 syntax`. Each answer has a line feed.
+/// Replies to an entry with the row of its word, or with `error 1 syntax`. Each reply has a line
+/// feed.
 #[derive(Clone, Copy, Debug, PartialEq, Eq)]
 pub(crate) struct Decoder {
     /// The form of the input and of the rows.

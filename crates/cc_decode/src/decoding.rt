@@ -1,4 +1,4 @@
-//! Answers all entries of the text that a source gives.
+//! Replies to all entries of the input that a source gives.
 ghost use Rattle.std.specs.Prelude.{◌≡◌, ◌≤◌, ◌↔◌, true, false, length, Err, IfSome, OnOk};
 ghost use Rattle.cc_decode.specs.Correct.{Lists, ListsWhole};
 ghost use Rattle.cc_decode.specs.Row.{header_text};
@@ -10,18 +10,18 @@ use crate::options::Options;
 use crate::writers::Batch;
 use cc_io::{Blocks, IoError, Lines, Sink, Source, Summary, pump};
 
-/// Writes the header of the format, and then the answer to each entry of the text that the source gives. An entry is a
-/// line, or a block of 16 bytes.
+/// Writes the header of the format, and then the reply to each entry of the input that the source
+/// gives. An entry is a line, or a block of 16 bytes.
 ///
-/// The answer to a word is its row in the format, and the answer to a line that is not 32 hexadecimal digits is
-/// `error 1 syntax`. Bytes after the last entry are answered by `error 2 unfinished`, unless there are none. The source is
-/// read in chunks of up to 64 KiB. Before each read all answers to earlier entries are written. The sink is flushed once, at
-/// the end. Allocates nothing.
+/// The reply to a word is its row in the format, and the reply to a line that is not 32 hexadecimal
+/// digits is `error 1 syntax`. Bytes after the last entry get the reply `error 2 unfinished`,
+/// unless there are none. The source is read in chunks of up to 64 KiB. Before each read, all
+/// replies to earlier entries are written. The sink is flushed once, at the end. Allocates nothing.
 ///
 /// Requires: neither the source nor the sink has failed.
-/// Errors: `Read` if and only if the source failed. The header and the answers to all entries before the failure are then
-/// written. `Write` if and only if the sink failed. It has then taken a prefix of the header and the answers, and at most one
-/// page of answers is lost (32 KiB).
+/// Errors: `Read` if and only if the source failed. The header and the replies to all entries
+/// before the failure are then written. `Write` if and only if the sink failed. It has then taken a
+/// prefix of the header and the replies, and at most one page of replies is lost (32 KiB).
 pub fn decode_words<R: Source, W: Sink>(
     options: Options,
     source: &mut R,
@@ -45,7 +45,8 @@ pub fn decode_words<R: Source, W: Sink>(
     }
 }
 
-/// Returns the header of a format: the names of the columns for comma-separated values, and otherwise nothing.
+/// Returns the header of a format: the names of the columns for comma-separated values, and
+/// otherwise nothing.
 fn header(format: Format) -> &'static [u8]
     ensures value { result.now ≡ header_text format }
     ensures fits { length result.now ≤ 100 }

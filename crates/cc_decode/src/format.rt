@@ -1,12 +1,14 @@
-//! How words are written.
+//! The formats of words in the output.
 
-/// How the answer to a word is written. Each answer is one line.
+/// The format of the reply to a word. Each reply is one line.
 #[derive(Clone, Copy, Debug, PartialEq, Eq)]
 pub enum Format {
-    /// `WORD BASE TOP PERMS FLAG TYPE EXPONENT CANONICAL`, with one space between, in the spellings of `show`.
+    /// `WORD BASE TOP PERMS FLAG TYPE EXPONENT CANONICAL`, with one space between, in the notation
+    /// of `show`.
     Columns,
     /// The line of a tagged word, as debuggers show it: `0x10070 [rwxRW,0x10070-0x12070]`.
     Text,
-    /// A header, and then the values of the columns, the address and the names of the permissions, with commas between.
+    /// A header, and then the values of the columns, the address and the names of the permissions,
+    /// with commas between.
     Csv,
 }

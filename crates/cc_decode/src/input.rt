@@ -1,19 +1,20 @@
-//! How the input holds words.
+//! The forms of words in the input.
 
-/// The order in which the sixteen bytes of a word stand.
+/// The order of the sixteen bytes of a word.
 #[derive(Clone, Copy, Debug, PartialEq, Eq)]
 pub enum ByteOrder {
-    /// The lowest byte first: the address's lowest byte is the first, as in the memory of a little-endian machine.
+    /// The lowest byte first: the address's lowest byte is the first, as in the memory of a
+    /// little-endian machine.
     Little,
     /// The highest byte first.
     Big,
 }
 
-/// How the input holds words.
+/// The form of words in the input.
 #[derive(Clone, Copy, Debug, PartialEq, Eq)]
 pub enum InputForm {
-    /// One on a line, as 32 hexadecimal digits of either case.
+    /// One word on a line, as 32 hexadecimal digits of either case.
     Lines,
-    /// One behind the other, as sixteen bytes each, with nothing between.
+    /// One word after the other, as sixteen bytes each, with nothing between.
     Bytes(ByteOrder),
 }

@@ -3,8 +3,8 @@ ghost use Rattle.std.specs.Prelude.{◌≡◌, ℕ, Bool, List, Option, Some};
 ghost use Rattle.cc_decode.specs.Correct.{WritesListing};
 ghost use Rattle.cc_decode.specs.declared.options.Options.{Options as OptionsSpec};
 
-/// Proves that a text has one listing: two sinks that had taken the same bytes before it have taken the same bytes after it,
-/// and both listings have an error, or neither.
+/// Proves that an input has one listing. Two sinks that had taken the same bytes before it have
+/// taken the same bytes after it, and both listings have an error, or neither.
 pub fn one_listing()
     ensures { (options : OptionsSpec) (text taken : List ℕ) (one other : Option (List ℕ)) (any_error other_error : Bool)
         → WritesListing options text (Some taken) one any_error → WritesListing options text (Some taken) other other_error

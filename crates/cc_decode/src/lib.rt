@@ -1,4 +1,4 @@
-//! Decodes many words: each word of a text or of raw bytes is answered by its row.
+//! Decodes many words: the reply to each word, of text or of raw bytes, is its row.
 #![tactic(auto)]
 
 mod decoder;

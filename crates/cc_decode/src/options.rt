@@ -2,11 +2,11 @@
 use crate::format::Format;
 use crate::input::InputForm;
 
-/// What is read, and how the answers are written.
+/// The form of the input, and the format of the replies.
 #[derive(Clone, Copy, Debug, PartialEq, Eq)]
 pub struct Options {
-    /// How the input holds words.
+    /// The form of words in the input.
     pub input: InputForm,
-    /// How the answer to a word is written.
+    /// The format of the reply to a word.
     pub format: Format,
 }

@@ -1,4 +1,4 @@
-//! The answer to one word, on one line.
+//! The reply to one word, on one line.
 ghost use Rattle.std.specs.Prelude.{◌≡◌, ◌≤◌, ◌<◌, ◌+◌, ◌^◌, ◌∷◌, ◌++◌, [], codes, decimal, length, true, if◌then◌else◌};
 ghost use Rattle.cc_word.specs.Word.{bit_of};
 ghost use Rattle.cc_word.specs.WordText.{digits_of, hexadecimal};
@@ -17,13 +17,13 @@ use cc_explain::push_permissions;
 use cc_text::Line;
 use cc_word::{Fields, unpack};
 
-/// The type of an unsealed capability, of which a line says nothing.
+/// The type of an unsealed capability, which a line does not mention.
 const UNSEALED_TYPE: u32 = 0x3ffff;
 
 /// The type of a sealed entry, which a line calls `sentry`.
 const SENTRY_TYPE: u32 = 0x3fffe;
 
-/// Appends the answer to a word in this format, without a line feed: at most 500 bytes.
+/// Appends the reply to a word in this format, without a line feed: at most 500 bytes.
 pub(crate) fn push_row(batch: &mut Batch, format: Format, word: u128)
     requires { length batch.old + 500 ≤ 32768 }
     ensures row { AppendsRow format word batch.old batch.new }
@@ -69,7 +69,7 @@ fn push_line_of(batch: &mut Batch, fields: &Fields, bounds: &Span)
     push_bounds_and_mark(batch, fields, bounds);
 }
 
-/// Appends the address, and the letters of the permissions behind a bracket.
+/// Appends the address, a bracket, and the letters of the permissions.
 fn push_address_and_letters(batch: &mut Batch, fields: &Fields)
     requires { length batch.old + 41 ≤ 32768 }
     ensures value { batch.new ≡ batch.old ++ hexadecimal fields.now.address ++ codes " [" ++ letters_of fields.now.perms }
@@ -174,7 +174,8 @@ fn push_names(batch: &mut Batch, perms: u16)
     batch.push(names.bytes());
 }
 
-/// Appends the eight values of a word with these fields and bounds, and a separator between each two.
+/// Appends the eight values of a word with these fields and bounds, and a separator between each
+/// two.
 fn push_values(
     batch: &mut Batch,
     separator: u8,

@@ -1,4 +1,4 @@
-//! Bytes, digits and numbers appended to the page of answers.
+//! Bytes, digits and numbers appended to the page of replies.
 ghost use Rattle.std.specs.Prelude.{◌≡◌, ◌+◌, ◌≤◌, ◌<◌, ◌++◌, ◌∷◌, [], decimal, false, length, if◌then◌else◌};
 ghost use Rattle.std.specs.Fmt.{digits};
 ghost use Rattle.cc_word.specs.WordText.{digits_of, hexadecimal};
@@ -7,10 +7,10 @@ ghost use Rattle.cc_text.proofs.DigitLemmas.{HasDigits};
 use cc_io::Page;
 use cc_word::write_half;
 
-/// The length of the page of answers in bytes.
+/// The length of the page of replies in bytes.
 pub(crate) const ROOM: usize = 32768;
 
-/// The page of answers that are not yet written.
+/// The page of replies that are not yet written.
 pub(crate) type Batch = Page<ROOM>;
 
 /// Appends a byte.
@@ -23,7 +23,8 @@ pub(crate) fn push_byte(batch: &mut Batch, byte: u8)
     batch.push(&[byte]);
 }
 
-/// Appends a byte if it is wanted. The byte is stored in either case, so that there is no branch.
+/// Appends a byte if `wanted` is true. The byte is stored in either case, so that there is no
+/// branch.
 #[inline(always)]
 pub(crate) fn push_byte_if(batch: &mut Batch, byte: u8, wanted: bool)
     requires { length batch.old + 1 ≤ 32768 }

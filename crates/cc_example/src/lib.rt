@@ -1,4 +1,4 @@
-//! The library in use: what the README prints, with a test.
+//! The library in use: the example of the README, with a test.
 #![tactic(auto)]
 
 mod reading;

@@ -11,7 +11,8 @@ use cc_bounds::{Span, decode};
 use cc_cap::{Cap, Perms};
 use cc_word::{Refusal, read_word, unpack};
 
-/// The bounds that a text's word decodes to. Every 32 hexadecimal digits are a word.
+/// Returns the bounds that the word of a text decodes to, or `None` if it has no word. Every 32
+/// hexadecimal digits are a word.
 pub fn bounds_of(text: &[u8]) -> Option<Span>
     ensures found { IsSome result ↔ IsWordText text.now }
     ensures bounds { IfSome result (IsSpanOf (digits_value 16 text.now)) }

@@ -10,7 +10,7 @@ use Rattle.cc_cap.specs.Permissions.{bits_of}
 use Rattle.cc_cap.specs.declared.perms.Perms.{Perms}
 use Rattle.cc_explain.specs.Permissions.{names_of_set, room_of, rows_of}
 
--- the names one after another: the first behind this separator, and each other behind a `+`
+-- the names one after another: the first after this separator, and each other after a `+`
 abbrev pub separated : List ℕ → List (List ℕ) → List ℕ
 separated separator [] = []
 separated separator (name ∷ names) = separator ++ name ++ separated (43 ∷ []) names
@@ -38,7 +38,7 @@ next_row flags i h =
     drop-map row_of i flags ∙ ap (λ (l : List (Flag Perms)). rows_of l) (drop_more flags i nothing h)
     ∙ ap (λ (l : List Row). row_of (get_or flags i nothing) ∷ l) (sym (drop-map row_of (i + 1) flags))
 
--- and so is the room that their names take
+-- and so is the space that their names take
 pub next_room : (flags : List (Flag Perms)) (i : ℕ) → i < length flags
     → room_of (drop i (rows_of flags)) ≡ length (get_or flags i nothing).name.now + 1 + room_of (drop (i + 1) (rows_of flags))
 next_room flags i h =

@@ -1,4 +1,4 @@
--- What the bounds of a word are stored as, and that a word with those fields is canonical.
+-- The fields that store the bounds of a word, and that a word with those fields is canonical.
 use Rattle.std.proofs.Common.{◌≡◌, ℕ, ◌+◌, ◌-◌, Bool, true, false, refl, subst, arith}
 use Rattle.std.specs.Prelude.{IsTrue, ◌↔◌}
 use Rattle.cc_word.specs.declared.fields.Fields.{Fields}

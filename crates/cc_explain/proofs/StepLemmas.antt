@@ -1,4 +1,4 @@
--- Where the window of a word begins, and where a mantissa stands in it, found by divisions.
+-- The start of the window of a word, and the place of a mantissa in it, found by divisions.
 use Rattle.std.proofs.Common.{◌≡◌, ℕ, ◌+◌, ◌-◌, ◌*◌, ◌<◌, ◌≤◌, ◌/◌, ◌%◌, ◌^◌, inl, inr, ◌∙◌, arith}
 use Rattle.std.proofs.Math.Nat.{div-add-mod', mod-lt, mod-eq_of_lt, mul-add-mod_self_right}
 use Rattle.std.proofs.lemmas.Bool.{cases_lt}
@@ -10,7 +10,7 @@ use Rattle.cc_bounds.proofs.StandingLemmas.{base_mantissa-fits}
 use Rattle.cc_explain.specs.Steps.{AreSteps}
 use Rattle.cc_explain.specs.declared.steps.Steps.{Steps}
 
--- the remainder of whole sizes and a rest below one size is that rest
+-- the remainder of whole sizes and a number below one size is that number
 rest_of : (many size rest : ℕ) → rest < size → (many * size + rest) % size ≡ rest
 rest_of many size rest fits = mul-add-mod_self_right many size rest ∙ mod-eq_of_lt fits
 
@@ -54,7 +54,7 @@ first_with_rest size rest from fits =
     ]
 
 module _ (fields : Fields) (section : ℕ) (is_section : section ≡ section_of (stored_exponent fields)) where
-  -- where the window begins
+  -- the start of the window
   pub window_start-is : (first address : ℕ) → first ≡ first_section fields → address ≡ fields.address
       → IsWindow fields (address + 2 ^ 66 - (address + 2 ^ 66 - first * section) % (8 * section))
   window_start-is first address is_first is_address = rw (is_section, is_first, is_address) (
@@ -69,7 +69,7 @@ module _ (fields : Fields) (section : ℕ) (is_section : section ≡ section_of 
       record { begins = begins; holds_address = record { from_start = omega arith; below_end = omega (arith, below, high) } }
       )
 
-  -- where a mantissa stands
+  -- the place of a mantissa
   pub place-is : (start mantissa number unit : ℕ) → IsWindow fields start → mantissa < 2 ^ 14 → number ≡ mantissa
       → unit ≡ 2 ^ stored_exponent fields
       → IsPlaced fields mantissa (start + (number * unit + 8 * section - start % (8 * section)) % (8 * section))
@@ -97,7 +97,7 @@ pub record Fit (steps : Steps) : Type 0 where
   pub base : steps.base < 2 ^ 68
   pub top : steps.top < 2 ^ 68
 
--- where a mantissa stands is below 2^68, since it is less than a window above the raised address
+-- the place of a mantissa is below 2^68, since it is less than a window above the raised address
 placed-fits : (fields : Fields) (mantissa place : ℕ) → IsPlaced fields mantissa place → place < 2 ^ 68
 placed-fits fields mantissa place is_place =
     let facts = section_is fields in

@@ -18,34 +18,34 @@ use Rattle.cc_explain.specs.declared.steps.Steps.{Steps}
 
 -- ---- the fields
 
--- a text, and then the values of IE and of the T and B fields
+-- The given bytes, and then the values of IE and of the T and B fields.
 abbrev pub bounds_fields_text : (before : List ℕ) (ie t b : ℕ) → List ℕ
 bounds_fields_text before ie t b =
     with_decimal before ie ++ with_digits (codes ", T field 0x") 3 t ++ with_digits (codes ", B field 0x") 4 b
 
--- the line of the word
+-- The line of the word.
 abbrev pub word_text : ℕ → List ℕ
 word_text word = with_digits (codes "word      ") 32 word ++ line_feed
 
--- the line of the fields that the bounds do not depend on
+-- The line of the fields that the bounds do not depend on.
 abbrev pub rights_text : Fields → List ℕ
 rights_text fields =
     with_digits (codes "fields    permissions ") 4 fields.perms ++ with_decimal (codes ", reserved ") fields.reserved
     ++ with_decimal (codes ", flag ") (bit_of fields.flag) ++ with_digits (codes ", type ") 5 fields.otype ++ line_feed
 
--- the line of the fields that the bounds are decoded from
+-- The line of the fields that the bounds are decoded from.
 abbrev pub bounds_line_text : Fields → List ℕ
 bounds_line_text fields =
     bounds_fields_text (codes "          IE ") (bit_of fields.ie) fields.t fields.b
     ++ with_hexadecimal (codes ", address ") fields.address ++ line_feed
 
--- the lines of the word and of its fields
+-- The lines of the word and of its fields.
 abbrev pub fields_text : (word : ℕ) → Fields → List ℕ
 fields_text word fields = word_text word ++ rights_text fields ++ bounds_line_text fields
 
 -- ---- the exponent and the mantissas
 
--- the exponent, and with IE the two digits to base 8 that store it
+-- The line of the exponent, and with IE of the two octal digits that store it.
 abbrev pub exponent_text : Fields → Steps → List ℕ
 exponent_text fields steps =
     if fields.ie then
@@ -53,28 +53,28 @@ exponent_text fields steps =
     ++ line_with_decimal (codes " + ") (fields.b % 8) (codes ", from the low 3 bits of the T field and of the B field; at most 52")
     else with_line_feed (codes "exponent  E = 0, as IE is 0")
 
--- the granule: what the ends of bounds of this exponent are multiples of
+-- The line of the granule, of which the ends of bounds of this exponent are multiples.
 abbrev pub granule_text : Fields → Steps → List ℕ
 granule_text fields steps =
     if fields.ie then line_with_hexadecimal (codes "granule   ") (8 * 2 ^ steps.exponent) (codes " bytes, 2^(E+3)")
     else with_line_feed (codes "granule   1 byte")
 
--- how the T or the B field counts as part of its mantissa
+-- The phrase for the part of its mantissa that the T or the B field is.
 abbrev pub stored_text : Fields → List ℕ
 stored_text fields = if fields.ie then codes " field with its low 3 bits as 0" else codes " field"
 
--- the base mantissa B
+-- The line of the base mantissa B.
 abbrev pub base_mantissa_text : Fields → Steps → List ℕ
 base_mantissa_text fields steps =
     with_hexadecimal (codes "B         ") steps.b ++ codes ", the B" ++ stored_text fields ++ line_feed
 
--- the top mantissa T, and its two implied bits, which no field stores
+-- The line of the top mantissa T, and of its two implied bits, which no field stores.
 abbrev pub top_mantissa_text : Fields → Steps → List ℕ
 top_mantissa_text fields steps =
     with_hexadecimal (codes "T         ") steps.t ++ codes ", the T" ++ stored_text fields
     ++ line_with_decimal (codes ", and above it ") (steps.t / 2 ^ 12) (codes " as the 2 implied bits")
 
--- T - B modulo 2 ^ 14, and the range that the implied bits put it in
+-- The line of T - B modulo 2 ^ 14, and of the range that the implied bits put it in.
 abbrev pub length_text : Fields → Steps → List ℕ
 length_text fields steps =
     with_hexadecimal (codes "T - B     ") ((steps.t + 2 ^ 14 - steps.b) % 2 ^ 14)
@@ -83,44 +83,45 @@ length_text fields steps =
     else with_line_feed (codes " modulo 0x4000: the implied bits put it within 0x0 to 0xfff")
     )
 
--- the lines of the exponent and of the mantissas
+-- The lines of the exponent and of the mantissas.
 abbrev pub mantissas_text : Fields → Steps → List ℕ
 mantissas_text fields steps =
     exponent_text fields steps ++ granule_text fields steps ++ base_mantissa_text fields steps
     ++ top_mantissa_text fields steps ++ length_text fields steps
 
--- ---- the window, and where the mantissas stand in it
+-- ---- the window, and the places of the mantissas in it
 
--- the size of a section
+-- The line of the size of a section.
 abbrev pub section_text : Steps → List ℕ
 section_text steps = line_with_hexadecimal (codes "section   ") (section_of steps.exponent) (codes " bytes, 2^(E+11)")
 
--- the sections of the two mantissas and of the address
+-- The line of the sections of the two mantissas and of the address.
 abbrev pub sections_text : Fields → Steps → List ℕ
 sections_text fields steps =
     with_decimal (codes "sections  ") (steps.b / 2 ^ 11) ++ with_decimal (codes " of B, ") (steps.t / 2 ^ 11)
     ++ line_with_decimal (codes " of T, ") (fields.address / section_of steps.exponent % 8) (codes " of the address")
 
--- the first and the last address of the window, which has every address from exponent 50 up
+-- The first and the last address of the window, which has every address for exponents of at least
+-- 50.
 abbrev pub window_addresses_text : Steps → List ℕ
 window_addresses_text steps =
     if nat_le 50 steps.exponent then codes "window    every address"
     else with_hexadecimal (codes "window    ") (steps.start % 2 ^ 64)
     ++ with_hexadecimal (codes " to ") ((steps.start + (8 * section_of steps.exponent - 1)) % 2 ^ 64)
 
--- the window, and the section with which it begins
+-- The line of the window, and of the section with which it begins.
 abbrev pub window_text : Steps → List ℕ
 window_text steps =
     window_addresses_text steps
     ++ line_with_decimal (codes ": eight sections from ") steps.first_section (codes " on, one below that of B")
 
--- the lines of the base and of the top
+-- The lines of the base and of the top.
 abbrev pub bounds_text : Span → List ℕ
 bounds_text bounds =
     line_with_hexadecimal (codes "base      ") bounds.base (codes ", where B * 2^E stands in the window")
     ++ line_with_hexadecimal (codes "top       ") bounds.top (codes ", where T * 2^E stands in the window")
 
--- whether the word is canonical, or why not
+-- The line that says whether the word is canonical, or why not.
 abbrev pub standing_text : Standing → List ℕ
 standing_text Canonical = with_line_feed (codes "canonical yes")
 standing_text ReservedBits = with_line_feed (codes "canonical no: a reserved bit is set")
@@ -130,25 +131,27 @@ standing_text TopPastEnd = with_line_feed (codes "canonical no: the top is above
 standing_text (StoredAs ie t b) =
     bounds_fields_text (codes "canonical no: setting these bounds stores IE ") (bit_of ie) t b ++ line_feed
 
--- the lines of the window, of the bounds and of whether the word is canonical
+-- The lines of the window, of the bounds and of whether the word is canonical.
 abbrev pub window_lines_text : Fields → Steps → Span → Standing → List ℕ
 window_lines_text fields steps bounds standing =
     section_text steps ++ sections_text fields steps ++ window_text steps ++ bounds_text bounds ++ standing_text standing
 
 -- ---- the picture
 
--- the size of a cell in bytes: an eighth of a section
+-- The size of a cell in bytes: an eighth of a section.
 abbrev pub cell_size : Steps → ℕ
 cell_size steps = section_of steps.exponent / 8
 
--- what the rows show: `#` for the bytes of the bounds, `B`, `T` and `A` for the byte at the base, top and address
+-- AreRows holds if the rows show `#` for the bytes of the bounds, and `B`, `T` and `A` for the byte
+-- at the base, top and address.
 pub record AreRows (fields : Fields) (steps : Steps) (rows : Rows) : Type 0 where
   pub bytes : IsRow steps.start (cell_size steps) (record { base = steps.base; top = steps.top }) 35 rows.bytes
   pub base : IsRow steps.start (cell_size steps) (span_from steps.base 1) 66 rows.base
   pub top : IsRow steps.start (cell_size steps) (span_from steps.top 1) 84 rows.top
   pub address : IsRow steps.start (cell_size steps) (span_from (raised fields.address) 1) 65 rows.address
 
--- the numbers of the eight sections of a window, from this one on, each above its eight cells
+-- The line of the numbers of the eight sections of a window, from the given one on, each above its
+-- eight cells.
 abbrev pub ruler_text : ℕ → List ℕ
 ruler_text first =
     with_decimal (codes "section   ") first
@@ -157,11 +160,11 @@ ruler_text first =
     ++ with_decimal (codes "-------") ((first + 5) % 8) ++ with_decimal (codes "-------") ((first + 6) % 8)
     ++ with_decimal (codes "-------") ((first + 7) % 8) ++ with_line_feed (codes "-------")
 
--- a row and its name
+-- The line of a row and its name.
 unfoldable pub row_text : (name row : List ℕ) → List ℕ
 row_text name row = name ++ row ++ line_feed
 
--- the lines of the picture
+-- The lines of the picture.
 abbrev pub picture_text : Steps → Rows → List ℕ
 picture_text steps rows =
     line_with_hexadecimal (codes "picture   the window, in cells of ") (cell_size steps) (codes " bytes, 2^(E+8)")
@@ -173,15 +176,15 @@ picture_text steps rows =
 
 -- ---- all of it
 
--- all lines of an explanation
+-- All lines of an explanation.
 abbrev pub explanation_of : (word : ℕ) → Fields → Steps → Span → Standing → Rows → List ℕ
 explanation_of word fields steps bounds standing rows =
     fields_text word fields ++ mantissas_text fields steps ++ window_lines_text fields steps bounds standing
     ++ picture_text steps rows
 
--- The explanation of a word: its lines, made of the word's fields, the steps of decoding them, the span that they decode
--- to, whether the word is canonical, and the picture's rows. There are no other such fields, and there is no other such
--- span.
+-- IsWordExplanation holds if the lines are made of these parts: the word's fields, their decoding
+-- steps and span, whether the word is canonical, and the picture's rows. There are no other such
+-- fields, and there is no other such span.
 pub record IsWordExplanation (word : ℕ) (explanation : List ℕ) : Type 0 where
   pub fields : Fields
   pub steps : Steps

@@ -7,20 +7,20 @@ use Rattle.bitflags.specs.declared.traits.Flag.{Flag}
 use Rattle.cc_cap.specs.Permissions.{bits_of, permission_table}
 use Rattle.cc_cap.specs.declared.perms.Perms.{Perms}
 
--- the names in those rows of a table of permissions whose bits are all set
+-- The names in those rows of a table of permissions whose bits are all set.
 abbrev pub names_of_set : (bits : ℕ) (table : List Row) → List (List ℕ)
 names_of_set bits table = map (λ row. row.0) (filter (λ row. bit_and bits row.1 == row.1) table)
 
--- the names of the set permissions from bit 0 up, joined by `+`, or `-` where none is set
+-- The names of the set permissions from bit 0 up, joined by `+`, or `-` if none is set.
 unfoldable pub permissions_text : ℕ → List ℕ
 permissions_text bits = if bits == 0 then codes "-" else join_with_byte 43 (names_of_set bits permission_table)
 
--- ---- For private contracts; no public clause cites these.
+-- ---- definitions that only private contracts cite
 
--- the rows of a list of flags
+-- The rows of a list of flags.
 abbrev pub rows_of : List (Flag Perms) → List Row
 rows_of flags = map (λ flag. (flag.name.now, bits_of flag.value)) flags
 
--- how many bytes the names in the rows take, each with one separator
+-- The number of bytes that the names in the rows take, each with one separator.
 abbrev pub room_of : List Row → ℕ
 room_of table = sum_by (λ row. length row.0 + 1) table

@@ -1,4 +1,4 @@
--- Whether a word is canonical, and if not why.
+-- Whether a word is canonical, and if not, why.
 use Rattle.std.specs.Prelude.{ℕ, Bool, ◌≡◌, ◌≢◌, ◌<◌, ◌≤◌, ◌^◌}
 use Rattle.cc_word.specs.declared.fields.Fields.{Fields}
 use Rattle.cc_bounds.specs.declared.span.Span.{Span}
@@ -9,11 +9,11 @@ use Rattle.cc_cap.specs.ObjType.{IsObjType}
 use Rattle.cc_explain.specs.declared.standing.Standing.{Standing}
 use Rattle.cc_explain.specs.declared.standing.Standing.TheVariants.{Canonical, ReservedBits, ReservedType, TopBelowBase, TopPastEnd, StoredAs}
 
--- the fields have these bounds fields
+-- Have holds if the fields have these values of IE, T and B.
 abbrev pub Have : Fields → (ie : Bool) → (t b : ℕ) → Type 0
 Have fields ie t b = (fields.ie ≡ ie) × (fields.t ≡ t) × (fields.b ≡ b)
 
--- the word has this fault, and none of those above it
+-- HasFault holds if this reason applies to the word, and none of those above it.
 abbrev pub HasFault : Fields → Span → Standing → Type 0
 HasFault fields bounds Canonical = ⊥
 HasFault fields bounds ReservedBits = fields.reserved ≢ 0
@@ -24,7 +24,8 @@ HasFault fields bounds TopPastEnd =
 HasFault fields bounds (StoredAs ie t b) =
     (fields.reserved ≡ 0) × IsObjType fields.otype × IsSpan bounds × HasBoundsFields bounds ie t b × (¬ Have fields ie t b)
 
--- a word with these fields and bounds is canonical, or it is not and this is its first fault
+-- IsStanding holds if a word with these fields and bounds is canonical, or it is not and this is
+-- the first reason.
 abbrev pub IsStanding : (word : ℕ) → Fields → Span → Standing → Type 0
 IsStanding word fields bounds Canonical = IsCanonical word
 IsStanding word fields bounds fault = (¬ IsCanonical word) × HasFault fields bounds fault

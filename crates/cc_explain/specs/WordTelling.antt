@@ -1,4 +1,4 @@
--- What a text says of a word.
+-- Texts that describe a word.
 use Rattle.std.specs.Prelude.{◌≡◌, ℕ, List, Bool, IsTrue, ◌↔◌}
 use Rattle.cc_word.specs.Word.{word_of}
 use Rattle.cc_word.specs.declared.fields.Fields.{Fields}
@@ -6,8 +6,9 @@ use Rattle.cc_bounds.specs.declared.span.Span.{Span}
 use Rattle.cc_bounds.specs.Decoding.{DecodesTo}
 use Rattle.cc_cap.specs.Canonical.{IsCanonical}
 
--- The text tells a word: `text_of` makes it of the word, of its fields, of the span that they decode to, and of whether the
--- word is canonical. There are no other such fields, and there is no other such span.
+-- TellsWord holds if `text_of` makes the text from the word, its fields, the span that they decode
+-- to, and whether the word is canonical. There are no other such fields, and there is no other such
+-- span.
 pub record TellsWord (text_of : ℕ → Fields → Span → Bool → List ℕ) (word : ℕ) (text : List ℕ) : Type 0 where
   pub fields : Fields
   pub bounds : Span

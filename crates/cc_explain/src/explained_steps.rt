@@ -12,6 +12,8 @@ use cc_text::{
 use cc_word::Fields;
 
 /// Appends the lines of a word and of its fields.
+///
+/// Requires: `text` is empty.
 pub fn push_fields(text: &mut Text, word: u128, fields: &Fields)
     requires { text.old ≡ [] }
     ensures value { text.new ≡ fields_text word fields.now }
@@ -23,6 +25,8 @@ pub fn push_fields(text: &mut Text, word: u128, fields: &Fields)
 }
 
 /// Appends the line of a word.
+///
+/// Requires: 43 bytes of `text` are free.
 pub fn push_word(text: &mut Text, word: u128)
     requires room { length text.old + 43 ≤ ROOM }
     ensures value { text.new ≡ text.old ++ word_text word }
@@ -32,7 +36,8 @@ pub fn push_word(text: &mut Text, word: u128)
     text.push(b"\n");
 }
 
-/// Appends the line of the fields that the bounds do not depend on: permissions, reserved bits, flag and type.
+/// Appends the line of the fields that the bounds do not depend on: permissions, reserved bits,
+/// flag and type.
 fn push_rights(text: &mut Text, fields: &Fields)
     requires room { length text.old + 145 ≤ ROOM }
     ensures value { text.new ≡ text.old ++ rights_text fields.now }
@@ -56,7 +61,7 @@ fn push_bounds_line(text: &mut Text, fields: &Fields)
     text.push(b"\n");
 }
 
-/// Appends bytes, and then the values of IE and of the T and B fields.
+/// Appends the given bytes, and then the values of IE and of the T and B fields.
 fn push_bounds_fields(text: &mut Text, before: &[u8], ie: bool, t: u16, b: u16)
     requires before { length before.now ≤ 60 }
     requires room { length text.old + length before.now + 75 ≤ ROOM }
@@ -68,7 +73,7 @@ fn push_bounds_fields(text: &mut Text, before: &[u8], ie: bool, t: u16, b: u16)
     push_digits(text, b", B field 0x", u128::from(b), 4);
 }
 
-/// The bit as a number: 1 or 0.
+/// Returns the bit as a number: 1 or 0.
 fn bit(is_set: bool) -> u128
     ensures { result ≡ bit_of is_set }
 {
@@ -76,6 +81,9 @@ fn bit(is_set: bool) -> u128
 }
 
 /// Appends the lines of the exponent and of the mantissas.
+///
+/// Requires: `steps.exponent <= 52`; `steps.b < 2^14`; `steps.t < 2^14`; 900 bytes of `text` are
+/// free.
 pub fn push_mantissas(text: &mut Text, fields: &Fields, steps: &Steps)
     requires exponent { steps.now.exponent ≤ 52 }
     requires base_mantissa { steps.now.b < 2 ^ 14 }
@@ -91,7 +99,7 @@ pub fn push_mantissas(text: &mut Text, fields: &Fields, steps: &Steps)
     push_length(text, fields, steps);
 }
 
-/// Appends the line of the exponent, with the two octal digits that store it where IE is set.
+/// Appends the line of the exponent, with the two octal digits that store it if IE is set.
 fn push_exponent(text: &mut Text, fields: &Fields, steps: &Steps)
     requires room { length text.old + 220 ≤ ROOM }
     ensures value { text.new ≡ text.old ++ exponent_text fields.now steps.now }
@@ -155,7 +163,8 @@ fn push_top_mantissa(text: &mut Text, fields: &Fields, steps: &Steps)
     end_with_decimal(text, b", and above it ", implied, b" as the 2 implied bits");
 }
 
-/// How the T or the B field counts as part of its mantissa: with IE its low three bits count as 0.
+/// Returns the phrase for the part of its mantissa that the T or the B field is. With IE its low
+/// three bits count as 0.
 fn stored(fields: &Fields) -> &'static [u8]
     ensures value { result.now ≡ stored_text fields.now }
     ensures fits { length result.now ≤ 35 }
@@ -188,6 +197,8 @@ fn push_length(text: &mut Text, fields: &Fields, steps: &Steps)
 }
 
 /// Appends the lines of the window, of the bounds and of whether the word is canonical.
+///
+/// Requires: `steps.exponent <= 52`; `steps.start < 2^67`; 900 bytes of `text` are free.
 pub fn push_window_lines(
     text: &mut Text,
     fields: &Fields,
@@ -223,7 +234,7 @@ fn push_section(text: &mut Text, steps: &Steps)
     );
 }
 
-/// Appends the line of the sections, from 0 to 7, that B, T and the address lie in.
+/// Appends the line of the sections, from 0 to 7, of B, T and the address.
 fn push_sections(text: &mut Text, fields: &Fields, steps: &Steps)
     requires exponent { steps.now.exponent ≤ 52 }
     requires room { length text.old + 180 ≤ ROOM }
@@ -254,7 +265,8 @@ fn push_window(text: &mut Text, steps: &Steps)
     );
 }
 
-/// Appends the first and the last address of the window, which is every address from exponent 50 up.
+/// Appends the first and the last address of the window, or `every address` for exponents of at
+/// least 50.
 fn push_window_addresses(text: &mut Text, steps: &Steps)
     requires exponent { steps.now.exponent ≤ 52 }
     requires start { steps.now.start < 2 ^ 67 }
@@ -293,7 +305,7 @@ fn push_bounds(text: &mut Text, bounds: &Span)
     );
 }
 
-/// Appends the line of whether the word is canonical, or why not.
+/// Appends the line that says whether the word is canonical, or why not.
 fn push_standing(text: &mut Text, standing: Standing)
     requires room { length text.old + 135 ≤ ROOM }
     ensures value { text.new ≡ text.old ++ standing_text standing }

@@ -1,5 +1,5 @@
-//! What is shown of a word: the names of its permissions, the steps of decoding its bounds, whether it is canonical, and a
-//! picture of its window.
+//! Explains a word: the names of its permissions, the steps of decoding its bounds, whether it is
+//! canonical, and a picture of its window.
 #![tactic(auto)]
 
 mod explained_steps;

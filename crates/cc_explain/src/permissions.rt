@@ -8,8 +8,10 @@ use bitflags::{Flag, Flags};
 use cc_cap::Perms;
 use cc_text::Line;
 
-/// Appends the names of the permissions from bit 0 up, joined by `+`, or `-` for none: at most 125 bytes. The line needs
-/// room for as many.
+/// Appends the names of the permissions from bit 0 up, joined by `+`, or `-` if there are none: at
+/// most 125 bytes.
+///
+/// Requires: 125 bytes of the line are free.
 #[tactic(auto, unfolding(crate::specs::Permissions::permissions_text))]
 pub fn push_permissions(line: &mut Line, perms: Perms)
     requires { length line.old + 125 ≤ 192 }
@@ -23,7 +25,7 @@ pub fn push_permissions(line: &mut Line, perms: Perms)
     }
 }
 
-/// Appends, of these flags, the names of those that the set has, joined by `+`.
+/// Appends the names of those of the flags that the set has, joined by `+`.
 fn push_names(line: &mut Line, perms: Perms, flags: &[Flag<Perms>])
     requires { length line.old + room_of (rows_of flags.now) ≤ 192 }
     ensures value { line.new ≡ line.old ++ join_with_byte 43 (names_of_set (bits_of perms) (rows_of flags.now)) }

@@ -1,4 +1,4 @@
-//! Rows of cells that show where bytes stand in a window.
+//! Rows of cells that show the positions of bytes in a window.
 ghost use Rattle.std.specs.Prelude.{◌≡◌, ◌*◌, ◌+◌, ◌<◌, ◌≤◌, ◌^◌, ◌++◌, ◌↔◌, IsTrue, codes, length};
 ghost use Rattle.cc_bounds.specs.Span.{SharesByte};
 ghost use Rattle.cc_explain.specs.Explanation.{AreRows, cell_size, picture_text, row_text, ruler_text};
@@ -8,15 +8,15 @@ use crate::steps::{LAPS, Steps, section};
 use cc_text::{ROOM, Text, end_with_hexadecimal, push_decimal};
 use cc_word::Fields;
 
-/// How many cells a row has: eight to a section of the window.
+/// The number of cells in a row: eight for each section of the window.
 pub const CELLS: usize = 64;
 
-/// Bytes that follow one another, wherever they stand: from `first` up to, and without, `end`.
+/// Consecutive bytes, at any position: from `first` up to, and without, `end`.
 #[derive(Clone, Copy)]
 pub struct Stretch {
-    /// The first of them.
+    /// The first byte.
     pub first: u128,
-    /// The one behind the last.
+    /// The byte after the last.
     pub end: u128,
 }
 
@@ -33,7 +33,9 @@ pub struct Rows {
     pub address: [u8; CELLS],
 }
 
-/// The rows of a word with these fields.
+/// Returns the rows of a word with these fields.
+///
+/// Requires: `steps.exponent <= 52`; `steps.start < 2^67`; `steps.base < 2^68`; `steps.top < 2^68`.
 pub fn rows_of(fields: &Fields, steps: &Steps) -> Rows
     requires exponent { steps.now.exponent ≤ 52 }
     requires start { steps.now.start < 2 ^ 67 }
@@ -57,7 +59,7 @@ pub fn rows_of(fields: &Fields, steps: &Steps) -> Rows
     }
 }
 
-/// The size of a cell in bytes: an eighth of a section.
+/// Returns the size of a cell in bytes: an eighth of a section.
 fn cell_size(steps: &Steps) -> u128
     requires { steps.now.exponent ≤ 52 }
     ensures value { result ≡ cell_size steps.now }
@@ -66,7 +68,7 @@ fn cell_size(steps: &Steps) -> u128
     section(steps.exponent) / 8
 }
 
-/// The one byte at an address.
+/// Returns the stretch of the one byte at an address.
 fn byte_at(address: u128) -> Stretch
     requires { address < 2 ^ 68 }
     ensures { result ≡ record { first = address; end = address + 1 } }
@@ -77,7 +79,8 @@ fn byte_at(address: u128) -> Stretch
     }
 }
 
-/// The row of the window's 64 cells: a cell has the mark where it holds a byte of the stretch, and else is a point.
+/// Returns the row of the window's 64 cells. A cell has the mark if it holds a byte of the stretch,
+/// and otherwise is a point.
 fn row_of(steps: &Steps, stretch: &Stretch, mark: u8) -> [u8; CELLS]
     requires exponent { steps.now.exponent ≤ 52 }
     requires start { steps.now.start < 2 ^ 67 }
@@ -101,7 +104,7 @@ fn row_of(steps: &Steps, stretch: &Stretch, mark: u8) -> [u8; CELLS]
     row
 }
 
-/// Whether some byte is in both stretches.
+/// Returns whether some byte is in both stretches.
 pub fn shares_byte(one: &Stretch, other: &Stretch) -> bool
     ensures { IsTrue result ↔ SharesByte (record { base = one.now.first; top = one.now.end }) (record { base = other.now.first; top = other.now.end }) }
 {
@@ -109,6 +112,8 @@ pub fn shares_byte(one: &Stretch, other: &Stretch) -> bool
 }
 
 /// Appends the lines of the picture.
+///
+/// Requires: `steps.exponent <= 52`; `steps.first_section < 8`; 850 bytes of `text` are free.
 pub fn push_picture(text: &mut Text, steps: &Steps, rows: &Rows)
     requires exponent { steps.now.exponent ≤ 52 }
     requires first { steps.now.first_section < 8 }

@@ -1,4 +1,4 @@
-//! Whether a word is canonical, and if not why.
+//! Whether a word is canonical, and if not, why.
 ghost use Rattle.std.specs.Prelude.{◌≡◌, ◌↔◌, IsTrue};
 ghost use Rattle.cc_word.specs.Word.{word_of};
 ghost use Rattle.cc_bounds.specs.Decoding.{DecodesTo};
@@ -13,10 +13,10 @@ use cc_bounds::{ADDRESS_SPACE, Span, set_bounds};
 use cc_cap::{ObjType, is_canonical};
 use cc_word::Fields;
 
-/// Whether a word is canonical, and if not, the first of these reasons that it has.
+/// Whether a word is canonical, and if not, the first of these reasons that applies.
 #[derive(Clone, Copy)]
 pub enum Standing {
-    /// It is canonical.
+    /// The word is canonical.
     Canonical,
     /// A reserved bit is set.
     ReservedBits,
@@ -26,11 +26,13 @@ pub enum Standing {
     TopBelowBase,
     /// The top is above 2^64.
     TopPastEnd,
-    /// Setting the bounds that it decodes to stores these fields, and its own are others.
+    /// Setting the bounds that the word decodes to stores these fields, and its own are others.
     StoredAs { ie: bool, t: u16, b: u16 },
 }
 
-/// Whether the word is canonical, and if not why. `fields` are its fields, and `bounds` is what they decode to.
+/// Returns whether the word is canonical, and if not, why.
+///
+/// Requires: `fields` are the fields of the word; they decode to `bounds`.
 pub fn standing_of(word: u128, fields: &Fields, bounds: &Span) -> Standing
     requires word { word_of fields.now ≡ word }
     requires decoded { DecodesTo fields.now bounds.now }
@@ -51,14 +53,15 @@ pub fn standing_of(word: u128, fields: &Fields, bounds: &Span) -> Standing
     }
 }
 
-/// Whether a capability may have the type: it is unsealed, or one that sealing gives.
+/// Returns whether a capability may have the type: it is unsealed, or one that sealing gives.
 fn is_type(otype: u32) -> bool
     ensures { IsTrue result ↔ IsObjType otype }
 {
     ObjType::from_bits(otype).is_some()
 }
 
-/// The fields that setting these bounds stores, as the reason why a word with other fields is not canonical.
+/// Returns the fields that setting these bounds stores, as the reason why a word with other fields
+/// is not canonical.
 fn stored_as(bounds: &Span) -> Standing
     requires is_span { IsSpan bounds.now }
     requires decoded { IsDecoded bounds.now }

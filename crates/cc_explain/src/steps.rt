@@ -1,4 +1,4 @@
-//! What decoding finds on its way from the fields of a word to its bounds.
+//! The intermediate results of decoding, from the fields of a word to its bounds.
 ghost use Rattle.std.specs.Prelude.{◌≡◌, ◌*◌, ◌+◌, ◌<◌, ◌≤◌, ◌^◌};
 ghost use Rattle.cc_bounds.specs.Decoding.{IsPlaced, IsTopMantissa, IsWindow, base_mantissa, first_section};
 ghost use Rattle.cc_bounds.specs.Window.{section_of};
@@ -8,29 +8,30 @@ ghost use Rattle.cc_explain.specs.declared.steps.TheConstants.{LAPS};
 use cc_bounds::exponent;
 use cc_word::Fields;
 
-/// Four laps of the address space: 2^66. Numbers that could be below zero are raised by it.
+/// Four times the size of the address space: 2^66. It raises numbers that could be below zero.
 pub const LAPS: u128 = 1 << 66;
 
-/// What decoding finds on its way: the exponent, the mantissas, and where they stand in the window.
+/// The intermediate results of decoding: the exponent, the mantissas, and their places in the
+/// window.
 #[derive(Clone, Copy)]
 pub struct Steps {
     /// The exponent E, from 0 to 52.
     pub exponent: u8,
-    /// The base mantissa B, of 14 bits.
+    /// The base mantissa B, 14 bits.
     pub b: u16,
-    /// The top mantissa T, of 14 bits.
+    /// The top mantissa T, 14 bits.
     pub t: u16,
     /// The section with which the window begins, from 0 to 7.
     pub first_section: u16,
-    /// Where the window begins, raised by [`LAPS`].
+    /// The start of the window, raised by [`LAPS`].
     pub start: u128,
-    /// Where B stands in the window, raised by [`LAPS`].
+    /// The place of B in the window, raised by [`LAPS`].
     pub base: u128,
-    /// Where T stands in the window, raised by [`LAPS`].
+    /// The place of T in the window, raised by [`LAPS`].
     pub top: u128,
 }
 
-/// The steps of these fields.
+/// Returns the steps of decoding these fields. There are no other such steps.
 pub fn decoding_steps(fields: &Fields) -> Steps
     ensures { AreSteps fields.now result }
 {
@@ -48,7 +49,9 @@ pub fn decoding_steps(fields: &Fields) -> Steps
     }
 }
 
-/// The size of a section, an eighth of the window: 2^(E+11) bytes.
+/// Returns the size of a section in bytes, an eighth of the window: 2^(E+11).
+///
+/// Requires: `exponent <= 52`.
 pub fn section(exponent: u8) -> u128
     requires { exponent ≤ 52 }
     ensures value { result ≡ section_of exponent }
@@ -58,7 +61,7 @@ pub fn section(exponent: u8) -> u128
     1 << (u32::from(exponent) + 11)
 }
 
-/// The base mantissa: the B field, whose low three bits count as 0 with IE.
+/// Returns the base mantissa: the B field, whose low three bits count as 0 with IE.
 fn base_mantissa(fields: &Fields) -> u16
     ensures value { result ≡ base_mantissa fields.now }
     ensures fits { result < 2 ^ 14 }
@@ -66,7 +69,8 @@ fn base_mantissa(fields: &Fields) -> u16
     if fields.ie { fields.b & !0x7 } else { fields.b }
 }
 
-/// The top mantissa: the T field, whose low three bits count as 0 with IE, and above it the two implied bits.
+/// Returns the top mantissa: the T field, whose low three bits count as 0 with IE, and above it the
+/// two implied bits.
 fn top_mantissa(fields: &Fields) -> u16
     ensures value { IsTopMantissa fields.now result }
     ensures fits { result < 2 ^ 14 }
@@ -77,14 +81,14 @@ fn top_mantissa(fields: &Fields) -> u16
     (base + length) & 0x3fff
 }
 
-/// The section with which the window begins, from 0 to 7: the one below that of B.
+/// Returns the section with which the window begins, from 0 to 7: the one below that of B.
 fn first_section(fields: &Fields) -> u16
     ensures { result ≡ first_section fields.now }
 {
     (base_mantissa(fields) / 2048 + 7) % 8
 }
 
-/// Where the window begins that has the address in it, raised by [`LAPS`].
+/// Returns the start of the window that has the address in it, raised by [`LAPS`].
 fn window_start(fields: &Fields) -> u128
     ensures { IsWindow fields.now result }
 {
@@ -94,7 +98,7 @@ fn window_start(fields: &Fields) -> u128
     address - (address - first) % (8 * section)
 }
 
-/// Where a mantissa stands in the window that begins at `start`.
+/// Returns the place of a mantissa in the window that begins at `start`.
 fn place(fields: &Fields, start: u128, mantissa: u16) -> u128
     requires window { IsWindow fields.now start }
     requires fits { mantissa < 2 ^ 14 }
@@ -106,7 +110,9 @@ fn place(fields: &Fields, start: u128, mantissa: u16) -> u128
     start + (scaled + size - start % size) % size
 }
 
-/// The unit of a mantissa: 2^E bytes.
+/// Returns the unit of a mantissa in bytes: 2^E.
+///
+/// Requires: `exponent <= 52`.
 pub fn unit(exponent: u8) -> u128
     requires { exponent ≤ 52 }
     ensures value { result ≡ 2 ^ exponent }

@@ -10,20 +10,22 @@ use Rattle.cc_ffi.specs.declared.structs.Bounds.{Bounds}
 use Rattle.cc_ffi.specs.declared.structs.GrantedBounds.{GrantedBounds}
 use Rattle.cc_ffi.specs.Numbers.{number_of}
 
--- the span of a base and a top in halves
+-- The span of a base and a top in halves.
 abbrev pub span_of : (base top_high top_low : ℕ) → Span
 span_of base top_high top_low = record { base = base; top = number_of top_high top_low }
 
--- the bounds are those that a word with these fields decodes to, with its exponent
+-- IsDecoded holds if the bounds are those that a word with these fields decodes to, with its
+-- exponent.
 pub record IsDecoded (fields : Fields) (bounds : Bounds) : Type 0 where
   pub decodes : DecodesTo fields (span_of bounds.base bounds.top_high bounds.top_low)
   pub exponent : bounds.exponent ≡ stored_exponent fields
 
--- the granted span in what C is told
+-- The granted span in C's struct.
 abbrev pub granted_of : GrantedBounds → Span
 granted_of set = span_of set.base set.top_high set.top_low
 
--- C is told what the encoding is: its span, whether the request was exact, and the fields that store it
+-- IsToldOf holds if C's struct has the encoding: its span, whether the request was exact, and the
+-- fields that store it.
 pub record IsToldOf (set : Encoding) (told : GrantedBounds) : Type 0 where
   pub in_range : told.in_range ≡ true
   pub granted : granted_of told ≡ set.granted
@@ -33,7 +35,8 @@ pub record IsToldOf (set : Encoding) (told : GrantedBounds) : Type 0 where
   pub t : told.t ≡ t_of set.granted
   pub b : told.b ≡ b_of set.granted
 
--- C is told an encoding that is what the request is granted, and the least that covers it
+-- IsRequestGranted holds if C's struct has an encoding of the span that the request is granted,
+-- which is the tightest that covers it.
 pub record IsRequestGranted (request : Span) (told : GrantedBounds) : Type 0 where
   pub set : Encoding
   pub is_told : IsToldOf set told
@@ -43,7 +46,8 @@ pub record IsRequestGranted (request : Span) (told : GrantedBounds) : Type 0 whe
   pub tight : IsTight request set.granted
   pub tightest : IsTightest request set.granted
 
--- C is told that nothing is granted: `in_range` is false, and all else is zero or false
+-- IsNothing holds if nothing is granted: `in_range` is false, and every other field is zero or
+-- false.
 pub record IsNothing (set : GrantedBounds) : Type 0 where
   pub in_range : set.in_range ≡ false
   pub base : set.base ≡ 0
@@ -54,6 +58,6 @@ pub record IsNothing (set : GrantedBounds) : Type 0 where
   pub ie : set.ie ≡ false
   pub exact : set.exact ≡ false
 
--- the fields store no sound span
+-- StoresNone holds if the fields store no sound span.
 abbrev pub StoresNone : Fields → Type 0
 StoresNone fields = (span : Span) → ¬ StoresSpan fields span

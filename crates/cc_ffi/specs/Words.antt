@@ -4,11 +4,11 @@ use Rattle.cc_word.specs.Word.{word_of}
 use Rattle.cc_word.specs.declared.fields.Fields.{Fields}
 use Rattle.cc_ffi.specs.declared.structs.WordFields.{WordFields}
 
--- The fields of the word have the property. Each word is that of some fields, and of no others.
+-- OfFields holds if the fields of the word have the property.
 abbrev pub OfFields : (word : ℕ) (P : Fields → Type 0) → Type 0
 OfFields word P = (fields : Fields) → word_of fields ≡ word → P fields
 
--- C's struct has the numbers of these fields
+-- IsSame holds if C's struct has the numbers of these fields.
 pub record IsSame (given : WordFields) (fields : Fields) : Type 0 where
   pub perms : given.perms ≡ fields.perms
   pub reserved : given.reserved ≡ fields.reserved
@@ -19,7 +19,7 @@ pub record IsSame (given : WordFields) (fields : Fields) : Type 0 where
   pub b : given.b ≡ fields.b
   pub address : given.address ≡ fields.address
 
--- the fields are C's, each number cut to the lowest bits that its field holds
+-- IsCut holds if the fields are C's, each number cut to the lowest bits that its field holds.
 pub record IsCut (given : WordFields) (fields : Fields) : Type 0 where
   pub perms : fields.perms ≡ given.perms
   pub reserved : fields.reserved ≡ given.reserved % 2 ^ 2

@@ -1,4 +1,5 @@
-//! Bounds: what a word decodes to, what a request is granted, and where an address may go.
+//! Bounds: those that a word decodes to, those that a request is granted, and the addresses that
+//! they allow.
 ghost use Rattle.std.specs.Prelude.{false, ◌≡◌, ◌+◌, ◌^◌, ◌≤◌, ◌↔◌, IsTrue};
 ghost use Rattle.cc_ffi.specs.Numbers.{number_of};
 ghost use Rattle.cc_ffi.specs.Words.{OfFields};
@@ -14,7 +15,7 @@ use crate::structs::{Bounds, GrantedBounds};
 use cc_bounds::{ADDRESS_SPACE, Set, decode, exponent, represents, set_bounds};
 use cc_word::unpack;
 
-/// The base, the top and the exponent of a word, for every word.
+/// Returns the base, the top and the exponent of a word, for every word.
 #[unsafe(no_mangle)]
 pub extern "C" fn cheri_cap_decode(high: u64, low: u64) -> Bounds
     ensures { OfFields (number_of high low) (λ fields. IsDecoded fields result) }
@@ -30,7 +31,7 @@ pub extern "C" fn cheri_cap_decode(high: u64, low: u64) -> Bounds
     }
 }
 
-/// The exponent of a word, from 0 to 52, for every word.
+/// Returns the exponent of a word, from 0 to 52, for every word.
 #[unsafe(no_mangle)]
 pub extern "C" fn cheri_cap_exponent(high: u64, low: u64) -> u8
     ensures { OfFields (number_of high low) (λ fields. result ≡ stored_exponent fields) }
@@ -38,7 +39,7 @@ pub extern "C" fn cheri_cap_exponent(high: u64, low: u64) -> u8
     exponent(&unpack(number(high, low)))
 }
 
-/// What C is told of a granted request, with `in_range` true.
+/// Returns a granted request as C has it, with `in_range` true.
 fn granted(set: &Set) -> GrantedBounds
     ensures { IsToldOf set.now result }
 {
@@ -57,8 +58,9 @@ fn granted(set: &Set) -> GrantedBounds
     }
 }
 
-/// What a request for `length` bytes from `base` on is granted. Where it ends above 2^64, `in_range` is false and
-/// all else is zero.
+/// Returns the bounds that a request for `length` bytes from `base` on is granted.
+///
+/// If the request ends above 2^64, `in_range` is false and every other field is zero.
 #[unsafe(no_mangle)]
 pub extern "C" fn cheri_cap_set_bounds(
     base: u64,
@@ -86,8 +88,10 @@ pub extern "C" fn cheri_cap_set_bounds(
     granted(&set_bounds(base, length))
 }
 
-/// Whether a word stores its bounds as setting bounds stores them, and the address is representable for
-/// them. The permissions, the reserved bits, the flag and the type are not looked at.
+/// Returns whether a word stores its bounds as setting bounds stores them, and the address is
+/// representable for them.
+///
+/// The permissions, the reserved bits, the flag and the type are not examined.
 #[inline(always)]
 #[unsafe(no_mangle)]
 pub extern "C" fn cheri_cap_represents(high: u64, low: u64, address: u64) -> bool

@@ -4,17 +4,17 @@ ghost use Rattle.cc_ffi.specs.Numbers.{number_of, value_of};
 
 use crate::structs::Halves;
 
-/// The bits of a number that are its lower half.
+/// The bits of the lower half of a number.
 const LOWER_HALF: u128 = 0xffff_ffff_ffff_ffff;
 
-/// The number of two halves.
+/// Returns the number of two halves.
 pub(crate) fn number(high: u64, low: u64) -> u128
     ensures { result ≡ number_of high low }
 {
     (u128::from(high) << 64) + u128::from(low)
 }
 
-/// The upper half of a number, and the lower.
+/// Returns the upper half of a number, and the lower.
 pub(crate) fn halves(number: u128) -> Halves
     ensures { value_of result ≡ number }
 {

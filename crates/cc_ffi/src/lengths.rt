@@ -8,8 +8,8 @@ use crate::halves::{halves, number};
 use crate::structs::Halves;
 use cc_bounds::ADDRESS_SPACE;
 
-/// The granule of a length in bytes: 1 below 4,096 bytes, else a power of two from 8 to 2^55; and 0 for a length
-/// above 2^64.
+/// Returns the granule of a length, in bytes: 1 below 4,096 bytes, and otherwise a power of two
+/// from 8 to 2^55. Returns 0 for a length above 2^64.
 #[unsafe(no_mangle)]
 pub extern "C" fn cheri_cap_granule(length_high: u64, length_low: u64) -> u64
     ensures granule { number_of length_high length_low ≤ 2 ^ 64 → IsGranule (from_zero (number_of length_high length_low)) result }
@@ -22,8 +22,10 @@ pub extern "C" fn cheri_cap_granule(length_high: u64, length_low: u64) -> u64
     cc_bounds::granule(length)
 }
 
-/// The representable length: the length rounded up to a multiple of its granule. All ones for a length
-/// above 2^64.
+/// Returns the representable length: the length rounded up to a multiple of its granule. Returns
+/// all ones for a length above 2^64.
+///
+/// Instruction: CRRL.
 #[unsafe(no_mangle)]
 pub extern "C" fn cheri_cap_round_length(length_high: u64, length_low: u64) -> Halves
     ensures rounded { number_of length_high length_low ≤ 2 ^ 64 → value_of result ≡ padded_size (number_of length_high length_low) }
@@ -36,8 +38,10 @@ pub extern "C" fn cheri_cap_round_length(length_high: u64, length_low: u64) -> H
     halves(cc_bounds::round_length(length))
 }
 
-/// The representable alignment mask of a length: all ones, but for the bits below its granule. 0 for a length
-/// above 2^64.
+/// Returns the representable alignment mask of a length: all ones, except the bits below its
+/// granule. Returns 0 for a length above 2^64.
+///
+/// Instruction: CRAM.
 #[unsafe(no_mangle)]
 pub extern "C" fn cheri_cap_alignment_mask(length_high: u64, length_low: u64) -> u64
     ensures mask { number_of length_high length_low ≤ 2 ^ 64 → result ≡ 2 ^ 64 - granule_of (from_zero (number_of length_high length_low)) }

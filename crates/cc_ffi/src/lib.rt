@@ -1,5 +1,5 @@
-//! The library's calls for C: each export passes on one call of the crates below, with a number of 128
-//! bits as two halves. `include/cheri_cap.h` declares them.
+//! The library's functions for C: each export forwards to one function of the crates below, with a
+//! number of 128 bits as two halves. `include/cheri_cap.h` declares them.
 #![tactic(auto)]
 
 mod bounds;

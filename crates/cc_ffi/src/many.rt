@@ -1,7 +1,7 @@
-//! Many words at once: an answer for each word, at its place.
+//! Batch functions: a result for each word, at its position.
 //!
-//! A slice crosses as a pointer and a count, so each array has a count of its own. Where they differ, the
-//! least counts: as many answers are written, and the count of these is told.
+//! A slice crosses as a pointer and a count, so each array has a separate count. If they differ,
+//! the smallest counts: that number of results is written, and returned.
 ghost use Rattle.std.specs.Prelude.{◌≡◌, length, min, slice_index};
 ghost use Rattle.std.specs.List.{SameFrom};
 ghost use Rattle.cc_cap.specs.Canonical.{IsCanonical};
@@ -15,7 +15,8 @@ use crate::bounds::{cheri_cap_decode, cheri_cap_represents};
 use crate::structs::{Bounds, Halves};
 use crate::words::cheri_cap_is_canonical;
 
-/// Writes the base, the top and the exponent of each word, and answers for how many words it did.
+/// Writes the base, the top and the exponent of each word, and returns the number of words for
+/// which it did.
 #[unsafe(no_mangle)]
 pub extern "C" fn cheri_cap_decode_many(words: &[Halves], bounds: &mut [Bounds]) -> usize
     ensures count { result ≡ min (length words.now) (length bounds.old) }
@@ -29,7 +30,8 @@ pub extern "C" fn cheri_cap_decode_many(words: &[Halves], bounds: &mut [Bounds])
     count
 }
 
-/// Writes 1 for each canonical word and 0 for each other, and answers for how many words it did.
+/// Writes 1 for each canonical word and 0 for each other, and returns the number of words for which
+/// it did.
 #[unsafe(no_mangle)]
 pub extern "C" fn cheri_cap_is_canonical_many(words: &[Halves], answers: &mut [u8]) -> usize
     ensures count { result ≡ min (length words.now) (length answers.old) }
@@ -43,8 +45,9 @@ pub extern "C" fn cheri_cap_is_canonical_many(words: &[Halves], answers: &mut [u
     count
 }
 
-/// Writes 1 for each word that stores its bounds as setting bounds stores them and for which the address
-/// at its place is representable, and 0 for each other. Answers for how many words it did.
+/// Writes 1 for each word that stores its bounds as setting bounds stores them and for which the
+/// address at its position is representable, and 0 for each other. Returns the number of words for
+/// which it did.
 #[unsafe(no_mangle)]
 pub extern "C" fn cheri_cap_represents_many(
     words: &[Halves],
@@ -62,14 +65,14 @@ pub extern "C" fn cheri_cap_represents_many(
     count
 }
 
-/// The base, the top and the exponent of a word.
+/// Returns the base, the top and the exponent of a word.
 fn decoded(word: Halves) -> Bounds
     ensures { OfFields (value_of word) (λ fields. IsDecoded fields result) }
 {
     cheri_cap_decode(word.high, word.low)
 }
 
-/// 1 for a canonical word, and 0 for any other.
+/// Returns 1 for a canonical word, and 0 for any other.
 fn canonical(word: Halves) -> u8
     ensures { IsOneIf (IsCanonical (value_of word)) result }
 {
@@ -80,7 +83,8 @@ fn canonical(word: Halves) -> u8
     }
 }
 
-/// 1 for a word that stores a sound span for which the address is representable, and 0 for any other.
+/// Returns 1 for a word that stores a sound span for which the address is representable, and 0 for
+/// any other.
 fn represented(word: Halves, address: u64) -> u8
     ensures { IsOneIfRepresentable (value_of word) address result }
 {

@@ -1,5 +1,5 @@
-//! The rules of derivation on words. Each passes on one call of `cc_cap::words`, and refuses what that refuses,
-//! in the same order.
+//! The rules of derivation on words. Each function forwards to one of `cc_cap::words`, and has its
+//! errors in the same order.
 ghost use Rattle.std.specs.Prelude.{◌≡◌, ◌↔◌, IsTrue};
 ghost use Rattle.cc_word.specs.declared.fields.Fields.{Fields as FieldsSpec};
 ghost use Rattle.cc_cap.specs.Capability.{Capability, GrantsNoMore};
@@ -15,7 +15,7 @@ use crate::structs::MadeWord;
 use cc_cap::{Flags, Perms, words};
 use cc_word::Refusal;
 
-/// What C is told of an answer: the word with refusal 0, or zero halves with the refusal's code.
+/// Returns a result as C has it: the word with refusal 0, or zero halves with the refusal's code.
 fn told(answer: Result<u128, Refusal>) -> MadeWord
     ensures { IsTold answer result }
 {
@@ -36,7 +36,10 @@ fn told(answer: Result<u128, Refusal>) -> MadeWord
     }
 }
 
-/// The word at another address, with the same bounds.
+/// Returns the word at another address, with the same bounds.
+///
+/// Errors, in order: `NotCanonical`; `Sealed`; `Unrepresentable`.
+/// Instruction: CSetAddr.
 #[unsafe(no_mangle)]
 pub extern "C" fn cheri_cap_set_address(high: u64, low: u64, address: u64) -> MadeWord
     ensures { IsAnswer (OnWord (λ cap. SetsAddress cap address) (number_of high low)) result }
@@ -44,7 +47,10 @@ pub extern "C" fn cheri_cap_set_address(high: u64, low: u64, address: u64) -> Ma
     told(words::set_address(number(high, low), address))
 }
 
-/// The word with its address moved up by `amount` bytes, modulo 2^64.
+/// Returns the word with `amount` bytes added to its address, modulo 2^64.
+///
+/// Errors, in order: `NotCanonical`; `Sealed`; `Unrepresentable`.
+/// Instruction: CIncOffset.
 #[unsafe(no_mangle)]
 pub extern "C" fn cheri_cap_increment(high: u64, low: u64, amount: u64) -> MadeWord
     ensures { IsAnswer (OnWord (λ cap. Increments cap amount) (number_of high low)) result }
@@ -52,8 +58,11 @@ pub extern "C" fn cheri_cap_increment(high: u64, low: u64, amount: u64) -> MadeW
     told(words::increment(number(high, low), amount))
 }
 
-/// The word with the bounds of `length` bytes from its address on, rounded where they can't be stored
-/// exactly.
+/// Returns the word with the bounds of `length` bytes from its address on, rounded if they cannot
+/// be stored exactly.
+///
+/// Errors, in order: `NotCanonical`; `Sealed`; `OutOfBounds`.
+/// Instruction: CSetBounds.
 #[unsafe(no_mangle)]
 pub extern "C" fn cheri_cap_set_bounds_on(
     high: u64,
@@ -66,7 +75,10 @@ pub extern "C" fn cheri_cap_set_bounds_on(
     told(words::set_bounds(number(high, low), number(length_high, length_low)))
 }
 
-/// The word with exactly the bounds of `length` bytes from its address on.
+/// Returns the word with exactly the bounds of `length` bytes from its address on.
+///
+/// Errors, in order: `NotCanonical`; `Sealed`; `OutOfBounds`; `Inexact`.
+/// Instruction: CSetBoundsExact.
 #[unsafe(no_mangle)]
 pub extern "C" fn cheri_cap_set_bounds_exact_on(
     high: u64,
@@ -79,7 +91,10 @@ pub extern "C" fn cheri_cap_set_bounds_exact_on(
     told(words::set_bounds_exact(number(high, low), number(length_high, length_low)))
 }
 
-/// The word with the permissions that are also in the mask.
+/// Returns the word with the permissions that are also in the mask.
+///
+/// Errors, in order: `NotCanonical`; `Sealed`.
+/// Instruction: CAndPerm.
 #[unsafe(no_mangle)]
 pub extern "C" fn cheri_cap_and_perms(high: u64, low: u64, mask: u16) -> MadeWord
     ensures { IsAnswer (OnWord (λ cap. MasksPermissions cap mask) (number_of high low)) result }
@@ -87,7 +102,10 @@ pub extern "C" fn cheri_cap_and_perms(high: u64, low: u64, mask: u16) -> MadeWor
     told(words::and_perms(number(high, low), Perms::from_bits_retain(mask)))
 }
 
-/// The word with its flag set to `flag`.
+/// Returns the word with its flag set to `flag`.
+///
+/// Errors, in order: `NotCanonical`; `Sealed`.
+/// Instruction: CSetFlags.
 #[unsafe(no_mangle)]
 pub extern "C" fn cheri_cap_set_flag(high: u64, low: u64, flag: bool) -> MadeWord
     ensures { IsAnswer (OnWord (λ cap. SetsFlag cap flag) (number_of high low)) result }
@@ -95,7 +113,11 @@ pub extern "C" fn cheri_cap_set_flag(high: u64, low: u64, flag: bool) -> MadeWor
     told(words::set_flag(number(high, low), flag))
 }
 
-/// The word sealed with the authority's address as its type.
+/// Returns the word sealed with the authority's address as its type.
+///
+/// Errors, in order: `NotCanonical` and `Sealed`, each for either word; `MissingPermission`;
+/// `OutOfBounds`; `ReservedType`.
+/// Instruction: CSeal.
 #[unsafe(no_mangle)]
 pub extern "C" fn cheri_cap_seal(
     high: u64,
@@ -108,7 +130,11 @@ pub extern "C" fn cheri_cap_seal(
     told(words::seal(number(high, low), number(authority_high, authority_low)))
 }
 
-/// The sealed word unsealed. It keeps GLOBAL only where the authority has it too.
+/// Returns the sealed word unsealed. It keeps GLOBAL only if the authority has it too.
+///
+/// Errors, in order: `NotCanonical` for either word; `Unsealed`; `Sealed`; `MissingPermission`;
+/// `OutOfBounds`; `TypeMismatch`.
+/// Instruction: CUnseal.
 #[unsafe(no_mangle)]
 pub extern "C" fn cheri_cap_unseal(
     high: u64,
@@ -121,7 +147,11 @@ pub extern "C" fn cheri_cap_unseal(
     told(words::unseal(number(high, low), number(authority_high, authority_low)))
 }
 
-/// The word again, where its capability grants no more than the authority does.
+/// Returns the word again, if its capability grants no more than the authority does.
+///
+/// Errors, in order: `NotCanonical` and `Sealed` for the authority; `NotCanonical` for the word;
+/// `ExceedsAuthority`.
+/// Instruction: CBuildCap.
 #[unsafe(no_mangle)]
 pub extern "C" fn cheri_cap_rebuild(
     authority_high: u64,
@@ -134,8 +164,10 @@ pub extern "C" fn cheri_cap_rebuild(
     told(words::rebuild(number(authority_high, authority_low), number(high, low)))
 }
 
-/// Whether the word begins and ends within the other, and the other has all its permissions, for any two words,
-/// by the bounds that they decode to.
+/// Returns whether the word begins and ends within the other, and the other has all its
+/// permissions, for any two words, by the bounds that they decode to.
+///
+/// Instruction: CTestSubset.
 #[unsafe(no_mangle)]
 pub extern "C" fn cheri_cap_is_subset(high: u64, low: u64, outer_high: u64, outer_low: u64) -> bool
     ensures words { OfFields (number_of high low) (λ inner. OfFields (number_of outer_high outer_low) (λ outer.

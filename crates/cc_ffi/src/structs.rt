@@ -1,4 +1,4 @@
-//! The structs that cross to C, with the fields in the order in which the header has them.
+//! The structs that cross to C, with the fields in the order of the header.
 
 /// A number of 128 bits: a word or a length.
 #[derive(Clone, Copy)]
@@ -16,23 +16,23 @@ pub struct Halves {
 pub struct WordFields {
     /// The capability's own address.
     pub address: u64,
-    /// The object type, of 18 bits.
+    /// The object type, 18 bits.
     pub otype: u32,
-    /// The permissions, of 16 bits, GLOBAL the lowest.
+    /// The permissions, 16 bits, with GLOBAL as the lowest.
     pub perms: u16,
-    /// The T field as stored, of 12 bits.
+    /// The T field as stored, 12 bits.
     pub t: u16,
-    /// The B field as stored, of 14 bits.
+    /// The B field as stored, 14 bits.
     pub b: u16,
     /// The two reserved bits, zero in every capability.
     pub reserved: u8,
     /// The flag: whether code runs in capability mode.
     pub flag: bool,
-    /// The internal exponent.
+    /// The internal exponent bit.
     pub ie: bool,
 }
 
-/// What a word decodes to.
+/// The bounds that a word decodes to, and its exponent.
 #[derive(Clone, Copy)]
 #[repr(C)]
 pub struct Bounds {
@@ -46,7 +46,7 @@ pub struct Bounds {
     pub exponent: u8,
 }
 
-/// What a request for bounds is granted.
+/// The bounds that a request is granted, and the fields that store them.
 #[derive(Clone, Copy)]
 #[repr(C)]
 pub struct GrantedBounds {
@@ -56,21 +56,22 @@ pub struct GrantedBounds {
     pub top_high: u64,
     /// The granted top's lower 64 bits.
     pub top_low: u64,
-    /// The T field that stores them, of 12 bits.
+    /// The T field that stores them, 12 bits.
     pub t: u16,
-    /// The B field that stores them, of 14 bits.
+    /// The B field that stores them, 14 bits.
     pub b: u16,
     /// The exponent, from 0 to 52.
     pub exponent: u8,
-    /// The internal exponent.
+    /// The internal exponent bit.
     pub ie: bool,
     /// Whether the request is granted as it is.
     pub exact: bool,
-    /// Whether the request ends at 2^64 or below. If not, nothing is granted and all else is zero.
+    /// Whether the request ends at or below 2^64. If not, nothing is granted and every other field
+    /// is zero.
     pub in_range: bool,
 }
 
-/// The word that a text spells, if it spells one.
+/// The word that the bytes parse as, if they parse as one.
 #[derive(Clone, Copy)]
 #[repr(C)]
 pub struct ReadWord {
@@ -78,11 +79,11 @@ pub struct ReadWord {
     pub high: u64,
     /// The word's lower 64 bits, or 0.
     pub low: u64,
-    /// Whether the text spells a word.
+    /// Whether the bytes parse as a word.
     pub found: bool,
 }
 
-/// The word that a rule makes, or why it makes none.
+/// The word that a rule makes, or the reason why it makes none.
 #[derive(Clone, Copy)]
 #[repr(C)]
 pub struct MadeWord {
@@ -90,6 +91,6 @@ pub struct MadeWord {
     pub high: u64,
     /// The word's lower 64 bits, or 0.
     pub low: u64,
-    /// 0 where a word was made, else the code of the refusal, from 7 to 16.
+    /// 0 if a word was made, and otherwise the code of the refusal, from 7 to 16.
     pub refusal: u8,
 }

@@ -9,7 +9,8 @@ use crate::halves::{halves, number};
 use crate::structs::ReadWord;
 use cc_cap::WordLine;
 
-/// The word that 32 hexadecimal digits of either case spell. Any other text spells none.
+/// Returns the word that 32 hexadecimal digits of either case parse as. No other bytes parse as a
+/// word.
 #[unsafe(no_mangle)]
 pub extern "C" fn cheri_cap_read_word(text: &[u8]) -> ReadWord
     ensures found { IsTrue result.found ↔ IsWordText text.now }
@@ -41,7 +42,8 @@ pub extern "C" fn cheri_cap_write_word(high: u64, low: u64, text: &mut [u8; 32])
     cc_word::write_word_fast_to(number(high, low), text);
 }
 
-/// Writes the line of a word and a zero byte, and answers how many bytes stand before that zero byte.
+/// Writes the line of a word and a zero byte, and returns the number of bytes before that zero
+/// byte.
 #[unsafe(no_mangle)]
 pub extern "C" fn cheri_cap_format(high: u64, low: u64, tagged: bool, text: &mut [u8; 96]) -> usize
     ensures line { IsLine (number_of high low) tagged (take result text.new) }
@@ -54,7 +56,7 @@ pub extern "C" fn cheri_cap_format(high: u64, low: u64, tagged: bool, text: &mut
     line.bytes().len()
 }
 
-/// The bytes, and zero bytes after them.
+/// Returns the bytes, with zero bytes after them.
 #[tactic(auto, using(crate::proofs::PaddingLemmas::zeros_behind, crate::proofs::PaddingLemmas::zero_behind))]
 fn padded(bytes: &[u8]) -> [u8; 96]
     requires { length bytes.now < 96 }

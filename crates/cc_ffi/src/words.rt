@@ -10,7 +10,7 @@ use crate::halves::{halves, number};
 use crate::structs::{Halves, WordFields};
 use cc_word::{Fields, pack, unpack};
 
-/// The fields of a word, for every word.
+/// Returns the fields of a word, for every word.
 #[unsafe(no_mangle)]
 pub extern "C" fn cheri_cap_unpack(high: u64, low: u64) -> WordFields
     ensures { OfFields (number_of high low) (λ fields. IsSame result fields) }
@@ -28,7 +28,7 @@ pub extern "C" fn cheri_cap_unpack(high: u64, low: u64) -> WordFields
     }
 }
 
-/// The permissions of a word, GLOBAL the lowest bit.
+/// Returns the permissions of a word, with GLOBAL as the lowest bit.
 #[unsafe(no_mangle)]
 pub extern "C" fn cheri_cap_perms(high: u64, low: u64) -> u16
     ensures { OfFields (number_of high low) (λ fields. result ≡ fields.perms) }
@@ -36,7 +36,7 @@ pub extern "C" fn cheri_cap_perms(high: u64, low: u64) -> u16
     unpack(number(high, low)).perms
 }
 
-/// The object type of a word, of 18 bits.
+/// Returns the object type of a word, 18 bits.
 #[unsafe(no_mangle)]
 pub extern "C" fn cheri_cap_otype(high: u64, low: u64) -> u32
     ensures { OfFields (number_of high low) (λ fields. result ≡ fields.otype) }
@@ -44,7 +44,7 @@ pub extern "C" fn cheri_cap_otype(high: u64, low: u64) -> u32
     unpack(number(high, low)).otype
 }
 
-/// The flag of a word: whether code runs in capability mode.
+/// Returns the flag of a word: whether code runs in capability mode.
 #[unsafe(no_mangle)]
 pub extern "C" fn cheri_cap_flag(high: u64, low: u64) -> bool
     ensures { OfFields (number_of high low) (λ fields. result ≡ fields.flag) }
@@ -52,7 +52,7 @@ pub extern "C" fn cheri_cap_flag(high: u64, low: u64) -> bool
     unpack(number(high, low)).flag
 }
 
-/// The fields with each number cut to its width, its lowest bits kept.
+/// Returns the fields with each number cut to its width. The lowest bits are kept.
 fn cut(given: WordFields) -> Fields
     ensures { IsCut given result }
 {
@@ -68,7 +68,7 @@ fn cut(given: WordFields) -> Fields
     }
 }
 
-/// The word of fields. Of a number that is wider than its field the lowest bits count.
+/// Returns the word of fields. If a number is wider than its field, its lowest bits count.
 #[unsafe(no_mangle)]
 pub extern "C" fn cheri_cap_pack(given: WordFields) -> Halves
     ensures { (fields : FieldsSpec) → IsCut given fields → word_of fields ≡ value_of result }
@@ -76,7 +76,7 @@ pub extern "C" fn cheri_cap_pack(given: WordFields) -> Halves
     halves(pack(&cut(given)))
 }
 
-/// Whether the word is canonical: the word of some capability, sealed or not.
+/// Returns whether the word is canonical: the word of some capability, sealed or not.
 #[inline(always)]
 #[unsafe(no_mangle)]
 pub extern "C" fn cheri_cap_is_canonical(high: u64, low: u64) -> bool

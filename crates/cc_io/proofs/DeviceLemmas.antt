@@ -15,7 +15,7 @@ appends_twice (Some zs) (Some bs) (Some cs) xs ys p q = q ∙ ap (λ (l : List �
 appends_twice (Some zs) (Some bs) None xs ys p q = q
 appends_twice (Some zs) None c xs ys p q = elim p [ ]
 
--- bytes put behind those that wait
+-- bytes appended after those that are pending
 pub waits_further : (a : Option (List ℕ)) (xs ys : List ℕ) → Appends (append_known a xs) (append_known a (xs ++ ys)) ys
 waits_further None xs ys = tt
 waits_further (Some zs) xs ys = sym (append_assoc zs xs ys)
@@ -54,7 +54,7 @@ appends_further a b c bytes i n p q =
     let r : Appends b c (take n (drop i bytes)) = subst (λ (l : List ℕ). Appends b c (take n l)) (take_rest bytes i) q in
     rw (take_further i n bytes) (appends_twice a b c (take i bytes) (take n (drop i bytes)) p r)
 
--- how many bytes such a write takes
+-- the number of bytes that such a write takes
 pub count_further : (bytes : List ℕ) (i n : ℕ) → i ≤ length bytes → n ≤ length (take (length bytes - i) (drop i bytes)) → i + n ≤ length bytes
 count_further bytes i n h k = omega (arith, ap length (take_rest bytes i), length-drop i bytes)
 
@@ -71,7 +71,7 @@ whole_after a b c bytes n p q =
     let r : Appends b c (drop n bytes) = subst (λ (l : List ℕ). Appends b c l) (take_rest bytes n) q in
     subst (λ (l : List ℕ). Appends a c l) (take-append-drop n bytes) (appends_twice a b c (take n bytes) (drop n bytes) p r)
 
--- a beginning of the rest, after a first write of some
+-- a prefix of the remaining bytes, after a first write of some
 pub begun_after : (a b c : Option (List ℕ)) (bytes : List ℕ) (n : ℕ) → n ≤ length bytes
     → Appends a b (take n bytes) → TakesBeginning b c (take (length bytes - n) (drop n bytes)) → TakesBeginning a c bytes
 begun_after a b c bytes n within p t = record {

@@ -1,4 +1,4 @@
--- What is answered in a text, from what is answered in its parts.
+-- The replies to a text, from the replies to its parts.
 use Rattle.std.proofs.Common.{◌≡◌, ℕ, ◌+◌, ◌<◌, ◌≤◌, List, [], ◌∷◌, ◌++◌, length, take, refl, sym, ◌∙◌, ap, subst, append_assoc, append-nil, arith, Bool, true, false, ◌||◌, ◌==◌, Option, Ok, Err, inl, inr, ◌⊎◌}
 use Rattle.std.proofs.lemmas.Bool.{eqb-true, eqb-false}
 use Rattle.std.proofs.lemmas.List.{take_all, map-append}
@@ -16,12 +16,12 @@ use Rattle.cc_io.proofs.LineLemmas.{start_longer}
 
 -- ---- what the loops keep
 
--- no answer stands on the page, or there was room for the last
+-- no reply is on the page, or there was space for the last
 abbrev pub FitsPage : (room most : ℕ) → List Answer → Type 0
 FitsPage room most answers = (answers ≡ []) ⊎ LastFits room most answers
 
--- The first entries of the piece were answered, and `rest` is still to come; the next entry has begun with `begun_now`.
--- The answers to `earlier` were written, and those to `on_page` wait.
+-- The first entries of the chunk got replies, and `rest` is still unread. The next entry has begun
+-- with `begun_now`. The replies to `earlier` were written, and those to `on_page` are pending.
 pub record AnswersFirst {S : Type 0} (Answered : Relation S) (frame : Frame) (room most : ℕ) (old : S) (begun piece rest start : List ℕ) (taken taken_now : Option (List ℕ)) (waiting : List ℕ) (any_error : Bool) (new : S) : Type 0 where
   pub earlier : List (List ℕ)
   pub on_page : List (List ℕ)
@@ -39,7 +39,8 @@ pub record AnswersFirst {S : Type 0} (Answered : Relation S) (frame : Frame) (ro
   pub waits : waiting ≡ answers_text page
   pub error_is : any_error ≡ list_any (λ answer. answer.is_error) (before ++ page)
 
--- what was done up to a read: `pending` was written, and then the answers to the text that was given so far
+-- the effects up to a read: `pending` was written, and then the replies to the text that was given
+-- so far
 pub record Reads {S : Type 0} (Answered : Relation S) (frame : Frame) (old : S) (pending : List ℕ) (to_come left : Option (List ℕ)) (start : List ℕ) (taken taken_now : Option (List ℕ)) (any_error : Bool) (new : S) : Type 0 where
   pub text : List ℕ
   pub given : Consumes to_come left text
@@ -49,7 +50,7 @@ pub record Reads {S : Type 0} (Answered : Relation S) (frame : Frame) (old : S) 
 
 -- ---- beginnings
 
--- the whole of a text is a beginning of it
+-- the whole of a text is a prefix of it
 pub begins_whole : (t u : Option (List ℕ)) (xs : List ℕ) → Appends t u xs → TakesBeginning t u xs
 begins_whole t u xs p = record {
   count = length xs;
@@ -57,7 +58,7 @@ begins_whole t u xs p = record {
   taken = subst (λ (l : List ℕ). Appends t u l) (sym (take_all (length xs) xs (omega arith))) p;
 }
 
--- ---- answers in a row
+-- ---- replies in a row
 
 pub all_further : {S : Type 0} (A : Relation S) (a b c : S) (xs ys : List (List ℕ)) (rs ss : List Answer)
     → AnswersAll A a xs rs b → AnswersAll A b ys ss c → AnswersAll A a (xs ++ ys) (rs ++ ss) c
@@ -74,7 +75,7 @@ answers_text-append (r ∷ rs) ss =
 pub seen_further : (xs ys : List (List ℕ)) → seen (xs ++ ys) ≡ seen xs ++ seen ys
 seen_further xs ys = map-append (take 129) xs ys
 
--- the answers to the parts of a row of entries, as the frame tells them
+-- the replies to the parts of a row of entries, as the frame gives them
 pub all_parts : {S : Type 0} (A : Relation S) (a b c : S) (whole xs ys : List (List ℕ)) (rs ss : List Answer) → whole ≡ xs ++ ys
     → AnswersAll A a (seen xs) rs b → AnswersAll A b (seen ys) ss c → AnswersAll A a (seen whole) (rs ++ ss) c
 all_parts {S} A a b c whole xs ys rs ss is p q =
@@ -104,7 +105,7 @@ answers_further {S} A frame is a b c t u v begun xs ys start end e f p q = recor
 
 -- ---- a sink that failed
 
--- some answers were written, and the sink failed on a page behind them
+-- some replies were written, and the sink failed on a page after them
 pub stops_behind : {S : Type 0} (A : Relation S) (room most : ℕ) (a b c : S) (t u v : Option (List ℕ)) (xs ys : List (List ℕ)) (rs : List Answer)
     → AnswersAll A a xs rs b → Appends t u (answers_text rs) → StopsOnPage A room most b [] ys u v c → StopsOnPage A room most a [] (xs ++ ys) t v c
 stops_behind {S} A room most a b c t u v xs ys rs takes written q = record {
@@ -125,7 +126,7 @@ stops_behind {S} A room most a b c t u v xs ys rs takes written q = record {
       (appends_twice t u v _ _ written q.written);
 }
 
--- `pending` was written, and the sink failed on a page behind it
+-- `pending` was written, and the sink failed on a page after it
 pub stops_opened : {S : Type 0} (A : Relation S) (room most : ℕ) (a c : S) (t u v : Option (List ℕ)) (pending : List ℕ) (xs : List (List ℕ))
     → Appends t u pending → StopsOnPage A room most a [] xs u v c → StopsOnPage A room most a pending xs t v c
 stops_opened {S} A room most a c t u v pending xs written q = record {
@@ -153,9 +154,9 @@ stops_further {S} A frame is room most a b c t u v begun xs ys start e p q =
     (sym (ap seen (is.entries_further begun xs ys) ∙ seen_further (frame.entries begun xs) (frame.entries (frame.left begun xs) ys)))
     (stops_behind A room most a b c t u v (seen (frame.entries begun xs)) (seen (frame.entries (frame.left begun xs) ys)) p.answers p.takes p.written q)
 
--- ---- a piece, of which the first entries were answered
+-- ---- a chunk, of which the first entries got replies
 
--- no entry is answered yet
+-- no entry has got a reply yet
 pub first_begins : {S : Type 0} (A : Relation S) (frame : Frame) (room most : ℕ) (a : S) (t : Option (List ℕ)) (begun piece start waiting : List ℕ) → start ≡ take 129 begun → waiting ≡ []
     → AnswersFirst A frame room most a begun piece piece start t t waiting false a
 first_begins {S} A frame room most a t begun piece start waiting is empty = record {
@@ -215,7 +216,7 @@ first_passes {S} A frame room most a b t u v begun piece rest start waiting wait
   error_is = p.error_is ∙ ap (list_any (λ (answer : Answer). answer.is_error)) (sym (append-nil (p.before ++ p.page)));
 }
 
--- one entry more was answered, for which there was room
+-- one entry more got a reply, for which there was space
 pub first_more : {S : Type 0} (A : Relation S) (frame : Frame) (room most : ℕ) (a b c : S) (t u : Option (List ℕ)) (begun piece rest start waiting waiting_now next end after : List ℕ) (e f : Bool)
     → (p : AnswersFirst A frame room most a begun piece rest start t u waiting e b) → EndsEntry frame p.begun_now rest end after
     → AnswersInto A b (take 129 (p.begun_now ++ end)) waiting waiting_now f c → length waiting + most ≤ room → next ≡ []
@@ -419,7 +420,7 @@ ends_none {S} E a [] page is empty = record {
 }
 ends_none {S} E a (byte ∷ rest) page is empty = absurd (omega (arith, eqb-true (length (byte ∷ rest)) 0 is))
 
--- there is one, and it was answered on an empty page
+-- there is one, and it got a reply on an empty page
 pub ends_some : {S : Type 0} (E : Relation S) (a b : S) (rest page page_now : List ℕ) (error : Bool) → (length rest == 0) ≡ false → page ≡ []
     → AnswersInto E a rest page page_now error b → EndsPage E a rest page_now error b
 ends_some {S} E a b [] page page_now error some empty r = absurd (eqb-false 0 0 some refl)

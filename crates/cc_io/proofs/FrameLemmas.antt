@@ -119,7 +119,7 @@ one_cut bytes = record {
 
 -- ---- entries of either kind
 
--- where fewer than sixteen bytes are kept of what has begun, they are all of it
+-- if fewer than 16 bytes are kept of an entry that has begun, they are all of it
 start_whole : (start begun : List ℕ) → start ≡ take 129 begun → length start < 16 → start ≡ begun
 start_whole start begun is short =
     let cut = ap length is in
@@ -152,7 +152,7 @@ block_ends_not start begun text is short few =
     let fewer : length begun + length text < 16 = omega (arith, ap length same, few) in
     record { entries = no_blocks begun text fewer; left = all_block_rest begun text fewer }
 
--- what a split answers: the two parts, or nothing
+-- the result of a split: the two parts, or nothing
 abbrev Parts : Type 0
 Parts = Option (Bor (List ℕ) × Bor (List ℕ))
 

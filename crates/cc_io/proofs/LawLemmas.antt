@@ -13,7 +13,7 @@ use Rattle.cc_io.proofs.EngineLemmas.{all_further, answers_text-append, seen_fur
 
 -- ---- a text in two parts
 
--- where the first ends with its last entry
+-- the entries of two parts, if the first ends with its last entry
 entries_parts : (frame : Frame) → IsFrame frame → (first second : List ℕ) → frame.left [] first ≡ []
     → entries_of frame (first ++ second) ≡ entries_of frame first ++ entries_of frame second
 entries_parts frame is first second whole =
@@ -24,7 +24,7 @@ rest_parts : (frame : Frame) → IsFrame frame → (first second : List ℕ) →
 rest_parts frame is first second whole =
     ap (take 129) (is.left_further [] first second ∙ ap (λ (l : List ℕ). frame.left l second) whole)
 
--- the answers to entries in two parts
+-- the replies to entries in two parts
 pub record AllParts {S : Type 0} (A : Relation S) (a : S) (xs ys : List (List ℕ)) (answers : List Answer) (c : S) : Type 0 where
   pub mid : S
   pub first : List Answer
@@ -102,9 +102,9 @@ parts {S} A E frame is old first second output error new whole o =
           ∙ or_assoc (list_any (λ (answer : Answer). answer.is_error) p.first) (list_any (λ (answer : Answer). answer.is_error) p.second) o.ending.is_error;
     }
 
--- ---- a page of one answer
+-- ---- a page of one reply
 
--- answers with no bytes are none
+-- there are no replies if they have no bytes
 no_answers : {S : Type 0} (A : Relation S) → IsSome A → (a b : S) (entries : List (List ℕ)) (answers : List Answer) → AnswersAll A a entries answers b
     → length (answers_text answers) ≡ 0 → answers ≡ []
 no_answers {S} A some a b entries [] t none = refl
@@ -155,13 +155,13 @@ one_on_page {S} A some room old new pending entries t u p =
     first_alone {S} A some a b (entry ∷ entries) (r ∷ rs) last t none =
         absurd (omega (arith, none, length-append r.text (answers_text rs), some a entry r.text r.is_error t.0 t.1))
 
--- ---- one answer each
+-- ---- one reply each
 
 answer_same : (r s : Answer) → r.text ≡ s.text → r.is_error ≡ s.is_error → r ≡ s
 answer_same r s p q =
     ap (λ (text : List ℕ). record { text = text; is_error = r.is_error }) p ∙ ap (λ (error : Bool). record { text = s.text; is_error = error }) q
 
--- the same entries from the same state get the same answers
+-- the same entries from the same state get the same replies
 one_row : {S : Type 0} (A : Relation S) → IsOne A → (a b c : S) (entries : List (List ℕ)) (rs ss : List Answer)
     → AnswersAll A a entries rs b → AnswersAll A a entries ss c → rs ≡ ss
 one_row {S} A one a b c [] [] [] p q = refl

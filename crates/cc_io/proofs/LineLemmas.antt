@@ -14,7 +14,7 @@ pub all_rest : (begun text : List ℕ) → IsLine text → rest_from begun text 
 all_rest begun [] h = sym (append-nil begun)
 all_rest begun (x ∷ text) h = rw (ne_eqb x 10 h.0) (all_rest (begun ++ x ∷ []) text h.1 ∙ append_assoc begun (x ∷ []) text)
 
--- the bytes that there is room for: all of them, or as many as fit
+-- the bytes that fit: all of them, or as many as there is space for
 cut_same : (bytes : List ℕ) (count room : ℕ) → count ≡ min (length bytes) room → take count bytes ≡ take room bytes
 cut_same bytes count room is = elim (cases_lt (length bytes) room) [
   | inl short ↦ take_all count bytes (omega arith) ∙ sym (take_all room bytes (omega arith))
@@ -30,7 +30,7 @@ extend_room line bytes count fits is =
     ∙ sym (take-append-add line bytes (129 - length line))
     ∙ ap (λ (n : ℕ). take n (line ++ bytes)) whole
 
--- the first 129 bytes of a line and what follows it tell the first 129 of both
+-- the first 129 bytes of a line and the bytes after it give the first 129 of both
 pub start_longer : (line more : List ℕ) → take 129 (take 129 line ++ more) ≡ take 129 (line ++ more)
 start_longer line more = elim (cases_lt (length line) 129) [
   | inl short ↦ ap (λ (l : List ℕ). take 129 (l ++ more)) (take_all 129 line (omega arith))

@@ -8,27 +8,28 @@ use Rattle.cc_io.specs.declared.summary.IoError.{IoError}
 use Rattle.cc_io.specs.declared.summary.IoError.TheVariants.{Read, Write}
 use Rattle.cc_io.specs.declared.summary.Summary.{Summary}
 
--- WritesOutput holds if `pending` was written, and then the output of the text.
+-- `WritesOutput` holds if `pending` was written, and then the output of `text`.
 pub record WritesOutput {S : Type 0} (Answered Ended : Relation S) (frame : Frame) (old : S) (pending text : List ℕ) (taken taken_now : Option (List ℕ)) (any_error : Bool) (new : S) : Type 0 where
   pub output : List ℕ
   pub of_text : Output Answered Ended frame old text output any_error new
   pub written : Appends taken taken_now (pending ++ output)
 
--- WritesAnswers holds if `pending` was written, and then the answers to these entries.
+-- `WritesAnswers` holds if `pending` was written, and then the replies to these entries.
 pub record WritesAnswers {S : Type 0} (Answered : Relation S) (old : S) (pending : List ℕ) (entries : List (List ℕ)) (taken taken_now : Option (List ℕ)) (new : S) : Type 0 where
   pub answers : List Answer
   pub takes : AnswersAll Answered old entries answers new
   pub written : Appends taken taken_now (pending ++ answers_text answers)
 
--- StopsInPending holds if a prefix of `pending` was written, and no entry was answered.
+-- `StopsInPending` holds if a prefix of `pending` was written, and no entry got a reply.
 pub record StopsInPending {S : Type 0} (old : S) (pending : List ℕ) (taken taken_now : Option (List ℕ)) (new : S) : Type 0 where
   pub some : 0 < length pending
   pub stays : new ≡ old
   pub written : TakesBeginning taken taken_now pending
 
--- StopsOnPage holds if the sink failed on a page. `pending`, the answers to `earlier` and a prefix of the page were written.
--- The answers to the entries `on_page` were on the page. The answerer has taken `earlier` and `on_page`, and none of `later`.
--- The page of `room` bytes had room for `most` bytes before the last of these answers.
+-- `StopsOnPage` holds if the sink failed on a page. `pending`, the replies to `earlier` and a
+-- prefix of the page were written. The replies to the entries `on_page` were on the page. The
+-- answerer has taken `earlier` and `on_page`, and none of `later`. The page of `room` bytes had
+-- space for `most` bytes before the last of these replies.
 pub record StopsOnPage {S : Type 0} (Answered : Relation S) (room most : ℕ) (old : S) (pending : List ℕ) (entries : List (List ℕ)) (taken taken_now : Option (List ℕ)) (new : S) : Type 0 where
   pub earlier : List (List ℕ)
   pub on_page : List (List ℕ)
@@ -44,8 +45,8 @@ pub record StopsOnPage {S : Type 0} (Answered : Relation S) (room most : ℕ) (o
   pub within : count ≤ length (answers_text page)
   pub written : Appends taken taken_now (pending ++ answers_text before ++ take count (answers_text page))
 
--- StopsInAnswer holds if the sink failed in one answer. All before the answer was written, and a prefix of the answer. The
--- answerer has taken its entry, and none after it.
+-- `StopsInAnswer` holds if the sink failed in one reply. All before the reply was written, and a
+-- prefix of the reply. The answerer has taken its entry, and none after it.
 pub record StopsInAnswer {S : Type 0} (Answered : Relation S) (old : S) (pending : List ℕ) (entries : List (List ℕ)) (taken taken_now : Option (List ℕ)) (new : S) : Type 0 where
   pub earlier : List (List ℕ)
   pub entry : List ℕ
@@ -60,8 +61,8 @@ pub record StopsInAnswer {S : Type 0} (Answered : Relation S) (old : S) (pending
   pub within : count ≤ length answer.text
   pub written : Appends taken taken_now (pending ++ answers_text answers ++ take count answer.text)
 
--- StopsAfterAnswers holds if the sink failed after the answers to all entries: in the answer to the trailing bytes, or in
--- the flush.
+-- `StopsAfterAnswers` holds if the sink failed after the replies to all entries: in the reply to
+-- the trailing bytes, or in the flush.
 pub record StopsAfterAnswers {S : Type 0} (Answered Ended : Relation S) (frame : Frame) (old : S) (pending text : List ℕ) (taken taken_now : Option (List ℕ)) (new : S) : Type 0 where
   pub answers : List Answer
   pub mid : S
@@ -72,7 +73,8 @@ pub record StopsAfterAnswers {S : Type 0} (Answered Ended : Relation S) (frame :
   pub within : count ≤ length ending.text
   pub written : Appends taken taken_now (pending ++ answers_text answers ++ take count ending.text)
 
--- The bytes written for a text that the source gave, and the state of the answerer, by the result.
+-- `PumpsText` holds if the bytes written for `text`, which the source gave, and the state of the
+-- answerer are those for the result.
 abbrev pub PumpsText : {S : Type 0} → (Answered Ended : Relation S) → Frame → (room most : ℕ) → (old : S) → (pending text : List ℕ) → (left taken taken_now : Option (List ℕ)) → Result Summary IoError → (new : S) → Type 0
 PumpsText {S} Answered Ended frame room most old pending text left taken taken_now (Ok summary) new =
     IsAtEnd left × WritesOutput Answered Ended frame old pending text taken taken_now summary.any_error new
@@ -83,8 +85,8 @@ PumpsText {S} Answered Ended frame room most old pending text left taken taken_n
     ⊎ (StopsOnPage Answered room most old pending (entries_of frame text) taken taken_now new
     ⊎ (IsAtEnd left × StopsAfterAnswers Answered Ended frame old pending text taken taken_now new))
 
--- Pumps holds if the bytes written are those for some text that the source gave. If the source says which bytes are unread,
--- this text is a prefix of them.
+-- `Pumps` holds if the bytes written are those for some text that the source gave. If the source
+-- says which bytes are unread, this text is a prefix of them.
 pub record Pumps {S : Type 0} (Answered Ended : Relation S) (frame : Frame) (room most : ℕ) (old : S) (pending : List ℕ) (to_come left taken taken_now : Option (List ℕ)) (result : Result Summary IoError) (new : S) : Type 0 where
   pub text : List ℕ
   pub given : Consumes to_come left text

@@ -5,8 +5,8 @@ use Rattle.std.specs.List.{list_any}
 use Rattle.cc_io.specs.Frames.{Frame}
 use Rattle.cc_io.specs.Answers.{Answer, Relation, AnswersAll, answers_text, EndsWith, seen}
 
--- Answers holds if the entries that end in the text were answered, the first of which had begun with `begun`. `start` is the
--- first 129 bytes after the last of them.
+-- `Answers` holds if the entries that end in `text`, the first of which had begun with `begun`, got
+-- replies. `start` is the first 129 bytes after the last of them.
 pub record Answers {S : Type 0} (Answered : Relation S) (frame : Frame) (old : S) (begun text start : List ℕ) (taken taken_now : Option (List ℕ)) (any_error : Bool) (new : S) : Type 0 where
   pub answers : List Answer
   pub takes : AnswersAll Answered old (seen (frame.entries begun text)) answers new
@@ -14,12 +14,12 @@ pub record Answers {S : Type 0} (Answered : Relation S) (frame : Frame) (old : S
   pub error_is : any_error ≡ list_any (λ answer. answer.is_error) answers
   pub start_is : start ≡ take 129 (frame.left begun text)
 
--- PassesPage holds if the page was written and is empty, or nothing was done.
+-- `PassesPage` holds if the page was written and is empty, or nothing was done.
 abbrev pub PassesPage : (taken taken_now : Option (List ℕ)) → (waiting waiting_now : List ℕ) → Type 0
 PassesPage taken taken_now waiting waiting_now =
     ((taken_now ≡ taken) × (waiting_now ≡ waiting)) ⊎ (Appends taken taken_now waiting × (waiting_now ≡ []))
 
--- EndsPage holds if the page has the answer to the trailing bytes, or is empty and there are none.
+-- `EndsPage` holds if the page has the reply to the trailing bytes, or is empty and there are none.
 pub record EndsPage {S : Type 0} (Ended : Relation S) (old : S) (rest page_now : List ℕ) (is_error : Bool) (new : S) : Type 0 where
   pub ending : Answer
   pub ends : EndsWith Ended old rest ending new

@@ -4,6 +4,7 @@ use Rattle.cc_io.specs.Lines.{lines_from, rest_from}
 use Rattle.cc_io.specs.Blocks.{blocks_from, block_rest_from}
 use Rattle.cc_io.specs.Frames.{IsFrame, lines, blocks}
 
+-- The lines of two parts are those of the first, and then those of the second after the bytes left.
 pub lines_further : (begun xs ys : List ℕ) → lines_from begun (xs ++ ys) ≡ lines_from begun xs ++ lines_from (rest_from begun xs) ys
 lines_further begun [] ys = refl
 lines_further begun (x ∷ xs) ys = by_feed (x == 10) (lines_further [] xs ys) (lines_further (begun ++ x ∷ []) xs ys) where
@@ -15,6 +16,7 @@ lines_further begun (x ∷ xs) ys = by_feed (x == 10) (lines_further [] xs ys) (
   by_feed true p q = ap (λ (l : List (List ℕ)). begun ∷ l) p
   by_feed false p q = q
 
+-- The bytes that two parts leave are those that the second leaves after those of the first.
 pub rest_further : (begun xs ys : List ℕ) → rest_from begun (xs ++ ys) ≡ rest_from (rest_from begun xs) ys
 rest_further begun [] ys = refl
 rest_further begun (x ∷ xs) ys = by_feed (x == 10) (rest_further [] xs ys) (rest_further (begun ++ x ∷ []) xs ys) where
@@ -26,6 +28,8 @@ rest_further begun (x ∷ xs) ys = by_feed (x == 10) (rest_further [] xs ys) (re
   by_feed true p q = p
   by_feed false p q = q
 
+-- The blocks of two parts are those of the first, and then those of the second after the bytes
+-- left.
 blocks_further : (begun xs ys : List ℕ) → blocks_from begun (xs ++ ys) ≡ blocks_from begun xs ++ blocks_from (block_rest_from begun xs) ys
 blocks_further begun [] ys = refl
 blocks_further begun (x ∷ xs) ys = go (length begun == 15) (blocks_further [] xs ys) (blocks_further (begun ++ x ∷ []) xs ys) where
@@ -38,6 +42,7 @@ blocks_further begun (x ∷ xs) ys = go (length begun == 15) (blocks_further [] 
   go true p q = ap (λ (l : List (List ℕ)). (begun ++ x ∷ []) ∷ l) p
   go false p q = q
 
+-- The bytes that two parts leave are those that the second leaves after those of the first.
 block_rest_further : (begun xs ys : List ℕ) → block_rest_from begun (xs ++ ys) ≡ block_rest_from (block_rest_from begun xs) ys
 block_rest_further begun [] ys = refl
 block_rest_further begun (x ∷ xs) ys = go (length begun == 15) (block_rest_further [] xs ys) (block_rest_further (begun ++ x ∷ []) xs ys) where
@@ -49,8 +54,10 @@ block_rest_further begun (x ∷ xs) ys = go (length begun == 15) (block_rest_fur
   go true p q = p
   go false p q = q
 
+-- `lines` satisfies `IsFrame`.
 pub lines_frame : IsFrame lines
 lines_frame = record { none = λ begun. refl; all = λ begun. refl; entries_further = lines_further; left_further = rest_further }
 
+-- `blocks` satisfies `IsFrame`.
 pub blocks_frame : IsFrame blocks
 blocks_frame = record { none = λ begun. refl; all = λ begun. refl; entries_further = blocks_further; left_further = block_rest_further }

@@ -4,7 +4,8 @@ use Rattle.std.specs.Io.KnownBytes.{Appends}
 use Rattle.cc_io.specs.Frames.{Frame}
 use Rattle.cc_io.specs.Answers.{Relation, Output}
 
--- InParts holds if the output is that of the first part, and then that of the second part from the state reached.
+-- `InParts` holds if the output is that of the first part, and then that of the second part from
+-- the state reached.
 pub record InParts {S : Type 0} (Answered Ended : Relation S) (frame : Frame) (old : S) (first second output : List ℕ) (any_error : Bool) (new : S) : Type 0 where
   pub mid : S
   pub output_1 : List ℕ
@@ -16,7 +17,7 @@ pub record InParts {S : Type 0} (Answered Ended : Relation S) (frame : Frame) (o
   pub output_is : output ≡ output_1 ++ output_2
   pub error_is : any_error ≡ (error_1 || error_2)
 
--- IsOne holds if no entry may get two answers in one state.
+-- `IsOne` holds if no entry may get two replies in one state.
 pub record IsOne {S : Type 0} (Answered : Relation S) : Type 0 where
   pub text : (old : S) (entry text text_2 : List ℕ) (error error_2 : Bool) (new new_2 : S)
       → Answered old entry text error new → Answered old entry text_2 error_2 new_2 → text ≡ text_2
@@ -25,11 +26,11 @@ pub record IsOne {S : Type 0} (Answered : Relation S) : Type 0 where
   pub new : (old : S) (entry text text_2 : List ℕ) (error error_2 : Bool) (new new_2 : S)
       → Answered old entry text error new → Answered old entry text_2 error_2 new_2 → new ≡ new_2
 
--- IsSome holds if no answer is empty.
+-- `IsSome` holds if no reply is empty.
 abbrev pub IsSome : {S : Type 0} → Relation S → Type 0
 IsSome {S} Answered = (old : S) (entry text : List ℕ) (error : Bool) (new : S) → Answered old entry text error new → 0 < length text
 
--- BeginsOutput holds if the bytes written are a prefix of `pending` and any output of the text.
+-- `BeginsOutput` holds if the bytes written are a prefix of `pending` and any output of `text`.
 abbrev pub BeginsOutput : {S : Type 0} → (Answered Ended : Relation S) → Frame → (old : S) → (pending text : List ℕ) → (taken taken_now : Option (List ℕ)) → Type 0
 BeginsOutput {S} Answered Ended frame old pending text taken taken_now =
     (output : List ℕ) (any_error : Bool) (end : S) → Output Answered Ended frame old text output any_error end

@@ -1,36 +1,39 @@
-//! The trait of the values that turn an entry of the input into bytes of the output.
+//! The trait of the types that turn an entry of the input into bytes of the output.
 ghost use Rattle.std.specs.Prelude.{◌≡◌, ℕ, ◌+◌, ◌≤◌, length};
 ghost use Rattle.cc_io.specs.Answers.{Relation, AnswersInto};
 
 use cc_text::Page;
 
-/// Answers entries on a page of `N` bytes. An answer may depend on the state of the answerer, and may change it.
+/// A type that replies to entries on a page of `N` bytes.
+///
+/// A reply may depend on the state of the answerer, and may change it.
 // `N` is a parameter of the trait, since a method of a trait cannot have a const parameter
 pub trait Answerer<const N: usize> {
-    // the answers that an entry may get
+    // the replies that an entry may get
     ghost Answered: { Relation Self };
 
-    // the answers that trailing bytes may get, unless there are none
+    // the replies that trailing bytes may get, unless there are none
     ghost Ended: { Relation Self };
 
-    // the maximum length of an answer in bytes
+    // the maximum length of a reply in bytes
     ghost MOST: { ℕ };
 
-    /// Returns the maximum length of an answer in bytes.
+    /// Returns the maximum length of a reply in bytes.
     // no constant: an impl for a type that borrows cannot have the clause of one
     fn most() -> usize
         ensures { result ≡ MOST };
 
-    /// Appends the answer to an entry, and returns whether the answer is an error.
+    /// Appends the reply to an entry, and returns whether the reply is an error.
     ///
-    /// Requires: `MOST` bytes fit the page.
+    /// Requires: `MOST` bytes fit on the page.
     fn answer(&mut self, entry: &[u8], out: &mut Page<N>) -> bool
         requires { length out.old + MOST ≤ N }
         ensures { AnswersInto Answered self.old entry.now out.old out.new result self.new };
 
-    /// Appends the answer to trailing bytes after the last entry, and returns whether the answer is an error.
+    /// Appends the reply to trailing bytes after the last entry, and returns whether the reply is
+    /// an error.
     ///
-    /// Requires: `MOST` bytes fit the page.
+    /// Requires: `MOST` bytes fit on the page.
     fn end(&mut self, rest: &[u8], out: &mut Page<N>) -> bool
         requires { length out.old + MOST ≤ N }
         ensures { AnswersInto Ended self.old rest.now out.old out.new result self.new };

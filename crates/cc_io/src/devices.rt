@@ -4,11 +4,11 @@ ghost use Rattle.std.specs.Io.{ReadsAtMost, WritesAtMost};
 ghost use Rattle.std.specs.Io.KnownBytes.{ReadConsumes, WriteAppends, Keeps, Appends};
 ghost use Rattle.cc_io.specs.Devices.{TakesBeginning};
 
-/// A call of a device failed.
+/// The failure of a call of a source or a sink.
 #[derive(Clone, Copy, Debug, PartialEq, Eq)]
 pub struct Failed;
 
-/// Gives bytes in chunks of its own choice, until it has no more or fails.
+/// A source of bytes, which it gives in chunks that it chooses, until it has no more or fails.
 ///
 /// After a failure each later call fails too. A call that fails gives nothing.
 pub trait Source {
@@ -21,8 +21,8 @@ pub trait Source {
     // a call of the source has failed
     ghost has_failed: { Self → Bool };
 
-    /// Reads the next bytes into the start of `room` and returns their number, which is 0 only at the end of the input or
-    /// if `room` is empty.
+    /// Reads the next bytes into the start of `room` and returns their number, which is 0 only at
+    /// the end of the input or if `room` is empty.
     ///
     /// Errors: `Failed`, in this call and each later one.
     fn read(&mut self, room: &mut [u8]) -> Result<usize, Failed>
@@ -34,7 +34,7 @@ pub trait Source {
         ensures stays { has_failed self.old ≡ true → has_failed self.new ≡ true };
 }
 
-/// Takes bytes in chunks of its own choice, until it fails.
+/// A sink of bytes, which it takes in chunks that it chooses, until it fails.
 ///
 /// After a failure each later call fails too. A call that fails takes nothing.
 pub trait Sink {

@@ -6,7 +6,7 @@ ghost use Rattle.cc_io.specs.FrameLaws.{lines_frame, blocks_frame};
 
 use crate::line_start::split_at_line_feed;
 
-/// Cuts the input into entries.
+/// A way to cut the input into entries.
 pub trait Framing {
     // the entries of an input, and its trailing bytes
     ghost frame: { Self → Frame };
@@ -14,9 +14,10 @@ pub trait Framing {
     // an entry may have begun with these bytes
     ghost IsBegun: { Self → (begun : List ℕ) → Type 0 };
 
-    /// Splits the text at the end of the entry that has begun with `start`, and returns the entry's last bytes and the
-    /// bytes after the entry. Returns `None` if the entry does not end in the text. `start` is the first 129 bytes of those
-    /// that came before the text.
+    /// Splits `text` at the end of the entry that has begun with `start`.
+    ///
+    /// Returns the entry's last bytes and the bytes after the entry, or `None` if the entry does
+    /// not end in `text`. `start` is the first 129 bytes of those that came before `text`.
     ///
     /// Requires: an entry may have begun with `start`.
     fn split<'a>(&self, start: &[u8], text: &'a [u8]) -> Option<(&'a [u8], &'a [u8])>
@@ -73,7 +74,8 @@ impl Framing for Blocks {
     ghost begins = { Prim.search rules };
 }
 
-/// Splits the text at the end of the block of which `begun` bytes came before, or returns `None` if the text is too short.
+/// Splits `text` at the end of the block of which `begun` bytes came before, or returns `None` if
+/// `text` is too short.
 fn split_block(begun: usize, text: &[u8]) -> Option<(&[u8], &[u8])>
     requires { begun < 16 }
     ensures whole { IfSome result (λ parts. text.now ≡ parts.0.now ++ parts.1.now) }

@@ -1,4 +1,4 @@
-//! Reads entries from a source, has them answered, and writes the answers to a sink.
+//! Reads entries from a source, has an answerer reply to them, and writes the replies to a sink.
 #![tactic(auto)]
 
 mod answerer;

@@ -8,7 +8,8 @@ use memchr::memchr;
 use std::marker::Model;
 use std::simd::prelude::*;
 
-/// The number of bytes kept, one more than a line may have, so that a line that is too long is distinguished.
+/// The number of bytes kept, one more than a line may have, so that a line that is too long is
+/// distinguished.
 const ROOM: usize = 129;
 
 /// The number of bytes that are searched together for a line feed, since most lines are short.
@@ -72,7 +73,8 @@ impl LineStart {
     }
 }
 
-/// Returns the bytes before the first line feed and the bytes after it, or `None` if there is no line feed.
+/// Returns the bytes before the first line feed and the bytes after it, or `None` if there is no
+/// line feed.
 #[inline(always)]
 pub fn split_at_line_feed(text: &[u8]) -> Option<(&[u8], &[u8])>
     ensures whole { IfSome result (λ parts. text.now ≡ parts.0.now ++ 10 ∷ parts.1.now) }
@@ -108,7 +110,8 @@ fn first_line_feed_of_any(text: &[u8]) -> Option<usize>
     memchr(b'\n', text)
 }
 
-/// Returns which of the first 32 bytes are line feeds, one bit for each byte, the lowest for the first.
+/// Returns which of the first 32 bytes are line feeds, one bit for each byte, the lowest for the
+/// first.
 #[inline(always)]
 fn line_feeds_near(text: &[u8]) -> u64
     requires { NEAR ≤ length text.now }

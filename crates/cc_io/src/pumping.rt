@@ -1,4 +1,4 @@
-//! The engine: reads entries from a source, and writes their answers to a sink.
+//! The engine: reads entries from a source, and writes the replies to them to a sink.
 ghost use Rattle.std.specs.Prelude.{◌≡◌, ◌≤◌, ◌<◌, ◌+◌, ℕ, true, false, List, [], take, length, ◌↔◌, Err, IfOk, OnOk, OnErr, IsErr, ◌++◌};
 ghost use Rattle.std.specs.Io.KnownBytes.{Appends};
 ghost use Rattle.cc_io.specs.Devices.{TakesBeginning};
@@ -16,19 +16,22 @@ use cc_text::Page;
 /// The maximum number of bytes in one read.
 const PIECE: usize = 65536;
 
-/// The number of bytes of an entry that an answerer sees. The further bytes of a longer entry are dropped.
+/// The number of bytes of an entry that an answerer sees. The further bytes of a longer entry are
+/// dropped.
 const SEEN: usize = 129;
 
-/// Writes the bytes on the page, and then the answer to each entry that the source gives.
+/// Writes the bytes on the page, and then the reply to each entry that the source gives.
 ///
-/// The source is read in chunks of up to 64 KiB. The answers to all entries of a chunk are written before the next read, and
-/// none is pending then. An entry that ends in a later chunk is answered then. Bytes after the last entry are answered by
-/// [`Answerer::end`], unless there are none. The sink is flushed once, at the end. Allocates nothing.
+/// The source is read in chunks of up to 64 KiB. The replies to all entries of a chunk are written
+/// before the next read, and none is pending then. An entry that ends in a later chunk gets its
+/// reply then. [`Answerer::end`] replies to the bytes after the last entry, unless there are none.
+/// The sink is flushed once, at the end. Allocates nothing.
 ///
 /// Requires: neither the source nor the sink has failed; `A::most() <= N`.
-/// Errors: `Read` if and only if the source failed. The answers to all complete entries that it gave are then written, and the
-/// answerer has taken these entries alone. `Write` if and only if the sink failed. It has then taken a prefix of the output.
-/// The answerer may be ahead of the sink by the entries whose answers fit one page.
+/// Errors: `Read` if and only if the source failed. The replies to all complete entries that it
+/// gave are then written, and the answerer has taken these entries alone. `Write` if and only if
+/// the sink failed. It has then taken a prefix of the output. The answerer may be ahead of the sink
+/// by the entries whose replies fit on one page.
 pub fn pump<F: Framing, A: Answerer<N>, R: Source, W: Sink, const N: usize>(
     framing: &F,
     answerer: &mut A,
@@ -74,8 +77,8 @@ pub fn pump<F: Framing, A: Answerer<N>, R: Source, W: Sink, const N: usize>(
     }
 }
 
-/// Answers the entries that end in a chunk, keeps the start of the next entry in `start`, and writes all the answers.
-/// Returns whether one of them was an error.
+/// Replies to the entries that end in a chunk, keeps the start of the next entry in `start`, and
+/// writes all the replies. Returns whether one of them was an error.
 fn take_piece<F: Framing, A: Answerer<N>, W: Sink, const N: usize>(
     framing: &F,
     answerer: &mut A,
@@ -113,7 +116,7 @@ fn take_piece<F: Framing, A: Answerer<N>, W: Sink, const N: usize>(
     }
 }
 
-/// Answers the entry that ends with these bytes, and returns whether the answer is an error.
+/// Replies to the entry that ends with these bytes, and returns whether the reply is an error.
 #[inline(always)]
 fn end_entry<A: Answerer<N>, const N: usize>(
     answerer: &mut A,
@@ -134,7 +137,7 @@ fn end_entry<A: Answerer<N>, const N: usize>(
     }
 }
 
-/// Answers an entry that began before the chunk, and returns whether the answer is an error.
+/// Replies to an entry that began before the chunk, and returns whether the reply is an error.
 #[cold]
 #[inline(never)]
 fn end_begun<A: Answerer<N>, const N: usize>(
@@ -166,7 +169,7 @@ fn first_bytes(entry: &[u8]) -> &[u8]
     }
 }
 
-/// Answers trailing bytes, unless there are none, and returns whether the answer is an error.
+/// Replies to trailing bytes, unless there are none, and returns whether the reply is an error.
 fn end_rest<A: Answerer<N>, const N: usize>(
     answerer: &mut A,
     rest: &[u8],
@@ -182,7 +185,7 @@ fn end_rest<A: Answerer<N>, const N: usize>(
     answerer.end(rest, page)
 }
 
-/// Makes room on the page for `most` bytes: writes the page if they do not fit.
+/// Writes the page if `most` bytes do not fit on it, so that they fit.
 #[inline(always)]
 fn make_room<W: Sink, const N: usize>(
     most: usize,

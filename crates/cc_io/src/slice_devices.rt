@@ -1,4 +1,5 @@
-//! A source and a sink over borrowed slices, with a given size of chunks and a given call that fails.
+//! A source and a sink over borrowed slices, with a given size of chunks and a given call that
+//! fails.
 ghost use Rattle.std.specs.Prelude.{◌≡◌, ◌⊎◌, ◌+◌, ◌-◌, ◌<◌, ◌↔◌, Some, length, true, false, ℕ, List, [], min, IfOk, OnOk, OnErr, IsErr};
 ghost use Rattle.std.specs.Option.{unwrap_or};
 ghost use Rattle.std.specs.Io.{ReadsAtMost, WritesAtMost};
@@ -30,8 +31,9 @@ impl<'a> Model for SliceSource<'a> {
 }
 
 impl<'a> SliceSource<'a> {
-    /// Creates a source of these bytes, which gives at most `piece` bytes a call. Its call number `fail_at` fails, counted
-    /// from 1. With 0 or `None` no call fails.
+    /// Creates a source of these bytes, which gives at most `piece` bytes a call.
+    ///
+    /// Its call number `fail_at` fails, counted from 1. With 0 or `None` no call fails.
     ///
     /// Requires: `0 < piece`.
     pub fn new(bytes: &'a [u8], piece: usize, fail_at: Option<u32>) -> Self
@@ -107,8 +109,10 @@ impl<'a> Model for SliceSink<'a> {
 }
 
 impl<'a> SliceSink<'a> {
-    /// Creates a sink over this slice, which takes at most `piece` bytes a call. Its call number `fail_at` fails, counted
-    /// from 1 over writes and flushes. With 0 or `None` no call fails.
+    /// Creates a sink over this slice, which takes at most `piece` bytes a call.
+    ///
+    /// Its call number `fail_at` fails, counted from 1 over writes and flushes. With 0 or `None` no
+    /// call fails.
     ///
     /// Requires: `0 < piece`.
     pub fn new(room: &'a mut [u8], piece: usize, fail_at: Option<u32>) -> Self

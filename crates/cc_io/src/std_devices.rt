@@ -7,10 +7,11 @@ use std::io::{Read, Write};
 /// The limit of a [`FromReader`] that is created without one, in bytes.
 const MOST_BYTES: usize = 1 << 30;
 
-/// A source over a reader. Any error of the reader is a failure, including an interruption.
+/// A source over a reader.
 ///
-/// The read after `limit` bytes fails, even at the end of the input, so the input must be shorter than the limit. The
-/// default limit is 2^30 bytes.
+/// Any error of the reader is a failure, including an interruption. The read after `limit` bytes
+/// fails, even at the end of the input, so the input must be shorter than the limit. The default
+/// limit is 2^30 bytes.
 #[derive(Drop)]
 pub struct FromReader<R> {
     reader: R,
@@ -68,7 +69,9 @@ impl<R: Read> Source for FromReader<R> {
     }
 }
 
-/// A sink over a writer. Any error of the writer is a failure, including an interruption. A write that takes nothing of a
+/// A sink over a writer.
+///
+/// Any error of the writer is a failure, including an interruption. A write that takes nothing of a
 /// chunk that is not empty is also a failure.
 #[derive(Drop)]
 pub struct FromWriter<W> {

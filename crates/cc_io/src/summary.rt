@@ -3,11 +3,11 @@
 /// The outcome of a pump that reached the end of its source.
 #[derive(Clone, Copy, Debug, PartialEq, Eq)]
 pub struct Summary {
-    /// Whether an answer was an error.
+    /// Whether a reply was an error.
     pub any_error: bool,
 }
 
-/// The device that failed.
+/// The end of a pump that failed: its source or its sink.
 #[derive(Clone, Copy, Debug, PartialEq, Eq)]
 pub enum IoError {
     /// The source.

@@ -42,19 +42,19 @@ state_with limit slots pool plan own = record {
   objects = objects_in plan.objects own;
 }
 
--- a call of the planner that answers has passed its first check
+-- a call of the planner that is not refused has passed its first check
 plan-passes : {A condition rest : Type 0} {refusal : Refusal} {old new : Plan} {answer : A} → RefusedUnless condition (RefusesCall refusal old (Ok answer) new) rest
     → condition × rest
 plan-passes (inl holds) = holds
 plan-passes (inr fails) = let e = fails.1 in cc
 
--- where the pool is refused, the plan stays
+-- if the pool is refused, the plan stays
 pub give-refused : (old new : Plan) (pool : Capability) (align : Align) (refusal : Refusal) → GivesPool old pool align (Err refusal) new → new ≡ old
 give-refused old new pool align refusal (inr sealed) = sealed.1.1
 give-refused old new pool align refusal (inl (_, inr given)) = given.1.1
 give-refused old new pool align refusal (inl (_, inl (_, (answer, _)))) = let e = answer in cc
 
--- where an object is refused, the plan stays
+-- if an object is refused, the plan stays
 pub alloc-refused : (old new : Plan) (size : ℕ) (refusal : Refusal) → PlanAllocates old size (Err refusal) new → new ≡ old
 alloc-refused old new size refusal (inr none) = none.1.1
 alloc-refused old new size refusal (inl (_, inr nothing)) = nothing.1.1
@@ -153,7 +153,7 @@ module _ (limit : ℕ) (slots : List SlotState) (pool : Option ℕ) (plan : Plan
     some-pool : IsSome state.pool
     some-pool = subst (λ (p : Option ℕ). IsSome p) (sym is_pool) refl
 
-    -- the planner has room for one more object
+    -- the planner has capacity for one more object
     room : length plan.objects < plan.limit
     room = omega (arith, objects.fewer, count-of, limit-of, left)
 

@@ -35,7 +35,7 @@ module _ (limit : ℕ) (slots : List Slot) (pool : Option ℕ) (plan : Plan) (ow
   abbrev state : State
   state = state_with limit (map (slot_state plan.objects) slots) pool plan own
 
-  -- the parent is there
+  -- the parent exists
   pub parent-within : parent < length slots
   parent-within = omega (arith, IsSlot-within (IsMade-tagged state parent cap made).is_slot, length-map slots (slot_state plan.objects))
 

@@ -29,7 +29,7 @@ ancestor-below state above (above_parent {parent = parent} is further) =
     record { parent = parent; is_parent = is; from_parent = inr further }
 
 module _ (state : State) (order : (parent number : ℕ) → IsParent state parent number → parent < number) (above : ℕ) where
-  -- where the parent is known
+  -- if the parent is known
   by_parent : (number parent : ℕ) → IsParent state parent number → Dec (parent ≡ above) → Dec (IsAncestor state above parent)
       → Dec (IsAncestor state above number)
   by_parent number parent is (yes same) further = yes (parent_of (subst (λ (n : ℕ). IsParent state n number) same is))

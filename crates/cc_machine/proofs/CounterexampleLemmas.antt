@@ -42,7 +42,7 @@ use Rattle.cc_machine.proofs.RuleLemmas.{GrantsNoMore-refl}
 
 -- ---- slots
 
--- a base of 1 is no multiple of a granule of 8 bytes and more
+-- a base of 1 is not a multiple of a granule of at least 8 bytes
 unsound : ¬ IsSound (span_from 1 4096)
 unsound sound =
     let granule : ℕ = sound.granule in

@@ -39,7 +39,7 @@ object-told planned own (suc k) p s long told at =
     slice_get_read own (length own) k s refl (omega (arith, within, long)) (at ∙ ap (λ (n : ℕ). slice_index_or own n s) back) in
     ap (λ (o : Option Object). ok_or o NoObject) (objects_in-at planned own k p s found own_at)
 
--- it stands before its number
+-- it is at the position before its number
 pub numbered : (objects : List PlannedObject) (number : ℕ) (p : PlannedObject) → object_numbered objects number ≡ Some p → slice_get objects (number - 1) ≡ Some p
 numbered objects zero p found = let e = found in cc
 numbered objects (suc k) p found = let back : suc k - 1 ≡ k = omega arith in ap (λ (n : ℕ). slice_get objects n) back ∙ found
@@ -50,7 +50,7 @@ pub record IsPlanned (planned : List PlannedObject) (own : List ℕ) (number : �
   pub found : object_numbered planned number ≡ Some before
   pub is : object ≡ with_own before (slice_index own (number - 1))
 
--- where the planner has an object, its slot is there
+-- if the planner has an object, its slot exists
 pub own-at : (planned : List PlannedObject) (own : List ℕ) → length own ≡ length planned → (number : ℕ) (p : PlannedObject)
     → object_numbered planned number ≡ Some p → object_at (objects_in planned own) number ≡ Ok (with_own p (slice_index own (number - 1)))
 own-at planned own long number p found =

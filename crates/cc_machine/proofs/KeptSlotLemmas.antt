@@ -1,5 +1,5 @@
--- What slots are in the state, as the objects that they belong to are made, freed and swept, and how many are
--- counted.
+-- Slots of the state, as the objects that they belong to are made, freed and swept, and their
+-- numbers as they are counted.
 use Rattle.std.proofs.Common.{ℕ, zero, suc, Bool, true, false, ◌≡◌, ◌+◌, ◌<◌, ◌≤◌, ◌∙◌, ◌||◌, List, [], ◌∷◌, ◌++◌, Option, Some, None, cond, count_by, length, map, nat_eq, not, option_map, set, slice_index, unwrap_or, refl, sym, ap, subst, inl, inr, arith}
 use Rattle.std.specs.List.{slice_get}
 use Rattle.std.proofs.lemmas.Bool.{eq-eqb, ne_eqb, cases_eq}
@@ -15,9 +15,9 @@ use Rattle.cc_machine.specs.State.{SlotState}
 use Rattle.cc_machine.specs.Step.{revoked_count}
 use Rattle.cc_machine.specs.Owners.{is_swept_at, is_freed_at, slot_state, owned_count, freed_slot_count, CountsSlots}
 
--- ---- what is told of an object by its number
+-- ---- tests of an object by its number
 
--- a test of the object of a number, false where there is none
+-- a test of the object with a number, false if there is none
 abbrev tells : (PlannedObject → Bool) → List PlannedObject → ℕ → Bool
 tells test objects number = unwrap_or (option_map test (object_numbered objects number)) false
 
@@ -28,7 +28,7 @@ at-push test [] more fails (suc place) = refl
 at-push test (first ∷ objects) more fails zero = refl
 at-push test (first ∷ objects) more fails (suc place) = at-push test objects more fails place
 
--- one more object, for which the test fails, changes no answer
+-- one more object, for which the test fails, changes no result
 told-push : (test : PlannedObject → Bool) (objects : List PlannedObject) (more : PlannedObject) → test more ≡ false → (number : ℕ)
     → tells test (objects ++ more ∷ []) number ≡ tells test objects number
 told-push test objects more fails zero = refl
@@ -43,13 +43,13 @@ at-set test (first ∷ objects) zero was now found same (suc place) = refl
 at-set test (first ∷ objects) (suc k) was now found same zero = refl
 at-set test (first ∷ objects) (suc k) was now found same (suc place) = at-set test objects k was now found same place
 
--- where one object is replaced by another for which the test says the same, no answer changes
+-- if one object is replaced by another with the same result of the test, no result changes
 told-set : (test : PlannedObject → Bool) (objects : List PlannedObject) (k : ℕ) (was now : PlannedObject) → slice_get objects k ≡ Some was
     → test now ≡ test was → (number : ℕ) → tells test (set objects k now) number ≡ tells test objects number
 told-set test objects k was now found same zero = refl
 told-set test objects k was now found same (suc place) = at-set test objects k was now found same place
 
--- where each object is replaced by a function of it, the test is made of the function's value
+-- if each object is replaced by a function of it, the test is made of the function's value
 told-map : (test : PlannedObject → Bool) (f : PlannedObject → PlannedObject) (objects : List PlannedObject) (number : ℕ)
     → tells test (map f objects) number ≡ tells (λ object. test (f object)) objects number
 told-map test f objects zero = refl
@@ -71,7 +71,7 @@ told-next test objects next is =
     past [] = refl
     past (first ∷ list) = past list
 
--- a freed object stands at a number
+-- a freed object has this number
 pub record IsFreedObject (objects : List PlannedObject) (number : ℕ) : Type 0 where
   pub object : PlannedObject
   pub found : object_numbered objects number ≡ Some object
@@ -90,7 +90,7 @@ freed-object objects number is = by_found (object_numbered objects number) refl 
     by_found None at is = cc
     by_found (Some object) at is = record { object = object; found = at; freed = by_state object.state is }
 
--- and where one stands, the test says so
+-- and if one has, the test holds
 pub freed-at : (objects : List PlannedObject) (number : ℕ) (object : PlannedObject) → object_numbered objects number ≡ Some object
     → object.state ≡ Freed → is_freed_at objects number ≡ true
 freed-at objects number object found freed =
@@ -223,7 +223,7 @@ owner-of slots number kept found =
     get_or_from_slice_get (map (λ (s : Slot). s.owner) slots) number kept.owner 0
     (slice_get-map (λ (s : Slot). s.owner) slots number ∙ ap (λ (o : Option Slot). option_map (λ (s : Slot). s.owner) o) found)
 
--- ---- how many slots are counted
+-- ---- the numbers of slots
 
 -- what a test adds to a count
 abbrev weight : Bool → ℕ
@@ -312,7 +312,7 @@ CountsSlots-initial root none = record { as_many = refl; each = each; all_freed 
     each zero within = sym (ap (λ (n : ℕ). owned_count 0 (record root { owner = n } ∷ [])) none)
     each (suc owner) within = absurd (omega (arith, within))
 
--- one more slot, of an object that is there or of none
+-- one more slot, of an existing object or of none
 pub CountsSlots-push : (objects : List PlannedObject) (slots : List Slot) (counts : List ℕ) (freed : ℕ) (more : Slot)
     → CountsSlots objects slots counts freed → more.owner ≤ length objects
     → CountsSlots objects (slots ++ more ∷ []) (set counts more.owner (slice_index counts more.owner + 1)) (freed + weight (is_freed_at objects more.owner))

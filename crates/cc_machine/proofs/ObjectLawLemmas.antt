@@ -30,7 +30,7 @@ KeepsObjects-initial limit =
     tagged zero slot is = let e = is.found in cc
     tagged (suc number) slot is = let e = is.found in cc
 
--- the pool's slot is there
+-- the pool's slot exists
 pool-within : (state : State) → Keeps state → (number : ℕ) → state.pool ≡ Some number → number < length state.slots
 pool-within state keeps number is = IsSlot-within (keeps.pool number is).is_slot
 

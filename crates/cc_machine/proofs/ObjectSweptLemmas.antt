@@ -1,4 +1,4 @@
--- What a sweep keeps of the objects.
+-- The properties of the objects that a sweep keeps.
 use Rattle.std.proofs.Common.{ℕ, zero, suc, true, false, ◌≡◌, ◌⊎◌, ◌↔◌, ◌<◌, ◌∙◌, List, IsTrue, Option, Some, None, Ok, if◌then◌else◌, length, map, ok_or, option_map, refl, sym, ap, subst, inl, inr, arith}
 use Rattle.std.specs.List.{slice_get}
 use Rattle.std.proofs.lemmas.List.{length-map}
@@ -80,7 +80,7 @@ swept-at objects (suc k) object found =
       is = (let e : Some (swept before) ≡ Some object = at in cc);
     }
 
--- where an object was, there is what a sweep makes of it
+-- after a sweep, each object is at its number, swept if it was freed
 swept-of : (objects : List Object) (number : ℕ) (before : Object) → object_at objects number ≡ Ok before → object_at (map swept objects) number ≡ Ok (swept before)
 swept-of objects zero before found = cc
 swept-of objects (suc k) before found =

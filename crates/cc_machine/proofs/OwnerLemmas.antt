@@ -92,7 +92,7 @@ module _ (owners : List ℕ) (old : State) (capability : Capability) (parent : �
   owner-new : (more : ℕ) → slice_index (owners ++ more ∷ []) (length old.slots) ≡ more
   owner-new more = get_or_push owners more 0 (length old.slots) tells.as_many
 
-  -- what is told of a slot that was there
+  -- the owner of a slot that existed before
   each-was : (more slot number : ℕ) (object : Object) → slot < length old.slots → IsObject old number object
       → (slice_index (owners ++ more ∷ []) slot ≡ number) ↔ BelongsTo new object slot
   each-was more slot number object within is =

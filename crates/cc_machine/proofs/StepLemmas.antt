@@ -34,7 +34,7 @@ usable-told slots number found slot told is =
     told
     ∙ ap (λ (result : Result Slot Refusal). result_map_both (λ (s : Slot). tagged_slot s.capability s.parent) (λ (refusal : Refusal). refusal) result) is
 
--- a slot that can be used is there
+-- a slot that can be used exists
 pub usable-is : (slots : List SlotState) (number : ℕ) (slot : SlotState) → usable_slot slots number ≡ Ok slot → slice_get slots number ≡ Some slot
 usable-is slots number slot is = by_found (slice_get slots number) is
   where
@@ -64,7 +64,7 @@ looked-up slots number result Rule on = by_used (usable_slot slots number) on
     by_used (Ok slot) holds = tt
     by_used (Err refusal) is = is
 
--- an operation makes what a rule makes of a slot, where its step is to derive by the rule
+-- an operation makes the result of a rule for a slot, if its step is to derive by the rule
 derived : (old : State) (op : Op) (number : ℕ) (Rule : Capability → Result Capability Refusal → Type 0) (result : Result Capability Refusal)
     → OnSlot old.slots number result (λ cap. Rule cap result) → ((reply : Reply) (new : State) → Derives old number Rule reply new → Step old op reply new)
     → Makes old op number result
@@ -113,7 +113,7 @@ pub makes-rebuild : (old : State) (authority word : ℕ) (result : Result Capabi
     → OnSlot old.slots authority result (λ by. Rebuilds by word result) → Makes old (Rebuild authority word) authority result
 makes-rebuild old authority word result made = derived old (Rebuild authority word) authority (λ by made. Rebuilds by word made) result made (λ reply new step. step)
 
--- a slot that is there, and tagged
+-- a slot that exists and is tagged
 pub record IsTagged (state : State) (number : ℕ) : Type 0 where
   pub slot : SlotState
   pub is_slot : IsSlot state number slot

@@ -1,5 +1,5 @@
--- States that break the laws, each one of them, so that no law is true of everything. No run leads to them.
--- Only the tests of the laws cite this file.
+-- States that break the laws, each one of them, so that no law holds for everything. No run leads
+-- to a state that breaks a law. Only the tests of the laws cite this file.
 use Rattle.std.specs.Prelude.{ℕ, Bool, true, ◌^◌, ◌==◌, List, [], ◌∷◌, ◌++◌, Some, None}
 use Rattle.cc_word.specs.declared.refusal.Refusal.TheVariants.{Full}
 use Rattle.cc_bounds.specs.Span.{span_from}
@@ -12,148 +12,158 @@ use Rattle.cc_machine.specs.declared.reply.Reply.{Reply}
 use Rattle.cc_machine.specs.declared.reply.Reply.TheVariants.{Refused}
 use Rattle.cc_machine.specs.State.{State, SlotState, tagged_slot}
 
--- a state of these slots, with no pool and no object
+-- A state of these slots, with no pool and no object.
 abbrev pub of_slots : List SlotState → State
 of_slots slots = record { limit = 8; slots = slots; pool = None; align = One; objects = [] }
 
--- a state of these slots and objects, with slot 0 as the pool's
+-- A state of these slots and objects, with slot 0 as the pool's.
 abbrev pub of_objects : List SlotState → List Object → State
 of_objects slots objects = record (of_slots slots) { pool = Some 0; objects = objects }
 
--- a tagged slot without a parent
+-- A tagged slot without a parent.
 abbrev pub first_slot : Capability → SlotState
 first_slot capability = tagged_slot capability None
 
--- a tagged slot that was derived from slot 0
+-- A tagged slot that was derived from slot 0.
 abbrev pub child_slot : Capability → SlotState
 child_slot capability = tagged_slot capability (Some 0)
 
--- the same slot, revoked
+-- The slot, revoked.
 abbrev pub revoked_slot : SlotState → SlotState
 revoked_slot slot = record slot { revoked = true }
 
--- the root capability with other bounds, and with no permission
+-- The root capability with other bounds.
 abbrev pub bounded_root : (base size : ℕ) → Capability
 bounded_root base size = with_span root_capability (span_from base size)
 
+-- The root capability with no permission.
 abbrev pub powerless_root : Capability
 powerless_root = with_permissions root_capability 0
 
--- an object of one byte
+-- An object of one byte.
 abbrev pub object_in : (slot : ℕ) → ObjectState → Object
 object_in slot mark = record { size = 1; slot = slot; state = mark }
 
 -- ---- slots
 
--- bounds that no word stores: their base is no multiple of their granule
+-- A slot with bounds that no word stores: their base is not a multiple of their granule.
 abbrev pub unsound_bounds : State
 unsound_bounds = of_slots (first_slot (bounded_root 1 4096) ∷ [])
 
+-- A slot with the address 2^64.
 abbrev pub address_past_the_end : State
 address_past_the_end = of_slots (first_slot (at_address root_capability (2 ^ 64)) ∷ [])
 
+-- A slot sealed with the type 0x3fff0.
 abbrev pub reserved_type : State
 reserved_type = of_slots (first_slot (sealed_with root_capability 0x3fff0) ∷ [])
 
--- a slot that is its own parent
+-- A slot that is its own parent.
 abbrev pub own_parent : State
 own_parent = of_slots (child_slot root_capability ∷ [])
 
+-- A slot of 16 bytes, and a child of 17.
 abbrev pub child_with_more_bytes : State
 child_with_more_bytes = of_slots (first_slot (bounded_root 0 16) ∷ child_slot (bounded_root 0 17) ∷ [])
 
--- also a revoked one
+-- A slot without permissions, and a revoked child with those of the root.
 abbrev pub revoked_child_with_more_permissions : State
 revoked_child_with_more_permissions =
     of_slots (first_slot powerless_root ∷ revoked_slot (child_slot root_capability) ∷ [])
 
--- the root sealed with type 0, by no authority
+-- The root sealed with type 0, by no authority.
 abbrev pub sealed_by_none : State
 sealed_by_none = of_slots (first_slot (sealed_with root_capability 0) ∷ [])
 
--- a sealed one unsealed, with no slot that was an authority
+-- A sealed slot and an unsealed child, with no slot that was an authority.
 abbrev pub unsealed_by_none : State
 unsealed_by_none = of_slots (first_slot (sealed_with root_capability 0) ∷ child_slot root_capability ∷ [])
 
 -- ---- objects
 
--- an object of the root, and no pool
+-- An object in the root's slot, and no pool.
 abbrev pub object_without_pool : State
 object_without_pool = record (of_slots (first_slot root_capability ∷ [])) { objects = object_in 0 Live ∷ [] }
 
--- two objects with one slot
+-- Two objects with one slot.
 abbrev pub slot_of_two_objects : State
 slot_of_two_objects =
     of_objects (first_slot root_capability ∷ child_slot (bounded_root 0 1) ∷ []) (object_in 1 Live ∷ object_in 1 Live ∷ [])
 
--- an object of one byte whose slot has two
+-- An object of one byte whose slot has two.
 abbrev pub object_with_another_byte : State
 object_with_another_byte =
     of_objects (first_slot root_capability ∷ child_slot (bounded_root 0 2) ∷ []) (object_in 1 Live ∷ [])
 
--- an object of no bytes
+-- An object of no bytes.
 abbrev pub object_without_bytes : State
 object_without_bytes =
     of_objects (first_slot root_capability ∷ child_slot (bounded_root 0 0) ∷ [])
     (record (object_in 1 Live) { size = 0 } ∷ [])
 
--- an object at address 1 of a pool of alignment 16
+-- An object at address 1 of a pool of alignment 16.
 abbrev pub object_off_alignment : State
 object_off_alignment =
     record (of_objects (first_slot root_capability ∷ child_slot (bounded_root 1 16) ∷ []) (object_in 1 Live ∷ [])) { align = Sixteen }
 
--- a live object in the byte of one that waits for the sweep
+-- A live object in the byte of a freed one.
 abbrev pub live_in_freed : State
 live_in_freed =
     of_objects (first_slot root_capability ∷ child_slot (bounded_root 0 1) ∷ child_slot (bounded_root 0 1) ∷ [])
     (object_in 1 Freed ∷ object_in 2 Live ∷ [])
 
--- a slot that belongs to no object, revoked
+-- A slot that belongs to no object, revoked.
 abbrev pub revoked_without_object : State
 revoked_without_object = of_slots (first_slot root_capability ∷ revoked_slot (child_slot root_capability) ∷ [])
 
--- the slot of a swept object, still tagged
+-- The slot of a swept object, still tagged.
 abbrev pub tagged_after_sweep : State
 tagged_after_sweep =
     of_objects (first_slot root_capability ∷ child_slot (bounded_root 0 1) ∷ []) (object_in 1 Swept ∷ [])
 
--- the slot of a live object, revoked
+-- The slot of a live object, revoked.
 abbrev pub revoked_while_live : State
 revoked_while_live =
     of_objects (first_slot root_capability ∷ revoked_slot (child_slot (bounded_root 0 1)) ∷ []) (object_in 1 Live ∷ [])
 
+-- The slot of the pool, revoked.
 abbrev pub revoked_pool : State
 revoked_pool = of_objects (revoked_slot (first_slot root_capability) ∷ []) []
 
 -- ---- runs
 
--- the slot that is given: the first
+-- The slot that is given: the first.
 abbrev pub is_first : ℕ → Bool
 is_first slot = slot == 0
 
--- two slots of which the first is given, and a child of the other
+-- Two slots without permissions.
 abbrev pub two_slots : State
 two_slots = of_slots (first_slot powerless_root ∷ first_slot powerless_root ∷ [])
 
+-- The two slots, and a child of the second.
 abbrev pub child_of_another : State
 child_of_another = record two_slots { slots = two_slots.slots ++ tagged_slot powerless_root (Some 1) ∷ [] }
 
--- a slot without a permission, sealed or not, and a child that is the other
+-- A sealed slot without a permission.
 abbrev pub sealed_alone : State
 sealed_alone = of_slots (first_slot (sealed_with powerless_root 0) ∷ [])
 
+-- The sealed slot, and an unsealed child.
 abbrev pub child_unsealed : State
 child_unsealed = record sealed_alone { slots = sealed_alone.slots ++ child_slot powerless_root ∷ [] }
 
+-- An unsealed slot without a permission.
 abbrev pub unsealed_alone : State
 unsealed_alone = of_slots (first_slot powerless_root ∷ [])
 
+-- The unsealed slot, and a sealed child.
 abbrev pub child_sealed : State
 child_sealed = record unsealed_alone { slots = unsealed_alone.slots ++ child_slot (sealed_with powerless_root 0) ∷ [] }
 
--- the root alone, and the five replies of a machine that refuses all
+-- The root alone.
 abbrev pub root_alone : State
 root_alone = of_slots (first_slot root_capability ∷ [])
 
+-- The five replies of a machine that refuses everything.
 abbrev pub five_refusals : List Reply
 five_refusals = Refused Full ∷ Refused Full ∷ Refused Full ∷ Refused Full ∷ Refused Full ∷ []

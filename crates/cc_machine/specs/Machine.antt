@@ -1,4 +1,4 @@
--- What is true of the fields of every machine. No public clause cites this.
+-- The invariant of the fields of a machine. No public clause cites this file.
 use Rattle.std.specs.Prelude.{ℕ, ◌≡◌, ◌≤◌, List, [], ◌∷◌, length, map, vec_len, vec_capacity}
 use Rattle.cc_plan.specs.declared.object.PlannedObject.{PlannedObject}
 use Rattle.cc_machine.specs.declared.machine.Machine.TheInside.{Inside}
@@ -8,13 +8,13 @@ use Rattle.cc_machine.specs.Planned.{plan_of}
 use Rattle.cc_machine.specs.Owners.{slot_state, CountsSlots, TellsOwners}
 use Rattle.cc_machine.specs.Run.{IsReached}
 
--- the objects of a planner with their slots
+-- The objects of a planner, with their slots.
 unfoldable pub objects_in : List PlannedObject → List ℕ → List Object
 objects_in (planned ∷ rest) (slot ∷ slots) =
     record { size = planned.size; slot = slot; state = planned.state } ∷ objects_in rest slots
 objects_in _ _ = []
 
--- the state that a machine's fields stand for
+-- The state that a machine's fields represent.
 abbrev pub state_of : Inside → State
 state_of machine = record {
   limit = machine.limit;
@@ -24,9 +24,9 @@ state_of machine = record {
   objects = objects_in machine.planner.objects machine.object_slots.items;
 }
 
--- There is room for as many slots, objects and counts as the limit, each planned object has a slot, the planner
--- knows what the state says of the pool and the objects, owners and counts are right, and the state is one that a
--- run leads to.
+-- IsMachine holds if memory is reserved for as many slots, objects and counts as the limit, and
+-- each planned object has a slot. The planner agrees with the state on the pool and the objects,
+-- owners and counts are right, and the state is one that a run leads to.
 pub record IsMachine (machine : Inside) : Type 0 where
   pub limit_fits : machine.limit ≤ 65536
   pub within_limit : vec_len machine.slots ≤ machine.limit

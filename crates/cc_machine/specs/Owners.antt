@@ -1,5 +1,5 @@
--- Which object each slot belongs to, as a machine keeps it beside its state, and how many slots belong to each.
--- No public clause cites this.
+-- The object that each slot belongs to, which a machine keeps in addition to its state, and the
+-- number of slots that belong to each. No public clause cites this file.
 use Rattle.std.specs.Prelude.{ℕ, suc, Bool, false, ◌≡◌, ◌≤◌, ◌<◌, ◌↔◌, List, count_by, length, nat_eq, not, option_map, slice_index, unwrap_or}
 use Rattle.cc_plan.specs.declared.object.PlannedObject.{PlannedObject}
 use Rattle.cc_plan.specs.Plan.{is_freed, is_held, object_numbered}
@@ -8,17 +8,17 @@ use Rattle.cc_machine.specs.declared.slot.Slot.{Slot}
 use Rattle.cc_machine.specs.State.{State, SlotState}
 use Rattle.cc_machine.specs.Objects.{IsObject, BelongsTo}
 
--- the object of this number was swept
+-- Whether the object with this number was swept.
 abbrev pub is_swept_at : List PlannedObject → ℕ → Bool
 is_swept_at objects number =
     unwrap_or (option_map (λ object. not (is_held object.state)) (object_numbered objects number)) false
 
--- the object of this number was freed, and not swept
+-- Whether the object with this number was freed, and not swept.
 abbrev pub is_freed_at : List PlannedObject → ℕ → Bool
 is_freed_at objects number =
     unwrap_or (option_map (λ object. is_freed object.state) (object_numbered objects number)) false
 
--- what a slot is in the state: it is revoked exactly if the object that it belongs to was swept
+-- A slot of the state: it is revoked if and only if the object that it belongs to was swept.
 abbrev pub slot_state : List PlannedObject → Slot → SlotState
 slot_state objects slot = record {
   capability = slot.capability;
@@ -26,15 +26,16 @@ slot_state objects slot = record {
   parent = slot.parent;
 }
 
--- how many slots have this owner
+-- The number of slots with this owner.
 abbrev pub owned_count : ℕ → List Slot → ℕ
 owned_count owner slots = count_by (λ slot. nat_eq slot.owner owner) slots
 
--- how many slots have an owner that was freed, and not swept
+-- The number of slots with an owner that was freed, and not swept.
 abbrev pub freed_slot_count : List PlannedObject → List Slot → ℕ
 freed_slot_count objects slots = count_by (λ slot. is_freed_at objects slot.owner) slots
 
--- each slot's owner is the number of the object that it belongs to, or 0 where it belongs to none
+-- TellsOwners holds if each slot's owner is the number of the object that it belongs to, or 0 if it
+-- belongs to none.
 pub record TellsOwners (owners : List ℕ) (state : State) : Type 0 where
   pub as_many : length owners ≡ length state.slots
   pub fits : (slot : ℕ) → slice_index owners slot ≤ length state.objects
@@ -42,8 +43,8 @@ pub record TellsOwners (owners : List ℕ) (state : State) : Type 0 where
       (slot number : ℕ) (object : Object) → slot < length state.slots → IsObject state number object
       → (slice_index owners slot ≡ number) ↔ BelongsTo state object slot
 
--- `counts` has at each owner how many slots have it, the owner 0 being that of slots without an object; `freed` is
--- how many slots belong to freed objects
+-- CountsSlots holds if `counts` has the number of slots of each owner, at 0 that of slots without
+-- an object. `freed` is the number of slots that belong to freed objects.
 pub record CountsSlots (objects : List PlannedObject) (slots : List Slot) (counts : List ℕ) (freed : ℕ) : Type 0 where
   pub as_many : length counts ≡ suc (length objects)
   pub each : (owner : ℕ) → owner < length counts → slice_index counts owner ≡ owned_count owner slots

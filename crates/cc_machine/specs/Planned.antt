@@ -1,4 +1,4 @@
--- What a planner knows of a state: the limit, the pool with its alignment, and the objects with their bounds.
+-- The plan of a state: the limit, the pool with its alignment, and the objects with their bounds.
 use Rattle.std.specs.Prelude.{Option, List, map, option_and_then, option_map, slice_get}
 use Rattle.cc_cap.specs.Capability.{Capability}
 use Rattle.cc_plan.specs.declared.object.PlannedObject.{PlannedObject}
@@ -7,12 +7,12 @@ use Rattle.cc_machine.specs.declared.object.Object.{Object}
 use Rattle.cc_machine.specs.State.{State, SlotState}
 use Rattle.cc_machine.specs.Objects.{span_of_slot}
 
--- the capability of the pool's slot
+-- The capability of the pool's slot.
 abbrev pub pool_capability : State → Option Capability
 pool_capability state =
     option_and_then (λ number. option_map (λ slot. slot.capability) (slice_get state.slots number)) state.pool
 
--- what a planner knows of an object: its size, the bounds of its slot, and its state
+-- An object of the plan: its size, the bounds of its slot, and its state.
 abbrev pub planned_object : List SlotState → Object → PlannedObject
 planned_object slots object = record {
   size = object.size;
@@ -20,7 +20,7 @@ planned_object slots object = record {
   state = object.state;
 }
 
--- what a planner knows of a state
+-- The plan of a state.
 abbrev pub plan_of : State → Plan
 plan_of state = record {
   limit = state.limit;

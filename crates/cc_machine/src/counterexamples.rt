@@ -1,5 +1,5 @@
-//! No law is true of everything: states, or a run, break it. Each function here does nothing, and what it ensures is
-//! the claim.
+//! Proves that no law holds for everything: states, or a run, break it. Each function here does
+//! nothing, and its contract is the claim.
 ghost use Rattle.std.specs.Prelude.{◌^◌};
 ghost use Rattle.cc_cap.specs.Capability.{root_capability};
 ghost use Rattle.cc_machine.specs.declared.op.Op.TheVariants.{Addr};

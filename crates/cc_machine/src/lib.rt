@@ -1,4 +1,5 @@
-//! Slots of capabilities, the operations on them, who was derived from whom, and the objects of a pool.
+//! Slots of capabilities, the operations on them, the tree of their derivations, and the objects of
+//! a pool.
 #![tactic(auto)]
 
 mod counterexamples;

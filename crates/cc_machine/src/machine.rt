@@ -17,13 +17,14 @@ use std::marker::Model;
 
 /// Slots of capabilities, numbered from 0.
 ///
-/// Slot 0 has the root capability. Every other slot has a capability that was derived from an earlier slot,
-/// its parent. One slot may be made the pool, in whose bounds objects are made: each object has a slot of its
-/// own, a child of the pool's. A freed object holds its bytes until the next sweep, which revokes its slot and
-/// all that was derived from that. All memory is taken when the machine is opened.
+/// Slot 0 has the root capability. Every other slot has a capability that was derived from an
+/// earlier slot, its parent. One slot may become the pool, in whose bounds objects are made. Each
+/// object has its own slot, a child of the pool's. A freed object holds its bytes until the next
+/// sweep, which revokes its slot and every slot derived from that. All memory is allocated when the
+/// machine is created.
 ///
-/// A sweep touches no slot: each slot has the number of the object that it belongs to, and is revoked exactly if
-/// that object was swept.
+/// A sweep touches no slot: each slot has the number of the object that it belongs to, and is
+/// revoked if and only if that object was swept.
 #[derive(Drop)]
 pub struct Machine {
     limit: u32,
@@ -32,9 +33,10 @@ pub struct Machine {
     planner: Planner<BlockPlacer>,
     /// The slot of each object, in the order of their numbers.
     object_slots: Vec<u32>,
-    /// How many slots belong to each object, at the object's number; at 0, how many belong to none.
+    /// The number of slots that belong to each object, at the object's number. At 0 it is the
+    /// number of slots that belong to none.
     slot_counts: Vec<u32>,
-    /// How many slots belong to objects that were freed and not swept.
+    /// The number of slots that belong to objects that were freed and not swept.
     freed_slots: u32,
 }
 
@@ -68,10 +70,13 @@ impl Machine {
     ghost use Rattle.cc_machine.specs.Confinement.{IsRefused, RunsWithin, IsConfined};
     ghost use Rattle.cc_machine.specs.Reach.{ReachesAll};
 
-    /// A machine with room for `limit` slots, of which one is made: slot 0, the root.
+    /// Creates a machine of at most `limit` slots, of which one is made: slot 0, the root.
     ///
-    /// The caller has `limit` from 1 to 65,536. All memory that the machine ever uses is taken here; where
-    /// it is refused, what was taken before is given back and the answer is `AllocError`.
+    /// Allocates all the memory that the machine ever uses. If one allocation fails, the earlier
+    /// ones are freed.
+    ///
+    /// Requires: `1 <= limit <= 65536`.
+    /// Errors: `AllocError` if an allocation fails.
     pub fn with_limit(alloc: Global, limit: u32) -> Result<Machine, AllocError>
         requires from_one { 1 ≤ limit }
         requires at_most { limit ≤ 65536 }
@@ -98,10 +103,11 @@ impl Machine {
         })
     }
 
-    /// How many slots were made, revoked ones counted: the number of the next one.
+    /// Returns the number of slots created so far, including revoked ones. The next slot gets this
+    /// number.
     ///
-    /// It also tells what is true of every machine, whatever was done with it: its state is one that a run
-    /// leads to, and so keeps the laws of every run.
+    /// Its contract also has a claim that holds for every machine, whatever was done with it. The
+    /// state is one that a run leads to, and so keeps the laws of every run.
     pub fn slots(&self) -> u32
         ensures count { result ≡ length self.now.slots }
         ensures reached { IsReached self.now }
@@ -109,17 +115,19 @@ impl Machine {
         self.slots.len() as u32
     }
 
-    /// The capability of a tagged slot.
+    /// Returns the capability of a tagged slot.
     ///
-    /// Refusals in order: `NoSlot`, where no slot has this number; `Revoked`, where it belongs to a swept
-    /// object.
+    /// Errors, in order: `NoSlot` if no slot has this number; `Revoked` if the slot belongs to a
+    /// swept object.
     pub fn slot(&self, number: u32) -> Result<Cap, Refusal>
         ensures { result ≡ capability_at self.now.slots number }
     {
         Ok(self.usable(number)?.capability)
     }
 
-    /// The slot of this number. Refusals in order: `NoSlot`, `Revoked`.
+    /// Returns the slot with this number.
+    ///
+    /// Errors, in order: `NoSlot`; `Revoked`.
     #[inline(always)]
     pub(crate) fn usable(&self, number: u32) -> Result<Slot, Refusal>
         ensures { usable_slot self.now.slots number
@@ -132,9 +140,10 @@ impl Machine {
         Ok(*slot)
     }
 
-    /// The slot that a slot was derived from, and `None` for slot 0. Revoked slots have a parent too.
+    /// Returns the slot that a slot was derived from, or `None` for slot 0. Revoked slots have a
+    /// parent too.
     ///
-    /// Refusals: `NoSlot`, where no slot has this number.
+    /// Errors: `NoSlot` if no slot has this number.
     pub fn parent(&self, number: u32) -> Result<Option<u32>, Refusal>
         ensures { result ≡ parent_at self.now.slots number }
     {
@@ -144,9 +153,9 @@ impl Machine {
         }
     }
 
-    /// The object of a number, live, freed or swept. The first has the number 1.
+    /// Returns the object with this number, live, freed or swept. The first has the number 1.
     ///
-    /// Refusals: `NoObject`, where the number was never given; 0 never is.
+    /// Errors: `NoObject` if the number was never given. 0 never is.
     pub fn object(&self, number: u32) -> Result<Object, Refusal>
         ensures { result ≡ object_at self.now.objects number }
     {
@@ -161,15 +170,15 @@ impl Machine {
         })
     }
 
-    /// Returns the bytes that held objects take, padding included.
+    /// Returns the number of bytes that held objects take, including padding.
     pub fn held_bytes(&self) -> u128
         ensures { result ≡ held_bytes_of self.now }
     {
         self.planner.held_bytes()
     }
 
-    /// The planner: it has the pool and all objects with their bounds, and its placer holds the bounds of the held
-    /// ones.
+    /// Returns the planner. It has the pool and all objects with their bounds, and its placer holds
+    /// the bounds of the held ones.
     pub fn planner(&self) -> &Planner<BlockPlacer>
         ensures plan { result.now ≡ plan_of self.now }
         ensures held { HaveSameSpans (planned_spans result.now.objects) (held_spans self.now) }
@@ -177,11 +186,12 @@ impl Machine {
         &self.planner
     }
 
-    /// Does one operation.
+    /// Does one operation, and returns the reply.
     ///
-    /// A refused operation leaves the machine as it was; [`Op`] says when each refusal comes. What is made goes
-    /// into a new slot, the last. Where there are as many slots as the limit, it is refused with `Full` instead,
-    /// after every other check but one: `NoRoom` for an object comes after `Full`.
+    /// A refused operation leaves the machine unchanged; [`Op`] lists the errors of each. A
+    /// capability that is made goes into a new slot, the last. If there are as many slots as the
+    /// limit, it is refused with `Full` instead, after every other check except one: `NoRoom` for
+    /// an object comes after `Full`.
     #[inline(always)]
     pub fn step(&mut self, op: &Op) -> Reply
         ensures step { Step self.old op.now result self.new }
@@ -211,14 +221,16 @@ impl Machine {
         self.add(parent, made)
     }
 
-    /// Tells what is true of every machine: its state is one that a run leads to.
+    /// Proves the claim that holds for every machine: its state is one that a run leads to.
     fn tell_reached(&self)
         ensures { IsReached self.now }
     {
         let _ = &self.slots;
     }
 
-    /// What a slot holds. Refusals in order: `NoSlot`, `Revoked`.
+    /// Returns the reply with the contents of a slot.
+    ///
+    /// Errors, in order: `NoSlot`; `Revoked`.
     #[inline(always)]
     fn show(&self, number: u32) -> Reply
         ensures { Shows self.now.slots number result }
@@ -236,8 +248,9 @@ impl Machine {
         }
     }
 
-    /// Puts what was made into a new slot, the last, or refuses it with `Full` where there are as many slots as the
-    /// limit. The new slot belongs to its parent's object, where the parent has one.
+    /// Puts the capability that was made into a new slot, the last, or refuses it with `Full` if
+    /// there are as many slots as the limit. The new slot belongs to its parent's object, if the
+    /// parent has one.
     #[inline(always)]
     fn add(&mut self, parent: u32, made: Result<Cap, Refusal>) -> Reply
         requires { IsMade self.old parent made }
@@ -267,8 +280,9 @@ impl Machine {
         }
     }
 
-    /// Makes the bounds of a slot the pool, with this alignment. Refusals in order: `NoSlot`, `Revoked`, `Sealed`,
-    /// `PoolAlreadySet`.
+    /// Makes the bounds of a slot the pool, with this alignment.
+    ///
+    /// Errors, in order: `NoSlot`; `Revoked`; `Sealed`; `PoolAlreadySet`.
     #[inline(never)]
     fn set_pool(&mut self, number: u32, align: Align) -> Reply
         ensures { Step self.old (Pool number align) result self.new }
@@ -288,10 +302,12 @@ impl Machine {
         }
     }
 
-    /// Makes an object of this size at the least place of the pool. Refusals in order: `NoPool`, `ZeroSize`,
-    /// `Full`, `NoRoom`.
+    /// Makes an object of this size at the lowest place of the pool.
     ///
-    /// The planner has no more objects than the machine has slots: it never refuses with `Full` itself.
+    /// The planner has at most as many objects as the machine has slots, so it never refuses with
+    /// `Full` itself.
+    ///
+    /// Errors, in order: `NoPool`; `ZeroSize`; `Full`; `NoRoom`.
     #[inline(never)]
     fn alloc(&mut self, length: Len) -> Reply
         ensures { Step self.old (Alloc length) result self.new }
@@ -327,8 +343,9 @@ impl Machine {
         }
     }
 
-    /// Frees an object, which holds its bytes until the next sweep. Refusals: `NoObject`, where the number was
-    /// never given, or its object was freed or swept.
+    /// Marks an object as freed. It holds its bytes until the next sweep.
+    ///
+    /// Errors: `NoObject` if the number was never given, or its object was freed or swept.
     #[inline(never)]
     fn free(&mut self, object: u32) -> Reply
         ensures { Step self.old (Free object) result self.new }
@@ -344,7 +361,8 @@ impl Machine {
         }
     }
 
-    /// Sweeps the freed objects: gives their bytes back, and so revokes what belongs to them.
+    /// Sweeps the freed objects: releases their bytes, and so revokes the slots that belong to
+    /// them.
     #[inline(never)]
     fn sweep(&mut self) -> Reply
         ensures { Step self.old Sweep result self.new }
@@ -359,9 +377,9 @@ impl Machine {
         }
     }
 
-    /// Does operations one after another, and writes the reply of each.
+    /// Does operations one after another, and writes the reply to each.
     ///
-    /// The caller has as many replies as operations.
+    /// Requires: `replies` is as long as `ops`.
     pub fn run(&mut self, ops: &[Op], replies: &mut [Reply])
         requires { length ops.now ≡ length replies.old }
         ensures run { Run self.old ops.now replies.new self.new }

@@ -1,10 +1,11 @@
-//! What a planner tells of the object that a slot belongs to.
+//! The state of the object that a slot belongs to, from the planner.
 ghost use Rattle.std.specs.Prelude.{◌≡◌};
 ghost use Rattle.cc_machine.specs.Owners.{is_freed_at, is_swept_at};
 
 use cc_plan::{ObjectId, ObjectState, Placer, Planner};
 
-/// Whether the object of this number was swept. Of 0, which is the owner of slots without an object, it is false.
+/// Returns whether the object with this number was swept. False for 0, the owner of slots without
+/// an object.
 pub(crate) fn is_swept<P: Placer>(planner: &Planner<P>, owner: u32) -> bool
     ensures { result ≡ is_swept_at planner.now.objects owner }
 {
@@ -14,8 +15,8 @@ pub(crate) fn is_swept<P: Placer>(planner: &Planner<P>, owner: u32) -> bool
     }
 }
 
-/// Whether the object of this number was freed, and not swept yet. Of 0, the owner of slots without an object, it
-/// is false.
+/// Returns whether the object with this number was freed, and not swept yet. False for 0, the owner
+/// of slots without an object.
 pub(crate) fn is_freed<P: Placer>(planner: &Planner<P>, owner: u32) -> bool
     ensures { result ≡ is_freed_at planner.now.objects owner }
 {

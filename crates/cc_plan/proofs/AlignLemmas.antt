@@ -145,7 +145,7 @@ unit-some : (align : Align) (size : ℕ) → 0 < unit_of align size
 unit-some One size = omega arith
 unit-some Sixteen size = omega arith
 
--- a padded size is no less than the size
+-- a padded size is at least the size
 pub padded_for-enough : (align : Align) (size : ℕ) → size ≤ padded_size_for align size
 padded_for-enough align size = le-div_ceil size (unit_of align size) (unit-some align size)
 
@@ -183,7 +183,7 @@ padded_for_law Sixteen size fits = elim (fine_or_grown size fits) [
       }
 ]
 
--- where the unit is the granule, the law of granules says it
+-- if the unit is the granule, the law of granules says it
 sound_along : (start size unit padded : ℕ) → size ≤ 2 ^ 64 → unit ≡ granule_of (from_zero size)
     → padded ≡ padded_size size → start % unit ≡ 0 → IsSpan (span_from start padded)
     → IsSound (span_from start padded)

@@ -1,4 +1,4 @@
--- Spans of one block: where one is put in or taken away, and the bound of the room of gaps.
+-- Spans of one block: inserting and removing one, and the bound of the capacity of gaps.
 use Rattle.std.proofs.Common.{ℕ, zero, suc, ◌≡◌, ◌+◌, ◌-◌, ◌<◌, ◌≤◌, ◌^◌, List, [], ◌∷◌, ◌++◌, Contains, All, length, take, drop, get_or, insert, remove, max, arith, refl, sym, ap, ◌∙◌, inl, inr, length-append}
 use Rattle.std.proofs.lemmas.List.{drop_more, get_or-take, take-append-drop, take_rest}
 use Rattle.std.proofs.lemmas.List.Edits.{length-insert}
@@ -199,7 +199,7 @@ before_one from spans (suc k) d some within =
 pub block_chain : (end : ℕ) (block : BlockState) → IsBlock end block → IsChain end (2 ^ 64) block.spans
 block_chain end block is = chain_wider end (block.last + 1) end (2 ^ 64) block.spans (omega arith) (omega (arith, is.fits)) is.chain
 
--- where a span goes into a block
+-- a span is inserted into a block at its position
 pub put_in_block : (end : ℕ) (block : BlockState) (seen : List Span) (at : ℕ) (span : Span) → IsBlock end block
     → seen ≡ block.spans → IsSomeBytes span → IsApartFrom block.spans span → end ≤ span.base → span.base ≤ block.last
     → ((k : ℕ) (d : Span) → k < at → (get_or seen k d).base < span.base)
@@ -275,7 +275,7 @@ without_at from to (x ∷ xs) (suc at) d chain more =
     let rest = without_at x.top to xs at d chain.2 (omega (arith, more)) in
     record { order = rest.order; ends = rest.ends; bound = omega (arith, rest.bound) }
 
--- where the span was not the last one
+-- if the span was not the last one
 pub block_without : (end bound : ℕ) (block : BlockState) (at : ℕ) (span d : Span) → IsBlock end block
     → IsFoundAt block.spans at span d → at < length (remove block.spans at)
     → max block.bound (room_of (end_of end (take at block.spans)) (get_or (remove block.spans at) at d).base) ≤ bound
@@ -305,7 +305,7 @@ without_last from to (x ∷ xs) (suc at) chain within last =
     let rest = without_last x.top to xs at chain.2 (omega (arith, within)) (omega (arith, last)) in
     record { ends = rest.ends; chain = (chain.0, chain.1, rest.chain); bound = omega (arith, rest.bound) }
 
--- where it was the last one, and not the only one
+-- if it was the last one, and not the only one
 pub block_without_last : (end last : ℕ) (block : BlockState) (at : ℕ) (span d : Span) → IsBlock end block
     → IsFoundAt block.spans at span d → length (remove block.spans at) ≤ at → 0 < length (remove block.spans at)
     → last + 1 ≡ end_of end (take at block.spans) → last < 2 ^ 64
@@ -320,7 +320,7 @@ block_without_last end last block at span d is found least some ends fits =
       fits = fits;
     }
 
--- ---- A block with a span more behind it.
+-- ---- A block with a span more above it.
 
 pub block_push : (end bound last : ℕ) (block : BlockState) (span : Span) → IsBlock end block → IsSomeBytes span
     → block.last < span.base → max block.bound (room_of (block.last + 1) span.base) ≤ bound → last + 1 ≡ span.top

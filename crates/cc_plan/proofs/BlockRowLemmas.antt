@@ -1,4 +1,4 @@
--- Blocks in a row: one of them among the others, and what becomes of the row where it changes.
+-- Blocks in a row: one of them among the others, and the row after a change.
 use Rattle.std.proofs.Common.{ℕ, zero, suc, ◌≡◌, ◌+◌, ◌-◌, ◌*◌, ◌/◌, Option, Some, None, ◌<◌, ◌≤◌, ◌^◌, ◌⊎◌, List, [], ◌∷◌, ◌++◌, Contains, length, take, drop, get_or, set, insert, remove, arith, refl, sym, ap, subst, ◌∙◌, inl, inr, append_assoc, length-append}
 use Rattle.std.proofs.lemmas.List.{append-nil, drop-set-lt, drop_all, drop_more, drop_at, length-set, length-take-le, nil_from_length, take_all, take_at, take_more_set}
 use Rattle.std.proofs.lemmas.List.Edits.{get_or-remove_below}
@@ -82,7 +82,7 @@ block_at end (x ∷ xs) (suc at) d are within =
       split = ap (λ (bs : List BlockState). x ∷ bs) rest.split;
     }
 
--- where the blocks before the one after it end
+-- the end of the blocks before the one after it
 pub end_after : (end : ℕ) (blocks : List BlockState) (at : ℕ) (d : BlockState) → at < length blocks
     → blocks_end end (take (suc at) blocks) ≡ (get_or blocks at d).last + 1
 end_after end [] at d within = absurd (omega arith)
@@ -96,7 +96,7 @@ end_before_at end blocks (suc at) d some within =
     let same : suc at - 1 ≡ at = omega arith in
     rw same (sym (end_after end blocks at d (omega (arith, within))))
 
--- where a row ends by its last block
+-- the end of a row, by its last block
 pub end_last : (end : ℕ) (blocks : List BlockState) (at : ℕ) (d : BlockState) → suc at ≡ length blocks
     → blocks_end end blocks ≡ (get_or blocks at d).last + 1
 end_last end blocks at d is =
@@ -219,7 +219,7 @@ remove_in [] at block within = absurd (omega arith)
 remove_in (x ∷ xs) zero block within = refl
 remove_in (x ∷ xs) (suc at) block within = ap (λ (bs : List BlockState). x ∷ bs) (remove_in xs at block (omega (arith, within)))
 
--- ---- A span behind all others.
+-- ---- A span above all others.
 
 pub record IsLonger (end : ℕ) (blocks : List BlockState) (span : Span) (row : List BlockState) : Type 0 where
   pub are : AreBlocks end row
@@ -254,7 +254,7 @@ push_new end blocks block span are is spans top = record {
   spans = spans_append blocks (block ∷ []) ∙ ap (λ (xs : List Span). spans_in blocks ++ xs) (append-nil block.spans ∙ spans);
 }
 
--- a block put in behind the last one
+-- a block inserted after the last one
 pub inserted_last : (blocks : List BlockState) (count : ℕ) (block : BlockState) → count ≡ length blocks
     → insert blocks count block ≡ blocks ++ block ∷ []
 inserted_last blocks count block is =
@@ -299,7 +299,7 @@ widened end at blocks d block loose within is spans last =
     same_set end blocks at d block within loose.low is
     (rw last (loose_here at loose.from blocks d loose.high within).high) spans last
 
--- where the position is past all blocks, none has to be widened
+-- if the position is past all blocks, none has to be widened
 pub not_loose : (end at : ℕ) (blocks : List BlockState) → AreLooseAt end at blocks → length blocks ≤ at
     → AreBlocks end blocks
 not_loose end at blocks loose past = subst (AreBlocks end) (take_all at blocks past) loose.low
@@ -316,7 +316,7 @@ pub one_more_lower : (spans low high : List Span) (span : Span) (more : List Spa
     → IsOneMore low span more → IsOneMore spans span (more ++ (high ++ []))
 one_more_lower spans low high span more is put = rw (is, append-nil high) (one_more_inside [] high low span more put)
 
--- ---- Where a span belongs.
+-- ---- The block to which a span belongs.
 
 -- the blocks before a position end below a base
 pub low_end : (end : ℕ) (blocks : List BlockState) (at base : ℕ) → at ≤ length blocks → end ≤ base
@@ -387,7 +387,7 @@ blocks_end_le : (low high : ℕ) (blocks : List BlockState) → low ≤ high →
 blocks_end_le low high [] le = le
 blocks_end_le low high (x ∷ xs) le = omega arith
 
--- where the block has others left
+-- if the block has others left
 pub taken_left : (end : ℕ) (blocks : List BlockState) (at : ℕ) (d block : BlockState) (span : Span) → AreBlocks end blocks
     → at < length blocks → IsBlock (blocks_end end (take at blocks)) block → block.last ≤ (get_or blocks at d).last
     → IsOneMore block.spans span (get_or blocks at d).spans → IsTaken end blocks (at + 1) span (set blocks at block)
@@ -420,7 +420,7 @@ taken_left end blocks at d block span are within here last put =
           (get_or blocks at d).spans put);
     }
 
--- and ends where it did
+-- and its end is unchanged
 pub taken_kept : (end : ℕ) (blocks : List BlockState) (at : ℕ) (d block : BlockState) → AreBlocks end blocks
     → at < length blocks → IsBlock (blocks_end end (take at blocks)) block → block.last ≡ (get_or blocks at d).last
     → AreBlocks end (set blocks at block)
@@ -429,7 +429,7 @@ taken_kept end blocks at d block are within here last =
     rw (set_in blocks at block within)
     (blocks_append end (take at blocks) (block ∷ drop (suc at) blocks) is.low (here, rw last is.high))
 
--- where it was the block's only one
+-- if it was the block's only one
 pub taken_gone : (end : ℕ) (blocks : List BlockState) (at : ℕ) (d block : BlockState) (span : Span) → AreBlocks end blocks
     → at < length blocks → length block.spans ≡ 0 → IsOneMore block.spans span (get_or blocks at d).spans
     → IsTaken end blocks at span (remove (set blocks at block) at)
@@ -478,7 +478,7 @@ joined end (x ∷ y ∷ ys) (suc at) d e block within spans last is are =
     let rest = joined (x.last + 1) (y ∷ ys) at d e block (omega (arith, within)) spans last is are.1 in
     record { are = (are.0, rest.are); ends = rest.ends; spans = ap (λ (zs : List Span). x.spans ++ zs) rest.spans }
 
--- where each two neighbours have 49 spans or more together, there are 49 spans for every two blocks
+-- if each two neighbors have at least 49 spans together, there are 49 spans for every two blocks
 crowded_pairs : (blocks : List BlockState)
     → ((k : ℕ) (d : BlockState) → suc k < length blocks
     → 49 ≤ length (get_or blocks k d).spans + length (get_or blocks (suc k) d).spans)
@@ -578,7 +578,7 @@ place_under from to low high size align start chain found =
 
 -- ---- The blocks one after another.
 
--- the block at a position, and those behind it
+-- the block at a position, and those after it
 pub record IsRowAt (end : ℕ) (blocks : List BlockState) (at : ℕ) (d : BlockState) : Type 0 where
   pub here : IsBlock (blocks_end end (take at blocks)) (get_or blocks at d)
   pub spans : spans_in (drop at blocks) ≡ (get_or blocks at d).spans ++ spans_in (drop (at + 1) blocks)

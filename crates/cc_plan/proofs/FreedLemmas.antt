@@ -1,4 +1,5 @@
--- The freed objects: the planner's list of where they stand, and what sweeping them one by one comes to.
+-- The freed objects: the planner's list of their positions, and the result of sweeping them one by
+-- one.
 use Rattle.std.proofs.Common.{ℕ, Bool, true, false, if◌then◌else◌, cond, ◌≡◌, ◌≢◌, ◌+◌, ◌<◌, ◌≤◌, List, [], ◌∷◌, ◌++◌, Option, Some, All, length, get_or, map, slice_set, arith, refl, subst, ◌∙◌, sym, ap}
 use Rattle.std.proofs.lemmas.List.{get_or_append_left, get_or_push, get_or-set_same, get_or-set_other, length_push, length-set}
 use Rattle.std.proofs.lemmas.List.Elements.{All-push}
@@ -33,7 +34,7 @@ freed_at_most objects =
     at_most_one true = omega arith
     at_most_one false = omega arith
 
--- the object that is read where a freed one stands
+-- the object that is read at the position of a freed one
 pub freed_read : (objects : List PlannedObject) (position : ℕ) (object : PlannedObject) → IsFreedAt objects position
     → object ≡ get_or objects position object → object.state ≡ Freed
 freed_read objects position object at is = ap (λ (o : PlannedObject). o.state) is ∙ at.freed object
@@ -63,7 +64,7 @@ popped objects freed rest last position object was last_is is lists =
     let at = last_freed objects rest position (subst (λ (list : List ℕ). ListsFreed objects list) listed lists) in
     record { listed = listed; at = at; held = ap is_held (freed_read objects position object at is) }
 
--- a freed object stays where another position is written
+-- a freed object stays if another position is written
 freed_off : (objects : List PlannedObject) (position k : ℕ) (object : PlannedObject) → k ≢ position
     → IsFreedAt objects k
     → IsFreedAt (slice_set objects position object) k
@@ -72,7 +73,7 @@ freed_off objects position k object other at = record {
   freed = λ d. ap (λ (o : PlannedObject). o.state) (get_or-set_other objects position k object d other) ∙ at.freed d;
 }
 
--- and where one more object is made
+-- and if one more object is made
 pub listed_made : (objects : List PlannedObject) (freed : List ℕ) (size : ℕ) (span : Span) → ListsFreed objects freed
     → ListsFreed (objects ++ made size span ∷ []) freed
 listed_made objects freed size span lists = record {
@@ -225,7 +226,7 @@ sweeping_on old now new done so_far one =
       counted = omega (arith, so_far.counted, set_sum, was, is, count);
     }
 
--- where none is freed, sweeping leaves the objects
+-- if none is freed, sweeping leaves the objects
 none_swept : (objects : List PlannedObject) → freed_count objects ≡ 0 → map swept objects ≡ objects
 none_swept [] none = refl
 none_swept (object ∷ objects) none =

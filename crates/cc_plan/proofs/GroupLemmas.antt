@@ -78,7 +78,7 @@ covered_set blocks at block bounds covered k d e inside but =
           (covered k d e (omega (arith, inside, length-set blocks at block)))
     ]
 
--- another block in its place, and another behind it
+-- another block in its place, and one more after it
 pub covered_but_two : (blocks row : List BlockState) (at : ℕ) (block : BlockState) (bounds : List ℕ)
     → AreCovered blocks bounds
     → ((k : ℕ) (d : BlockState) → (k ≡ at + 1 → ⊥) → get_or row k d ≡ get_or (set blocks at block) k d)
@@ -121,7 +121,7 @@ blocks_high : (end : ℕ) (low high : List BlockState) → AreBlocks end (low ++
 blocks_high end [] high are = are
 blocks_high end (x ∷ xs) high are = blocks_high (x.last + 1) xs high are.1
 
--- so many blocks from a position on, and those behind them
+-- `count` blocks from a position on, and those after them
 pub record IsRowFrom (end from count : ℕ) (blocks : List BlockState) : Type 0 where
   pub are : AreBlocks (blocks_end end (take from blocks)) (take count (drop from blocks))
   pub spans : spans_in (drop from blocks)
@@ -160,7 +160,7 @@ row_from end from count blocks are = record {
         ∙ ap (λ (bs : List BlockState). spans_in (take count (drop from blocks)) ++ spans_in bs)
         (drop-drop count from blocks))
 
--- the block at a position, and those behind it up to another
+-- the block at a position, and those after it up to another
 pub record IsRowStep (end at to : ℕ) (blocks : List BlockState) (d : BlockState) : Type 0 where
   pub spans : spans_in (take (to - at) (drop at blocks))
       ≡ (get_or blocks at d).spans ++ spans_in (take (to - (at + 1)) (drop (at + 1) blocks))
@@ -187,7 +187,7 @@ row_step end at to blocks d are less within = record {
         let count : to - at ≡ suc (to - (at + 1)) = omega (arith, less) in
         rw count (ap (λ (bs : List BlockState). spans_in (take (suc (to - (at + 1))) bs)) (drop_more blocks at d within))
 
--- ---- Where no block has room.
+-- ---- If no block has a place.
 
 most_room_row : (end bound : ℕ) (blocks : List BlockState) → AreBlocks end blocks
     → ((k : ℕ) (d : BlockState) → k < length blocks → (get_or blocks k d).bound ≤ bound)
@@ -225,7 +225,7 @@ group_covered blocks bounds group e covered k d within =
     (subst (λ (g : ℕ). (get_or blocks (32 * group + k) d).bound ≤ get_or bounds g e) place
     (covered (32 * group + k) d e (omega (arith, within, long, rest))))
 
--- the blocks between where a group begins and where it ends, or the row
+-- the blocks from the start of a group to its end, or to the end of the row
 pub group_slice : (blocks : List BlockState) (from to : ℕ) → from < length blocks → to ≡ min (length blocks) (from + 32)
     → take (to - from) (drop from blocks) ≡ take 32 (drop from blocks)
 group_slice blocks from to within is =

@@ -1,4 +1,4 @@
--- The room of gaps: the unit of a length, and how much room a gap has in which there is a place.
+-- The capacity of gaps: the unit of a length, and the capacity of a gap that has a place.
 use Rattle.std.proofs.Common.{ℕ, max, min, ◌∙◌, ◌≡◌, ◌+◌, ◌*◌, ◌-◌, ◌/◌, ◌%◌, ◌^◌, ◌<◌, ◌≤◌, refl, ap, arith, inl, inr}
 use Rattle.std.specs.Int.{div_ceil}
 use Rattle.std.specs.Int.Count.{count_leading_zeros, leading_of_zero}
@@ -88,19 +88,20 @@ unit_same size length long less fits many =
     let same : other.power ≡ one.power = omega (arith, up, down) in
     rw (other.is_power, one.is_power, same) refl
 
--- ---- Rooms.
+-- ---- Capacities.
 
 pub multiple_of_unit : (start align unit : ℕ) → start % align ≡ 0 → align % unit ≡ 0 → start % unit ≡ 0
 multiple_of_unit start align unit of_align of_unit =
     mod-eq-zero_of_dvd unit (dvd_trans unit (dvd_of_mod-eq-zero unit of_unit) (dvd_of_mod-eq-zero align of_align))
 
--- the first multiple of the unit is no higher than any start at a multiple
+-- the first multiple of the unit is at or below any start at a multiple
 first_multiple : (unit from start : ℕ) → 0 < unit → from ≤ start → start % unit ≡ 0 → div_ceil from unit * unit ≤ start
 first_multiple unit from start some from_start aligned =
     least_multiple unit from (div_ceil from unit * unit) start some (mul-mod_left (div_ceil from unit) unit) aligned from_start
     (div_ceil-lt from unit some)
 
--- a gap has room for what lies in it, where that is less than 512 units long or begins at a multiple of the unit
+-- a gap has the capacity for an object in it that is shorter than 512 units or begins at a multiple
+-- of the unit
 pub room_fine : (from to start size : ℕ) → from ≤ start → start + size ≤ to → size < 512 * gap_unit (to - from)
     → size ≤ room_of from to
 unfolding room_of
@@ -122,7 +123,7 @@ room_near from to start size fits from_start ends =
     let near = div_ceil-lt from (gap_unit (to - from)) (omega (arith, some)) in
     omega (arith, near, some, from_start, ends)
 
--- the room from how far the first multiple of the unit is
+-- the capacity, by the distance of the first multiple of the unit
 pub room_is : (from to unit padding : ℕ) → unit ≡ gap_unit (to - from) → 0 < unit → (from + padding) % unit ≡ 0
     → padding < unit → max (min (to - from) (512 * unit - 1)) (to - from - padding) ≡ room_of from to
 unfolding room_of
@@ -164,7 +165,7 @@ needed_any size align long from to start fits from_start ends aligned =
 
 -- ---- Gaps within gaps.
 
--- a gap has no more room than bytes
+-- the capacity of a gap is at most its length
 pub room_at_most : (from to : ℕ) → from ≤ to → to ≤ 2 ^ 64 → room_of from to ≤ to - from
 unfolding room_of
 room_at_most from to in_order fits =
@@ -172,7 +173,7 @@ room_at_most from to in_order fits =
     let covers = le-div_ceil from (gap_unit (to - from)) (omega (arith, some)) in
     omega (arith, covers)
 
--- and no more room than a gap around it
+-- and at most that of a gap around it
 pub room_within : (from to lower higher : ℕ) → lower ≤ from → from ≤ to → to ≤ higher → higher ≤ 2 ^ 64
     → room_of from to ≤ room_of lower higher
 unfolding room_of

@@ -47,7 +47,7 @@ row_written slab keys room capacity at block is within =
           ∙ sym (get_or-set_other (blocks_under slab keys) at k block d apart ∙ under_key slab keys k d low)
     ]
 
--- ---- Where the items of a list stand once one was put in, or taken away.
+-- ---- The positions of the items of a list after one was inserted or removed.
 
 module _ {X : Type 0} where
   put_above : (xs : List X) (at : ℕ) (y d : X) (k : ℕ) → at < k → at ≤ length xs
@@ -119,7 +119,7 @@ module _ {X : Type 0} where
 module _ (slab new : Slab BlockState) (keys : List ℕ) (room capacity at key : ℕ) (block : BlockState)
     (is : IsRow slab keys room capacity) (within : at ≤ length keys) (vacant : get slab key ≡ None)
     (updates : Updates slab new key (Some block)) where
-  -- the new key is none of the others
+  -- the new key differs from all others
   fresh : (k : ℕ) → k < length keys → get_or keys k 0 ≢ key
   fresh k low same =
       let none = subst (λ (o : Option BlockState). IsSome o) (ap (get slab) same ∙ vacant) (is.filled k 0 low) in cc

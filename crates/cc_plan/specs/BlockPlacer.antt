@@ -1,4 +1,4 @@
--- What a placer with its spans in blocks keeps. No public clause cites this file.
+-- The invariant of a placer with its spans in blocks. No public clause cites this file.
 use Rattle.std.specs.Prelude.{ℕ, ◌≡◌, ◌+◌, ◌/◌, ◌≤◌, List, [], Option, Some, None, IfSome, length}
 use Rattle.cc_bounds.specs.declared.span.Span.{Span}
 use Rattle.cc_plan.specs.BlockState.{BlockState}
@@ -7,16 +7,17 @@ use Rattle.cc_plan.specs.Groups.{AreCovered}
 use Rattle.cc_plan.specs.PlacerState.{IsPool}
 use Rattle.cc_plan.specs.RowState.{RowState}
 
--- how many blocks a placer of so many spans reserves, which is enough
+-- The number of blocks that a placer of `limit` spans reserves.
 abbrev pub block_count : ℕ → ℕ
 block_count limit = limit / 24 + 2
 
--- the blocks follow the pool's base and end in the pool, and there is none without a pool
+-- AreBlocksIn holds if the blocks follow the pool's base and end in the pool. Without a pool there
+-- are none.
 abbrev pub AreBlocksIn : Option Span → List BlockState → Type 0
 AreBlocksIn None blocks = blocks ≡ []
 AreBlocksIn (Some pool) blocks = AreBlocks pool.base blocks × (blocks_end pool.base blocks ≤ pool.top)
 
--- what the placer keeps
+-- IsBlockPlacer holds if the limit, count, pool, row and groups are those of one placer.
 pub record IsBlockPlacer (limit count : ℕ) (pool : Option Span) (row : RowState) (groups : List ℕ) : Type 0 where
   pub counted : count ≡ length (spans_in row.blocks)
   pub at_most : count ≤ limit

@@ -1,8 +1,9 @@
--- What a block of spans is.
+-- The value of a block of spans.
 use Rattle.std.specs.Prelude.{ℕ, List}
 use Rattle.cc_bounds.specs.declared.span.Span.{Span}
 
--- its spans in order, a bound of the room of the gap before each of them, and the last byte of the last one
+-- A block: its spans in order, a bound on the capacity of the gap before each of them, and the last
+-- byte of the last one.
 pub record BlockState : Type 0 where
   pub spans : List Span
   pub bound : ℕ

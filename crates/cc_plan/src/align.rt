@@ -2,17 +2,17 @@
 ghost use Rattle.std.specs.Prelude.{◌≡◌};
 ghost use Rattle.cc_plan.specs.Align.{align_bytes};
 
-/// The alignment of a pool: the bounds of each object begin and end at multiples of it.
+/// The alignment of a pool. The bounds of each object begin and end at multiples of it.
 #[derive(Clone, Copy, PartialEq, Eq, Debug)]
 pub enum Align {
-    /// One byte: the granule of an object's size alone decides.
+    /// One byte: the unit of an object is the granule of its size.
     One,
-    /// Sixteen bytes: the greater of these and the granule of an object's size decides.
+    /// Sixteen bytes: the unit of an object is the larger of 16 and the granule of its size.
     Sixteen,
 }
 
 impl Align {
-    /// The alignment in bytes: 1 or 16.
+    /// Returns the alignment in bytes: 1 or 16.
     pub(crate) fn bytes(self) -> u64
         ensures { result ≡ align_bytes self }
     {

@@ -1,4 +1,4 @@
-//! A block of spans in the order of their addresses.
+//! A block of spans, in the order of their addresses.
 ghost use Rattle.std.specs.Prelude.{◌≡◌, ◌↔◌, ◌+◌, ◌<◌, ◌≤◌, ◌^◌, ◌∷◌, ◌++◌, ℕ, [], length, max, take, Contains, IfNone, IsTrue};
 ghost use Rattle.cc_plan.specs.Placement.{IsApartFrom};
 ghost use Rattle.cc_plan.specs.PlacerState.{IsSomeBytes};
@@ -13,20 +13,21 @@ use arrayvec::ArrayVec;
 use cc_bounds::Span;
 use std::marker::Model;
 
-/// How many spans a block holds at most.
+/// The maximum number of spans in a block.
 const MOST_SPANS: usize = 64;
 
-/// How many spans each half of a full block has.
+/// The number of spans in each half of a full block.
 const HALF: usize = 32;
 
-/// Up to `MOST_SPANS` spans in the order of their addresses, no two of which share a byte. They lie in the block itself.
+/// At most `MOST_SPANS` spans in the order of their addresses, stored in the block itself. No two
+/// of them share a byte.
 ///
-/// What it keeps besides them speaks of the gaps before its spans: the first of them begins where the block
-/// before ends, or where the pool does.
+/// `bound` covers the gaps before the spans. The first of them begins at the end of the previous
+/// block, or at the pool's base.
 #[derive(Drop)]
 pub(crate) struct Block {
     spans: ArrayVec<Span, MOST_SPANS>,
-    /// No gap before one of the spans has more room.
+    /// An upper bound on the capacity of each gap before one of the spans.
     bound: u64,
     /// The last byte of the last span.
     last: u64,
@@ -44,7 +45,7 @@ impl Model for Block {
 }
 
 impl Block {
-    /// A block of one span. The gap before it begins at `end`.
+    /// Returns a block of one span. The gap before the span begins at `end`.
     pub(crate) fn with_span(end: u64, span: Span) -> Block
         requires some { IsSomeBytes span }
         requires above { end ≤ span.base }
@@ -61,7 +62,6 @@ impl Block {
         }
     }
 
-    /// How many spans it has.
     #[inline(always)]
     pub(crate) fn len(&self) -> usize
         ensures value { result ≡ length self.now.spans }
@@ -78,7 +78,6 @@ impl Block {
         self.spans.len() >= MOST_SPANS
     }
 
-    /// The last byte of its last span.
     #[inline(always)]
     pub(crate) fn last(&self) -> u64
         ensures { result ≡ self.now.last }
@@ -86,7 +85,6 @@ impl Block {
         self.last
     }
 
-    /// A bound: no gap before one of its spans has more room.
     #[inline(always)]
     pub(crate) fn bound(&self) -> u64
         ensures { result ≡ self.now.bound }
@@ -94,8 +92,7 @@ impl Block {
         self.bound
     }
 
-    /// Puts in a span that begins below the end of the last one. `end` is where the block's first gap
-    /// begins.
+    /// Inserts a span that begins at or below the last byte. The block's first gap begins at `end`.
     pub(crate) fn insert(&mut self, end: u64, span: Span)
         requires block { IsBlock end self.old }
         requires fewer { length self.old.spans < 64 }
@@ -117,7 +114,7 @@ impl Block {
         }
     }
 
-    /// As `insert`, where the block is full: its upper half goes into another block, which is handed out.
+    /// Inserts a span into a full block, whose upper half moves to the returned block.
     pub(crate) fn insert_split(&mut self, end: u64, span: Span) -> Block
         requires block { IsBlock end self.old }
         requires full { length self.old.spans ≡ 64 }
@@ -139,7 +136,7 @@ impl Block {
         upper
     }
 
-    /// Takes a span away. Where it was the only one, the bound and the last byte say nothing afterwards.
+    /// Removes a span. If it was the only one, `bound` and `last` have no meaning afterwards.
     pub(crate) fn remove(&mut self, end: u64, span: Span)
         requires block { IsBlock end self.old }
         requires held { Contains self.old.spans span }
@@ -157,7 +154,7 @@ impl Block {
         }
     }
 
-    /// Puts a span behind the last one.
+    /// Appends a span above the last one.
     pub(crate) fn push(&mut self, span: Span)
         requires fewer { length self.old.spans < 64 }
         requires some { IsSomeBytes span }
@@ -171,7 +168,7 @@ impl Block {
         self.last = (span.top - 1) as u64;
     }
 
-    /// Moves the upper half of a full block into another block.
+    /// Moves the upper half of a full block to the returned block.
     pub(crate) fn split(&mut self, end: u64) -> Block
         requires block { IsBlock end self.old }
         requires full { length self.old.spans ≡ 64 }
@@ -196,7 +193,7 @@ impl Block {
         upper
     }
 
-    /// Puts the spans of another block, which follows it, behind its own.
+    /// Appends the spans of the block that follows this one.
     pub(crate) fn take_in(&mut self, upper: &Block)
         requires few { length self.old.spans + length upper.now.spans ≤ 64 }
         ensures spans { self.new.spans ≡ self.old.spans ++ upper.now.spans }
@@ -208,7 +205,7 @@ impl Block {
         self.last = upper.last;
     }
 
-    /// Lets its first gap begin at `end`, which is no higher than where it began before.
+    /// Lets the first gap begin at `end`, which is at or below its start so far.
     pub(crate) fn widen(&mut self, end: u64)
         requires some { 0 < length self.old.spans }
         requires chain { IsChain end (2 ^ 64) self.old.spans }
@@ -219,7 +216,8 @@ impl Block {
         self.bound = wider(self.bound, end, self.spans[0].base);
     }
 
-    /// The least start of `len` bytes, at a multiple of `align`, in the gaps before its spans.
+    /// Returns the lowest start of `len` bytes, at a multiple of `align`, in the gaps before the
+    /// spans.
     #[inline(always)]
     pub(crate) fn place(&self, end: u64, len: u128, align: u64) -> Option<u64>
         requires block { IsBlock end self.now }
@@ -231,8 +229,8 @@ impl Block {
     }
 }
 
-/// The least start of `len` bytes, at a multiple of `align`, in the gaps before the spans. The first gap begins at
-/// `end`.
+/// Returns the lowest start of `len` bytes, at a multiple of `align`, in the gaps before the spans.
+/// The first gap begins at `end`.
 fn place_between(spans: &[Span], end: u128, len: u128, align: u64) -> Option<u64>
     requires chain { IsChain end (2 ^ 64) spans.now }
     requires some { 0 < len }
@@ -249,7 +247,8 @@ fn place_between(spans: &[Span], end: u128, len: u128, align: u64) -> Option<u64
     None
 }
 
-/// Where the spans before a position end: at the top of the last of them, and at `end` where there is none.
+/// Returns the end of the spans before a position: the top of the last of them, or `end` if there
+/// is none.
 fn end_before(spans: &[Span], at: usize, end: u64) -> u64
     requires within { at < length spans.now }
     requires chain { IsChain end (2 ^ 64) spans.now }
@@ -262,7 +261,7 @@ fn end_before(spans: &[Span], at: usize, end: u64) -> u64
     }
 }
 
-/// The most room of a gap before one of the spans. The first gap begins at `end`.
+/// Returns the largest capacity of a gap before one of the spans. The first gap begins at `end`.
 fn widest(spans: &[Span], end: u64) -> u64
     requires { IsChain end (2 ^ 64) spans.now }
     ensures { result ≡ most_room end spans.now }
@@ -276,7 +275,7 @@ fn widest(spans: &[Span], end: u64) -> u64
     most
 }
 
-/// The greater of `most` and the room of the gap from `from` up to `to`.
+/// Returns the larger of `most` and the capacity of the gap [from, to).
 #[inline(always)]
 fn wider(most: u64, from: u64, to: u64) -> u64
     requires { from ≤ to }

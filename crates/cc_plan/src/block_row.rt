@@ -1,4 +1,4 @@
-//! How a row of blocks holds spans.
+//! Inserts, removes and places spans in a row of blocks.
 ghost use Rattle.std.specs.Prelude.{◌≡◌, ◌↔◌, ◌+◌, ◌-◌, ◌*◌, ◌/◌, ◌<◌, ◌≤◌, ◌^◌, ◌∷◌, ◌++◌, ℕ, [], length, max, take, drop, slice_range, Contains, IfSome, IfNone, IsTrue};
 ghost use Rattle.std.specs.List.{slice_index_or};
 ghost use Rattle.cc_plan.specs.Placement.{IsApartFrom};
@@ -14,16 +14,17 @@ use crate::groups::{GROUP, GroupBounds};
 use crate::row::Row;
 use cc_bounds::Span;
 
-/// A span behind all others begins a new block where the last block has so many spans or more.
+/// A span above all others begins a new block if the last block has at least this number of spans.
 const LAST_SPANS: usize = 56;
 
-/// Two neighbours with at most so many spans together may be joined where no further block has room.
+/// Two neighbors with at most this number of spans together may be joined if no further block fits.
 const JOINED_SPANS: usize = 48;
 
-/// Puts in a span that shares no byte with one that is there.
+/// Inserts a span that shares no byte with a held one.
 ///
-/// Where no further block has room, two neighbours are joined first. The caller then has so many blocks for its spans
-/// that two neighbours have at most `JOINED_SPANS` together.
+/// If no further block fits, two neighbors are joined first.
+/// Requires in that case: so few spans for the number of blocks that two neighbors have at most
+/// `JOINED_SPANS` together.
 pub(crate) fn put(row: &mut Row, groups: &mut GroupBounds, end: u64, span: Span)
     requires blocks { AreBlocks end row.old.blocks }
     requires covered { AreCovered row.old.blocks groups.old }
@@ -50,7 +51,7 @@ pub(crate) fn put(row: &mut Row, groups: &mut GroupBounds, end: u64, span: Span)
     put_with_room(row, groups, end, span);
 }
 
-/// As `put`, where one more block has room.
+/// Inserts a span, given that one more block fits.
 fn put_with_room(row: &mut Row, groups: &mut GroupBounds, end: u64, span: Span)
     requires blocks { AreBlocks end row.old.blocks }
     requires covered { AreCovered row.old.blocks groups.old }
@@ -74,8 +75,8 @@ fn put_with_room(row: &mut Row, groups: &mut GroupBounds, end: u64, span: Span)
     }
 }
 
-/// As `put`, into the block at a position: the span begins at that block's last byte or below, and above all blocks
-/// before it.
+/// Inserts a span into the block at a position. The span begins at or below that block's last byte,
+/// and above all blocks before it.
 fn put_inside(row: &mut Row, groups: &mut GroupBounds, end: u64, at: usize, span: Span)
     requires blocks { AreBlocks end row.old.blocks }
     requires covered { AreCovered row.old.blocks groups.old }
@@ -104,9 +105,9 @@ fn put_inside(row: &mut Row, groups: &mut GroupBounds, end: u64, at: usize, span
     groups.lower(row, at, bound);
 }
 
-/// As `put_inside`, where the block is full.
+/// Inserts a span into the full block at a position, which it splits.
 ///
-/// It stands apart since a function that has a block for a local fills it with zeros first.
+/// Not inlined, since a function with a block as a local variable first fills it with zeros.
 #[inline(never)]
 fn put_splitting(row: &mut Row, groups: &mut GroupBounds, end: u64, at: usize, span: Span)
     requires blocks { AreBlocks end row.old.blocks }
@@ -133,7 +134,7 @@ fn put_splitting(row: &mut Row, groups: &mut GroupBounds, end: u64, at: usize, s
     groups.renew_from(row, at);
 }
 
-/// As `put`, behind all blocks.
+/// Appends a span above all blocks.
 fn put_behind(row: &mut Row, groups: &mut GroupBounds, end: u64, span: Span)
     requires blocks { AreBlocks end row.old.blocks }
     requires covered { AreCovered row.old.blocks groups.old }
@@ -160,7 +161,7 @@ fn put_behind(row: &mut Row, groups: &mut GroupBounds, end: u64, span: Span)
     groups.renew_from(row, count);
 }
 
-/// Takes a span away that is there.
+/// Removes a held span.
 pub(crate) fn take_out(row: &mut Row, groups: &mut GroupBounds, end: u64, span: Span)
     requires blocks { AreBlocks end row.old.blocks }
     requires covered { AreCovered row.old.blocks groups.old }
@@ -192,7 +193,8 @@ pub(crate) fn take_out(row: &mut Row, groups: &mut GroupBounds, end: u64, span: 
     }
 }
 
-/// Widens the first gap of the block at a position, if there is one: it begins where the blocks before now end.
+/// Widens the first gap of the block at a position, if there is one, down to the end of the blocks
+/// before it.
 fn widen_at(row: &mut Row, at: usize, end: u64)
     requires loose { AreLooseAt end at row.old.blocks }
     requires within { at ≤ length row.old.blocks }
@@ -211,8 +213,9 @@ fn widen_at(row: &mut Row, at: usize, end: u64)
     }
 }
 
-/// Joins the first two neighbours that have at most `JOINED_SPANS` spans together. The caller has so many blocks for
-/// its spans that there are such neighbours.
+/// Joins the first two neighbors that have at most `JOINED_SPANS` spans together.
+///
+/// Requires: so few spans for the number of blocks that there are such neighbors.
 pub(crate) fn join_two(row: &mut Row)
     requires few { length row.old.blocks ≤ 2752 }
     requires many { length (spans_in row.old.blocks) < 49 * (length row.old.blocks / 2) }
@@ -231,7 +234,8 @@ pub(crate) fn join_two(row: &mut Row)
     block.take_in(&upper);
 }
 
-/// The position of the lower of the first two neighbours that have at most `JOINED_SPANS` spans together.
+/// Returns the position of the lower of the first two neighbors that have at most `JOINED_SPANS`
+/// spans together.
 fn small_pair(row: &Row) -> Option<usize>
     ensures some { IfSome result (λ at. at + 1 < length row.now.blocks) }
     ensures few { IfSome result (λ at. (d : BlockState) → length (slice_index_or row.now.blocks at d).spans
@@ -247,8 +251,9 @@ fn small_pair(row: &Row) -> Option<usize>
     None
 }
 
-/// The least start of `len` bytes, at a multiple of `align`, in the gaps before the spans of the blocks, the first
-/// of which follows an end. No gap with less room than `needed` has one.
+/// Returns the lowest start of `len` bytes, at a multiple of `align`, in the gaps before the spans
+/// of the blocks. The first block follows `end`. No gap with a capacity below `needed` has such a
+/// start.
 pub(crate) fn place_among(
     row: &Row,
     groups: &GroupBounds,
@@ -274,8 +279,9 @@ pub(crate) fn place_among(
     None
 }
 
-/// The least start of `len` bytes, at a multiple of `align`, in the gaps before the spans of a group of the blocks.
-/// A group whose bound is below `least` is not looked at any further: no gap with less room has a place.
+/// Returns the lowest start of `len` bytes, at a multiple of `align`, in the gaps before the spans
+/// of a group of blocks. A group whose bound is below `least` is not searched: no gap with a
+/// smaller capacity has a place.
 fn place_in_group(
     row: &Row,
     groups: &GroupBounds,
@@ -303,8 +309,9 @@ fn place_in_group(
     place_between(row, from, to, end, len, align, least)
 }
 
-/// The least start of `len` bytes, at a multiple of `align`, in the gaps before the spans of the blocks from one
-/// position up to another. No gap with less room than `least` has one.
+/// Returns the lowest start of `len` bytes, at a multiple of `align`, in the gaps before the spans
+/// of the blocks at positions `from` to `to - 1`. No gap with a capacity below `least` has such a
+/// start.
 fn place_between(
     row: &Row,
     from: usize,
@@ -331,8 +338,9 @@ fn place_between(
     None
 }
 
-/// The least start of `len` bytes, at a multiple of `align`, in the gaps before the spans of the block at a position.
-/// A block whose bound is below `least` is not looked at any further: no gap with less room has a place.
+/// Returns the lowest start of `len` bytes, at a multiple of `align`, in the gaps before the spans
+/// of the block at a position. A block whose bound is below `least` is not searched: no gap with a
+/// smaller capacity has a place.
 #[inline(always)]
 fn place_at(row: &Row, at: usize, end: u64, len: u128, align: u64, least: u64) -> Option<u64>
     requires blocks { AreBlocks end row.now.blocks }
@@ -350,8 +358,8 @@ fn place_at(row: &Row, at: usize, end: u64, len: u128, align: u64, least: u64) -
     block.place(end_before(row, at, end), len, align)
 }
 
-/// The position of the block to which a span with this base belongs: the first whose last byte is not below the
-/// base, or the number of blocks where there is none.
+/// Returns the position of the first block whose last byte is at or above `base`, or the number of
+/// blocks if there is none. A span with this base belongs to that block.
 fn position_for(row: &Row, base: u64) -> usize
     ensures within { result ≤ length row.now.blocks }
     ensures below { (d : BlockState) → 0 < result → (slice_index_or row.now.blocks (result - 1) d).last < base }
@@ -370,8 +378,8 @@ fn position_for(row: &Row, base: u64) -> usize
     low
 }
 
-/// Where the blocks before a position end: behind the last byte of the last of them, and at `end` where there is
-/// none.
+/// Returns the end of the blocks before a position: the address after the last byte of the last of
+/// them, or `end` if there is none.
 fn end_before(row: &Row, at: usize, end: u64) -> u64
     requires within { at ≤ length row.now.blocks }
     requires fits { blocks_end end (take at row.now.blocks) < 2 ^ 64 }
@@ -384,7 +392,8 @@ fn end_before(row: &Row, at: usize, end: u64) -> u64
     }
 }
 
-/// Where the blocks end: behind the last byte of the last one, and at `end` where there is none.
+/// Returns the end of the blocks: the address after the last byte of the last one, or `end` if
+/// there is none.
 pub(crate) fn row_end(row: &Row, end: u64) -> u128
     ensures { result ≡ blocks_end end row.now.blocks }
 {

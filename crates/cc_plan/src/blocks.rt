@@ -14,15 +14,16 @@ use cc_bounds::Span;
 use std::alloc::{AllocError, Global};
 use std::marker::Model;
 
-/// One block is reserved for so many spans of the limit, and two more beside.
+/// One block is reserved for each 24 spans of the limit, and two more, which is enough.
 const SPANS_A_BLOCK: u32 = 24;
 
-/// A placer that holds its spans in blocks of up to 64, in the order of their addresses, where each block has a
-/// bound of the most room of a gap before one of its spans.
+/// A placer that keeps its spans in blocks of up to 64, in the order of their addresses.
 ///
-/// To hold a span or to give one back takes a binary search over the blocks and one in a block. To find room takes
-/// a walk over the bounds of groups of 32 blocks, over the blocks of a group that may have room, and over the gaps
-/// of such a block. All blocks are reserved when the placer is made; one that is left empty is used again.
+/// Each block has an upper bound on the size of an object that fits in a gap before one of its
+/// spans. `hold` and `give_back` take a binary search over the blocks and one in a block. `room`
+/// walks over the bounds of groups of 32 blocks, over the blocks of a group in which an object may
+/// fit, and over the gaps of such a block. All blocks are reserved when the placer is created, and
+/// an empty block is used again.
 #[derive(Drop)]
 pub struct BlockPlacer {
     limit: u32,
@@ -91,8 +92,9 @@ impl Placer for BlockPlacer {
     }
 }
 
-/// The least start of `len` bytes of the pool, at a multiple of `align`, beside the spans of the row: in a gap
-/// before one of them, or else behind the last.
+/// Returns the lowest start of `len` bytes of the pool, at a multiple of `align`, at which they
+/// share no byte with a span of the row. It is in a gap before one of the spans, or otherwise above
+/// the last.
 fn room_in(row: &Row, groups: &GroupBounds, pool: Span, len: u128, align: u64) -> Option<u64>
     requires blocks { AreBlocks pool.base row.now.blocks }
     requires covered { AreCovered row.now.blocks groups.now }

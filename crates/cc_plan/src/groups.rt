@@ -7,13 +7,14 @@ ghost use Rattle.cc_plan.specs.Groups.{AreCovered, AreCoveredBut};
 use crate::row::Row;
 use std::marker::Model;
 
-/// How many blocks a group has, but for the last.
+/// The number of blocks in each group except the last.
 pub(crate) const GROUP: usize = 32;
 
-/// How many groups there are at most: a placer of 65,536 spans has 2,732 blocks.
+/// The maximum number of groups: a placer of 65,536 spans has 2,732 blocks.
 const MOST_GROUPS: usize = 86;
 
-/// A bound of each group of blocks in a row, of at most 2,752 blocks: none of the group's blocks has a greater one.
+/// A bound for each group of blocks, in a row of at most 2,752 blocks. No block of a group has a
+/// larger bound.
 #[derive(Drop)]
 pub(crate) struct GroupBounds {
     bounds: [u64; MOST_GROUPS],
@@ -28,14 +29,13 @@ impl Model for GroupBounds {
 }
 
 impl GroupBounds {
-    /// The bounds of a row without blocks: all are 0.
+    /// Returns the bounds of a row without blocks: all are 0.
     pub(crate) fn new() -> GroupBounds {
         GroupBounds {
             bounds: [0; MOST_GROUPS],
         }
     }
 
-    /// The bound of a group.
     #[inline(always)]
     pub(crate) fn of(&self, group: usize) -> u64
         requires { group < 86 }
@@ -44,7 +44,8 @@ impl GroupBounds {
         self.bounds[group]
     }
 
-    /// Raises the bound of a block's group to the block's, where there is a block at the position and its is greater.
+    /// Raises the bound of a block's group to the bound of the block at this position, if there is
+    /// such a block and its bound is larger.
     pub(crate) fn raise(&mut self, row: &Row, at: usize)
         requires few { length row.now.blocks ≤ 2752 }
         ensures { (to : ℕ) → AreCoveredBut at to row.now.blocks self.old
@@ -57,8 +58,8 @@ impl GroupBounds {
         self.bounds[group] = self.bounds[group].max(row.at(at).bound());
     }
 
-    /// Renews the bound of a block's group where it is `before`, the block's bound before a change, and the block's
-    /// bound is lower now.
+    /// Recomputes the bound of a block's group if it equals `before`, the block's bound before a
+    /// change, and the change has lowered the block's bound.
     pub(crate) fn lower(&mut self, row: &Row, at: usize, before: u64)
         requires within { at < length row.now.blocks }
         requires few { length row.now.blocks ≤ 2752 }
@@ -71,7 +72,7 @@ impl GroupBounds {
         }
     }
 
-    /// Renews the bounds of all groups from that of the block at a position on.
+    /// Recomputes the bounds of all groups from that of the block at a position on.
     pub(crate) fn renew_from(&mut self, row: &Row, at: usize)
         requires few { length row.now.blocks ≤ 2752 }
         requires covered { AreCoveredBut at (length row.now.blocks) row.now.blocks self.old }
@@ -82,7 +83,7 @@ impl GroupBounds {
         }
     }
 
-    /// Makes the bound of a group the greatest of its blocks'.
+    /// Sets the bound of a group to the largest bound of its blocks.
     fn renew(&mut self, row: &Row, group: usize)
         requires within { 32 * group < length row.now.blocks }
         requires few { length row.now.blocks ≤ 2752 }
@@ -95,7 +96,7 @@ impl GroupBounds {
     }
 }
 
-/// The greatest bound of the blocks from one position up to another.
+/// Returns the largest bound of the blocks at positions `from` to `to - 1`.
 fn greatest(row: &Row, from: usize, to: usize) -> u64
     requires within { to ≤ length row.now.blocks }
     ensures { (at : ℕ) (d : BlockState) → from ≤ at → at < to → (slice_index_or row.now.blocks at d).bound ≤ result }

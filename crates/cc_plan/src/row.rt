@@ -8,17 +8,18 @@ use slab::Slab;
 use std::alloc::{AllocError, Global};
 use std::marker::Model;
 
-/// Blocks in a row, in the order of their addresses. Memory for all that have room is reserved when the row is made.
+/// Blocks in a row, in the order of their addresses. Memory for the maximum number of blocks is
+/// reserved when the row is created.
 ///
-/// A block stays where it is in memory while others come before it: only keys move. Memory that has had no block yet
-/// is not touched.
+/// A block does not move in memory when others come before it: only keys move. Memory that has had
+/// no block yet is not touched.
 #[derive(Drop)]
 pub(crate) struct Row {
     /// The blocks, each under a key, in no order.
     blocks: Slab<Block>,
     /// The keys, in the order of the blocks.
     keys: Vec<usize>,
-    /// How many blocks have room.
+    /// The maximum number of blocks.
     room: usize,
 }
 
@@ -37,7 +38,7 @@ impl Model for Row {
 impl Row {
     ghost use Rattle.cc_plan.specs.Lends.{LendsBlock};
 
-    /// A row without blocks, with memory for so many.
+    /// Creates a row without blocks, with memory for `room` blocks.
     pub(crate) fn with_room(alloc: Global, room: usize) -> Result<Row, AllocError>
         ensures { IfOk result (λ row. row ≡ record { blocks = []; room = room }) }
     {
@@ -48,7 +49,6 @@ impl Row {
         })
     }
 
-    /// How many blocks it has.
     #[inline(always)]
     pub(crate) fn len(&self) -> usize
         ensures value { result ≡ length self.now.blocks }
@@ -57,14 +57,13 @@ impl Row {
         self.keys.len()
     }
 
-    /// Whether no further block has room.
+    /// Returns whether no further block fits.
     pub(crate) fn is_full(&self) -> bool
         ensures { IsTrue result ↔ (length self.now.blocks ≡ self.now.room) }
     {
         self.keys.len() == self.room
     }
 
-    /// The block at a position.
     #[inline(always)]
     pub(crate) fn at(&self, at: usize) -> &Block
         requires { at < length self.now.blocks }
@@ -73,7 +72,7 @@ impl Row {
         &self.blocks[self.keys[at]]
     }
 
-    /// The block at a position, for a change.
+    /// Returns the block at a position, for a change.
     #[inline(always)]
     pub(crate) fn at_mut(&mut self, at: usize) -> &mut Block
         requires { at < length self.old.blocks }
@@ -83,7 +82,7 @@ impl Row {
         &mut self.blocks[self.keys[at]]
     }
 
-    /// Puts a block in at a position. One more has room.
+    /// Inserts a block at a position, given that one more fits.
     pub(crate) fn insert(&mut self, at: usize, block: Block)
         requires within { at ≤ length self.old.blocks }
         requires room { length self.old.blocks < self.old.room }
@@ -94,7 +93,7 @@ impl Row {
         self.keys.insert(at, key).unwrap();
     }
 
-    /// Takes the block at a position away.
+    /// Removes the block at a position, and returns it.
     pub(crate) fn remove(&mut self, at: usize) -> Block
         requires { at < length self.old.blocks }
         ensures value { result ≡ slice_index_or self.old.blocks at result }

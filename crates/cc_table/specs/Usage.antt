@@ -11,83 +11,83 @@ use Rattle.cc_table.specs.declared.table.Kind.{Kind}
 use Rattle.cc_table.specs.declared.table.Kind.TheVariants.{Align, Flag, Format, Free, Order, Slots, Valued, Wanted}
 use Rattle.cc_table.specs.declared.table.Row.{Row}
 
--- an argument that may be left out
+-- An optional argument.
 abbrev pub optional_argument : Text → Rule
 optional_argument name = record (new_rule name) { action = Some Set; value_names = 1 }
 
--- an argument that has to be given
+-- A required argument.
 abbrev pub wanted_argument : Text → Rule
 wanted_argument name = record (optional_argument name) { required = true }
 
--- an option `--name` with a value
+-- An option `--name` with a value.
 abbrev pub valued_option : Text → Rule
 valued_option name = record (optional_argument name) { long = Some name }
 
--- an option `--name` whose value is one of these texts
+-- An option `--name` whose value is one of these strings.
 abbrev pub choice_option : Text → Bor (List (Bor Text)) → Rule
 choice_option name choices = record (valued_option name) { parser = Some (Names choices) }
 
--- the option `--slots N`, whose value is a number from 1 to 65,536
+-- The option `--slots N`, whose value is a number from 1 to 65,536.
 abbrev pub slots_option : Rule
 slots_option = record (valued_option (codes "slots")) { parser = Some (Signed (pos 1) (pos 65536)) }
 
--- an option `--name` without a value
+-- An option `--name` without a value.
 abbrev pub flag_option : Text → Rule
 flag_option name = record (new_rule name) { long = Some name; action = Some SetTrue }
 
--- the command `show [--line] WORD`
+-- The command `show [--line] WORD`.
 abbrev pub show_command : App
 show_command = with_rule (with_rule (new_app (codes "show")) (flag_option (codes "line"))) (wanted_argument (codes "word"))
 
--- the command `explain [--length N] [--base B] [WORD]`
+-- The command `explain [--length N] [--base B] [WORD]`.
 abbrev pub explain_command : App
 explain_command =
     let options = with_rule (with_rule (new_app (codes "explain")) (valued_option (codes "length"))) (valued_option (codes "base")) in
     with_rule options (optional_argument (codes "word"))
 
--- the command `round N`
+-- The command `round N`.
 abbrev pub round_command : App
 round_command = with_rule (new_app (codes "round")) (wanted_argument (codes "length"))
 
--- the command `run [--slots N] [--stats] [FILE]`
+-- The command `run [--slots N] [--stats] [FILE]`.
 abbrev pub run_command : App
 run_command =
     let options = with_rule (with_rule (new_app (codes "run")) slots_option) (flag_option (codes "stats")) in
     with_rule options (optional_argument (codes "file"))
 
--- a command with `[--slots N] [--align ALIGN]` added
+-- A command with `[--slots N] [--align ALIGN]` added.
 abbrev pub with_pool_options : App → Bor (List (Bor Text)) → App
 with_pool_options command aligns = with_rule (with_rule command slots_option) (choice_option (codes "align") aligns)
 
--- a command with `BASE LENGTH [FILE]` added
+-- A command with `BASE LENGTH [FILE]` added.
 abbrev pub with_pool : App → App
 with_pool command =
     let pool = with_rule (with_rule command (wanted_argument (codes "base"))) (wanted_argument (codes "length")) in
     with_rule pool (optional_argument (codes "file"))
 
--- the command `plan [--slots N] [--align ALIGN] [--stats] BASE LENGTH [FILE]`
+-- The command `plan [--slots N] [--align ALIGN] [--stats] BASE LENGTH [FILE]`.
 abbrev pub plan_command : Bor (List (Bor Text)) → App
 plan_command aligns = with_pool (with_rule (with_pool_options (new_app (codes "plan")) aligns) (flag_option (codes "stats")))
 
--- the command `map [--slots N] [--align ALIGN] [--svg] BASE LENGTH [FILE]`
+-- The command `map [--slots N] [--align ALIGN] [--svg] BASE LENGTH [FILE]`.
 abbrev pub map_command : Bor (List (Bor Text)) → App
 map_command aligns = with_pool (with_rule (with_pool_options (new_app (codes "map")) aligns) (flag_option (codes "svg")))
 
--- the names of the formats
+-- The names of the formats.
 abbrev pub format_names : List Text
 format_names = codes "columns" ∷ codes "text" ∷ codes "csv" ∷ []
 
--- the names of the orders of bytes
+-- The names of the byte orders.
 abbrev pub order_names : List Text
 order_names = codes "little" ∷ codes "big" ∷ []
 
--- the command `decode [--format FORMAT] [--bytes ORDER] [FILE]`
+-- The command `decode [--format FORMAT] [--bytes ORDER] [FILE]`.
 abbrev pub decode_command : (formats orders : Bor (List (Bor Text))) → App
 decode_command formats orders =
     let options = with_rule (with_rule (new_app (codes "decode")) (choice_option (codes "format") formats)) (choice_option (codes "bytes") orders) in
     with_rule options (optional_argument (codes "file"))
 
--- the program before its commands are added: it wants one of them, and has a version
+-- The program before its commands are added. It requires one of them, and has a version.
 abbrev pub bare_program : App
 bare_program = let bare = new_app (codes "cheri-cap") in record bare {
   top = record bare.top {
@@ -98,26 +98,26 @@ bare_program = let bare = new_app (codes "cheri-cap") in record bare {
   };
 }
 
--- a program with `show` and `round` added
+-- A program with `show` and `round` added.
 abbrev pub with_words : App → App
 with_words program = with_subcommand (with_subcommand program show_command.top) round_command.top
 
--- a program with `run`, `plan` and `map` added
+-- A program with `run`, `plan` and `map` added.
 abbrev pub with_scripts : App → Bor (List (Bor Text)) → App
 with_scripts program aligns =
     let runs = with_subcommand (with_subcommand program run_command.top) (plan_command aligns).top in
     with_subcommand runs (map_command aligns).top
 
--- the program with all commands but `explain`
+-- The program with all commands except `explain`.
 abbrev pub listed_commands : (aligns formats orders : Bor (List (Bor Text))) → App
 listed_commands aligns formats orders = with_subcommand (with_scripts (with_words bare_program) aligns) (decode_command formats orders).top
 
--- the whole program, where `--align`, `--format` and `--bytes` take these texts
+-- The whole program, if `--align`, `--format` and `--bytes` accept these strings.
 abbrev pub program : (aligns formats orders : Bor (List (Bor Text))) → App
 program aligns formats orders = with_subcommand (listed_commands aligns formats orders) explain_command.top
 
--- the whole program, where `--align` takes 1 and 16, `--format` the names of the formats, and `--bytes` those of the
--- orders, wherever in memory these texts stand
+-- IsProgram holds if `app` is the whole program. `--align` accepts 1 and 16, `--format` the names
+-- of the formats, and `--bytes` those of the byte orders, wherever in memory these strings are.
 pub record IsProgram (app : App) : Type 0 where
   pub aligns : Bor (List (Bor Text))
   pub are : texts aligns.now ≡ codes "1" ∷ codes "16" ∷ []
@@ -127,9 +127,9 @@ pub record IsProgram (app : App) : Type 0 where
   pub are_orders : texts orders.now ≡ order_names
   pub is : app ≡ program aligns formats orders
 
--- ---- what only private contracts cite
+-- ---- definitions that only private contracts cite
 
--- the rule of an argument of this kind and name
+-- The rule of an argument of this kind and name.
 abbrev pub kind_rule : Choices → Kind → Text → Rule
 kind_rule choices Wanted name = wanted_argument name
 kind_rule choices Free name = optional_argument name
@@ -140,18 +140,18 @@ kind_rule choices Align name = choice_option name choices.aligns
 kind_rule choices Format name = choice_option name choices.formats
 kind_rule choices Order name = choice_option name choices.orders
 
--- the rule of a row
+-- The rule of a row.
 abbrev pub argument_of : Choices → Row → Rule
 argument_of choices row = kind_rule choices row.kind row.name.now
 
--- a command with the arguments of rows added
+-- A command with the arguments of rows added.
 abbrev pub with_arguments : Choices → App → List Row → App
 with_arguments choices app rows = fold (λ a row. with_rule a (argument_of choices row)) app rows
 
--- the command of a row
+-- The command of a row.
 abbrev pub command_of : Choices → CommandRow → App
 command_of choices row = with_arguments choices (new_app row.name.now) row.rows.now
 
--- a program with the commands of rows added
+-- A program with the commands of rows added.
 abbrev pub with_commands : Choices → App → List CommandRow → App
 with_commands choices program rows = fold (λ a row. with_subcommand a (command_of choices row).top) program rows

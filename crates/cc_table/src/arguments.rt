@@ -8,7 +8,7 @@ use clap::builder::ValueParser;
 use clap::{Arg, ArgAction, value_parser};
 use std::alloc::Global;
 
-/// The argument that a row describes.
+/// Returns the argument that a row describes.
 pub(crate) fn argument<'a>(alloc: Global, row: &Row<'a>, choices: Choices<'a>) -> Arg<'a>
     ensures rule { rule_of result ≡ argument_of choices.entry row.now }
     ensures local { result.global ≡ false }
@@ -26,7 +26,7 @@ pub(crate) fn argument<'a>(alloc: Global, row: &Row<'a>, choices: Choices<'a>) -
     }
 }
 
-/// An argument that takes a value.
+/// Returns an argument that takes a value.
 fn taken<'a>(bare: Arg<'a>, row: &Row<'a>) -> Arg<'a>
     ensures rule { rule_of result ≡ record (rule_of bare.entry) { action = Some ArgAction.Set; value_names = 1 } }
     ensures local { result.global ≡ bare.entry.global }
@@ -34,7 +34,7 @@ fn taken<'a>(bare: Arg<'a>, row: &Row<'a>) -> Arg<'a>
     bare.value_name(row.placeholder).action(ArgAction::Set)
 }
 
-/// An option `--name` that takes a value.
+/// Returns an option `--name` that takes a value.
 fn valued<'a>(bare: Arg<'a>, row: &Row<'a>) -> Arg<'a>
     ensures rule { rule_of result ≡ record (rule_of bare.entry) { action = Some ArgAction.Set; value_names = 1; long = Some row.now.name.now } }
     ensures local { result.global ≡ bare.entry.global }

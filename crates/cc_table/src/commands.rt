@@ -10,8 +10,10 @@ use crate::table::{Choices, CommandRow, Row, about, after_help, commands, explai
 use clap::Command;
 use std::alloc::{AllocError, Global};
 
-/// The program with all its commands; `--align`, `--format` and `--bytes` take the texts of `aligns`, `formats` and
-/// `orders`.
+/// Returns the program with all its commands. `--align`, `--format` and `--bytes` accept the
+/// strings of `aligns`, `formats` and `orders`.
+///
+/// Errors: `AllocError` if an allocation fails.
 pub fn program<'a>(
     alloc: Global,
     aligns: &'a [&'a str],
@@ -34,7 +36,7 @@ pub fn program<'a>(
     program.subcommand(explain)
 }
 
-/// The command that a row describes.
+/// Returns the command that a row describes.
 fn command<'a>(
     alloc: Global,
     row: &CommandRow<'a>,
@@ -51,7 +53,9 @@ fn command<'a>(
     )
 }
 
-/// `explain [--length N] [--base B] [WORD]`.
+/// Returns the command `explain [--length N] [--base B] [WORD]`.
+///
+/// Errors: `AllocError` if an allocation fails.
 pub fn explain_command<'a>(alloc: Global) -> Result<Command<'a>, AllocError>
     ensures shape { IfOk result (λ command. app_of command ≡ explain_command) }
     ensures local { IfOk result (λ command. (out-Command command).has_globals ≡ false) }
@@ -70,7 +74,7 @@ pub fn explain_command<'a>(alloc: Global) -> Result<Command<'a>, AllocError>
     )
 }
 
-/// The command with these arguments more.
+/// Returns the command with these arguments added.
 fn with_arguments<'a>(
     alloc: Global,
     bare: Command<'a>,
@@ -88,7 +92,7 @@ fn with_arguments<'a>(
     Ok(command)
 }
 
-/// The program before its commands are added.
+/// Returns the program before its commands are added.
 fn bare_program<'a>(alloc: Global) -> Result<Command<'a>, AllocError>
     ensures { IfOk result (λ command. app_of command ≡ bare_program) }
 {
@@ -104,7 +108,7 @@ fn bare_program<'a>(alloc: Global) -> Result<Command<'a>, AllocError>
     )
 }
 
-/// A command before its arguments are added.
+/// Returns a command before its arguments are added.
 fn bare_command<'a>(
     alloc: Global,
     name: &'a str,

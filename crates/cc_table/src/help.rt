@@ -1,5 +1,5 @@
-//! The texts of the help: what each command does (`ABOUT`), what follows its arguments (`AFTER_HELP`), and what each
-//! argument or option means (`HELP`).
+//! The help texts: the summary of each command (`ABOUT`), the text after its arguments
+//! (`AFTER_HELP`), and the meaning of each argument or option (`HELP`).
 
 pub(crate) const VERSION: &str = "0.3.0\nCHERI Concentrate, 128 bits, CHERI ISA version 9";
 
@@ -43,7 +43,7 @@ pub(crate) const EXPLAIN_USAGE: &str = "\
 cheri-cap explain <WORD>
        cheri-cap explain --length <N> [--base <B>]";
 
-/// What is said where the values of `explain` do not go together.
+/// The message for values of `explain` that do not go together.
 pub const EXPLAIN_CHOICE: &str =
     "either WORD is wanted, or `--length N` and with it `--base B` or not";
 

@@ -1,4 +1,4 @@
-//! The command line, as clap reads it: the commands, their arguments and the texts of the help.
+//! The command line, as clap reads it: the commands, their arguments and the help texts.
 #![tactic(auto)]
 
 mod arguments;

@@ -11,7 +11,7 @@ use crate::help::{
     WORD_HELP, WORDS_FILE_HELP,
 };
 
-/// What the help of an argument is about.
+/// The subject of the help of an argument.
 #[derive(Clone, Copy)]
 pub(crate) enum Topic {
     /// `LINE_HELP`.
@@ -46,24 +46,24 @@ pub(crate) enum Topic {
     RequestBase,
 }
 
-/// Whose help.
+/// The command of a help text.
 #[derive(Clone, Copy)]
 pub(crate) enum Page {
-    /// Of `show`.
+    /// The command `show`.
     Show,
-    /// Of `round`.
+    /// The command `round`.
     Round,
-    /// Of `run`.
+    /// The command `run`.
     Run,
-    /// Of `plan`.
+    /// The command `plan`.
     Plan,
-    /// Of `map`.
+    /// The command `map`.
     Map,
-    /// Of `decode`.
+    /// The command `decode`.
     Decode,
 }
 
-/// The help of an argument.
+/// Returns the help of an argument.
 pub(crate) fn help<'a>(topic: Topic) -> &'a str {
     match topic {
         Topic::Line => LINE_HELP,
@@ -84,7 +84,7 @@ pub(crate) fn help<'a>(topic: Topic) -> &'a str {
     }
 }
 
-/// What a command does.
+/// Returns the summary of a command.
 pub(crate) fn about<'a>(page: Page) -> &'a str {
     match page {
         Page::Show => SHOW_ABOUT,
@@ -96,7 +96,7 @@ pub(crate) fn about<'a>(page: Page) -> &'a str {
     }
 }
 
-/// What follows a command's arguments.
+/// Returns the help text after a command's arguments.
 pub(crate) fn after_help<'a>(page: Page) -> &'a str {
     match page {
         Page::Show => SHOW_AFTER_HELP,
@@ -108,12 +108,12 @@ pub(crate) fn after_help<'a>(page: Page) -> &'a str {
     }
 }
 
-/// What an argument is.
+/// The kind of an argument.
 #[derive(Clone, Copy)]
 pub(crate) enum Kind {
-    /// It has to be given.
+    /// A required argument.
     Wanted,
-    /// It may be left out.
+    /// An optional argument.
     Free,
     /// An option with a value.
     Valued,
@@ -138,7 +138,7 @@ pub(crate) struct Row<'a> {
     pub(crate) topic: Topic,
 }
 
-/// The texts that `--align`, `--format` and `--bytes` take.
+/// The strings that `--align`, `--format` and `--bytes` accept.
 #[derive(Clone, Copy)]
 pub(crate) struct Choices<'a> {
     pub(crate) aligns: &'a [&'a str],
@@ -154,7 +154,7 @@ pub(crate) struct CommandRow<'a> {
     pub(crate) rows: &'a [Row<'a>],
 }
 
-/// The commands but for `explain`.
+/// The commands except `explain`.
 const COMMANDS: &[CommandRow] = &[
     CommandRow {
         name: "show",
@@ -340,14 +340,14 @@ const EXPLAIN_ROWS: &[Row] = &[
     },
 ];
 
-/// The commands but for `explain`.
+/// Returns the commands except `explain`.
 pub(crate) fn commands<'a>() -> &'a [CommandRow<'a>]
     ensures { (choices : Choices) → with_commands choices bare_program result.now ≡ listed_commands choices.aligns choices.formats choices.orders }
 {
     COMMANDS
 }
 
-/// The arguments of `explain`.
+/// Returns the arguments of `explain`.
 pub(crate) fn explain_rows<'a>() -> &'a [Row<'a>]
     ensures { (choices : Choices) → with_arguments choices (new_app (codes "explain")) result.now ≡ explain_command }
 {

@@ -1,4 +1,5 @@
-//! Text in fixed room: pages of any size, lines, pieces with a number in them, and the texts of refusals.
+//! Output in fixed-size buffers: pages of any size, lines, chunks with a number in them, and the
+//! lines of refusals.
 #![tactic(auto)]
 
 mod numbered;

@@ -1,4 +1,4 @@
-//! Pieces of text with a number in them.
+//! Chunks of output with a number in them.
 ghost use Rattle.std.specs.Prelude.{◌≡◌, ◌+◌, ◌≤◌, ◌++◌, length};
 ghost use Rattle.cc_text.specs.Numbered.{line_with_decimal, line_with_hexadecimal, with_decimal, with_digits, with_hexadecimal};
 
@@ -6,6 +6,8 @@ use crate::page::Line;
 use crate::text::{ROOM, Text};
 
 /// Appends bytes, and then the last `count` hexadecimal digits of a number.
+///
+/// Requires: `count <= 32`; `before` has at most 60 bytes; all fits in [`ROOM`] bytes.
 #[tactic(auto, unfolding(crate::specs::Numbered::with_digits))]
 pub fn push_digits(text: &mut Text, before: &[u8], number: u128, count: usize)
     requires digits { count ≤ 32 }
@@ -21,6 +23,8 @@ pub fn push_digits(text: &mut Text, before: &[u8], number: u128, count: usize)
 }
 
 /// Appends bytes, and then a number in decimal.
+///
+/// Requires: `before` has at most 60 bytes; all fits in [`ROOM`] bytes, with 40 for the number.
 #[tactic(auto, unfolding(crate::specs::Numbered::with_decimal))]
 pub fn push_decimal(text: &mut Text, before: &[u8], number: u128)
     requires before { length before.now ≤ 60 }
@@ -35,6 +39,8 @@ pub fn push_decimal(text: &mut Text, before: &[u8], number: u128)
 }
 
 /// Appends bytes, and then a number in hexadecimal, with `0x` and without leading zeros.
+///
+/// Requires: `before` has at most 60 bytes; all fits in [`ROOM`] bytes, with 34 for the number.
 #[tactic(auto, unfolding(crate::specs::Numbered::with_hexadecimal))]
 pub fn push_hexadecimal(text: &mut Text, before: &[u8], number: u128)
     requires before { length before.now ≤ 60 }
@@ -49,6 +55,9 @@ pub fn push_hexadecimal(text: &mut Text, before: &[u8], number: u128)
 }
 
 /// Appends the end of a line: bytes, a number in decimal, bytes and the line feed.
+///
+/// Requires: `before` has at most 60 bytes, and `after` at most 70; all fits in [`ROOM`] bytes,
+/// with 40 for the number.
 #[tactic(auto, unfolding(crate::specs::Numbered::line_with_decimal))]
 pub fn end_with_decimal(text: &mut Text, before: &[u8], number: u128, after: &[u8])
     requires before { length before.now ≤ 60 }
@@ -65,6 +74,9 @@ pub fn end_with_decimal(text: &mut Text, before: &[u8], number: u128, after: &[u
 }
 
 /// Appends the end of a line: bytes, a number in hexadecimal with `0x`, bytes and the line feed.
+///
+/// Requires: `before` has at most 60 bytes, and `after` at most 70; all fits in [`ROOM`] bytes,
+/// with 34 for the number.
 #[tactic(auto, unfolding(crate::specs::Numbered::line_with_hexadecimal))]
 pub fn end_with_hexadecimal(text: &mut Text, before: &[u8], number: u128, after: &[u8])
     requires before { length before.now ≤ 60 }

@@ -1,4 +1,4 @@
-//! Bytes that go out, as the text of a reply or as replies that wait, in fixed room.
+//! Output bytes in fixed-size buffers: a reply, or replies that are pending.
 ghost use Rattle.std.specs.Prelude.{◌≡◌, ◌+◌, ◌-◌, ◌*◌, ◌/◌, ◌%◌, ◌^◌, ◌≤◌, ◌<◌, [], ◌∷◌, ◌++◌, length, take, drop, decimal, false};
 ghost use Rattle.std.specs.Fmt.{digits};
 ghost use Rattle.cc_word.specs.WordText.{digits_of};
@@ -7,22 +7,22 @@ ghost use Rattle.cc_word.specs.WordText.{hexadecimal};
 use cc_word::{write_half, write_word_fast};
 use std::marker::Model;
 
-/// The most bytes of a reply.
+/// The maximum length of a reply in bytes.
 pub const MOST_REPLY: usize = 192;
 
-/// The most bytes of a reply and its line feed.
+/// The maximum length of a reply and its line feed in bytes.
 pub const MOST_LINE: usize = 193;
 
-/// The most bytes that wait in a sink.
+/// The maximum number of bytes that are pending for a sink.
 pub const MOST_WAITING: usize = 65536;
 
-/// Room for the text of a reply, or for a line that is as short.
+/// A buffer for a reply, or for a line that is as short.
 pub type Line = Page<MOST_REPLY>;
 
-/// Room for a reply and its line feed.
+/// A buffer for a reply and its line feed.
 pub type WholeLine = Page<MOST_LINE>;
 
-/// Room for replies that wait.
+/// A buffer for replies that are pending.
 pub type Waiting = Page<MOST_WAITING>;
 
 /// The two decimal digits of each number below 100.
@@ -37,7 +37,7 @@ const PAIRS: [u8; 200] = *b"00010203040506070809\
     80818283848586878889\
     90919293949596979899";
 
-/// At most `N` bytes, which stand in the value itself.
+/// At most `N` bytes, which are stored in the value itself.
 #[derive(Drop)]
 pub struct Page<const N: usize> {
     room: [u8; N],
@@ -55,7 +55,7 @@ impl<const N: usize> Model for Page<N> {
 }
 
 impl<const N: usize> Page<N> {
-    /// No byte yet.
+    /// Creates a page with no bytes.
     pub fn new() -> Self
         ensures { result ≡ [] }
     {
@@ -65,7 +65,7 @@ impl<const N: usize> Page<N> {
         }
     }
 
-    /// The bytes.
+    /// Returns the bytes of the page.
     pub fn bytes(&self) -> &[u8]
         ensures value { result.now ≡ self.now }
         ensures fits { length result.now ≤ N }
@@ -73,7 +73,7 @@ impl<const N: usize> Page<N> {
         &self.room[..self.len]
     }
 
-    /// How many bytes there are.
+    /// Returns the number of bytes of the page.
     #[inline(always)]
     pub fn len(&self) -> usize
         ensures value { result ≡ length self.now }
@@ -82,14 +82,16 @@ impl<const N: usize> Page<N> {
         self.len
     }
 
-    /// Forgets all the bytes.
+    /// Removes all the bytes.
     pub fn clear(&mut self)
         ensures { self.new ≡ [] }
     {
         self.len = 0;
     }
 
-    /// Forgets the first bytes.
+    /// Removes the first `count` bytes.
+    ///
+    /// Requires: the page has at least `count` bytes.
     pub fn drop_front(&mut self, count: usize)
         requires { count ≤ length self.old }
         ensures { self.new ≡ drop count self.old }
@@ -99,19 +101,24 @@ impl<const N: usize> Page<N> {
     }
 
     /// Appends bytes as they are.
+    ///
+    /// Requires: the bytes fit on the page.
     #[inline(always)]
     pub fn push(&mut self, bytes: &[u8])
         requires { length self.old + length bytes.now ≤ N }
         ensures { self.new ≡ self.old ++ bytes.now }
     {
         let end = self.len + bytes.len();
-        // a mutable part is taken of a slice and not of an array of `N` bytes, which the prover does not cover
+        // the mutable part is taken of a slice and not of an array of `N` bytes, which the prover
+        // does not cover
         let room = &mut self.room[..];
         room[self.len..end].copy_from_slice(bytes);
         self.len = end;
     }
 
-    /// Appends bytes that are known when the program is built.
+    /// Appends bytes that are known at compile time.
+    ///
+    /// Requires: the bytes fit on the page.
     #[inline(always)]
     pub fn push_known<const M: usize>(&mut self, bytes: [u8; M])
         requires { length self.old + M ≤ N }
@@ -121,6 +128,8 @@ impl<const N: usize> Page<N> {
     }
 
     /// Appends the number of a slot or of an object in decimal digits.
+    ///
+    /// Requires: 10 bytes fit on the page.
     #[tactic(auto, using(crate::proofs::DecimalLemmas::one_digit, crate::proofs::DecimalLemmas::two_alone))]
     pub fn push_index(&mut self, number: u32)
         requires { length self.old + 10 ≤ N }
@@ -144,7 +153,7 @@ impl<const N: usize> Page<N> {
         self.push_pair(number % 100);
     }
 
-    /// The same of a number of five digits or more.
+    /// Appends a number of at least five digits in decimal digits.
     #[inline(always)]
     fn push_long_index(&mut self, number: u32)
         requires long { 10000 ≤ number }
@@ -177,7 +186,7 @@ impl<const N: usize> Page<N> {
         self.push(&[first, second]);
     }
 
-    /// Appends the second of them alone.
+    /// Appends the second of the two decimal digits of a number below 100.
     #[inline(always)]
     fn push_second_digit(&mut self, number: u32)
         requires small { number < 100 }
@@ -189,7 +198,7 @@ impl<const N: usize> Page<N> {
         self.push(&[second]);
     }
 
-    /// The number of a slot or of an object of any size.
+    /// Appends the number of a slot or of an object of any size.
     #[cold]
     #[inline(never)]
     fn push_large_index(&mut self, number: u32)
@@ -202,6 +211,8 @@ impl<const N: usize> Page<N> {
     }
 
     /// Appends a number in decimal digits.
+    ///
+    /// Requires: 40 bytes fit on the page.
     pub fn push_decimal(&mut self, number: u128)
         requires { length self.old + 40 ≤ N }
         ensures value { self.new ≡ self.old ++ decimal number }
@@ -213,7 +224,7 @@ impl<const N: usize> Page<N> {
         self.push_long_decimal(number);
     }
 
-    /// A number of any size in decimal digits.
+    /// Appends a number of any size in decimal digits.
     #[inline(never)]
     fn push_long_decimal(&mut self, number: u128)
         requires { length self.old + 40 ≤ N }
@@ -225,6 +236,8 @@ impl<const N: usize> Page<N> {
     }
 
     /// Appends the last `count` hexadecimal digits of a number.
+    ///
+    /// Requires: `count <= 32`; `count` bytes fit on the page.
     pub fn push_digits(&mut self, number: u128, count: usize)
         requires digits { count ≤ 32 }
         requires room { length self.old + count ≤ N }
@@ -235,6 +248,8 @@ impl<const N: usize> Page<N> {
     }
 
     /// Appends the 32 hexadecimal digits of a word.
+    ///
+    /// Requires: 32 bytes fit on the page.
     pub fn push_word(&mut self, word: u128)
         requires { length self.old + 32 ≤ N }
         ensures value { self.new ≡ self.old ++ digits_of 32 word }
@@ -244,6 +259,8 @@ impl<const N: usize> Page<N> {
     }
 
     /// Appends `0x` and a number's hexadecimal digits without leading zeros.
+    ///
+    /// Requires: 34 bytes fit on the page.
     #[inline(always)]
     pub fn push_hexadecimal(&mut self, number: u128)
         requires { length self.old + 34 ≤ N }
@@ -257,7 +274,7 @@ impl<const N: usize> Page<N> {
         }
     }
 
-    /// The same of a number of 64 bits.
+    /// Appends `0x` and the hexadecimal digits of a number of at most 64 bits.
     #[inline(never)]
     fn push_short_hexadecimal(&mut self, number: u64)
         requires { length self.old + 34 ≤ N }
@@ -268,7 +285,7 @@ impl<const N: usize> Page<N> {
         self.push_significant(number);
     }
 
-    /// The same of a longer number.
+    /// Appends `0x` and the hexadecimal digits of a number of more than 64 bits.
     #[cold]
     #[inline(never)]
     fn push_long_hexadecimal(&mut self, number: u128)
@@ -293,7 +310,9 @@ impl<const N: usize> Page<N> {
         self.drop_last(16 - count);
     }
 
-    /// Forgets the last bytes.
+    /// Removes the last `count` bytes.
+    ///
+    /// Requires: the page has at least `count` bytes.
     #[inline(always)]
     pub fn drop_last(&mut self, count: usize)
         requires { count ≤ length self.old }
@@ -303,7 +322,7 @@ impl<const N: usize> Page<N> {
     }
 }
 
-/// The two decimal digits of a number below 100.
+/// Returns the two decimal digits of a number below 100.
 #[inline(always)]
 #[tactic(auto, using(crate::proofs::DecimalLemmas::first_listed, crate::proofs::DecimalLemmas::second_listed))]
 fn digits_of_pair(number: u32) -> (u8, u8)
@@ -315,7 +334,7 @@ fn digits_of_pair(number: u32) -> (u8, u8)
     (PAIRS[at], PAIRS[at + 1])
 }
 
-/// How many hexadecimal digits a number has, without leading zeros.
+/// Returns the number of hexadecimal digits, without leading zeros.
 fn digit_count(number: u64) -> usize
     ensures some { 1 ≤ result }
     ensures most { result ≤ 16 }

@@ -1,10 +1,10 @@
-//! The text of a refusal.
+//! The lines of refusals.
 ghost use Rattle.std.specs.Prelude.{◌≡◌, ◌≤◌, length};
 ghost use Rattle.cc_text.specs.Text.{refusal_text, with_line_feed};
 
 use cc_word::Refusal;
 
-/// Returns the text of a refusal and its line feed, at most 32 bytes.
+/// Returns the line of a refusal and its line feed, at most 32 bytes.
 pub fn refusal_bytes(refusal: Refusal) -> &'static [u8]
     ensures value { result.now ≡ with_line_feed (refusal_text refusal) }
     ensures fits { length result.now ≤ 32 }

@@ -1,14 +1,15 @@
-//! Text in fixed room.
+//! Output in a fixed-size buffer.
 ghost use Rattle.std.specs.Prelude.{◌≡◌, ℕ, ◌+◌, ◌≤◌, List, [], ◌++◌, length, take};
 ghost use Rattle.cc_text.specs.Text.{with_line_feed};
 
 use crate::page::Line;
 use std::marker::Model;
 
-/// The most bytes of a text. No answer, and no part of a drawing, that is written at once has more.
+/// The maximum length of a [`Text`] in bytes. No reply, and no part of a drawing, that is written
+/// at once is longer.
 pub const ROOM: usize = 4096;
 
-/// Text of at most [`ROOM`] bytes, which grows at its end and never allocates.
+/// A buffer of at most [`ROOM`] bytes, which grows at its end and never allocates.
 #[derive(Drop)]
 pub struct Text {
     room: [u8; ROOM],
@@ -27,7 +28,7 @@ impl Model for Text {
 }
 
 impl Text {
-    /// No text yet.
+    /// Creates a text with no bytes.
     pub fn new() -> Self
         ensures { result ≡ [] }
     {
@@ -37,7 +38,7 @@ impl Text {
         }
     }
 
-    /// The bytes of the text.
+    /// Returns the bytes of the text.
     pub fn bytes(&self) -> &[u8]
         ensures value { result.now ≡ self.now }
         ensures fits { length result.now ≤ ROOM }
@@ -46,6 +47,8 @@ impl Text {
     }
 
     /// Appends bytes as they are.
+    ///
+    /// Requires: the bytes fit in the text, which has at most [`ROOM`] bytes.
     pub fn push(&mut self, bytes: &[u8])
         requires { length self.old + length bytes.now ≤ ROOM }
         ensures { self.new ≡ self.old ++ bytes.now }
@@ -56,6 +59,8 @@ impl Text {
     }
 
     /// Appends a line and its line feed.
+    ///
+    /// Requires: both fit in the text, which has at most [`ROOM`] bytes.
     pub fn push_line(&mut self, line: &Line)
         requires { length self.old + length line.now + 1 ≤ ROOM }
         ensures value { self.new ≡ self.old ++ with_line_feed line.now }

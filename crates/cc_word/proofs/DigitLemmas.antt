@@ -89,7 +89,7 @@ last_digit : (n : ℕ) → digits_of 1 n ≡ digit_glyph false (n % 16) ∷ []
 unfolding digits_of
 last_digit n = ap (λ (g : ℕ). g ∷ []) (ap (λ (m : ℕ). slice_index lower_digits (m % 16)) (div-one n) ∙ glyph_is (n % 16) (omega arith))
 
--- a number of so many digits and one, written from its last on
+-- a number of `suc c` digits, written from its last on
 onto-count : (c k n : ℕ) (done : List ℕ) → suc c ≤ k → n < 16 ^ suc c → (0 < c → 16 ^ c ≤ n)
     → digits_onto k 16 false n done ≡ digits_of (suc c) n ++ done
 onto-count c zero n done room fits least = absurd (omega arith)

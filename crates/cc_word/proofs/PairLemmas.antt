@@ -77,7 +77,7 @@ decode_sized-value n text bytes h =
     let l : twice (length bytes) ≡ 2 * n = sym v.1 ∙ len in
     (v.0, length-twice (length bytes) n (l ∙ sym (twice-is n)))
 
--- the word of the bytes that a text spells
+-- the word of the bytes that a text decodes to
 pub decode_sized-word : (text bytes : List ℕ) → decode_sized text 16 ≡ Ok bytes → from_be_bytes w128 bytes ≡ digits_value 16 text
 decode_sized-word text bytes h =
     let v = decode_sized-value 16 text bytes h in

@@ -35,7 +35,7 @@ worth-most byte fits =
     let none = eqb-true (worth byte - 2 ^ 32) 0 (agree_below_at (λ b. (worth b - 2 ^ 32) == 0) (λ b. true) 256 byte refl fits) in
     omega (arith, none)
 
--- the number that bytes make behind `before`: for each, 16 times what is there and the worth of the byte
+-- the number that bytes make after `before`: each adds its worth to 16 times the number so far
 pub gathered : (before : ℕ) (bytes : List ℕ) → ℕ
 gathered before [] = before
 gathered before (byte ∷ bytes) = gathered (before * 16 + worth byte) bytes
@@ -88,7 +88,7 @@ second_passes false b h = cc h
 worth-digit : (byte : ℕ) → is_hex_digit byte ≡ true → worth byte ≡ digit_value byte
 worth-digit byte h = rw h refl
 
--- of digits the number is the one that they spell
+-- for digits, the number is their value
 gathered-value : (before : ℕ) (bytes : List ℕ) → list_all is_hex_digit bytes ≡ true → gathered before bytes ≡ digits_value_after 16 before bytes
 unfolding gathered
 gathered-value before [] digits = refl
@@ -115,13 +115,13 @@ all_below (byte ∷ bytes) digits = (
   all_below bytes (second_passes (is_hex_digit byte) (list_all is_hex_digit bytes) digits),
 )
 
--- eight digits spell a number below 2 ^ 32
+-- the value of eight digits is below 2 ^ 32
 eight-small : (bytes : List ℕ) → length bytes ≡ 8 → list_all is_hex_digit bytes ≡ true → digits_value 16 bytes < 2 ^ 32
 eight-small bytes eight digits =
     let below : digits_value 16 bytes < 16 ^ length bytes = digits_value-lt 16 bytes (all_below bytes digits) in
     rw eight at below
 
--- the number of eight bytes: below 2 ^ 32 exactly if they are digits, and then the number that they spell
+-- the number of eight bytes: below 2 ^ 32 if and only if they are digits, and then their value
 pub record Gathered (number : ℕ) (bytes : List ℕ) : Type 0 where
   pub digits : number < 2 ^ 32 → AllPass is_hex_digit bytes
   pub small : AllPass is_hex_digit bytes → number < 2 ^ 32

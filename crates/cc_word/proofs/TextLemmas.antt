@@ -1,4 +1,4 @@
--- The digits of words, over the bytes that stand between.
+-- The digits of words, by way of their bytes.
 use Rattle.std.proofs.Common.{◌-◌, ◌<◌, ◌≤◌, inl, inr, ◌≡◌, ℕ, zero, suc, ◌/◌, ◌%◌, ◌^◌, Some, None, refl, sym, arith, ap, ◌∙◌, ◌++◌, List, [], take, drop, length, append-nil}
 use Rattle.std.proofs.lemmas.List.{take_all, take-append-le, drop_all, drop_at, length-drop}
 use Rattle.std.proofs.Math.Nat.{pow-suc, div-div-eq-div-mul, div-one}

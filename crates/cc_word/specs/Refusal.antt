@@ -1,9 +1,9 @@
--- The table of refusals: the code and the name of each; and what a check is.
+-- The table of refusals, with the code and the name of each, and the form of a check.
 use Rattle.std.specs.Prelude.{ℕ, ◌⊎◌, List, codes}
 use Rattle.cc_word.specs.declared.refusal.Refusal.{Refusal}
 use Rattle.cc_word.specs.declared.refusal.Refusal.TheVariants.{Syntax, Unfinished, TooLong, OutOfRange, NoSlot, Revoked, Sealed, Unsealed, OutOfBounds, Inexact, Unrepresentable, MissingPermission, ReservedType, TypeMismatch, NotCanonical, ExceedsAuthority, NoPool, PoolAlreadySet, ZeroSize, NoRoom, NoObject, Full}
 
--- the number by which scripts print a refusal
+-- The number that scripts print for a refusal.
 abbrev pub code_of : Refusal → ℕ
 code_of Syntax = 1
 code_of Unfinished = 2
@@ -28,7 +28,7 @@ code_of NoRoom = 20
 code_of NoObject = 21
 code_of Full = 22
 
--- the one lower-case word by which scripts print a refusal
+-- The name that scripts print for a refusal: one token in lower case.
 abbrev pub name_of : Refusal → List ℕ
 name_of Syntax = codes "syntax"
 name_of Unfinished = codes "unfinished"
@@ -53,7 +53,8 @@ name_of NoRoom = codes "noroom"
 name_of NoObject = codes "object"
 name_of Full = codes "full"
 
--- A check: the condition holds and the rest decides, or it fails, and what was asked for is refused. `refused` says
--- with which refusal, and what stays.
+-- `RefusedUnless` holds if `condition` and `rest` hold, or if `condition` does not hold and
+-- `refused` does. It is a check: `refused` says with which refusal the request is refused, and what
+-- does not change.
 abbrev pub RefusedUnless : (condition refused rest : Type 0) → Type 0
 RefusedUnless condition refused rest = (condition × rest) ⊎ ((¬ condition) × refused)

@@ -1,7 +1,7 @@
-//! The fields of a word.
+//! The fields of a capability word.
 ghost use Rattle.std.specs.Prelude.{◌<◌, ◌^◌};
 
-/// The fields of a capability word, with the exclusive-or of the null capability taken away.
+/// The fields of a capability word, without the exclusive-or with the null capability.
 ///
 /// ```text
 /// 127   124 123     112 111  110  109  108    91  90  89    78 77    64 63       0
@@ -12,23 +12,24 @@ ghost use Rattle.std.specs.Prelude.{◌<◌, ◌^◌};
 ///      4         12          2     1       18      1      12       14        64
 /// ```
 ///
-/// The type keeps each field within its width, for every value that exists. The standard: UCAM-CL-TR-987,
-/// the compressed capability encoding; Woodruff et al. 2019.
+/// Every value of the type has each field within its width.
+///
+/// Source: UCAM-CL-TR-987, the compressed capability encoding; Woodruff et al. 2019.
 #[derive(Clone, Copy, PartialEq, Eq, Debug)]
 pub struct Fields {
-    /// The four user permissions above the twelve hardware permissions.
+    /// The permissions, 16 bits: 4 user permissions above 12 hardware permissions.
     pub perms: u16,
-    /// Two bits that are zero in every capability of this library.
+    /// The reserved bits, 2 bits. They are zero in every capability of this library.
     pub reserved: u8,
-    /// The flag: for CHERI-RISC-V, whether code runs in capability mode.
+    /// The flag. For CHERI-RISC-V, it says whether code runs in capability mode.
     pub flag: bool,
-    /// The object type, of 18 bits. 0x3ffff is unsealed.
+    /// The object type, 18 bits. 0x3ffff is unsealed.
     pub otype: u32,
-    /// The internal exponent: whether the low three bits of `t` and of `b` hold the exponent.
+    /// The internal exponent bit IE: whether the low 3 bits of `t` and of `b` hold the exponent.
     pub ie: bool,
-    /// The T field as stored, of 12 bits.
+    /// The T field as stored, 12 bits.
     pub t: u16,
-    /// The B field as stored, of 14 bits.
+    /// The B field as stored, 14 bits.
     pub b: u16,
     /// The capability's own address.
     pub address: u64,

@@ -1,4 +1,5 @@
-//! The digits of words by tables, for callers that read or write words by the million. The contracts are those of `text`.
+//! The digits of words by tables, for callers that read or write words by the million. The
+//! contracts are those of `text`.
 ghost use Rattle.std.specs.Prelude.{◌≡◌, ◌↔◌, ◌+◌, ◌*◌, ◌/◌, ◌%◌, ◌<◌, ◌^◌, ◌++◌, length, slice_index, if◌then◌else◌, IsSome, IfSome};
 ghost use Rattle.std.specs.Char.{digit_value};
 ghost use Rattle.std.specs.List.{AllPass};
@@ -33,7 +34,8 @@ const DIGIT_VALUES: [u64; 256] = [
 /// Entry of [`FIRST_DIGIT_VALUES`] for a byte that is not a hexadecimal digit.
 const MORE: u64 = 16 * NONE;
 
-/// The value of each byte as the first of two hexadecimal digits: sixteen times that of [`DIGIT_VALUES`].
+/// The value of each byte as the first of two hexadecimal digits: 16 times that of
+/// [`DIGIT_VALUES`].
 #[rattlefmt::skip]
 const FIRST_DIGIT_VALUES: [u64; 256] = [
     MORE, MORE, MORE, MORE, MORE, MORE, MORE, MORE, MORE, MORE, MORE, MORE, MORE, MORE, MORE, MORE,
@@ -54,7 +56,7 @@ const FIRST_DIGIT_VALUES: [u64; 256] = [
     MORE, MORE, MORE, MORE, MORE, MORE, MORE, MORE, MORE, MORE, MORE, MORE, MORE, MORE, MORE, MORE,
 ];
 
-/// The value of a digit, and [`NONE`] for a byte that is no digit.
+/// Returns the value of a digit, or [`NONE`] for a byte that is not a digit.
 #[tactic(auto, using(crate::proofs::ReadingLemmas::value_listed))]
 fn value_of_digit(byte: u8) -> u64
     ensures { result ≡ (if is_hex_digit byte then digit_value byte else 2 ^ 32) }
@@ -62,7 +64,7 @@ fn value_of_digit(byte: u8) -> u64
     DIGIT_VALUES[usize::from(byte)]
 }
 
-/// Sixteen times the value of a digit, and sixteen times [`NONE`] for a byte that is no digit.
+/// Returns 16 times the value of a digit, or 16 times [`NONE`] for a byte that is not a digit.
 #[tactic(auto, using(crate::proofs::ReadingLemmas::first_value_listed))]
 fn value_of_first_digit(byte: u8) -> u64
     ensures { result ≡ 16 * (if is_hex_digit byte then digit_value byte else 2 ^ 32) }
@@ -70,7 +72,7 @@ fn value_of_first_digit(byte: u8) -> u64
     FIRST_DIGIT_VALUES[usize::from(byte)]
 }
 
-/// The hexadecimal digit of a number below 16, in lower case.
+/// Returns the hexadecimal digit of a number below 16, in lower case.
 #[inline(always)]
 #[tactic(auto, using(crate::proofs::WritingLemmas::decimal_listed, crate::proofs::WritingLemmas::letter_listed))]
 fn digit_of(value: u8) -> u8
@@ -84,7 +86,7 @@ fn digit_of(value: u8) -> u8
     }
 }
 
-/// The first of the two hexadecimal digits of a byte.
+/// Returns the first of the two hexadecimal digits of a byte.
 #[inline(always)]
 fn high_digit(byte: u8) -> u8
     ensures { result ≡ slice_index lower_digits (byte / 16) }
@@ -92,7 +94,7 @@ fn high_digit(byte: u8) -> u8
     digit_of(byte / 16)
 }
 
-/// The second of them.
+/// Returns the second of the two hexadecimal digits of a byte.
 #[inline(always)]
 fn low_digit(byte: u8) -> u8
     ensures { result ≡ slice_index lower_digits (byte % 16) }
@@ -100,9 +102,10 @@ fn low_digit(byte: u8) -> u8
     digit_of(byte % 16)
 }
 
-/// The number that eight digits spell, which is below 2^32, or a greater one where a byte is no digit.
+/// Returns the number of eight hexadecimal digits, which is below 2^32, or a larger number if a
+/// byte is not a digit.
 ///
-/// Two digits at a time, each from its own table, so that no digit has to be shifted by itself.
+/// Reads two digits at a time, each from its own table, so that no digit is shifted separately.
 #[inline(always)]
 fn value_of_eight(digits: &[u8]) -> u64
     requires { length digits.now ≡ 8 }
@@ -130,9 +133,10 @@ fn write_digits(bytes: &[u8], text: &mut [u8])
     }
 }
 
-/// The digits of eight bytes.
+/// Returns the hexadecimal digits of eight bytes.
 ///
-/// Not inlined: the bytes then lie in memory, and the compiler makes all 16 digits in one vector.
+/// Not inlined, so that the bytes are in memory and the compiler computes all 16 digits in one
+/// vector.
 #[inline(never)]
 fn digits_of_eight(bytes: &[u8; 8]) -> [u8; 16]
     ensures { result ≡ encode_with lower_digits bytes.now }
@@ -144,7 +148,7 @@ fn digits_of_eight(bytes: &[u8; 8]) -> [u8; 16]
 
 /// Writes the digits of a word's two halves.
 ///
-/// Not inlined: on its own, the compiler swaps the bytes of each half once.
+/// Not inlined, so that the compiler swaps the bytes of each half once.
 #[inline(never)]
 fn write_halves(high: u64, low: u64, text: &mut [u8; 32])
     ensures { text.new ≡ digits_of 16 high ++ digits_of 16 low }
@@ -153,9 +157,10 @@ fn write_halves(high: u64, low: u64, text: &mut [u8; 32])
     text[16..32].copy_from_slice(&write_half(low));
 }
 
-/// Returns the word that 32 hexadecimal digits spell, as [`read_word`](crate::read_word) does.
+/// Returns the word of 32 hexadecimal digits of either case, or `None` for any other input.
 ///
-/// Eight digits at a time through two tables, and one test of all 32: 108 instructions a word.
+/// The contract is that of [`read_word`](crate::read_word). Reads eight digits at a time through
+/// two tables, with one test of all 32: 108 instructions per word.
 pub fn read_word_fast(text: &[u8]) -> Option<u128>
     ensures found { IsSome result ↔ IsWordText text.now }
     ensures value { IfSome result (λ word. word ≡ digits_value 16 text.now) }
@@ -168,7 +173,7 @@ pub fn read_word_fast(text: &[u8]) -> Option<u128>
     let b = value_of_eight(&high[8..16]);
     let c = value_of_eight(&low[..8]);
     let d = value_of_eight(&low[8..16]);
-    // One test of all four: a byte that is no digit leaves a bit above the low 32.
+    // One test of all four: a byte that is not a digit leaves a bit above the low 32.
     if a | b | c | d < NONE {
         Some((u128::from(a * NONE + b) << 64) + u128::from(c * NONE + d))
     } else {
@@ -176,7 +181,8 @@ pub fn read_word_fast(text: &[u8]) -> Option<u128>
     }
 }
 
-/// Returns the number that eight hexadecimal digits of either case spell, or `None` if a byte is not a digit.
+/// Returns the number of eight hexadecimal digits of either case, or `None` if a byte is not a
+/// digit.
 #[inline(always)]
 pub fn read_quarter(digits: &[u8; 8]) -> Option<u32>
     ensures found { IsSome result ↔ AllPass is_hex_digit digits.now }
@@ -190,7 +196,9 @@ pub fn read_quarter(digits: &[u8; 8]) -> Option<u32>
     }
 }
 
-/// Returns the 32 hexadecimal digits of a word, as [`write_word`](crate::write_word) does.
+/// Returns the 32 hexadecimal digits of a word, in lower case, the highest first.
+///
+/// The contract is that of [`write_word`](crate::write_word).
 #[inline(always)]
 pub fn write_word_fast(word: u128) -> [u8; 32]
     ensures { result ≡ digits_of 32 word }
@@ -200,7 +208,8 @@ pub fn write_word_fast(word: u128) -> [u8; 32]
     text
 }
 
-/// Writes the 32 hexadecimal digits of a word into the caller's array.
+/// Writes the 32 hexadecimal digits of a word into the caller's array, in lower case, the highest
+/// first.
 #[inline(always)]
 #[tactic(auto, using(crate::proofs::DigitLemmas::word_halves))]
 pub fn write_word_fast_to(word: u128, text: &mut [u8; 32])
@@ -209,7 +218,8 @@ pub fn write_word_fast_to(word: u128, text: &mut [u8; 32])
     write_halves((word >> 64) as u64, (word % (1 << 64)) as u64, text);
 }
 
-/// Returns the 16 hexadecimal digits of half a word, such as an address, in lower case, the highest first.
+/// Returns the 16 hexadecimal digits of half a word, such as an address, in lower case, the highest
+/// first.
 #[inline(always)]
 #[tactic(auto, using(crate::proofs::TextLemmas::half_written))]
 pub fn write_half(half: u64) -> [u8; 16]

@@ -1,4 +1,4 @@
-//! Words from fields and fields from words.
+//! The layout of words: fields from words, and words from fields.
 ghost use Rattle.std.specs.Prelude.{◌≡◌, ◌+◌, ◌*◌, ◌/◌, ◌%◌, ◌^◌, ◌<◌, ◌≤◌};
 ghost use Rattle.std.specs.Int.RustNames.{bit_xor};
 ghost use Rattle.cc_word.specs.Word.{bit_of, word_of};
@@ -7,11 +7,11 @@ ghost use Rattle.cc_word.specs.declared.fields.Fields.{Fields as FieldsSpec};
 
 use crate::fields::Fields;
 
-/// The layout of the null capability: type 0x3ffff, IE, T field 6, B field 4. A word in memory is its
-/// fields' layout with these bits turned, so that null is all zeros.
+/// The layout of the null capability: type 0x3ffff, IE, T field 6, B field 4. A word in memory is
+/// the layout of its fields with these bits inverted, so that null is all zeros.
 const NULL_LAYOUT: u128 = 0x0000_1fff_fc01_8004_0000_0000_0000_0000;
 
-/// The layout of a word, and the word of a layout: either turns the bits that null's layout has.
+/// Returns the layout of a word, or the word of a layout: both invert the bits of null's layout.
 #[tactic(auto, using(crate::proofs::WordLemmas::turned_twice))]
 fn turned(number: u128) -> u128
     ensures turned { result ≡ bit_xor number null_layout }
@@ -20,7 +20,7 @@ fn turned(number: u128) -> u128
     number ^ NULL_LAYOUT
 }
 
-/// The `width` bits of a layout from bit `low` up.
+/// Returns the `width` bits of a layout from bit `low` up.
 #[tactic(auto, using(crate::proofs::WordLemmas::masked))]
 fn bits(layout: u128, low: u32, width: u32) -> u128
     requires low_fits { low < 128 }
@@ -30,7 +30,7 @@ fn bits(layout: u128, low: u32, width: u32) -> u128
     (layout >> low) & ((1 << width) - 1)
 }
 
-/// The bit of a layout at `low`.
+/// Returns the bit of a layout at `low`.
 fn bit(layout: u128, low: u32) -> bool
     requires { low < 128 }
     ensures { bit_of result ≡ layout / 2 ^ low % 2 }
@@ -38,7 +38,7 @@ fn bit(layout: u128, low: u32) -> bool
     bits(layout, low, 1) == 1
 }
 
-/// The fields cut from a layout, each from its own bits.
+/// Returns the fields of a layout, each from its own bits.
 #[tactic(auto, unfolding(crate::specs::Layout::plain_layout_of))]
 fn fields_of_layout(layout: u128) -> Fields
     ensures { plain_layout_of result ≡ layout }
@@ -55,7 +55,7 @@ fn fields_of_layout(layout: u128) -> Fields
     }
 }
 
-/// The bits of `high`, followed by `width` bits of `low`.
+/// Returns the bits of `high`, followed by `width` bits of `low`.
 #[tactic(auto, using(crate::proofs::WordLemmas::or_below))]
 fn followed(high: u128, low: u128, width: u32) -> u128
     requires low_fits { low < 2 ^ width }
@@ -66,7 +66,7 @@ fn followed(high: u128, low: u128, width: u32) -> u128
     (high << width) | low
 }
 
-/// The layout of fields: each at its own bits, before those of null are turned.
+/// Returns the layout of fields: each at its own bits, before the bits of null are inverted.
 #[tactic(auto, unfolding(crate::specs::Layout::plain_layout_of))]
 fn layout(fields: &Fields) -> u128
     ensures { result ≡ plain_layout_of fields.now }
@@ -81,10 +81,11 @@ fn layout(fields: &Fields) -> u128
     followed(layout, u128::from(fields.address), 64)
 }
 
-/// The fields of a word.
+/// Returns the fields of a word.
 ///
-/// Every one of the 2^128 words has fields, canonical or not, and no other fields have that word. The
-/// standard: UCAM-CL-TR-987, the compressed capability encoding.
+/// Every one of the 2^128 words has fields, canonical or not, and no other fields have this word.
+///
+/// Source: UCAM-CL-TR-987, the compressed capability encoding.
 #[tactic(auto, using(crate::proofs::WordLemmas::layout_turned))]
 pub fn unpack(word: u128) -> Fields
     ensures word { word_of result ≡ word }
@@ -93,8 +94,9 @@ pub fn unpack(word: u128) -> Fields
     fields_of_layout(turned(word))
 }
 
-/// The word of fields: the inverse of [`unpack`]. The standard: UCAM-CL-TR-987, the compressed capability
-/// encoding.
+/// Returns the word of fields. This is the inverse of [`unpack`].
+///
+/// Source: UCAM-CL-TR-987, the compressed capability encoding.
 #[tactic(auto, using(crate::proofs::WordLemmas::layout_turned))]
 pub fn pack(fields: &Fields) -> u128
     ensures { result ≡ word_of fields.now }

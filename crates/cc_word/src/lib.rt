@@ -1,5 +1,5 @@
-//! The layout of a 128-bit CHERI Concentrate capability word, its text, and the refusals that every
-//! crate of the library answers.
+//! The layout of a 128-bit CHERI Concentrate capability word, its text, and the refusals of every
+//! crate of the library.
 #![tactic(auto)]
 
 mod fields;

@@ -1,66 +1,68 @@
-//! Why a call was refused.
+//! The reason why a call was refused.
 ghost use Rattle.std.specs.Prelude.{◌≡◌};
 ghost use Rattle.cc_word.specs.Refusal.{code_of, name_of};
 
-/// Why a call was refused. One table serves every crate of the library; after a refusal the state is as
-/// it was.
+/// The reason why a call was refused.
+///
+/// One table serves every crate of the library. After a refusal, the state is as it was.
 #[derive(Clone, Copy, PartialEq, Eq, Debug)]
 pub enum Refusal {
-    /// A text is not the command, the number or the word that is wanted.
+    /// An input that is not the required command, number or word.
     Syntax = 1,
-    /// A script ends within a line: its last bytes have no line feed.
+    /// A script that ends within a line: its last bytes have no line feed.
     Unfinished = 2,
-    /// A line of a script has more than 128 bytes.
+    /// A line of a script that has more than 128 bytes.
     TooLong = 3,
-    /// A number is over its limit.
+    /// A number that is over its limit.
     OutOfRange = 4,
-    /// No slot has this number.
+    /// The number of a slot that does not exist.
     NoSlot = 5,
-    /// The slot's capability was revoked.
+    /// A slot whose capability was revoked.
     Revoked = 6,
-    /// A capability is sealed that has to be unsealed.
+    /// A sealed capability that must be unsealed.
     Sealed = 7,
-    /// A capability is unsealed that has to be sealed.
+    /// An unsealed capability that must be sealed.
     Unsealed = 8,
-    /// A request does not lie within the capability's bounds, or an authority's address within its own.
+    /// A request that is not within the capability's bounds, or an authority's address that is not
+    /// within its own.
     OutOfBounds = 9,
-    /// The bounds asked for can't be stored without rounding.
+    /// Requested bounds that cannot be stored without rounding.
     Inexact = 10,
-    /// At this address the word would decode to other bounds.
+    /// An address at which the word would decode to other bounds.
     Unrepresentable = 11,
-    /// The authority lacks the permission to seal or to unseal.
+    /// An authority that lacks the permission to seal or to unseal.
     MissingPermission = 12,
-    /// The authority's address is above 0x3ffef, the last type that sealing gives.
+    /// An authority whose address is above 0x3ffef, the last type that sealing gives.
     ReservedType = 13,
-    /// The authority's address is not the type of the sealed capability.
+    /// An authority whose address is not the type of the sealed capability.
     TypeMismatch = 14,
-    /// The word is not the word of a capability.
+    /// A word that is not the word of a capability.
     NotCanonical = 15,
-    /// The word grants more than its authority, or is sealed.
+    /// A word that grants more than its authority, or is sealed.
     ExceedsAuthority = 16,
-    /// No pool has been set.
+    /// A missing pool: none has been set.
     NoPool = 17,
-    /// A pool has been set before.
+    /// A second pool: one has already been set.
     PoolAlreadySet = 18,
-    /// An object can't have size 0.
+    /// Size 0, which no object can have.
     ZeroSize = 19,
-    /// No place in the pool is left for an object of this size.
+    /// The size of an object for which the pool has no place left.
     NoRoom = 20,
-    /// No object has this number; or a live one is wanted, and the object of this number was freed.
+    /// The number of an object that does not exist, or of a freed object if a live one is required.
     NoObject = 21,
-    /// As many slots or objects were made as the limit allows.
+    /// The limit on slots or objects: as many were created as it allows.
     Full = 22,
 }
 
 impl Refusal {
-    /// The number by which scripts print the refusal, from 1 to 22.
+    /// Returns the number that scripts print for the refusal, from 1 to 22.
     pub fn code(self) -> u8
         ensures { result ≡ code_of self }
     {
         self as u8
     }
 
-    /// The one lower-case word by which scripts print the refusal.
+    /// Returns the name that scripts print for the refusal: one token in lower case.
     pub fn name(self) -> &'static str
         ensures { result.now ≡ name_of self }
     {

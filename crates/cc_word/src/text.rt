@@ -1,4 +1,4 @@
-//! Words as text: 32 hexadecimal digits, the highest first.
+//! The text of words: 32 hexadecimal digits, the highest first.
 ghost use Rattle.std.specs.Prelude.{◌≡◌, ◌↔◌, IsSome, IfSome};
 ghost use Rattle.std.specs.Int.{w128, from_be_bytes};
 ghost use Rattle.std.specs.Str.Parse.{digits_value};
@@ -7,10 +7,11 @@ ghost use Rattle.cc_word.specs.WordText.{IsWordText, digits_of};
 
 use hex::{decode_to_slice, encode_to_slice};
 
-/// Returns the word that 32 hexadecimal digits of either case spell.
+/// Returns the word of 32 hexadecimal digits of either case, the highest first.
 ///
-/// Returns `None` for any other text: fewer or more digits, a prefix, a space, a byte that is not a digit.
-/// Where words come by the million, [`read_word_fast`](crate::read_word_fast) takes a quarter of the instructions.
+/// Returns `None` for any other input: fewer or more digits, a prefix, a space, or a byte that is
+/// not a digit. For words by the million, [`read_word_fast`](crate::read_word_fast) takes a quarter
+/// of the instructions.
 pub fn read_word(text: &[u8]) -> Option<u128>
     ensures found { IsSome result ↔ IsWordText text.now }
     ensures value { IfSome result (λ word. word ≡ digits_value 16 text.now) }
@@ -21,14 +22,14 @@ pub fn read_word(text: &[u8]) -> Option<u128>
 
 /// Returns the 32 hexadecimal digits of a word, in lower case, the highest first.
 ///
-/// Where words come by the million, [`write_word_fast`](crate::write_word_fast) takes fewer instructions.
+/// For words by the million, [`write_word_fast`](crate::write_word_fast) takes fewer instructions.
 pub fn write_word(word: u128) -> [u8; 32]
     ensures { result ≡ digits_of 32 word }
 {
     digits_of_bytes(bytes_of_word(word))
 }
 
-/// The bytes that 32 hexadecimal digits spell, the highest first.
+/// Returns the bytes of 32 hexadecimal digits, the highest first, or `None` for any other input.
 fn bytes_of_digits(text: &[u8]) -> Option<[u8; 16]>
     ensures found { IsSome result ↔ IsWordText text.now }
     ensures value { IfSome result (λ bytes. from_be_bytes w128 bytes ≡ digits_value 16 text.now) }
@@ -40,7 +41,7 @@ fn bytes_of_digits(text: &[u8]) -> Option<[u8; 16]>
     }
 }
 
-/// The hexadecimal digits of sixteen bytes, two for each, in lower case.
+/// Returns the hexadecimal digits of 16 bytes, two for each, in lower case.
 fn digits_of_bytes(bytes: [u8; 16]) -> [u8; 32]
     ensures { result ≡ encode_with lower_digits bytes }
 {
@@ -49,7 +50,7 @@ fn digits_of_bytes(bytes: [u8; 16]) -> [u8; 32]
     text
 }
 
-/// The bytes of a word, the highest first.
+/// Returns the bytes of a word, the highest first.
 fn bytes_of_word(word: u128) -> [u8; 16]
     ensures { encode_with lower_digits result ≡ digits_of 32 word }
 {

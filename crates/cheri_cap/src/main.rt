@@ -1,5 +1,5 @@
-//! The program `cheri-cap`: shows and explains what CHERI Concentrate capability words hold, how lengths are
-//! rounded, and what a machine of capabilities replies to a script.
+//! The program `cheri-cap`: shows and explains CHERI Concentrate capability words, rounds lengths,
+//! and runs scripts on a machine of capabilities.
 #![tactic(auto)]
 
 use cc_program::{Terminals, answer_arguments, finish};

@@ -1,5 +1,6 @@
-//! Tests of cc_plan and cc_machine: what no script of the program shows and no contract says. They stand apart from
-//! these crates, so that the bodies are not proved once more beside the tests.
+//! Tests of cc_plan and cc_machine: the behavior that no script of the program shows and no
+//! contract states. They are in a separate crate, so that the bodies are not proved a second time
+//! with the tests.
 #![tactic(auto)]
 
 #[cfg(test)]

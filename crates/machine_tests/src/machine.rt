@@ -1,4 +1,5 @@
-//! Machines as callers of the library see them. What a machine replies to each operation is tried on the program.
+//! Machines as callers of the library see them. The replies to each operation are tested on the
+//! program.
 mod memory;
 mod reading;
 mod values;

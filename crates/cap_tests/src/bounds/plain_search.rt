@@ -1,4 +1,4 @@
-//! `set_bounds` against a plain search, which tries one granule after another.
+//! Compares `set_bounds` with a plain search, which tests one granule after another.
 ghost use Rattle.std.specs.Prelude.{◌<◌, ◌≤◌};
 
 use cc_bounds::{Span, set_bounds};
@@ -6,7 +6,7 @@ use cc_bounds::{Span, set_bounds};
 /// The power of two of the largest granule.
 const MAX_POWER: u32 = 55;
 
-/// How many granules of 2^power bytes the request touches.
+/// Returns the number of granules of 2^power bytes that the request touches.
 fn granules_touched(request: &Span, power: u32) -> u128
     requires { power ≤ MAX_POWER }
 {
@@ -17,8 +17,8 @@ fn granules_touched(request: &Span, power: u32) -> u128
         .saturating_sub(u128::from(request.base) / granule)
 }
 
-/// The granule of a request as a power of two: the first of 8, 16, 32 and so on of which the request
-/// touches at most 1,023.
+/// Returns the granule of a request as a power of two: the first of 8, 16, 32 and so on of which
+/// the request touches at most 1,023.
 fn granule_power(request: &Span) -> u32
     ensures fits { result ≤ MAX_POWER }
 {
@@ -33,7 +33,8 @@ fn granule_power(request: &Span) -> u32
     MAX_POWER
 }
 
-/// What a request is granted: the exponent, IE, the T and the B field; the granted span; whether it is exact.
+/// Returns the encoding that a request is granted: the exponent, IE, the T and the B field; the
+/// granted span; whether it is exact.
 fn searched(request: Span) -> ((u8, bool, u16, u16), Span, bool) {
     let power = granule_power(&request);
     let exponent = power.saturating_sub(3);
@@ -47,7 +48,7 @@ fn searched(request: Span) -> ((u8, bool, u16, u16), Span, bool) {
     (fields, granted, granted == request)
 }
 
-/// Both grant these bytes alike.
+/// Returns whether both grant the same for these bytes.
 fn is_as_searched(base: u64, len: u128) -> bool
     requires base { base < 64 }
     requires length { len ≤ 8300 }
@@ -60,7 +61,7 @@ fn is_as_searched(base: u64, len: u128) -> bool
         && set.exact() == exact
 }
 
-/// Both agree on each length from 4,000 to 8,300.
+/// Returns whether both agree on each length from 4,000 to 8,300.
 fn are_as_searched(base: u64) -> bool
     requires { base < 64 }
 {

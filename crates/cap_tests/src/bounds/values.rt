@@ -1,7 +1,8 @@
-//! `==` and `clone` have no contract: unequal values are told apart, and a clone equals its original.
+//! `==` and `clone` have no contract: unequal values are distinguished, and a clone equals its
+//! original.
 use cc_bounds::{Set, Span, set_bounds};
 
-/// The span equals its clone, and not this one.
+/// Returns whether `other` equals its clone, and not `span`.
 fn span_is_told_apart(span: Span, other: Span) -> bool {
     span != other && other.clone().is_ok_and(|copy| copy == other)
 }
@@ -12,12 +13,13 @@ fn are_spans_told_apart() -> bool {
         && span_is_told_apart(span, Span { base: 1, top: 2 })
 }
 
-/// The set of bounds equals its clone, and not this one.
+/// Returns whether `other` equals its clone, and not `set`.
 fn set_is_told_apart(set: &Set, other: Set) -> bool {
     *set != other && other.clone().is_ok_and(|copy| copy == other)
 }
 
-/// Bounds that were rounded are told from the same bounds without rounding, and from others.
+/// Returns whether bounds that were rounded are distinguished from the same bounds without
+/// rounding, and from others.
 fn rounded_is_told_apart() -> bool {
     let rounded = set_bounds(1, 8184);
     set_is_told_apart(&rounded, set_bounds(0, 8192))

@@ -1,8 +1,9 @@
-//! Many words at once.
+//! The batch functions on words.
 use cc_bounds::{ADDRESS_SPACE, Span};
 use cc_cap::many;
 
-/// The root's word, one of 512 bytes, and one with an exponent field of 53, which no capability has.
+/// The root's word, one of 512 bytes, and one with an exponent field of 53, which no capability
+/// has.
 const WORDS: [u128; 3] = [
     0xffff0000000000000000000000000000,
     0xffff0000048190040000000000001000,

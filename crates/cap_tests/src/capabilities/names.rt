@@ -1,4 +1,5 @@
-//! Names of permissions, which the parser of scripts tells by their bytes, and numbers of types.
+//! Names of permissions, which the parser of scripts distinguishes by their bytes, and numbers of
+//! types.
 use cc_cap::{ObjType, Perms};
 
 const NAMES: [&str; 16] = [
@@ -20,7 +21,7 @@ const NAMES: [&str; 16] = [
     "USER3",
 ];
 
-/// The name is that of the permission with these bits; `None` where no permission has it.
+/// Returns the bits of the permission with this name, or `None` if no permission has it.
 fn bits_of(name: &str) -> Option<u16> {
     match Perms::from_name(name) {
         Some(perms) => Some(perms.bits()),
@@ -38,7 +39,8 @@ fn permission_names(rt: HostRuntime) {
     assert!(rt; bits_of("READ").is_none() && bits_of("").is_none());
 }
 
-/// The number of the type with these bits, and whether a capability of it is sealed; `None` for a reserved one.
+/// Returns the number of the type with these bits, and whether a capability of it is sealed, or
+/// `None` for a reserved one.
 fn type_of(bits: u32) -> Option<(u32, bool)> {
     match ObjType::from_bits(bits) {
         Some(otype) => Some((otype.bits(), otype.is_sealed())),

@@ -1,12 +1,13 @@
-//! The rules on words, of which a script has those on capabilities alone: what each makes, and that a word of no
-//! capability is refused first. The law `rules_on_words_are_those_of_capabilities` says the rest.
+//! The rules on words, of which a script has those on capabilities alone: the result of each, and
+//! that a word of no capability is refused first. The law
+//! `rules_on_words_are_those_of_capabilities` covers the other cases.
 use Rule::{
     AndPerms, Increment, Rebuild, Seal, SetAddress, SetBounds, SetBoundsExact, SetFlag, Unseal,
 };
 use cc_cap::{Perms, words};
 use cc_word::Refusal;
 
-/// A rule, and what it takes beside the word; the last three take another word.
+/// A rule and its argument after the word. The last three take another word.
 #[derive(Clone, Copy)]
 enum Rule {
     SetAddress(u64),
@@ -28,7 +29,7 @@ const SEVEN: u128 = 0xffff0000000000000000000000000007;
 /// [0x1000, 0x1200) at 0x1000.
 const SMALL: u128 = 0xffff0000048190040000000000001000;
 
-/// The same, sealed with type 7.
+/// [0x1000, 0x1200) at 0x1000, sealed with type 7.
 const SMALL_SEALED: u128 = 0xffff1fffc48190040000000000001000;
 
 /// Not canonical: sealed with type 0, and with an exponent field of 53.
@@ -37,10 +38,10 @@ const NO_WORD: u128 = 0xffff1ffff80000010000000000000000;
 /// A sentry, whose type is reserved, so that it is not canonical.
 const SENTRY: u128 = 0xffff0000080000000000000000000000;
 
-/// A byte more than the address space has.
+/// One byte more than the address space has.
 const TOO_LONG: u128 = (1 << 64) + 1;
 
-/// A word, a rule, and the word that it makes, or 0 and the code of its refusal.
+/// A word, a rule, and the word that it returns, or 0 and the code of its refusal.
 type Row = (u128, Rule, (u128, u8));
 
 #[rattlefmt::skip]
@@ -82,7 +83,7 @@ fn made(word: u128, rule: Rule) -> Result<u128, Refusal> {
     }
 }
 
-/// The word that the rule makes, or 0 and the code of its refusal.
+/// Returns the word that the rule returns, or 0 and the code of its refusal.
 fn answer(word: u128, rule: Rule) -> (u128, u8) {
     match made(word, rule) {
         Ok(made) => (made, 0),

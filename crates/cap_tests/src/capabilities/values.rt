@@ -1,12 +1,13 @@
-//! `==` of permissions and types, and `clone`, have no contract: unequal values are told apart, and a clone equals its
-//! original. `==` of capabilities has one.
+//! `==` of permissions and types, and `clone`, have no contract: unequal values are distinguished,
+//! and a clone equals its original. `==` of capabilities has a contract.
 use cc_cap::{Cap, ObjType, Perms};
 
 fn are_perms_told_apart() -> bool {
     Perms::LOAD != Perms::STORE && Perms::LOAD.clone().is_ok_and(|copy| copy == Perms::LOAD)
 }
 
-/// The type of this capability is not that of an unsealed one, and equals its clone; so does the capability.
+/// Returns whether the type of this capability is not that of an unsealed one and equals its clone,
+/// and the capability equals its clone.
 fn is_sealed_told_apart(sealed: Cap) -> bool {
     let otype = sealed.otype();
     otype != ObjType::UNSEALED

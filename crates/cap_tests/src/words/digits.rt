@@ -1,4 +1,5 @@
-//! The digits of a word, by the calls for one word and by those for many: both read and write alike.
+//! The digits of a word, by the functions for one word and by those for many: both read and write
+//! alike.
 ghost use Rattle.std.specs.Prelude.{◌<◌, ◌≤◌};
 
 use cc_word::{
@@ -8,7 +9,7 @@ use cc_word::{
 /// Digits of both cases.
 const TEXT: [u8; 32] = *b"0123456789abcdefABCDEF9876543210";
 
-/// Whether both find a word in the text; `None` where they differ.
+/// Returns whether both find a word in the text, or `None` if they differ.
 fn is_word(text: &[u8]) -> Option<bool> {
     let found = read_word(text);
     if found == read_word_fast(text) {
@@ -18,7 +19,8 @@ fn is_word(text: &[u8]) -> Option<bool> {
     }
 }
 
-/// With how many of the 256 bytes at this place of the text it is a word, to both.
+/// Returns the number of bytes, of all 256, for which the text with this byte at this place is a
+/// word to both.
 fn count_digits(place: usize) -> u32
     requires { place < 32 }
 {
@@ -42,7 +44,7 @@ fn each_byte_at_each_place(rt: HostRuntime) {
     }
 }
 
-/// Of so many digits both make a word exactly if there are 32.
+/// Returns whether both find a word in `len` digits if and only if there are 32.
 fn is_length_told(len: usize) -> bool
     requires { len ≤ 40 }
 {
@@ -57,7 +59,7 @@ fn each_length_of_a_text(rt: HostRuntime) {
     }
 }
 
-/// Both write the same digits of the word, and read it from them.
+/// Returns whether both write the same digits of the word, and read it from them.
 fn is_written_and_read(word: u128) -> bool {
     let text = write_word(word);
     text == write_word_fast(word)
@@ -65,13 +67,13 @@ fn is_written_and_read(word: u128) -> bool {
         && read_word_fast(&text) == Some(word)
 }
 
-/// The next of a row of numbers by chance.
+/// Returns the next of a sequence of pseudorandom numbers.
 fn next(seed: u64) -> u64 {
     seed.wrapping_mul(6364136223846793005)
         .wrapping_add(1442695040888963407)
 }
 
-/// So it is with 100,000 words by chance.
+/// Returns whether both write and read 100,000 pseudorandom words alike.
 fn are_written_and_read() -> bool {
     let mut seed = 1u64;
     for _ in 0..100_000u32 {
@@ -91,7 +93,8 @@ fn words_by_chance(rt: HostRuntime) {
 
 const WORD: u128 = 0xfedcba98765432100123456789abcdef;
 
-/// The digits of a word, into room that is given too, and those of its upper half.
+/// Returns whether the digits of a word, also in a given array, and those of its upper half are
+/// right.
 fn is_spelled() -> bool {
     let mut text = [0; 32];
     write_word_fast_to(WORD, &mut text);

@@ -1,9 +1,11 @@
-//! `==` and `clone` have no contract: unequal values are told apart, and a clone equals its original.
+//! `==` and `clone` have no contract: unequal values are distinguished, and a clone equals its
+//! original.
 ghost use Rattle.std.specs.Prelude.{◌<◌};
 
 use cc_word::{Refusal, unpack};
 
-/// The fields of the word with this one bit are not those of null, and equal their clone.
+/// Returns whether the fields of the word with this one bit are not those of null, and equal their
+/// clone.
 fn is_told_apart(bit: u32) -> bool
     requires { bit < 128 }
 {
@@ -11,7 +13,7 @@ fn is_told_apart(bit: u32) -> bool
     fields != unpack(0) && fields.clone().is_ok_and(|copy| copy == fields)
 }
 
-/// Refusals are told apart, and one equals its clone.
+/// Returns whether refusals are distinguished, and one equals its clone.
 fn are_refusals_told_apart() -> bool {
     Refusal::Sealed != Refusal::Unsealed
         && Refusal::Syntax != Refusal::Full

@@ -1,5 +1,5 @@
-//! A machine opens at the second attempt where memory was refused at the first. In an ordinary run none is refused;
-//! `tests/opening` refuses each request of this test in turn.
+//! A machine is created at the second attempt if an allocation failed at the first. In an ordinary
+//! run none fails; `tests/opening` lets each allocation of this test fail in turn.
 use cc_machine::{Machine, Op, Reply};
 use cc_word::Refusal;
 use std::alloc::{AllocError, Global};
@@ -14,7 +14,7 @@ fn makes_slots(machine: &mut Machine, limit: u32) -> bool {
     machine.slots() == limit && machine.step(&Op::Flag(0, true)) == Reply::Refused(Refusal::Full)
 }
 
-/// A machine opens, at the latest at the second attempt, and makes slots up to its limit.
+/// A machine is created, at the latest at the second attempt, and makes slots up to its limit.
 fn opens_again(alloc: Global, limit: u32) -> bool {
     let limit = limit.clamp(1, 16);
     let machine = match Machine::with_limit(alloc, limit) {

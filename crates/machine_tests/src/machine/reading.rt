@@ -1,10 +1,11 @@
-//! A run of operations at once, and what is read of a machine without an operation.
+//! A run of operations in one call, and the values that a machine returns without an operation.
 use cc_bounds::Span;
 use cc_machine::{Align, Len, Machine, Object, ObjectState, Op, Reply};
 use cc_word::Refusal;
 use std::alloc::{AllocError, Global};
 
-/// Of two objects the first is freed and swept, with a slot that was derived from it; and then no slot is left.
+/// Of two objects the first is freed and swept, with a slot that was derived from it. Then no slot
+/// is left.
 fn run(machine: &mut Machine) -> bool {
     let Some(len) = Len::new(16) else {
         return false;
@@ -40,7 +41,7 @@ fn are_replies(replies: &[Reply; 7]) -> bool {
     replies[3] == second && replies[5] == swept && replies[6] == Reply::Refused(Refusal::Full)
 }
 
-/// The code of a refusal, by which it is told from all others; 0 for none.
+/// Returns the code of a refusal, which distinguishes it from all others, or 0 for none.
 fn code<T: Copy>(answer: &Result<T, Refusal>) -> u8 {
     match answer {
         Ok(_) => 0,
@@ -48,7 +49,7 @@ fn code<T: Copy>(answer: &Result<T, Refusal>) -> u8 {
     }
 }
 
-/// The capability's address; `None` where the slot is refused.
+/// Returns the capability's address, or `None` if the slot is refused.
 fn address(machine: &Machine, slot: u32) -> Option<u64> {
     match machine.slot(slot) {
         Ok(cap) => Some(cap.address()),
@@ -65,7 +66,7 @@ fn are_slots(machine: &Machine) -> bool {
         && code(&machine.slot(4)) == Refusal::NoSlot.code()
 }
 
-/// The slot's parent, slot 9 for none, and 10 for no slot.
+/// Returns the slot's parent, 9 if it has none, or 10 if there is no such slot.
 fn parent(machine: &Machine, slot: u32) -> u32 {
     match machine.parent(slot) {
         Ok(parent) => parent.unwrap_or(9),

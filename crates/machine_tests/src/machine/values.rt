@@ -1,9 +1,10 @@
-//! `==` and `clone` have no contract: unequal values of a machine are told apart, and a clone equals its original.
+//! `==` and `clone` have no contract: unequal values of a machine are distinguished, and a clone
+//! equals its original.
 use cc_bounds::Span;
 use cc_machine::{Align, Len, Object, ObjectState, Op, Reply};
 use cc_word::Refusal;
 
-/// The other reply equals its clone, and not this one.
+/// The other reply equals its clone, and differs from this one.
 fn reply_is_told_apart(other: &Reply, reply: &Reply) -> bool {
     match other.clone() {
         Ok(copy) => *other != *reply && copy == *other,
@@ -11,7 +12,7 @@ fn reply_is_told_apart(other: &Reply, reply: &Reply) -> bool {
     }
 }
 
-/// The other operation equals its clone, and not this one.
+/// The other operation equals its clone, and differs from this one.
 fn op_is_told_apart(other: &Op, op: &Op) -> bool {
     match other.clone() {
         Ok(copy) => *other != *op && copy == *other,
@@ -34,7 +35,7 @@ macro_rules! pool_set {
     };
 }
 
-/// An object of this number, and how many bytes are held.
+/// An object with this number, and the number of held bytes.
 macro_rules! allocated {
     ($object:expr, $held:expr) => {
         Reply::Allocated {
@@ -47,7 +48,7 @@ macro_rules! allocated {
     };
 }
 
-/// The object of this number is freed, and so many bytes are held.
+/// The object with this number is freed, and this number of bytes is held.
 macro_rules! freed {
     ($object:expr, $held:expr) => {
         Reply::Freed {
@@ -58,7 +59,7 @@ macro_rules! freed {
     };
 }
 
-/// So many objects are swept, and so many slots revoked.
+/// The numbers of objects swept and of slots revoked.
 macro_rules! swept {
     ($objects:expr, $revoked:expr) => {
         Reply::Swept {
@@ -118,7 +119,7 @@ fn object(size: u128, slot: u32, state: ObjectState) -> Object {
     Object { size, slot, state }
 }
 
-/// A live object of 8 bytes in slot 1 is told from these.
+/// A live object of 8 bytes in slot 1 differs from these.
 fn live_is_told_apart() -> bool {
     let live = object(8, 1, ObjectState::Live);
     live != object(9, 1, ObjectState::Live)
@@ -127,7 +128,7 @@ fn live_is_told_apart() -> bool {
         && ObjectState::Freed != ObjectState::Swept
 }
 
-/// An allocation is told from these, and lengths are told apart.
+/// An allocation differs from these, and lengths are distinguished.
 fn allocation_is_told_apart() -> bool {
     let (Some(length), Some(longer)) = (Len::new(8), Len::new(9)) else {
         return false;

@@ -1,4 +1,4 @@
-//! The three placers answer alike, whatever is made, freed and swept.
+//! The three placers reply alike, whatever is made, freed and swept.
 ghost use Rattle.std.specs.Prelude.{◌≤◌, ◌^◌};
 ghost use Rattle.cc_plan.specs.Replay.{IsWithinLimit};
 
@@ -28,7 +28,7 @@ impl Planners {
         })
     }
 
-    /// The reply to the call, if all three give the same.
+    /// Returns the reply to the call, if all three give the same.
     fn reply(&mut self, call: PlanCall) -> Option<PlanReply>
         requires { IsWithinLimit call }
     {
@@ -42,7 +42,8 @@ impl Planners {
         }
     }
 
-    /// All three hold as many bytes, and the two that count spans alike as many spans.
+    /// All three hold the same number of bytes, and the two that count spans alike the same number
+    /// of spans.
     fn hold_alike(&self) -> bool {
         self.sorted.held_bytes() == self.scanning.held_bytes()
             && self.blocks.held_bytes() == self.scanning.held_bytes()
@@ -63,8 +64,9 @@ fn reply<P: Placer>(planner: &mut Planner<P>, call: PlanCall) -> PlanReply
     replies[0]
 }
 
-/// The least of the 20 sizes of a kind: few bytes; around 4,096 and 8,184 bytes, above which the granule is 8 and 16
-/// bytes; and around 1,023 and 1,024 times 2^19, above which it is 2^20.
+/// Returns the smallest of the 20 sizes of a kind. The kinds are few bytes; around 4,096 and 8,184
+/// bytes, above which the granule is 8 and 16 bytes; and around 1,023 and 1,024 times 2^19, above
+/// which it is 2^20.
 fn least_size(kind: u32) -> u128
     ensures { result ≤ 2 ^ 63 }
 {
@@ -79,7 +81,8 @@ fn least_size(kind: u32) -> u128
     }
 }
 
-/// The next call of a walk over so many kinds of sizes: three of five make an object, the others free one.
+/// Returns the next call of a walk over `kinds` kinds of sizes: three of five make an object, the
+/// others free one.
 fn next_call(seed: u32, kinds: u32, objects: u32) -> PlanCall
     ensures { IsWithinLimit result }
 {
@@ -102,7 +105,7 @@ fn walks(planners: &mut Planners, first: u32, kinds: u32) -> bool {
             Some(_) => {}
             None => return false,
         }
-        // sweeps take no freed object, one or some
+        // a sweep takes no freed object, one, or more
         if seed >> 20 & 1 == 0 && !planners.sweep() {
             return false;
         }
@@ -117,10 +120,10 @@ fn walks_anew(alloc: Global, first: u32, kinds: u32, pool: Pool) -> bool {
     }
 }
 
-/// The first seed of a walk, how many kinds of sizes it takes, and the pool.
+/// The first seed of a walk, the number of kinds of sizes that it takes, and the pool.
 type Walk = (u32, u32, Pool);
 
-/// Much room, little and hardly any; both ends of the address space; and alignment 16.
+/// Much free space, little and hardly any; both ends of the address space; and alignment 16.
 const WALKS: [Walk; 7] = [
     (1, 5, (0, 1 << 64, Align::One)),
     (7, 5, (0x10000, 0x10000, Align::One)),
@@ -153,7 +156,7 @@ const CALLS: [PlanCall; 9] = [
     Alloc(1),
 ];
 
-/// Where the reply says that an object begins.
+/// Returns the start of the object that the reply reports.
 fn start(reply: &PlanReply) -> Option<u64> {
     match reply {
         PlanReply::Placed(_, cap) => Some(cap.address()),
@@ -161,7 +164,8 @@ fn start(reply: &PlanReply) -> Option<u64> {
     }
 }
 
-/// A run of calls at once has these replies: the freed place is taken again, and the last object has no number left.
+/// The calls of one run have these replies: the freed place is taken again, and no number is left
+/// for the last object.
 fn are_replies(replies: &[PlanReply; 9]) -> bool {
     start(&replies[2]) == Some(0x10040)
         && replies[4] == PlanReply::Swept(1)

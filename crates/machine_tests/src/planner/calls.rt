@@ -1,11 +1,11 @@
-//! A planner alone: that it is full by its objects, and what is read of it.
+//! A planner alone: it is full by the number of its objects, and its values are read.
 use cc_bounds::Span;
 use cc_cap::Cap;
 use cc_plan::{ObjectId, ObjectState, Placer, PlannedObject, Planner, SortedPlacer};
 use cc_word::Refusal;
 use std::alloc::{AllocError, Global};
 
-/// The code of a refusal, by which it is told from all others; 0 for none.
+/// Returns the code of a refusal, which distinguishes it from all others, or 0 for none.
 fn code<T: Copy>(answer: &Result<T, Refusal>) -> u8 {
     match answer {
         Ok(_) => 0,
@@ -27,7 +27,7 @@ fn takes_one_pool(planner: &mut Planner<SortedPlacer>) -> bool {
         && planner.pool() == Some(Cap::root())
 }
 
-/// Two objects are made, and a third has no number left, whether one is freed or not.
+/// Two objects are made, and no number is left for a third, whether one is freed or not.
 fn is_full_at_two(planner: &mut Planner<SortedPlacer>) -> bool {
     planner.alloc(100).is_ok()
         && planner.alloc(5000).is_ok()

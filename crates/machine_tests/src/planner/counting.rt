@@ -4,7 +4,7 @@ use cc_bounds::Span;
 use cc_plan::{Align, ObjectId, Placer, Planner, SortedPlacer};
 use std::alloc::{AllocError, Global};
 
-/// A placer that counts how often it is asked to hold a span, and passes every call on.
+/// A placer that counts the calls of `hold`, and forwards every call.
 #[derive(Drop)]
 struct CountingPlacer<P> {
     inner: P,
@@ -49,12 +49,12 @@ impl<P: Placer> Placer for CountingPlacer<P> {
 
 type Counted = Planner<CountingPlacer<SortedPlacer>>;
 
-/// The placer was asked so often to hold a span, and so many are held.
+/// The placer was called `holds` times to hold a span, and holds `count` spans.
 fn has_held(planner: &Counted, holds: u32, count: u32) -> bool {
     planner.placer().holds == holds && planner.placer().count() == count
 }
 
-/// Four objects fill a pool of 64 bytes, and a fifth has no room.
+/// Four objects fill a pool of 64 bytes, and a fifth does not fit.
 fn holds_four(planner: &mut Counted) -> bool {
     for _ in 0..4u32 {
         if planner.alloc(16).is_err() {

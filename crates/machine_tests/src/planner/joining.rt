@@ -1,4 +1,4 @@
-//! A placer without a planner: where no spare block is left, two blocks of one span are joined.
+//! A placer without a planner: if no spare block is left, two blocks of one span are joined.
 ghost use Rattle.std.specs.Prelude.{◌≡◌, ◌<◌, IsSome};
 ghost use Rattle.cc_plan.specs.Placement.{AddsSpan};
 
@@ -7,7 +7,7 @@ use cc_plan::{BlockPlacer, Placer};
 use std::process::Abort;
 use std::test::Fail;
 
-/// Holds so many bytes at the lowest place that they have.
+/// Holds `len` bytes at the lowest place for them.
 fn hold_least(rt: &impl Abort, placer: &mut BlockPlacer, len: u64) -> Span
     requires some { 0 < len }
     requires pool { IsSome placer.old.pool }
@@ -26,7 +26,8 @@ fn hold_least(rt: &impl Abort, placer: &mut BlockPlacer, len: u64) -> Span
     span
 }
 
-/// Holds a span and `more` above it, each of `len` bytes, and gives all back but the last, which is its answer.
+/// Holds a span and `more` above it, each of `len` bytes, then releases all except the last, and
+/// returns that.
 fn keep_last(rt: &impl Abort, placer: &mut BlockPlacer, len: u64, more: u32) -> Span
     requires some { 0 < len }
     requires pool { IsSome placer.old.pool }
@@ -44,7 +45,8 @@ fn keep_last(rt: &impl Abort, placer: &mut BlockPlacer, len: u64, more: u32) -> 
     kept
 }
 
-/// Each is more than 56 times the one before, so that no span of it has a place in the 56 of those.
+/// Lengths in bytes. Each is more than 56 times the one before, so no span of it has a place in a
+/// hole for 56 of those.
 const LENGTHS: [u64; 8] = [
     1,
     1 << 6,
@@ -56,7 +58,8 @@ const LENGTHS: [u64; 8] = [
     1 << 42,
 ];
 
-/// Of each length one span stays, above a hole for 56, which begins at the lowest place for such a span.
+/// Keeps one span of each length, above a hole for 56, which begins at the lowest place for such a
+/// span.
 fn leaves_one_of_each(rt: &impl Abort, placer: &mut BlockPlacer) -> bool
     requires pool { IsSome placer.old.pool }
     requires limit { placer.old.limit ≡ 100 }
@@ -93,8 +96,8 @@ fn has_holes(placer: &BlockPlacer) -> bool
     placer.count() == 8
 }
 
-/// There are six blocks for 100 spans, and each length leaves a block of one span: so the sixth length needs two of
-/// them joined.
+/// There are six blocks for 100 spans, and each length leaves a block of one span. So the sixth
+/// length requires that two of them are joined.
 #[test]
 fn blocks_of_one_span_are_joined(rt: HostRuntime) -> Result<(), Fail> {
     let mut placer = BlockPlacer::with_limit(rt.alloc(), 100)?;

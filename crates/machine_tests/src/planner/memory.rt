@@ -1,5 +1,5 @@
-//! Placers and planners open at the second attempt where memory was refused at the first. In an ordinary run none is
-//! refused; `tests/opening` refuses each request of these tests in turn.
+//! Placers and planners are created at the second attempt if an allocation failed at the first. In
+//! an ordinary run none fails; `tests/opening` lets each allocation of these tests fail in turn.
 use super::pool;
 use cc_plan::{BlockPlacer, ObjectId, Placer, Planner, ScanPlacer, SortedPlacer};
 use std::alloc::{AllocError, Global};
@@ -10,7 +10,7 @@ fn works<P: Placer>(planner: &mut Planner<P>) -> bool {
     planner.alloc(16).is_ok() && planner.free(ObjectId(1)).is_ok() && planner.sweep() == 1
 }
 
-/// A placer opens, at the latest at the second attempt, and holds nothing.
+/// A placer is created, at the latest at the second attempt, and holds nothing.
 fn placer_opens<P: Placer>(alloc: Global, limit: u32) -> bool {
     let limit = limit.clamp(1, 4096);
     let placer = match P::with_limit(alloc, limit) {
@@ -23,7 +23,7 @@ fn placer_opens<P: Placer>(alloc: Global, limit: u32) -> bool {
     }
 }
 
-/// A planner opens, at the latest at the second attempt.
+/// Creates a planner, at the latest at the second attempt.
 fn open_planner<P: Placer>(alloc: Global, limit: u32) -> Option<Planner<P>> {
     let limit = limit.clamp(1, 4096);
     match Planner::with_limit(alloc, limit) {
@@ -32,7 +32,7 @@ fn open_planner<P: Placer>(alloc: Global, limit: u32) -> Option<Planner<P>> {
     }
 }
 
-/// So it does, and works.
+/// A planner is created, at the latest at the second attempt, and works.
 fn planner_opens<P: Placer>(alloc: Global, limit: u32) -> bool {
     let (Some(mut planner), Some(pool)) = (open_planner::<P>(alloc, limit), pool(0x1000, 0x100))
     else {

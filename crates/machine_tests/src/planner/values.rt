@@ -1,4 +1,5 @@
-//! `==` and `clone` have no contract: unequal values of a planner are told apart, and a clone equals its original.
+//! `==` and `clone` have no contract: unequal values of a planner are distinguished, and a clone
+//! equals its original.
 use cc_bounds::Span;
 use cc_cap::Cap;
 use cc_plan::{ObjectId, ObjectState, PlanCall, PlanReply, PlannedObject};

@@ -6,7 +6,7 @@ use Rattle.cc_bounds.specs.Window.{IsRepresentable, Represents}
 use Rattle.cc_bounds.proofs.SoundDecodingLemmas.{represents-computed, represents-decodes, inside-Represents}
 use Rattle.cc_bounds.proofs.window.represents.Goals as goal
 
--- the answer, of the span that the set has
+-- the result, for the span of the set
 window : (own span : Span) (e address : ℕ) (answer : Type 0) → own ≡ span → e ≡ exponent_of span → IsSpan span
     → answer ↔ IsRepresentable own.base e address → answer ↔ Represents span address
 window own span e address answer is_span is_e span_is h =

@@ -4,7 +4,7 @@ use Rattle.cc_bounds.specs.Window.{Represents}
 use Rattle.cc_bounds.specs.Encoding.{Encoding, StoresSpan}
 use Rattle.cc_cap.proofs.many.represented.Goals as goal
 
--- the encoding of an option, or another where there is none
+-- the encoding of an option, or another if there is none
 abbrev encoding_or : Encoding → Option Encoding → Encoding
 encoding_or other (Some set) = set
 encoding_or other None = other

@@ -4,7 +4,7 @@ use Rattle.cc_explain.specs.Permissions.{permissions_text}
 use Rattle.cc_decode.specs.Row.{values_text}
 use Rattle.cc_decode.proofs.rows.push_csv_values.Goals as goal
 
--- two texts that were put behind another
+-- two texts that were appended to another
 joined : (old values comma address names mid new : List ℕ) → mid ≡ old ++ values → new ≡ mid ++ comma ++ address ++ comma ++ names
     → new ≡ old ++ (values ++ comma ++ address ++ comma ++ names)
 joined old values comma address names mid new p q = rw (q, p) (simp append_assoc)

@@ -3,7 +3,7 @@ use Rattle.cc_word.specs.WordText.{hexadecimal}
 use Rattle.cc_cap.specs.LineText.{letters_of, marks_of}
 use Rattle.cc_decode.proofs.rows.push_line_of.Goals as goal
 
--- two texts that were put behind another
+-- two texts that were appended to another
 joined : (old address bracket letters comma base dash top close mark mid new : List ℕ) → mid ≡ old ++ address ++ bracket ++ letters
     → new ≡ mid ++ comma ++ base ++ dash ++ top ++ close ++ mark
     → new ≡ old ++ (address ++ bracket ++ letters ++ comma ++ base ++ dash ++ top ++ close ++ mark)

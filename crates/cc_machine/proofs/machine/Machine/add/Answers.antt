@@ -42,7 +42,7 @@ made_of inside now is parent made cap is_made makes =
     subst (λ (s : State). IsMade s parent (Ok cap)) (sym is)
     (subst (λ (r : Result Capability Refusal). IsMade now parent r) is_made makes)
 
--- the parent's slot is there, and its owner has a count
+-- the parent's slot exists, and its owner has a count
 record IsAbove (inside : Inside) (parent : ℕ) (up : Slot) : Type 0 where
   found : slice_get inside.slots.items parent ≡ Some up
   fits : up.owner ≤ length inside.planner.objects
