@@ -5,7 +5,6 @@ use Rattle.std.specs.Borrow.{Bor}
 use Rattle.std.specs.Box.{box_value}
 use Rattle.std.specs.List.{list_any}
 use Rattle.std.specs.Option.{option_map_or}
-use Rattle.std.specs.Result.{result_ok}
 use Rattle.std.specs.Str.{bytes_eq}
 use Rattle.std.specs.Str.Parse.{ParsesUnsigned, starts_with_minus}
 use Rattle.std.proofs.lemmas.Int.{ints}
@@ -24,8 +23,6 @@ use Rattle.clap.specs.declared.parser.matches.ArgMatches.{ArgMatches}
 use Rattle.clap.specs.declared.parser.matches.ArgMatches.TheViews.{out-ArgMatches, out-SubCommand}
 use Rattle.clap.specs.declared.parser.matches.SubCommand.{SubCommand}
 use Rattle.clap.proofs.ValueTestLemmas.{accepts-Accepts}
-use Rattle.cc_word.specs.declared.refusal.Refusal.{Refusal}
-use Rattle.cc_word.specs.declared.refusal.Refusal.TheVariants.{Syntax}
 use Rattle.cc_plan.specs.declared.align.Align.{Align}
 use Rattle.cc_plan.specs.declared.align.Align.TheVariants.{One, Sixteen}
 use Rattle.cc_decode.specs.declared.input.InputForm.{InputForm}
@@ -121,10 +118,10 @@ align_one None read other = refl
 align_one (Some text) read other =
     go (bytes_eq text (codes "1")) (bytes_eq text (codes "16")) (λ is. other (ap Some ((bytes_eq-Decides text (codes "16")).0 is))) read
   where
-    spelt : (one sixteen : Bool) → Result Align Refusal
-    spelt one sixteen = if one then Ok One else if sixteen then Ok Sixteen else Err Syntax
+    named : (one sixteen : Bool) → Option Align
+    named one sixteen = if one then Some One else if sixteen then Some Sixteen else None
 
-    go : (one sixteen : Bool) → (sixteen ≡ true → ⊥) → IsSome (result_ok (spelt one sixteen)) → result_ok (spelt one sixteen) ≡ Some One
+    go : (one sixteen : Bool) → (sixteen ≡ true → ⊥) → IsSome (named one sixteen) → named one sixteen ≡ Some One
     go true sixteen not_sixteen read = refl
     go false true not_sixteen read = absurd (not_sixteen refl)
     go false false not_sixteen read = cc read

@@ -310,4 +310,3 @@ pub ruleset disjointness_breaks = (live_in_freed-breaks)
 
 pub ruleset reaching_breaks = (five_refusals-break)
 
-pub ruleset outcome_breaks = (past_end-breaks)

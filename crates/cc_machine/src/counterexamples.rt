@@ -79,7 +79,6 @@ fn a_run_that_does_not_reach_all()
 {}
 
 /// An address of 65 bits, which no `Op` has.
-#[tactic(auto, using(crate::proofs::CounterexampleLemmas::outcome_breaks))]
 fn a_step_that_has_no_outcome()
     ensures { (reply : Reply) (new : State) → ¬ Step (initial_state 8) (Addr 0 (2 ^ 64)) reply new }
 {}

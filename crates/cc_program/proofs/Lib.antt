@@ -1,2 +1,3 @@
 mod OutcomeLemmas
 mod ReportLemmas
+mod ExecutionLemmas

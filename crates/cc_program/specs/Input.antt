@@ -1,5 +1,5 @@
 -- The input that a command reads.
-use Rattle.std.specs.Prelude.{Option, Some, None, codes, if◌then◌else◌, ⊤, ⊥}
+use Rattle.std.specs.Prelude.{Option, Some, None, codes, if◌then◌else◌, ⊤}
 use Rattle.std.specs.Borrow.{Bor}
 use Rattle.std.specs.Str.{bytes_eq}
 use Rattle.clap.specs.Words.{Text}

@@ -4,6 +4,7 @@ ghost use Rattle.std.specs.Prelude.{false, None};
 use cc_io::{Failed, Sink};
 
 /// A sink that takes all bytes and keeps none of them. No call of it fails.
+#[derive(Drop)]
 pub struct Discard;
 
 impl Sink for Discard {

@@ -1,5 +1,6 @@
 //! The inputs that commands read.
 ghost use Rattle.std.specs.Prelude.{◌≡◌, ℕ, List, Option, Some, IfErr, IfOk, IfSome, IsTrue, ◌↔◌};
+ghost use Rattle.cc_program.specs.declared.input.InputName.{InputName as InputNameSpec};
 ghost use Rattle.cc_program.specs.Input.{IsFile, WritesReplies, file_input};
 
 use crate::error_writer::ErrorWriter;
@@ -27,7 +28,7 @@ pub trait Inputs {
     type Reader: Read + Drop;
 
     // the bytes of an input, if they are known
-    ghost bytes_of: { Self → InputName → Option (List ℕ) };
+    ghost bytes_of: { Self → InputNameSpec → Option (List ℕ) };
 
     /// Opens an input.
     ///
@@ -48,6 +49,7 @@ pub fn file_input<'a>(file: Option<&'a str>) -> InputName<'a>
 }
 
 /// The files and the standard input of the process.
+#[derive(Drop)]
 pub struct ProcessInputs<'a, R> {
     /// The process.
     pub rt: &'a R,

@@ -108,7 +108,10 @@ fn execute_in_process<R: AllocGlobal + Files + Input + Print + Eprint>(
     let inputs = ProcessInputs { rt, is_typed };
     let mut errors = FromWriter::new(ErrorWriter { to: rt });
     if let Invocation::Map { svg: true, .. } = invocation {
-        let mut sink = FromWriter::new(BufWriter::new(rt.alloc(), io::writer(rt))?);
+        let Ok(output) = BufWriter::new(rt.alloc(), io::writer(rt)) else {
+            return Err(Fault::Memory);
+        };
+        let mut sink = FromWriter::new(output);
         execute(rt, invocation, terminals, &inputs, &mut sink, &mut errors)
     } else {
         let mut sink = FromWriter::new(io::writer(rt));

@@ -11,7 +11,7 @@ use Rattle.cc_program.proofs.ReportLemmas.{asked_summary, given_hints, no_hints,
 use Rattle.cc_program.proofs.report.write_report.Goals as goal
 use Rattle.cc_program.proofs.report.write_report.Goals.{then-report+in_ok-usage+else-is_err, else-report}
 
-pub returns-then-report-2-clause-written : goal.returns-then-report-2-clause-told
+pub returns-then-report-2-clause-written : goal.returns-then-report-2-clause-written
 returns-then-report-2-clause-written g c not_failed opening exchanges counts =
     let hints = ap hints_text (c.of.ensures opening exchanges (subst (λ (tally : Tally). IsTally opening exchanges tally) (sym c.tally-then-report-2.ensures) counts)) ∙ given_hints c.args.report.hints opening exchanges c.args.pool c.if-report-2.true in
     let written = of_answer _ _ _ c.show_hints.ensures.fails not_failed c.show_hints.ensures.ok in
@@ -27,7 +27,7 @@ returns-then-report-2-clause-written g c not_failed opening exchanges counts =
           (subst (λ errors. Appends (g.E.Sink.taken_bytes c.args.errors.now) (g.E.Sink.taken_bytes errors) []) (sym w.errors-is) (Appends-nil _)) written
     ]
 
-pub returns-else-report-2-clause-written : goal.returns-else-report-2-clause-told
+pub returns-else-report-2-clause-written : goal.returns-else-report-2-clause-written
 returns-else-report-2-clause-written g c not_failed opening exchanges counts =
     let hints = no_hints c.args.report.hints opening exchanges c.args.pool c.if-report-2.false in
     elim c.if-report.branch [

@@ -1,0 +1,41 @@
+-- The result of a command, from that of its devices.
+use Rattle.std.proofs.Common.{◌≡◌, ℕ, List, Option, Result, Ok, Err, MatchResult, subst, sym}
+use Rattle.cc_word.specs.declared.refusal.Refusal.{Refusal}
+use Rattle.cc_io.specs.declared.summary.IoError.{IoError}
+use Rattle.cc_io.specs.declared.summary.IoError.TheVariants.{Read, Write}
+use Rattle.cc_io.specs.declared.summary.Summary.{Summary}
+use Rattle.cc_program.specs.Execution.{OnDevices}
+use Rattle.cc_program.specs.Outcome.{fault_of}
+use Rattle.cc_program.specs.declared.outcome.Fault.{Fault}
+use Rattle.cc_program.specs.declared.outcome.Fault.TheVariants as fault
+
+-- The result of devices, as one of the program.
+abbrev pub with_fault : Result Summary IoError → Result Summary Fault
+with_fault (Ok summary) = Ok summary
+with_fault (Err error) = Err (fault_of error)
+
+-- A claim on the result of devices holds of the program's.
+pub on_devices : (Holds : Result Summary IoError → Type 0) (result : Result Summary Fault) (io : Result Summary IoError)
+    → result ≡ with_fault io → Holds io → OnDevices Holds result
+on_devices Holds result io is holds = subst (OnDevices Holds) (sym is) (of_io io holds)
+  where
+    of_io : (io : Result Summary IoError) → Holds io → OnDevices Holds (with_fault io)
+    of_io (Ok summary) holds = holds
+    of_io (Err Read) holds = holds
+    of_io (Err Write) holds = holds
+
+-- Nothing is claimed if memory ran out, or the input was not opened.
+pub on_memory : (Holds : Result Summary IoError → Type 0) (result : Result Summary Fault) → result ≡ Err fault.Memory → OnDevices Holds result
+on_memory Holds result is = subst (OnDevices Holds) (sym is) tt
+
+pub on_open : (Holds : Result Summary IoError → Type 0) (result : Result Summary Fault) → result ≡ Err fault.Open → OnDevices Holds result
+on_open Holds result is = subst (OnDevices Holds) (sym is) tt
+
+-- A claim that another one implies.
+pub on_devices-map : (Holds Also : Result Summary IoError → Type 0) → ((io : Result Summary IoError) → Holds io → Also io)
+    → (result : Result Summary Fault) → OnDevices Holds result → OnDevices Also result
+on_devices-map Holds Also so (Ok summary) holds = so (Ok summary) holds
+on_devices-map Holds Also so (Err fault.Read) holds = so (Err Read) holds
+on_devices-map Holds Also so (Err fault.Write) holds = so (Err Write) holds
+on_devices-map Holds Also so (Err fault.Memory) holds = tt
+on_devices-map Holds Also so (Err fault.Open) holds = tt
