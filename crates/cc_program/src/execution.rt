@@ -45,7 +45,7 @@ pub fn execute<R: AllocGlobal, I: Inputs, W: Sink, E: Sink>(
     requires invocation { (found : Option (Text × List Row)) × IsInvocation found invocation }
     requires sink { W.has_failed sink.old ≡ false }
     requires errors { E.has_failed errors.old ≡ false }
-    ensures executes { OnDevices (Executes invocation terminals (record {
+    ensures executes { OnDevices (Executes invocation.entry terminals (record {
       input = I.bytes_of inputs.now;
       output = W.taken_bytes sink.old;
       output_now = W.taken_bytes sink.new;
@@ -53,7 +53,7 @@ pub fn execute<R: AllocGlobal, I: Inputs, W: Sink, E: Sink>(
       errors_now = E.taken_bytes errors.new;
       errors_failed = E.has_failed errors.new;
     })) result }
-    ensures open { result ≡ Err Fault.Open → ReadsFile invocation }
+    ensures open { result ≡ Err Fault.Open → ReadsFile invocation.entry }
     ensures write { (result ≡ Err Fault.Write) ↔ (W.has_failed sink.new ≡ true) }
     ensures flushed { OnOk result (W.is_flushed sink.new ≡ true) }
     ensures unreported { OnErr result (E.taken_bytes errors.new ≡ E.taken_bytes errors.old) }
@@ -142,7 +142,7 @@ fn run<R: AllocGlobal, I: Inputs, W: Sink, E: Sink>(
     requires few { 193 * length opening.now ≤ 65536 }
     requires sink { W.has_failed sink.old ≡ false }
     requires errors { E.has_failed errors.old ≡ false }
-    ensures runs { OnDevices (ReportsRun report opening.now pool limit input (record {
+    ensures runs { OnDevices (ReportsRun report opening.now pool limit input.entry (record {
       input = I.bytes_of inputs.now;
       output = W.taken_bytes sink.old;
       output_now = W.taken_bytes sink.new;
@@ -150,7 +150,7 @@ fn run<R: AllocGlobal, I: Inputs, W: Sink, E: Sink>(
       errors_now = E.taken_bytes errors.new;
       errors_failed = E.has_failed errors.new;
     })) result }
-    ensures open { result ≡ Err Fault.Open → IsFile input }
+    ensures open { result ≡ Err Fault.Open → IsFile input.entry }
     ensures write { (result ≡ Err Fault.Write) ↔ (W.has_failed sink.new ≡ true) }
     ensures flushed { OnOk result (W.is_flushed sink.new ≡ true) }
     ensures unreported { OnErr result (E.taken_bytes errors.new ≡ E.taken_bytes errors.old) }
@@ -178,8 +178,8 @@ fn draw<R: AllocGlobal, I: Inputs, W: Sink>(
     requires at_most { limit ≤ 65536 }
     requires few { 193 * length opening.now ≤ 65536 }
     requires sink { W.has_failed sink.old ≡ false }
-    ensures draws { OnDevices (DrawsRun svg opening.now limit input (I.bytes_of inputs.now) (W.taken_bytes sink.old) (W.taken_bytes sink.new)) result }
-    ensures open { result ≡ Err Fault.Open → IsFile input }
+    ensures draws { OnDevices (DrawsRun svg opening.now limit input.entry (I.bytes_of inputs.now) (W.taken_bytes sink.old) (W.taken_bytes sink.new)) result }
+    ensures open { result ≡ Err Fault.Open → IsFile input.entry }
     ensures write { (result ≡ Err Fault.Write) ↔ (W.has_failed sink.new ≡ true) }
     ensures flushed { OnOk result (W.is_flushed sink.new ≡ true) }
 {
@@ -205,8 +205,8 @@ fn list_words<I: Inputs, W: Sink>(
     sink: &mut W,
 ) -> Result<Summary, Fault>
     requires { W.has_failed sink.old ≡ false }
-    ensures lists { OnDevices (ListsWords options input (I.bytes_of inputs.now) (W.taken_bytes sink.old) (W.taken_bytes sink.new)) result }
-    ensures open { result ≡ Err Fault.Open → IsFile input }
+    ensures lists { OnDevices (ListsWords options input.entry (I.bytes_of inputs.now) (W.taken_bytes sink.old) (W.taken_bytes sink.new)) result }
+    ensures open { result ≡ Err Fault.Open → IsFile input.entry }
     ensures memory { result ≢ Err Fault.Memory }
     ensures write { (result ≡ Err Fault.Write) ↔ (W.has_failed sink.new ≡ true) }
     ensures flushed { OnOk result (W.is_flushed sink.new ≡ true) }

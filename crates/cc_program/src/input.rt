@@ -34,13 +34,13 @@ pub trait Inputs {
     ///
     /// Errors: `Open` if a file cannot be opened.
     fn open(&self, input: InputName<'_>) -> Result<Self::Reader, Fault>
-        ensures opened { IfOk result (λ reader. IfSome (bytes_of self.now input) (λ bytes. Self.Reader.remaining reader ≡ Some bytes)) }
-        ensures fails { IfErr result (λ fault. (fault ≡ Fault.Open) × IsFile input) };
+        ensures opened { IfOk result (λ reader. IfSome (bytes_of self.now input.entry) (λ bytes. Self.Reader.remaining reader ≡ Some bytes)) }
+        ensures fails { IfErr result (λ fault. (fault ≡ Fault.Open) × IsFile input.entry) };
 }
 
 /// Returns the input that FILE names: standard input for `-`, and if FILE is not given.
 pub fn file_input<'a>(file: Option<&'a str>) -> InputName<'a>
-    ensures { result ≡ file_input file }
+    ensures { result ≡ file_input file.entry }
 {
     match file {
         None | Some("-") => InputName::Standard,
@@ -81,7 +81,7 @@ impl<R: Files + Input + Eprint> Inputs for ProcessInputs<'_, R> {
 
 /// Returns whether a command writes the replies to a script: `run` and `plan` do.
 pub fn writes_replies(invocation: Invocation<'_>) -> bool
-    ensures { IsTrue result ↔ WritesReplies invocation }
+    ensures { IsTrue result ↔ WritesReplies invocation.entry }
 {
     matches!(invocation, Invocation::Run { .. } | Invocation::Plan { .. })
 }

@@ -101,8 +101,8 @@ fn execute_in_process<R: AllocGlobal + Files + Input + Print + Eprint>(
     invocation: Invocation<'_>,
 ) -> Result<Summary, Fault>
     requires invocation { (found : Option (Text × List Row)) × IsInvocation found invocation }
-    ensures executes { (traffic : Traffic) × OnDevices (Executes invocation terminals traffic) result }
-    ensures open { result ≡ Err Fault.Open → ReadsFile invocation }
+    ensures executes { (traffic : Traffic) × OnDevices (Executes invocation.entry terminals traffic) result }
+    ensures open { result ≡ Err Fault.Open → ReadsFile invocation.entry }
 {
     let is_typed = writes_replies(invocation) && terminals.input && terminals.errors;
     let inputs = ProcessInputs { rt, is_typed };
