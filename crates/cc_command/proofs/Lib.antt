@@ -1,4 +1,3 @@
-mod RequestLemmas
 mod TallyLemmas
 mod SessionLemmas
 mod UsageLemmas

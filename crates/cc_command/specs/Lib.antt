@@ -1,8 +1,4 @@
 -- In reading order.
-pub mod Answer
-pub mod Listing
-pub mod LineAnswer
-pub mod Explanation
 pub mod Rounding
 pub mod Planning
 pub mod Request

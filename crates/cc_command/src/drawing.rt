@@ -3,7 +3,7 @@ ghost use Rattle.std.specs.Prelude.{◌≡◌, ◌<◌, ◌≤◌, ◌+◌, ◌-
 ghost use Rattle.std.specs.Io.KnownBytes.{Appends};
 ghost use Rattle.cc_machine.specs.Planned.{plan_of};
 ghost use Rattle.cc_io.specs.Devices.{TakesBeginning};
-ghost use Rattle.cc_command.specs.Answer.{WritesAnswer};
+ghost use Rattle.cc_explain.specs.Answer.{WritesAnswer};
 ghost use Rattle.cc_command.specs.Drawing.{IsDrawing, bounds_line, drawing_text, end_text, fills_text, head_text, is_in, key_text, laid_out_text, layer_text, layout_of, live_text, mark_count, mark_text, marks_text, moved_text, names_text, object_text, part_text, parts_text, quarantined_text, rectangle_text, row_count, row_text, rows_text, scale_text, stripes_text};
 
 use crate::layout::{Layout, ROW, cells_of};

@@ -1,19 +1,15 @@
-//! What the commands write to a sink: of a word its listing, its line and how it is decoded; a length rounded, and what
-//! a request for bounds is granted; the replies to a script after a pool, and a map, a drawing, a summary and hints after
-//! it. A [`Session`] answers the lines of a script, and counts its replies.
+//! What the commands write to a sink: a length rounded, and what a request for bounds is granted; the replies to a script
+//! after a pool, and a map, a drawing, a summary and hints after it; and what cc_explain writes of a word. A [`Session`]
+//! answers the lines of a script, and counts its replies.
 //!
 //! The program has the command line, the files and the standard streams.
 #![tactic(auto)]
 
-mod answers;
 mod drawing;
-mod explained_request;
-mod explaining;
 mod explaining_bounds;
 mod hints;
 mod layout;
 mod line_hints;
-mod listing;
 mod map;
 mod planning;
 mod request;
@@ -22,15 +18,12 @@ mod session;
 mod statistics;
 mod tally;
 mod usage;
-mod word_line;
 
-pub use answers::write_refusal;
+pub use cc_explain::{explain_word, show_line, show_word, write_refusal};
 pub use drawing::show_drawing;
-pub use explaining::explain_word;
 pub use explaining_bounds::explain_length;
 pub use hints::{Hints, show_hints};
 pub use layout::cells_of;
-pub use listing::show_word;
 pub use map::{map_row, show_map};
 pub use planning::{PoolTexts, plan_numbers, plan_opening, plan_script};
 pub use rounding::show_round;
@@ -38,4 +31,3 @@ pub use session::{Session, run_session};
 pub use statistics::show_statistics;
 pub use tally::{Count, Tally};
 pub use usage::{Usage, usage_of};
-pub use word_line::show_line;

@@ -2,14 +2,13 @@
 ghost use Rattle.std.specs.Prelude.{◌≡◌, ◌<◌, ◌≤◌, ◌+◌, ◌^◌, ◌++◌, ◌↔◌, ℕ, List, [], false, true, IfOk, IsErr, IsTrue, OnErr, OnOk, length};
 ghost use Rattle.std.specs.Int.{div_ceil};
 ghost use Rattle.cc_machine.specs.Planned.{plan_of};
-ghost use Rattle.cc_command.specs.Answer.{WritesAnswer};
+ghost use Rattle.cc_explain.specs.Answer.{WritesAnswer};
 ghost use Rattle.cc_command.specs.Map.{AreMapRows, HoldsByte, IsMap, IsMapOf, IsMapRow, TellsCell, map_row_text};
 ghost use Rattle.cc_explain.specs.Picture.{cell_bytes, cell_count};
 
-use crate::answers::write_answer;
 use crate::usage::pool_span;
 use cc_bounds::Span;
-use cc_explain::{CELLS, Stretch, shares_byte};
+use cc_explain::{CELLS, Stretch, shares_byte, write_answer};
 use cc_io::{IoError, Sink, Summary};
 use cc_machine::{Machine, ObjectState, PlannedObject};
 use cc_script::Line;
