@@ -1,6 +1,2 @@
 mod TallyLemmas
 mod SessionLemmas
-mod UsageLemmas
-mod MapLemmas
-mod WritingLemmas
-mod DrawingLemmas

@@ -5,12 +5,12 @@ use Rattle.cc_io.specs.declared.summary.Summary.{Summary}
 use Rattle.cc_machine.specs.declared.op.Op.{Op}
 use Rattle.cc_machine.specs.State.{State}
 use Rattle.cc_machine.specs.Planned.{plan_of}
-use Rattle.cc_command.specs.Drawing.{IsDrawing}
-use Rattle.cc_command.specs.Map.{IsMap}
+use Rattle.cc_draw.specs.Drawing.{IsDrawing}
+use Rattle.cc_draw.specs.Map.{IsMap}
 use Rattle.cc_command.specs.Session.{AnswersSession, SessionState}
 use Rattle.cc_command.specs.Statistics.{statistics_text}
-use Rattle.cc_command.specs.Usage.{IsUsage}
-use Rattle.cc_command.specs.declared.usage.Usage.{Usage}
+use Rattle.cc_draw.specs.Usage.{IsUsage}
+use Rattle.cc_draw.specs.declared.usage.Usage.{Usage}
 use Rattle.cc_program.specs.Telling.{TellsRun}
 use Rattle.cc_program.specs.declared.telling.Telling.{Telling}
 

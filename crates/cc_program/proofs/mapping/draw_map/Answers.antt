@@ -3,9 +3,9 @@ use Rattle.std.proofs.KnownBytes.{Appends-trans}
 use Rattle.std.specs.Io.KnownBytes.{Appends}
 use Rattle.cc_machine.specs.Planned.{plan_of}
 use Rattle.cc_machine.specs.State.{State}
-use Rattle.cc_command.specs.Map.{IsMap}
+use Rattle.cc_draw.specs.Map.{IsMap}
 use Rattle.cc_command.specs.Statistics.{statistics_text}
-use Rattle.cc_command.specs.Usage.{IsUsage}
+use Rattle.cc_draw.specs.Usage.{IsUsage}
 use Rattle.cc_command.specs.declared.tally.Tally.{Tally}
 use Rattle.cc_program.proofs.mapping.draw_map.Goals as goal
 

@@ -1,7 +1,7 @@
 use Rattle.std.proofs.Common.{subst}
 use Rattle.cc_machine.specs.Planned.{plan_of}
 use Rattle.cc_machine.specs.State.{State}
-use Rattle.cc_command.specs.Drawing.{IsDrawing}
+use Rattle.cc_draw.specs.Drawing.{IsDrawing}
 use Rattle.cc_program.proofs.mapping.draw_page.Goals as goal
 
 pub returns-clause-ran : goal.returns-clause-ran
