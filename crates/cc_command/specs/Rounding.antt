@@ -5,7 +5,7 @@ use Rattle.cc_machine.specs.Step.{RoundsLength}
 use Rattle.cc_script.specs.Commands.{length_in}
 use Rattle.cc_script.specs.Output.{with_line_feed}
 use Rattle.cc_script.specs.Replies.{reply_text}
-use Rattle.cc_command.specs.Answer.{AnswersResult}
+use Rattle.cc_explain.specs.Answer.{AnswersResult}
 
 -- the line of a machine's reply to `round` of a length
 abbrev pub IsRoundingOf : (size : ℕ) → (answer : List ℕ) → Type 0

@@ -5,7 +5,7 @@ use Rattle.cc_script.specs.Output.{with_line_feed}
 use Rattle.cc_text.specs.Numbered.{line_with_decimal, line_with_hexadecimal}
 use Rattle.cc_command.specs.declared.tally.Count.{Count}
 use Rattle.cc_command.specs.declared.tally.Tally.{Tally}
-use Rattle.cc_command.specs.declared.usage.Usage.{Usage}
+use Rattle.cc_draw.specs.declared.usage.Usage.{Usage}
 
 -- how many replies are this refusal, and the number of the script's line that got the first; it is 0 where a reply to the
 -- opening is this refusal

@@ -1,11 +1,10 @@
 //! The explanation of a length: what bounds of that length are granted, and why.
 ghost use Rattle.std.specs.Prelude.{◌≡◌, ◌↔◌, [], false, true, IfOk, IsErr, IsTrue, OnErr, OnOk};
-ghost use Rattle.cc_command.specs.Answer.{WritesAnswer};
+ghost use Rattle.cc_explain.specs.Answer.{WritesAnswer};
 ghost use Rattle.cc_command.specs.Request.{IsLengthExplanation, request_in};
 
-use crate::answers::{push_refusal, write_answer};
-use crate::explained_request::push_grant;
-use crate::request::{grant_of, read_request};
+use crate::request::read_request;
+use cc_explain::{push_explained_request, push_refusal, write_answer};
 use cc_io::{IoError, Sink, Summary};
 use cc_text::Text;
 
@@ -39,7 +38,7 @@ fn push_request(answer: &mut Text, base: &str, length: &str) -> Summary
 {
     match read_request(base, length) {
         Ok(request) => {
-            push_grant(answer, &request, &grant_of(&request));
+            push_explained_request(answer, &request);
             Summary { any_error: false }
         }
         Err(refusal) => {

@@ -8,9 +8,9 @@ ghost use Rattle.cc_word.specs.declared.refusal.Refusal.TheVariants.{Inexact};
 ghost use Rattle.cc_command.specs.Hints.{hints_of, hints_text, is_in_opening, line_hint, pool_hint};
 ghost use Rattle.cc_command.specs.Tally.{Exchange, IsTally, is_refusal};
 
-use crate::answers::write_answer;
 use crate::tally::{Count, Tally};
 use cc_bounds::{granule, round_length};
+use cc_explain::write_answer;
 use cc_io::{IoError, Sink};
 use cc_machine::Len;
 use cc_text::{ROOM, Text, end_with_decimal, end_with_hexadecimal, push_hexadecimal};

@@ -1,10 +1,10 @@
 //! The answer of `round`: how setting bounds rounds a length.
 ghost use Rattle.std.specs.Prelude.{◌≡◌, ◌↔◌, [], false, true, IfOk, IsErr, IsTrue, OnErr, OnOk};
 ghost use Rattle.cc_script.specs.Commands.{length_in};
-ghost use Rattle.cc_command.specs.Answer.{WritesAnswer};
+ghost use Rattle.cc_explain.specs.Answer.{WritesAnswer};
 ghost use Rattle.cc_command.specs.Rounding.{IsRounding};
 
-use crate::answers::{push_refusal, write_answer};
+use cc_explain::{push_refusal, write_answer};
 use cc_io::{IoError, Sink, Summary};
 use cc_machine::Reply;
 use cc_script::{read_length, reply_line};

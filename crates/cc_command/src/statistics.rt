@@ -5,9 +5,9 @@ ghost use Rattle.cc_io.specs.Devices.{TakesBeginning};
 ghost use Rattle.cc_text.specs.Numbered.{line_with_decimal};
 ghost use Rattle.cc_command.specs.Statistics.{bytes_text, count_lines, counts_text, end_text, holes_text, hundredths_of, objects_text, percent_text, statistics_text};
 
-use crate::answers::write_answer;
 use crate::tally::{Count, Tally};
-use crate::usage::Usage;
+use cc_draw::Usage;
+use cc_explain::write_answer;
 use cc_io::{IoError, Sink};
 use cc_script::Line;
 use cc_text::{ROOM, Text, end_with_decimal, end_with_hexadecimal};

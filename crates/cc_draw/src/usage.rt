@@ -1,0 +1,210 @@
+//! What the objects of a machine take of its pool, and what is left.
+ghost use Rattle.std.specs.Prelude.{◌≡◌, ◌≤◌, ◌<◌, ◌+◌, ◌^◌, IfOk, count_by, length, max, option_map, unwrap_or};
+ghost use Rattle.std.specs.List.Sorted.{IsNonDecreasingBy, IsPermutation};
+ghost use Rattle.cc_bounds.specs.Span.{from_zero};
+ghost use Rattle.cc_plan.specs.Plan.{held_spans, is_freed, is_held};
+ghost use Rattle.cc_draw.specs.Usage.{IsUsage, asked_bytes_of, greatest, highest_top, hole, holes, is_live, is_swept};
+
+use cc_bounds::Span;
+use cc_cap::Cap;
+use cc_machine::{Machine, ObjectState, PlannedObject};
+use std::alloc::{AllocError, Global};
+
+/// What the objects of a machine take of its pool, and what is left, in bytes. At most 2^80 bytes are held.
+#[derive(Clone, Copy, PartialEq, Eq)]
+pub struct Usage {
+    /// How many slots there are, slot 0 and revoked ones counted: from 1 up.
+    pub slots: u32,
+    /// The most slots, and the most objects, that the machine can have.
+    pub limit: u32,
+    /// How many objects were made.
+    pub made: usize,
+    /// How many of them are live.
+    pub live: usize,
+    /// How many were freed, and wait for the next sweep.
+    pub quarantined: usize,
+    /// How many were swept.
+    pub swept: usize,
+    /// How many bytes were asked for, of all objects that are held: live or quarantined.
+    pub asked: u128,
+    /// How many bytes these objects hold, padding counted.
+    pub held: u128,
+    /// How many bytes the pool has, and 0 where there is none.
+    pub pool: u128,
+    /// How many holes the pool has. A hole is the bytes between a held object and the next, or between one and an end of
+    /// the pool, where there are any; a pool with bytes and no held object is one hole.
+    pub holes: usize,
+    /// How many bytes the largest hole has, and 0 where there is none.
+    pub largest: u128,
+    /// The highest top of all objects that were made, swept ones counted, and 0 where none was made.
+    pub end: u128,
+}
+
+/// How many holes there are, and how many bytes the largest has.
+#[derive(Clone, Copy)]
+struct Holes {
+    count: usize,
+    largest: u128,
+}
+
+impl Holes {
+    /// Adds a gap of so many bytes, which is a hole unless it has none.
+    fn add(&mut self, gap: u128)
+        requires { self.old.count ≤ 65536 }
+        ensures count { self.new.count ≡ self.old.count + length (hole gap) }
+        ensures largest { self.new.largest ≡ max self.old.largest (greatest (hole gap)) }
+    {
+        if gap > 0 {
+            self.count += 1;
+            self.largest = self.largest.max(gap);
+        }
+    }
+}
+
+/// What a machine uses of its slots, of its objects and of its pool.
+///
+/// Takes memory for the held spans, which it brings into order, and gives it back; `AllocError` where it is refused.
+pub fn usage_of(alloc: Global, machine: &Machine) -> Result<Usage, AllocError>
+    ensures usage { IfOk result (IsUsage machine.now) }
+    ensures fits { IfOk result (λ usage. usage.held ≤ 2 ^ 80) }
+{
+    let planner = machine.planner();
+    let objects = planner.objects();
+    let pool = pool_span(planner.pool());
+    let order = spans_in_order(alloc, objects)?;
+    let holes = holes_beside(&pool, order.as_slice());
+    Ok(Usage {
+        slots: machine.slots(),
+        limit: planner.limit(),
+        made: objects.len(),
+        live: live_count(objects),
+        quarantined: freed_count(objects),
+        swept: swept_count(objects),
+        asked: asked_bytes(objects),
+        held: planner.held_bytes(),
+        pool: pool.top - u128::from(pool.base),
+        holes: holes.count,
+        largest: holes.largest,
+        end: highest_top(objects),
+    })
+}
+
+/// The bounds of a pool, and base and top 0 where there is none.
+pub(crate) fn pool_span(pool: Option<Cap>) -> Span
+    ensures value { result ≡ unwrap_or (option_map (λ pool. pool.span) pool) (from_zero 0) }
+    ensures in_order { result.base ≤ result.top }
+    ensures fits { result.top ≤ 2 ^ 64 }
+{
+    match pool {
+        Some(pool) => pool.span(),
+        None => Span { base: 0, top: 0 },
+    }
+}
+
+/// How many objects are live.
+fn live_count(objects: &[PlannedObject]) -> usize
+    ensures { result ≡ count_by (λ object. is_live object.state) objects.now }
+{
+    objects
+        .iter()
+        .filter(|object| matches!(object.state, ObjectState::Live))
+        .count()
+}
+
+/// How many objects are freed, and not swept yet.
+fn freed_count(objects: &[PlannedObject]) -> usize
+    ensures { result ≡ count_by (λ object. is_freed object.state) objects.now }
+{
+    objects
+        .iter()
+        .filter(|object| matches!(object.state, ObjectState::Freed))
+        .count()
+}
+
+/// How many objects are swept.
+fn swept_count(objects: &[PlannedObject]) -> usize
+    ensures { result ≡ count_by (λ object. is_swept object.state) objects.now }
+{
+    objects
+        .iter()
+        .filter(|object| matches!(object.state, ObjectState::Swept))
+        .count()
+}
+
+/// Whether an object holds its bytes: until it is swept.
+fn is_held(object: &PlannedObject) -> bool
+    ensures { result ≡ is_held object.now.state }
+{
+    !matches!(object.state, ObjectState::Swept)
+}
+
+/// The bytes that were asked for, of all held objects: without padding.
+fn asked_bytes(objects: &[PlannedObject]) -> u128
+    requires { asked_bytes_of objects.now < 2 ^ 128 }
+    ensures { result ≡ asked_bytes_of objects.now }
+{
+    let mut asked = 0;
+    let mut rest = objects;
+    'objects: while let Some((object, after)) = rest.split_first() {
+        if is_held(object) {
+            asked += object.size;
+        }
+        rest = after;
+    }
+    asked
+}
+
+/// The highest top of the objects, and 0 where there is none.
+fn highest_top(objects: &[PlannedObject]) -> u128
+    ensures { result ≡ highest_top objects.now }
+{
+    let mut highest = 0;
+    let mut rest = objects;
+    'objects: while let Some((object, after)) = rest.split_first() {
+        highest = object.span.top.max(highest);
+        rest = after;
+    }
+    highest
+}
+
+/// The spans of the held objects, in the order of the objects.
+fn held_spans(alloc: Global, objects: &[PlannedObject]) -> Result<Vec<Span>, AllocError>
+    ensures { IfOk result (λ spans. spans.items ≡ held_spans objects.now) }
+{
+    objects
+        .iter()
+        .filter(|object| is_held(object))
+        .map(|object| object.span)
+        .collect(alloc)
+}
+
+/// The spans of the held objects, in the order of their addresses.
+fn spans_in_order(alloc: Global, objects: &[PlannedObject]) -> Result<Vec<Span>, AllocError>
+    ensures same { IfOk result (λ spans. IsPermutation (held_spans objects.now) spans.items) }
+    ensures sorted { IfOk result (λ spans. IsNonDecreasingBy (λ span. span.base) spans.items) }
+{
+    let mut spans = held_spans(alloc, objects)?;
+    spans.sort_unstable_by_key(|span| span.base);
+    Ok(spans)
+}
+
+/// The holes that these spans, which stand in the order of their addresses, leave in a pool.
+fn holes_beside(pool: &Span, order: &[Span]) -> Holes
+    requires { length order.now ≤ 65536 }
+    ensures count { result.count ≡ length (holes pool.now.base pool.now.top order.now) }
+    ensures largest { result.largest ≡ greatest (holes pool.now.base pool.now.top order.now) }
+{
+    let mut holes = Holes {
+        count: 0,
+        largest: 0,
+    };
+    let mut from = u128::from(pool.base);
+    let mut rest = order;
+    'spans: while let Some((span, after)) = rest.split_first() {
+        holes.add(u128::from(span.base).saturating_sub(from));
+        from = span.top;
+        rest = after;
+    }
+    holes.add(pool.top.saturating_sub(from));
+    holes
+}
