@@ -1,4 +1,4 @@
-//! Writes the answer of a command at once, and an answer that is a refusal.
+//! Writes the output of a command all at once, and output that is a refusal.
 ghost use Rattle.std.specs.Prelude.{◌≡◌, ◌↔◌, [], false, true, IfOk, IsErr, OnOk, OnErr};
 ghost use Rattle.std.specs.Io.KnownBytes.{Appends};
 ghost use Rattle.cc_io.specs.Devices.{TakesBeginning};
@@ -10,9 +10,11 @@ use cc_script::reply_line;
 use cc_text::Text;
 use cc_word::Refusal;
 
-/// Writes the line of a refusal, `error CODE NAME`, and flushes the sink once after it. The summary tells an error.
+/// Writes the line of a refusal, `error CODE NAME`, and flushes the sink once after it. The summary
+/// reports an error.
 ///
-/// Where the sink fails, a beginning of the line was written.
+/// Requires: the sink has not failed.
+/// Errors: `Write` if and only if the sink fails. A prefix of the line is then written.
 pub fn write_refusal<W: Sink>(refusal: Refusal, sink: &mut W) -> Result<Summary, IoError>
     requires { W.has_failed sink.old ≡ false }
     ensures shown { WritesAnswer (IsRefusalLine refusal) (W.taken_bytes sink.old) (W.taken_bytes sink.new) result }
@@ -27,7 +29,9 @@ pub fn write_refusal<W: Sink>(refusal: Refusal, sink: &mut W) -> Result<Summary,
     Ok(Summary { any_error: true })
 }
 
-/// Puts the line of a refusal into the empty text.
+/// Appends the line of a refusal.
+///
+/// Requires: `text` is empty.
 pub(crate) fn push_refusal(text: &mut Text, refusal: Refusal)
     requires { text.old ≡ [] }
     ensures { IsRefusalLine refusal text.new }
@@ -35,7 +39,7 @@ pub(crate) fn push_refusal(text: &mut Text, refusal: Refusal)
     text.push_line(&reply_line(&Reply::Refused(refusal)));
 }
 
-/// Writes an answer and flushes the sink.
+/// Writes the output of a command and flushes the sink.
 pub(crate) fn write_answer<W: Sink>(answer: &Text, sink: &mut W) -> Result<(), IoError>
     requires { W.has_failed sink.old ≡ false }
     ensures ok { OnOk result (Appends (W.taken_bytes sink.old) (W.taken_bytes sink.new) answer.now) }

@@ -1,4 +1,4 @@
-//! A request for bounds, and what setting them grants.
+//! A request for bounds, and what it is granted.
 ghost use Rattle.std.specs.Prelude.{◌≡◌, ◌<◌, ◌≤◌, ◌^◌, IfOk, Ok};
 ghost use Rattle.cc_bounds.specs.Granule.{IsGranted, IsGranule, granule_count};
 ghost use Rattle.cc_bounds.specs.Span.{IsSpan, IsWithin, length_of};
@@ -11,10 +11,10 @@ use cc_bounds::{Set, Span, set_bounds};
 use cc_cap::Cap;
 use cc_word::Refusal;
 
-/// What setting the bounds of a request grants.
+/// The result of setting the bounds of a request.
 #[derive(Clone, Copy)]
 pub(crate) struct Grant {
-    /// The granule of the request, in bytes: 1, or a power of two from 8 to 2^55.
+    /// The granule of the request in bytes: 1, or a power of two from 8 to 2^55.
     pub(crate) granule: u64,
     /// The span that the request is granted.
     pub(crate) granted: Span,
@@ -22,10 +22,10 @@ pub(crate) struct Grant {
     pub(crate) word: u128,
 }
 
-/// The request whose base and length two texts spell.
+/// Returns the request whose base and length two strings parse as.
 ///
-/// Refused with `Syntax` where a text spells no number; else with `OutOfRange` where the base is above 2^64 - 1 or the
-/// length above 2^64; and else with `OutOfBounds` where the request ends past 2^64.
+/// Errors, in order: `Syntax` if a string is not a number; `OutOfRange` if the base is at least
+/// 2^64 or the length above 2^64; `OutOfBounds` if the request ends past 2^64.
 pub(crate) fn read_request(base: &str, length: &str) -> Result<Span, Refusal>
     ensures request { result ≡ request_in base.now length.now }
     ensures is_span { IfOk result IsSpan }
@@ -36,7 +36,9 @@ pub(crate) fn read_request(base: &str, length: &str) -> Result<Span, Refusal>
     }
 }
 
-/// The request of so many bytes from a base on, or `OutOfBounds` where it ends past 2^64.
+/// Returns the request for `length` bytes from `base` on.
+///
+/// Errors: `OutOfBounds` if it ends past 2^64.
 fn request_from(base: u64, length: u128) -> Result<Span, Refusal>
     requires { length ≤ 2 ^ 64 }
     ensures request { result ≡ request_from (Ok (base, length)) }
@@ -50,7 +52,7 @@ fn request_from(base: u64, length: u128) -> Result<Span, Refusal>
     }
 }
 
-/// What setting the bounds of a request grants.
+/// Returns the result of setting the bounds of a request.
 pub(crate) fn grant_of(request: &Span) -> Grant
     requires { IsSpan request.now }
     ensures grant { IsGrant request.now result }
@@ -66,7 +68,7 @@ pub(crate) fn grant_of(request: &Span) -> Grant
     }
 }
 
-/// How many bytes a request has.
+/// Returns the length of a request in bytes.
 pub(crate) fn length_of(request: &Span) -> u128
     requires { IsSpan request.now }
     ensures value { result ≡ length_of request.now }
@@ -75,7 +77,8 @@ pub(crate) fn length_of(request: &Span) -> u128
     request.top - u128::from(request.base)
 }
 
-/// How many granules of this size a request touches, where they begin at multiples of it.
+/// Returns the number of granules of this size that a request touches. They begin at multiples of
+/// the size.
 pub(crate) fn granule_count(request: &Span, granule: u64) -> u128
     requires is_span { IsSpan request.now }
     requires some { 0 < granule }
@@ -85,7 +88,7 @@ pub(crate) fn granule_count(request: &Span, granule: u64) -> u128
     request.top.div_ceil(granule) - u128::from(request.base) / granule
 }
 
-/// The granule of a request, in bytes; `set` is what setting its bounds made.
+/// Returns the granule of a request in bytes. `set` is the result of setting its bounds.
 fn granule_of(request: &Span, set: &Set) -> u64
     requires is_span { IsSpan request.now }
     requires granted { IsGranted request.now set.now.granted }
@@ -98,7 +101,7 @@ fn granule_of(request: &Span, set: &Set) -> u64
     }
 }
 
-/// The word of the root capability with the bounds of a request, at the request's base.
+/// Returns the word of the root capability with the bounds of a request, at the request's base.
 fn word_of(request: &Span, granted: &Span) -> u128
     requires is_span { IsSpan request.now }
     requires granted { IsGranted request.now granted.now }
@@ -110,7 +113,8 @@ fn word_of(request: &Span, granted: &Span) -> u128
     }
 }
 
-/// The root capability with the bounds of a request, at the request's base. It is never refused.
+/// Returns the root capability with the bounds of a request, at the request's base. It is never
+/// refused.
 fn derived(request: &Span) -> Result<Cap, Refusal>
     requires { IsSpan request.now }
     ensures { (granted : SpanSpec) × IsGranted request.now granted × (result ≡ Ok (granted_capability request.now granted)) }
