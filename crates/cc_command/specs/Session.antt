@@ -80,14 +80,14 @@ pub record CountsRun (old : State) (opening : List Op) (text : List ℕ) (tally 
   pub exchanges_are : exchanges ≡ exchanges_of (lines_of text) replies ++ rest_exchange (rest_of text)
   pub is_tally : IsTally first exchanges tally
 
--- AnswersSession holds if the bytes written are the machine's output, up to a failure, and the
--- tally at the end has counted the replies of this run.
+-- AnswersSession holds if the bytes written are the machine's output, up to a failure. If the run
+-- succeeds, the tally at the end has counted the replies of this run.
 pub record AnswersSession (room : ℕ) (old : State) (opening : List Op) (to_come left : Option (List ℕ)) (Wrote : List ℕ → Type 0) (result : Result Summary IoError) (tally : Tally) (new : State) : Type 0 where
   pub answers : AnswersScript (StopsInReplies room) old opening to_come left Wrote result new
   pub counts : OnOk result (CountsRun old opening answers.given tally new)
 
--- RunsSession holds if a run is that of the script, on a page of `room` bytes, and the tally at the
--- end has counted the replies of this run.
+-- RunsSession holds if a run is that of the script, on a page of `room` bytes. If the run succeeds,
+-- the tally at the end has counted the replies of this run.
 pub record RunsSession (room : ℕ) (opening : List Op) (before : IoState) (result : Result Summary IoError) (tally : Tally) (after : IoState) : Type 0 where
   pub runs : RunsScript (StopsInReplies room) opening before result after
   pub counts : OnOk result (CountsRun before.machine opening runs.answers.given tally after.machine)

@@ -44,8 +44,8 @@ count_in opening exchanges refusal = record {
 --
 -- - the number of the exchanges
 -- - for each refusal its count, at the index of its code less 1
--- - the numbers of the first line that is refused as `Full`, of the first refused line that ends in
---   a carriage return, and of the first refused line with a marked word
+-- - the numbers of the first line that is refused as `Full`, and of the first refused lines for
+--   which `ends_in_return` and `has_marked_word` hold
 pub record IsTally (opening : List Reply) (exchanges : List Exchange) (tally : Tally) : Type 0 where
   pub lines : tally.lines ≡ counted (length exchanges)
   pub counts : (refusal : Refusal) (none : Count) → get_or tally.counts (code_of refusal - 1) none ≡ count_in opening exchanges refusal

@@ -19,11 +19,13 @@ use cc_text::{ROOM, Text, end_with_decimal, end_with_hexadecimal, push_hexadecim
 /// means that there is no such line.
 #[derive(Clone, Copy, Debug, PartialEq, Eq)]
 pub struct Hints {
-    /// The requested length of the pool in bytes, if its bounds cannot be stored exactly.
+    /// The requested length of the pool in bytes, if a reply to the setup operations is `Inexact`.
     pub inexact: Option<Len>,
-    /// The number of the first refused line that ends in a carriage return.
+    /// The number of the first refused line that has at most 128 bytes and ends in a carriage
+    /// return.
     pub carriage_return: u64,
-    /// The number of the first refused `rebuild` line whose word is written with `0x` or a colon.
+    /// The number of the first refused `rebuild` line of at most 128 bytes whose word is written
+    /// with `0x` or a colon.
     pub marked_word: u64,
     /// The number of the first line that is refused as `Full`.
     pub full: u64,

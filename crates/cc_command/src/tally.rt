@@ -28,7 +28,7 @@ pub struct Count {
 /// line.
 #[derive(Drop)]
 pub struct Tally {
-    /// The number of lines, at most 2^64 - 1.
+    /// The number of lines, at most 2^64 - 1. Trailing bytes count as a line.
     pub lines: u64,
     /// The counts of the refusals, in the order of their codes.
     pub counts: [Count; 22],

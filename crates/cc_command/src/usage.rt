@@ -10,8 +10,7 @@ use cc_cap::Cap;
 use cc_machine::{Machine, ObjectState, PlannedObject};
 use std::alloc::{AllocError, Global};
 
-/// The use of a machine's slots, objects and pool, and the bytes that are left. At most 2^80 bytes
-/// are held.
+/// The use of a machine's slots, objects and pool, and the bytes that are left.
 #[derive(Clone, Copy, PartialEq, Eq)]
 pub struct Usage {
     /// The number of slots, including slot 0 and revoked ones: at least 1.
@@ -64,7 +63,7 @@ impl Holes {
     }
 }
 
-/// Returns the use of a machine's slots, objects and pool.
+/// Returns the use of a machine's slots, objects and pool. At most 2^80 bytes are held.
 ///
 /// Allocates memory for the held spans, which it sorts, and frees it.
 ///

@@ -120,8 +120,8 @@ pub record IoState : Type 0 where
 
 -- RunsScript holds if the machine took the setup operations and then the script that the source
 -- gave. The bytes written are its replies, up to a failure of the source or the sink. The result is
--- `Read` if and only if the source failed, and `Write` if and only if the sink failed. At the end
--- the sink is flushed.
+-- `Read` if and only if the source failed, and `Write` if and only if the sink failed. If the run
+-- succeeds, the sink is flushed at the end.
 pub record RunsScript (Stops : StopsAt) (opening : List Op) (before : IoState) (result : Result Summary IoError) (after : IoState) : Type 0 where
   pub answers :
       AnswersScript Stops before.machine opening before.unread after.unread (Appends before.taken after.taken) result after.machine

@@ -40,8 +40,9 @@ pub fn one_output()
         → (output ≡ other_output) × (any_error ≡ other_error) × (new ≡ other) }
 {}
 
-/// Proves that, from every state that a run leads to, every script has an output, whatever its
-/// setup operations and its bytes. By [`one_output`] it has no other.
+/// Proves that every script has an output from every state that a run leads to. This holds for all
+/// bytes, and for all setup operations that set no address above 2^64 - 1. By [`one_output`] there
+/// is no other.
 pub fn every_script_has_an_output()
     ensures { (old : State) (opening : List Op) (text : List ℕ) → IsReached old → AllByRecursion IsInAddressSpace opening
         → (output : List ℕ) × (any_error : Bool) × (new : State) × ScriptOutput old opening text output any_error new }
