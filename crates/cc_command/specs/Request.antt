@@ -1,4 +1,4 @@
--- What `explain --length` writes for a base and a length.
+-- The output of `explain --length` for a base and a length.
 use Rattle.std.specs.Prelude.{ℕ, ◌+◌, ◌^◌, List, nat_le, Result, Ok, Err, if◌then◌else◌}
 use Rattle.cc_word.specs.declared.refusal.Refusal.{Refusal}
 use Rattle.cc_word.specs.declared.refusal.Refusal.TheVariants.{OutOfBounds}
@@ -8,16 +8,18 @@ use Rattle.cc_explain.specs.Answer.{AnswersResult}
 use Rattle.cc_explain.specs.Request.{IsRequestExplanation}
 use Rattle.cc_command.specs.Planning.{pool_of}
 
--- the request for a base and a length, which may not end past 2^64; a fault that came before stays
+-- The request for a base and a length, or `OutOfBounds` if it ends past 2^64. An earlier error
+-- stays.
 abbrev pub request_from : Result (ℕ × ℕ) Refusal → Result Span Refusal
 request_from (Ok pair) = if nat_le (pair.0 + pair.1) (2 ^ 64) then Ok (span_from pair.0 pair.1) else Err OutOfBounds
 request_from (Err refusal) = Err refusal
 
--- the request that two texts spell, or the first fault of these: a text spells no number, a number is too large, the
--- request ends past 2^64
+-- The request that two strings parse as, or the first of these errors: a string is not a number, a
+-- number is too large, the request ends past 2^64.
 abbrev pub request_in : (base size : List ℕ) → Result Span Refusal
 request_in base size = request_from (pool_of base size)
 
--- the answer to the texts of a base and of a length
+-- `IsLengthExplanation` holds if `answer` is the output for the strings of a base and a length: the
+-- explanation of their request, or the line of the refusal.
 abbrev pub IsLengthExplanation : (base size answer : List ℕ) → Type 0
 IsLengthExplanation base size answer = AnswersResult IsRequestExplanation (request_in base size) answer

@@ -1,8 +1,12 @@
-//! What the commands write to a sink: a length rounded, and what a request for bounds is granted; the replies to a script
-//! after a pool, and a summary and hints after it; and what cc_explain writes of a word, and cc_draw of a pool. A
-//! [`Session`] answers the lines of a script, and counts its replies.
+//! The output of the commands, which they write to a sink:
 //!
-//! The program has the command line, the files and the standard streams.
+//! - for a word its listing, its one-line form, or the steps of decoding it (cc_explain)
+//! - for a length its rounding, and for a request the bounds that it is granted
+//! - for a script its replies, after those to the operations that make a pool
+//! - after a script a map or a drawing (cc_draw), a summary and hints
+//!
+//! A [`Session`] replies to the lines of a script, and counts its replies. The command line, the
+//! files and the standard streams belong to the program.
 #![tactic(auto)]
 
 mod explaining_bounds;

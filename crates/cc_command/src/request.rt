@@ -7,10 +7,10 @@ use crate::planning::plan_numbers;
 use cc_bounds::Span;
 use cc_word::Refusal;
 
-/// The request whose base and length two texts spell.
+/// Returns the request whose base and length two strings parse as.
 ///
-/// Refused with `Syntax` where a text spells no number; else with `OutOfRange` where the base is above 2^64 - 1 or the
-/// length above 2^64; and else with `OutOfBounds` where the request ends past 2^64.
+/// Errors, in order: `Syntax` if a string is not a number; `OutOfRange` if the base is at least
+/// 2^64 or the length above 2^64; `OutOfBounds` if the request ends past 2^64.
 pub(crate) fn read_request(base: &str, length: &str) -> Result<Span, Refusal>
     ensures request { result ≡ request_in base.now length.now }
     ensures is_span { IfOk result IsSpan }
@@ -21,7 +21,9 @@ pub(crate) fn read_request(base: &str, length: &str) -> Result<Span, Refusal>
     }
 }
 
-/// The request of so many bytes from a base on, or `OutOfBounds` where it ends past 2^64.
+/// Returns the request for `length` bytes from `base` on.
+///
+/// Errors: `OutOfBounds` if it ends past 2^64.
 fn request_from(base: u64, length: u128) -> Result<Span, Refusal>
     requires { length ≤ 2 ^ 64 }
     ensures request { result ≡ request_from (Ok (base, length)) }

@@ -15,7 +15,8 @@ use Rattle.cc_draw.specs.declared.layout.Layout.{Layout}
 
 -- ---- the cells of a span
 
--- each cell from the first up to the end holds a byte of the span: its own first byte, or the span's
+-- Each cell from the first up to the end holds a byte of the span: its own first byte, or the
+-- span's.
 cell-holds : (start size : ℕ) (span : Span) → 0 < size → start ≤ span.base → span.base < span.top → (index : ℕ)
     → first_cell start size span ≤ index → index < end_cell start size span → SharesByte (cell_of start size index) span
 cell-holds start size span some low held index from below =
@@ -30,7 +31,7 @@ cell-holds start size span some low held index from below =
       in_other = record { from_base = omega arith; below_top = omega (arith, near, last, low, held) };
     }
 
--- no cell before the first holds a byte of the span
+-- No cell before the first holds a byte of the span.
 from-first : (start size : ℕ) (span : Span) → 0 < size → start ≤ span.base → (index : ℕ) → SharesByte (cell_of start size index) span → first_cell start size span ≤ index
 from-first start size span some low index shares = elim (cases_lt index (first_cell start size span)) [
   | inl less ↦
@@ -41,7 +42,7 @@ from-first start size span some low index shares = elim (cases_lt index (first_c
   | inr most ↦ most
 ]
 
--- no cell from the end on holds a byte of the span
+-- No cell from the end on holds a byte of the span.
 below-end : (start size : ℕ) (span : Span) → 0 < size → (index : ℕ) → SharesByte (cell_of start size index) span → index < end_cell start size span
 below-end start size span some index shares = elim (cases_lt index (end_cell start size span)) [
   | inl less ↦ less
@@ -61,35 +62,35 @@ cells-are start size span some low held = record {
 
 -- ---- sizes
 
--- in a pool of at most 2^64 bytes a cell has at most 2^50
+-- In a pool of at most 2^64 bytes a cell has at most 2^50.
 pub size_fits : (bytes : ℕ) → bytes ≤ 2 ^ 64 → div_ceil bytes 16384 ≤ 2 ^ 50
 size_fits bytes fits = div_ceil-le bytes 16384 (2 ^ 50) (omega arith) (omega (arith, fits))
 
--- cells of at least that size are at most 16,384
+-- There are at most 16,384 cells of at least that size.
 pub cells_fit : (bytes size : ℕ) → 0 < size → div_ceil bytes 16384 ≤ size → div_ceil bytes size ≤ 16384
 cells_fit bytes size above least =
     let covered = le-div_ceil bytes 16384 (omega arith) in
     div_ceil-le bytes size 16384 above (omega (arith, covered, least))
 
--- so many cells stand in at most 16 rows
+-- That many cells have at most 16 rows.
 pub rows_fit : (cells : ℕ) → cells ≤ 16384 → div_ceil cells 1024 ≤ 16
 rows_fit cells few = div_ceil-le cells 1024 16 (omega arith) (omega (arith, few))
 
--- ---- what the loops write next
+-- ---- the next output of the loops
 
--- the next object is in the layer: its rectangles come first
+-- The next object is in the layer, so its rectangles come first.
 pub layer_drawn : (layout : Layout) (state : ObjectState) (number : ℕ) (object : PlannedObject) (rest after : List PlannedObject)
     → rest ≡ object ∷ after → is_in state object.state ≡ true
     → layer_text layout state number rest ≡ object_text layout number object.span ++ layer_text layout state (number + 1) after
 layer_drawn layout state number object rest after is drawn = rw (is, drawn) refl
 
--- the next object is not in the layer: it has no text
+-- The next object is not in the layer, so it has no rectangles.
 pub layer_left_out : (layout : Layout) (state : ObjectState) (number : ℕ) (object : PlannedObject) (rest after : List PlannedObject)
     → rest ≡ object ∷ after → is_in state object.state ≡ false
     → layer_text layout state number rest ≡ layer_text layout state (number + 1) after
 layer_left_out layout state number object rest after is other = rw (is, other) refl
 
--- no object is left: no text is
+-- No object is left, so no bytes are.
 pub layer_none : (layout : Layout) (state : ObjectState) (number : ℕ) (rest : List PlannedObject) → rest ≡ [] → layer_text layout state number rest ≡ []
 layer_none layout state number rest is = rw is refl
 
@@ -99,7 +100,7 @@ not-less a b no_less = elim (cases_lt a b) [
   | inr most ↦ most
 ]
 
--- the object has cells in the next row: their rectangle comes first
+-- The object has cells in the next row, so their rectangle comes first.
 pub parts_drawn : (width first end number : ℕ) (span : Span) (rows row : ℕ) → 0 < rows
     → max first (1024 * row) < min end (1024 * row + 1024)
     → parts_text width first end number span rows row
@@ -110,7 +111,7 @@ parts_drawn width first end number span (suc rows) row some has =
     let is = lt-ltb (max first (1024 * row)) (min end (1024 * row + 1024)) has in
     rw (is, less) refl
 
--- the object has no cell in the next row: it has no text
+-- The object has no cell in the next row, so it has no rectangle there.
 pub parts_left_out : (width first end number : ℕ) (span : Span) (rows row : ℕ) → 0 < rows
     → (max first (1024 * row) < min end (1024 * row + 1024) → ⊥)
     → parts_text width first end number span rows row ≡ parts_text width first end number span (rows - 1) (row + 1)
@@ -120,29 +121,29 @@ parts_left_out width first end number span (suc rows) row some has =
     let is = le-ltb (max first (1024 * row)) (min end (1024 * row + 1024)) (not-less _ _ has) in
     rw (is, less) refl
 
--- no row is left: no text is
+-- No row is left, so no bytes are.
 pub parts_none : (width first end number : ℕ) (span : Span) (rows row : ℕ) → rows ≡ 0 → parts_text width first end number span rows row ≡ []
 parts_none width first end number span zero row none = refl
 parts_none width first end number span (suc rows) row none = absurd (omega (arith, none))
 
--- ---- what is still to be written of a drawing
+-- ---- the unwritten bytes of a drawing
 
--- from the quarantined objects on
+-- The bytes from the quarantined objects on.
 abbrev pub from_quarantined : Layout → List PlannedObject → List ℕ
 from_quarantined layout objects = layer_text layout Freed 1 objects ++ end_text
 
--- behind the live objects
+-- The bytes after the live objects.
 abbrev pub behind_live : Layout → List PlannedObject → List ℕ
 behind_live layout objects = quarantined_text ++ from_quarantined layout objects
 
--- from the live objects on
+-- The bytes from the live objects on.
 abbrev pub from_live : Layout → List PlannedObject → List ℕ
 from_live layout objects = layer_text layout Live 1 objects ++ behind_live layout objects
 
--- behind the scale
+-- The bytes after the scale.
 abbrev pub behind_scale : Layout → List PlannedObject → List ℕ
 behind_scale layout objects = live_text ++ from_live layout objects
 
--- behind the head
+-- The bytes after the head.
 abbrev pub behind_head : Layout → List PlannedObject → List ℕ
 behind_head layout objects = scale_text layout ++ behind_scale layout objects

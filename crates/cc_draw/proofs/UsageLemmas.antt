@@ -1,4 +1,4 @@
--- The bytes of a plan's objects fit into numbers of 128 bits.
+-- The bytes of a plan's objects fit into 128-bit numbers.
 use Rattle.std.proofs.Common.{◌≤◌, ◌^◌, arith, length}
 use Rattle.std.specs.Prelude.{filter}
 use Rattle.std.proofs.lemmas.List.{length-map}
@@ -20,7 +20,7 @@ module _ (plan : Plan) (exact : HaveExactBounds plan) (few : length plan.objects
   short : (object : PlannedObject) → HasExactBounds plan.align object → (object.size ≤ 2 ^ 64) × (length_of object.span ≤ 2 ^ 64)
   short object is = (omega (arith, is.at_least, is.is_span.top_fits), omega (arith, is.is_span.top_fits))
 
-  -- the bytes that were asked for
+  -- The number of requested bytes.
   pub asked_fit : asked_bytes_of plan.objects ≤ 2 ^ 80
   asked_fit =
       let each = All-weaker (HasExactBounds plan.align) (λ object. object.size ≤ 2 ^ 64) (λ object is. (short object is).0) plan.objects exact.each in
@@ -28,7 +28,7 @@ module _ (plan : Plan) (exact : HaveExactBounds plan) (few : length plan.objects
       (All-filter (λ (object : PlannedObject). is_held object.state) (λ object. object.size ≤ 2 ^ 64) plan.objects each) in
       omega (arith, few_held, sum)
 
-  -- the bytes that are held
+  -- The number of held bytes.
   pub held_fit : held_bytes_of plan.objects ≤ 2 ^ 80
   held_fit =
       let each = All-weaker (HasExactBounds plan.align) (λ object. length_of object.span ≤ 2 ^ 64) (λ object is. (short object is).1) plan.objects exact.each in
@@ -38,7 +38,7 @@ module _ (plan : Plan) (exact : HaveExactBounds plan) (few : length plan.objects
       let count = length-map (filter (λ (object : PlannedObject). is_held object.state) plan.objects) (λ (object : PlannedObject). object.span) in
       omega (arith, few_held, sum, count)
 
-  -- a plan has at most 65,536 held spans
+  -- A plan has at most 65,536 held spans.
   pub few_spans : length (held_spans plan.objects) ≤ 65536
   few_spans =
       let count = length-map (filter (λ (object : PlannedObject). is_held object.state) plan.objects) (λ (object : PlannedObject). object.span) in

@@ -1,4 +1,4 @@
--- A text that is written in several pieces.
+-- Output that is written in several chunks.
 use Rattle.std.proofs.Common.{◌≡◌, ◌+◌, ◌∙◌, ◌++◌, ℕ, List, [], Option, Result, Ok, Err, append-nil, append_assoc, ap, arith, length, length-append, refl, subst, sym, take}
 use Rattle.std.proofs.lemmas.List.{take-append-le, take_all}
 use Rattle.std.proofs.Math.Seq.{take-append-add}
@@ -7,7 +7,7 @@ use Rattle.std.specs.Io.KnownBytes.{Appends, Keeps}
 use Rattle.cc_io.specs.Devices.{TakesBeginning}
 use Rattle.cc_io.proofs.DeviceLemmas.{appends_none, appends_twice, then_kept}
 
--- the whole text was written but for the rest
+-- Writing holds if all of the output was written except `rest`.
 pub record Writing (old now : Option (List ℕ)) (rest whole : List ℕ) : Type 0 where
   pub done : List ℕ
   pub written : Appends old now done
@@ -16,7 +16,7 @@ pub record Writing (old now : Option (List ℕ)) (rest whole : List ℕ) : Type 
 pub writing_begins : (a : Option (List ℕ)) (whole : List ℕ) → Writing a a whole whole
 writing_begins a whole = record { done = []; written = appends_none a; whole_is = refl }
 
--- one piece more was written, and others are left
+-- One more chunk was written, and others are left.
 pub writing_more : (a b c : Option (List ℕ)) (piece rest whole : List ℕ) → Writing a b (piece ++ rest) whole → Appends b c piece → Writing a c rest whole
 writing_more a b c piece rest whole w p = record {
   done = w.done ++ piece;
@@ -24,19 +24,19 @@ writing_more a b c piece rest whole w p = record {
   whole_is = append_assoc w.done piece rest ∙ w.whole_is;
 }
 
--- two rests that are equal
+-- The unwritten bytes may be named by an equal list.
 pub writing_same : (a b : Option (List ℕ)) (rest other whole : List ℕ) → rest ≡ other → Writing a b rest whole → Writing a b other whole
 writing_same a b rest other whole same w = subst (λ (l : List ℕ). Writing a b l whole) same w
 
--- nothing is left: the whole was written
+-- Nothing is left, so all of it was written.
 pub writing_ends : (a b : Option (List ℕ)) (whole : List ℕ) → Writing a b [] whole → Appends a b whole
 writing_ends a b whole w = subst (λ (l : List ℕ). Appends a b l) (sym (append-nil w.done) ∙ w.whole_is) w.written
 
--- the last piece was written: the whole was
+-- The last chunk was written, so all of it was.
 pub writing_last : (a b c : Option (List ℕ)) (piece whole : List ℕ) → Writing a b piece whole → Appends b c piece → Appends a c whole
 writing_last a b c piece whole w p = subst (λ (l : List ℕ). Appends a c l) w.whole_is (appends_twice a b c w.done piece w.written p)
 
--- a beginning of the last piece was written: a beginning of the whole was
+-- A prefix of the last chunk was written, so a prefix of the output was.
 pub writing_stops_last : (a b c : Option (List ℕ)) (piece whole : List ℕ) → Writing a b piece whole → TakesBeginning b c piece → TakesBeginning a c whole
 writing_stops_last a b c piece whole w q =
     let taken = appends_twice a b c w.done (take q.count piece) w.written q.taken in
@@ -47,7 +47,7 @@ writing_stops_last a b c piece whole w q =
           (sym (take-append-add w.done piece q.count) ∙ ap (λ (l : List ℕ). take (length w.done + q.count) l) w.whole_is) taken;
     }
 
--- a beginning of a piece is a beginning of that piece and what follows it
+-- A prefix of a chunk is a prefix of that chunk and the bytes after it.
 pub begins_longer : (b c : Option (List ℕ)) (piece rest : List ℕ) → TakesBeginning b c piece → TakesBeginning b c (piece ++ rest)
 begins_longer b c piece rest q = record {
   count = q.count;
@@ -58,7 +58,7 @@ begins_longer b c piece rest q = record {
 pub writing_stops : (a b c : Option (List ℕ)) (piece rest whole : List ℕ) → Writing a b (piece ++ rest) whole → TakesBeginning b c piece → TakesBeginning a c whole
 writing_stops a b c piece rest whole w q = writing_stops_last a b c (piece ++ rest) whole w (begins_longer b c piece rest q)
 
--- after the whole a call moved nothing and failed: a beginning, the whole, was written
+-- After all of the output, a call wrote nothing and failed. A prefix was written, namely all of it.
 pub whole_begins : (a b c : Option (List ℕ)) (whole : List ℕ) → Appends a b whole → Keeps b c → TakesBeginning a c whole
 whole_begins a b c whole p k = record {
   count = length whole;
@@ -66,12 +66,13 @@ whole_begins a b c whole p k = record {
   taken = subst (λ (l : List ℕ). Appends a c l) (sym (take_all (length whole) whole (omega arith))) (then_kept a b c whole p k);
 }
 
--- what holds anyway holds where the result is an error
+-- A claim that always holds also holds if the result is an error.
 pub on_err : {A E P : Type 0} (result : Result A E) → P → OnErr result P
 on_err (Ok value) is = tt
 on_err (Err error) is = is
 
--- what follows from what holds of a success holds of a success, and so with an error
+-- A consequence of a claim about a success holds about a success. The next lemma says that of an
+-- error.
 pub on_ok_weaker : {A E P Q : Type 0} (result : Result A E) → (P → Q) → OnOk result P → OnOk result Q
 on_ok_weaker (Ok value) next is = next is
 on_ok_weaker (Err error) next is = tt

@@ -1,4 +1,4 @@
-//! A drawing of a pool: an SVG document with a rectangle for each object that is held.
+//! A drawing of a pool: an SVG document with a rectangle for each held object.
 ghost use Rattle.std.specs.Prelude.{◌≡◌, ◌<◌, ◌≤◌, ◌+◌, ◌-◌, ◌*◌, ◌^◌, ◌++◌, ◌↔◌, [], false, true, Bool, IfOk, IsErr, OnErr, OnOk, length, min};
 ghost use Rattle.std.specs.Io.KnownBytes.{Appends};
 ghost use Rattle.cc_machine.specs.Planned.{plan_of};
@@ -13,15 +13,20 @@ use cc_io::{Failed, IoError, Sink, Summary, write_all};
 use cc_machine::{Machine, ObjectState, PlannedObject};
 use cc_text::{Line, ROOM, Text, end_with_decimal, end_with_hexadecimal, push_hexadecimal};
 
-/// Writes a drawing of the machine's pool, and flushes the sink once after it: an SVG document in which a rectangle
-/// stands for each object that is held. It covers the cells from the first to the last that [`cells_of`] names: exactly
-/// those that hold a byte of the object, if the object lies in the pool. It is filled where the object is live, striped
-/// where it is quarantined.
+/// Writes a drawing of the machine's pool, and flushes the sink once after it.
 ///
-/// The cells cover the pool, at most 16,384 of them, as small as that allows, in at most 16 rows. An object with cells in
-/// several rows has a rectangle in each. Where a live and a quarantined object share a cell, the stripes lie above, and
-/// the live one is seen between them. Without a pool there is no row. Where the sink fails, a beginning of the drawing was
-/// written. Takes no memory from an allocator.
+/// The drawing is an SVG document with a rectangle for each held object. The rectangle covers the
+/// cells from the first to the last that [`cells_of`] returns. These are exactly the cells that
+/// hold a byte of the object, if the object lies in the pool. The rectangle is filled if the object
+/// is live, and striped if it is quarantined.
+///
+/// At most 16,384 cells, as small as that allows, cover the pool in at most 16 rows. An object with
+/// cells in several rows has a rectangle in each. If a live and a quarantined object share a cell,
+/// the stripes lie above, and the live one is seen between them. Without a pool there is no row.
+/// Allocates nothing.
+///
+/// Requires: the sink has not failed.
+/// Errors: `Write` if and only if the sink fails. A prefix of the drawing is then written.
 #[tactic(auto, using(crate::proofs::WritingLemmas::whole_begins))]
 pub fn show_drawing<W: Sink>(machine: &Machine, sink: &mut W) -> Result<Summary, IoError>
     requires { W.has_failed sink.old ≡ false }
@@ -37,7 +42,6 @@ pub fn show_drawing<W: Sink>(machine: &Machine, sink: &mut W) -> Result<Summary,
     Ok(Summary { any_error: false })
 }
 
-/// Writes the drawing of these objects in this pool.
 fn write_drawing<W: Sink>(
     objects: &[PlannedObject],
     pool: &Span,
@@ -54,7 +58,6 @@ fn write_drawing<W: Sink>(
     write_laid_out(&Layout::new(pool), objects, pool, sink)
 }
 
-/// Writes the drawing of these objects in this pool, by this layout.
 fn write_laid_out<W: Sink>(
     layout: &Layout,
     objects: &[PlannedObject],
@@ -81,7 +84,7 @@ fn write_laid_out<W: Sink>(
     write_end(sink)
 }
 
-/// Writes the head: what stands before the scale.
+/// Writes the head: everything before the scale.
 fn write_head<W: Sink>(layout: &Layout, pool: &Span, sink: &mut W) -> Result<(), Failed>
     requires sink { W.has_failed sink.old ≡ false }
     requires cells { layout.now.cells ≤ 16384 }
@@ -94,7 +97,9 @@ fn write_head<W: Sink>(layout: &Layout, pool: &Span, sink: &mut W) -> Result<(),
     write_all(sink, text.bytes())
 }
 
-/// Puts the head into the empty text: the document's size, its title, and a key of the fills.
+/// Appends the head: the document's size, its title, and a key of the fills.
+///
+/// Requires: `text` is empty.
 fn push_head(text: &mut Text, layout: &Layout, pool: &Span)
     requires empty { text.old ≡ [] }
     requires cells { layout.now.cells ≤ 16384 }
@@ -126,7 +131,7 @@ fn push_head(text: &mut Text, layout: &Layout, pool: &Span)
     push_moved(text);
 }
 
-/// Appends a line that has the pool's base and top between the two texts.
+/// Appends a line with the pool's base and top between `before` and `after`.
 fn push_bounds(text: &mut Text, before: &[u8], pool: &Span, after: &[u8])
     requires before { length before.now ≤ 60 }
     requires after { length after.now ≤ 60 }
@@ -138,7 +143,6 @@ fn push_bounds(text: &mut Text, before: &[u8], pool: &Span, after: &[u8])
     end_with_hexadecimal(text, b" to ", pool.top, after);
 }
 
-/// Appends the pattern that quarantined objects are filled with.
 #[tactic(auto, unfolding(crate::specs::Drawing::stripes_text))]
 fn push_stripes(text: &mut Text)
     requires { length text.old + 240 ≤ ROOM }
@@ -149,7 +153,6 @@ fn push_stripes(text: &mut Text)
     text.push(b"<rect width='8' height='3' fill='#e69f00'/></pattern></defs>\n");
 }
 
-/// Appends the key's sample of a live object.
 #[tactic(auto, unfolding(crate::specs::Drawing::key_text))]
 fn push_key(text: &mut Text)
     requires { length text.old + 100 ≤ ROOM }
@@ -161,7 +164,6 @@ fn push_key(text: &mut Text)
     );
 }
 
-/// Appends the key's samples of a quarantined object and of free bytes.
 #[tactic(auto, unfolding(crate::specs::Drawing::fills_text))]
 fn push_fills(text: &mut Text)
     requires { length text.old + 140 ≤ ROOM }
@@ -173,7 +175,7 @@ fn push_fills(text: &mut Text)
     );
 }
 
-/// Appends the names beside the key's three samples.
+/// Appends the names next to the key's three samples.
 #[tactic(auto, unfolding(crate::specs::Drawing::names_text))]
 fn push_names(text: &mut Text)
     requires { length text.old + 120 ≤ ROOM }
@@ -195,7 +197,6 @@ fn push_moved(text: &mut Text)
     text.push(b"<g transform='translate(152,96)'>\n");
 }
 
-/// Writes the scale: marks above the first row, and the rows.
 fn write_scale<W: Sink>(layout: &Layout, sink: &mut W) -> Result<(), Failed>
     requires sink { W.has_failed sink.old ≡ false }
     requires start { layout.now.start < 2 ^ 64 }
@@ -212,7 +213,7 @@ fn write_scale<W: Sink>(layout: &Layout, sink: &mut W) -> Result<(), Failed>
     write_all(sink, text.bytes())
 }
 
-/// Appends the marks above the first row: four, or one for each cell where there are fewer.
+/// Appends the marks above the first row: four, or one for each cell if there are fewer.
 fn push_marks(text: &mut Text, layout: &Layout)
     requires empty { text.old ≡ [] }
     requires size { layout.now.size ≤ 2 ^ 50 }
@@ -226,7 +227,7 @@ fn push_marks(text: &mut Text, layout: &Layout)
     }
 }
 
-/// Appends the mark above a cell of the first row, with how many bytes of the row stand before it.
+/// Appends the mark above a cell of the first row, with the number of bytes before it in the row.
 #[tactic(auto, unfolding(crate::specs::Drawing::mark_text))]
 fn push_mark(text: &mut Text, layout: &Layout, cell: u32)
     requires room { length text.old + 193 ≤ ROOM }
@@ -245,7 +246,7 @@ fn push_mark(text: &mut Text, layout: &Layout, cell: u32)
     text.push_line(&line);
 }
 
-/// Appends the grounds of all rows, each beside its first address.
+/// Appends the grounds of all rows, each next to its first address.
 fn push_rows(text: &mut Text, layout: &Layout)
     requires room { length text.old ≤ 800 }
     requires start { layout.now.start < 2 ^ 64 }
@@ -261,7 +262,8 @@ fn push_rows(text: &mut Text, layout: &Layout)
     }
 }
 
-/// Appends the ground of one row: `y` is its height on the page, `address` that of its first cell.
+/// Appends the ground of one row. `y` is its height on the page, and `address` that of its first
+/// cell.
 #[tactic(auto, unfolding(crate::specs::Drawing::row_text))]
 fn push_row(text: &mut Text, width: u32, y: u32, cells: u32, address: u128)
     requires room { length text.old + 193 ≤ ROOM }
@@ -284,7 +286,7 @@ fn push_row(text: &mut Text, width: u32, y: u32, cells: u32, address: u128)
     text.push_line(&line);
 }
 
-/// Writes what stands before the live objects.
+/// Writes the start of the layer of live objects.
 #[tactic(auto, unfolding(crate::specs::Drawing::live_text))]
 fn write_live<W: Sink>(sink: &mut W) -> Result<(), Failed>
     requires { W.has_failed sink.old ≡ false }
@@ -312,7 +314,6 @@ fn write_quarantined<W: Sink>(sink: &mut W) -> Result<(), Failed>
     )
 }
 
-/// Writes the end of the document.
 #[tactic(auto, unfolding(crate::specs::Drawing::end_text))]
 fn write_end<W: Sink>(sink: &mut W) -> Result<(), Failed>
     requires { W.has_failed sink.old ≡ false }
@@ -323,7 +324,7 @@ fn write_end<W: Sink>(sink: &mut W) -> Result<(), Failed>
     write_all(sink, b"</g>\n</g>\n</svg>\n")
 }
 
-/// Writes the rectangles of those objects that are in this state.
+/// Writes the rectangles of the objects in this state.
 fn write_layer<W: Sink>(
     layout: &Layout,
     state: ObjectState,
@@ -351,7 +352,8 @@ fn write_layer<W: Sink>(
     Ok(())
 }
 
-/// Whether an object of the state `other` is drawn in the layer of `state`: where the two are the same.
+/// Returns whether an object in the state `other` is drawn in the layer of `state`, that is,
+/// whether the two are equal.
 fn is_in(state: ObjectState, other: ObjectState) -> bool
     ensures { result ≡ is_in state other }
 {
@@ -362,7 +364,7 @@ fn is_in(state: ObjectState, other: ObjectState) -> bool
     }
 }
 
-/// Writes the rectangles of an object: one in each row where it has a cell.
+/// Writes the rectangles of an object: one in each row that has a cell of it.
 fn write_object<W: Sink>(
     layout: &Layout,
     number: u32,
@@ -417,7 +419,7 @@ fn write_rectangle<W: Sink>(
     write_all(sink, line.bytes())
 }
 
-/// The line of that rectangle, with its line feed.
+/// Returns the line of that rectangle, with its line feed.
 #[tactic(auto, unfolding(crate::specs::Drawing::rectangle_text))]
 fn rectangle_line(width: u32, row: u32, from: u128, to: u128, number: u32, span: &Span) -> Line
     requires width { width ≤ 1024 }

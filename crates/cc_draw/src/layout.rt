@@ -1,4 +1,4 @@
-//! How a pool is laid out on a page: in rows of cells.
+//! The layout of a pool on a page: rows of cells.
 ghost use Rattle.std.specs.Prelude.{◌≡◌, ◌<◌, ◌≤◌, ◌+◌, ◌^◌};
 ghost use Rattle.std.specs.Int.{div_ceil};
 ghost use Rattle.cc_bounds.specs.Span.{length_of};
@@ -7,27 +7,27 @@ ghost use Rattle.cc_explain.specs.Picture.{cell_bytes, cell_count};
 
 use cc_bounds::Span;
 
-/// The most cells of a drawing.
+/// The maximum number of cells of a drawing.
 const MOST_CELLS: u128 = 16_384;
 
-/// How many cells a row has.
+/// The number of cells of a full row.
 pub(crate) const ROW: u32 = 1024;
 
-/// How a pool is laid out on a page: rows of 1,024 cells of the same size.
+/// The layout of a pool on a page: rows of 1,024 cells of the same size.
 #[derive(Clone, Copy)]
 pub(crate) struct Layout {
     /// The pool's first address.
     pub(crate) start: u128,
-    /// How many bytes a cell stands for.
+    /// The number of bytes that a cell represents.
     pub(crate) size: u128,
-    /// How many cells cover the pool.
+    /// The number of cells that cover the pool.
     pub(crate) cells: u32,
-    /// How wide a cell is drawn, in units of the drawing, from 1 to 1,024.
+    /// The width of a cell in units of the drawing, from 1 to 1,024.
     pub(crate) width: u32,
 }
 
 impl Layout {
-    /// The layout of a pool.
+    /// Returns the layout of a pool.
     pub(crate) fn new(pool: &Span) -> Layout
         requires in_order { pool.now.base ≤ pool.now.top }
         requires fits { pool.now.top ≤ 2 ^ 64 }
@@ -49,7 +49,7 @@ impl Layout {
         }
     }
 
-    /// How many rows there are.
+    /// Returns the number of rows.
     pub(crate) fn rows(&self) -> u32
         requires { self.now.cells ≤ 16384 }
         ensures value { result ≡ row_count self.now }
@@ -59,7 +59,8 @@ impl Layout {
     }
 }
 
-/// How many bytes a cell stands for: the least, from 1 up, with which 16,384 cells cover so many bytes.
+/// Returns the number of bytes of a cell: the smallest number, at least 1, with which 16,384 cells
+/// cover `bytes` bytes.
 fn cell_size(bytes: u128) -> u128
     requires { bytes ≤ 2 ^ 64 }
     ensures value { result ≡ cell_bytes 16384 bytes }
@@ -68,7 +69,8 @@ fn cell_size(bytes: u128) -> u128
     bytes.div_ceil(MOST_CELLS).max(1)
 }
 
-/// How many cells of this size cover so many bytes. The last may reach past their end.
+/// Returns the number of cells of this size that cover the bytes. The last may reach past their
+/// end.
 fn cell_count(bytes: u128, size: u128) -> u32
     requires { size ≡ cell_bytes 16384 bytes }
     ensures value { result ≡ cell_count 16384 bytes }
@@ -77,7 +79,8 @@ fn cell_count(bytes: u128, size: u128) -> u32
     bytes.div_ceil(size) as u32
 }
 
-/// How wide each of so many cells is drawn: the fewer there are, the wider, so that a row has at most 1,024 units.
+/// Returns the width of each cell in units of the drawing. The fewer cells there are, the wider
+/// they are, so that a row has at most 1,024 units.
 fn cell_width(cells: u32) -> u32
     ensures value { result ≡ cell_width cells }
     ensures fits { result ≤ 1024 }
@@ -85,11 +88,15 @@ fn cell_width(cells: u32) -> u32
     (ROW / cells.max(1)).max(1)
 }
 
-/// Which cells hold a byte of a span, where cells of `size` bytes follow one another from `start` on and are numbered
-/// from 0: the number of the first, and the one behind the last.
+/// Returns the numbers of the first cell that holds a byte of a span, and of the cell after the
+/// last one that does. Cells of `size` bytes follow one another from `start` on, and are numbered
+/// from 0.
 ///
-/// For a span with bytes, none of them below `start`, these are exactly the cells that hold a byte of it: its drawing
-/// leaves out none, and shows none besides. A base or a top below `start` counts as `start`.
+/// For a span with bytes, none of them below `start`, exactly these cells hold a byte of it: from
+/// the first number up to, and without, the second. A base or a top below `start` counts as
+/// `start`.
+///
+/// Requires: `0 < size`.
 pub fn cells_of(start: u128, size: u128, span: &Span) -> (u128, u128)
     requires { 0 < size }
     ensures first { result.0 ≡ first_cell start size span.now }

@@ -13,15 +13,18 @@ use cc_io::{IoError, Sink, Summary};
 use cc_machine::{Machine, ObjectState, PlannedObject};
 use cc_text::{Line, ROOM, Text, end_with_hexadecimal};
 
-/// The most cells of a map.
+/// The maximum number of cells of a map.
 const MOST_CELLS: u128 = 1024;
 
-/// Writes a map of the machine's pool, and flushes the sink once after it: a line with the size of a cell, and then
-/// at most 16 rows of up to 64 cells. Each row begins with the address of its first cell.
+/// Writes a map of the machine's pool, and flushes the sink once after it.
 ///
-/// The cells cover the pool, at most 1,024 of them, as small as that allows; their marks are those of [`map_row`]. The
-/// last cell may reach past the pool's top. Without a pool there is no row. Where the sink fails, a beginning of the map
-/// was written.
+/// The map is a line with the size of a cell, and then at most 16 rows of up to 64 cells. Each row
+/// begins with the address of its first cell. At most 1,024 cells, as small as that allows, cover
+/// the pool, and their marks are those of [`map_row`]. The last cell may reach past the pool's top.
+/// Without a pool there is no row.
+///
+/// Requires: the sink has not failed.
+/// Errors: `Write` if and only if the sink fails. A prefix of the map is then written.
 pub fn show_map<W: Sink>(machine: &Machine, sink: &mut W) -> Result<Summary, IoError>
     requires { W.has_failed sink.old ≡ false }
     ensures shown { WritesAnswer (IsMap (plan_of machine.now)) (W.taken_bytes sink.old) (W.taken_bytes sink.new) result }
@@ -36,7 +39,9 @@ pub fn show_map<W: Sink>(machine: &Machine, sink: &mut W) -> Result<Summary, IoE
     Ok(Summary { any_error: false })
 }
 
-/// Puts the map of a machine's pool into the empty text.
+/// Appends the map of a machine's pool.
+///
+/// Requires: `text` is empty.
 fn push_map_of_machine(text: &mut Text, machine: &Machine)
     requires { text.old ≡ [] }
     ensures { IsMap (plan_of machine.now) text.new }
@@ -45,7 +50,9 @@ fn push_map_of_machine(text: &mut Text, machine: &Machine)
     push_map(text, planner.objects(), &pool_span(planner.pool()));
 }
 
-/// Puts the map of these objects in this pool into the empty text.
+/// Appends the map of these objects in this pool.
+///
+/// Requires: `text` is empty.
 fn push_map(text: &mut Text, objects: &[PlannedObject], pool: &Span)
     requires empty { text.old ≡ [] }
     requires in_order { pool.now.base ≤ pool.now.top }
@@ -64,7 +71,8 @@ fn push_map(text: &mut Text, objects: &[PlannedObject], pool: &Span)
     push_rows(text, objects, u128::from(pool.base), size, cells);
 }
 
-/// How many bytes a cell stands for: the least, from 1 up, with which 1,024 cells cover so many bytes.
+/// Returns the number of bytes of a cell: the smallest number, at least 1, with which 1,024 cells
+/// cover `bytes` bytes.
 fn cell_size(bytes: u128) -> u128
     requires { bytes ≤ 2 ^ 64 }
     ensures value { result ≡ cell_bytes 1024 bytes }
@@ -73,7 +81,8 @@ fn cell_size(bytes: u128) -> u128
     bytes.div_ceil(MOST_CELLS).max(1)
 }
 
-/// How many cells of this size cover so many bytes. The last may reach past their end.
+/// Returns the number of cells of this size that cover the bytes. The last may reach past their
+/// end.
 fn cell_count(bytes: u128, size: u128) -> usize
     requires { size ≡ cell_bytes 1024 bytes }
     ensures value { result ≡ cell_count 1024 bytes }
@@ -82,7 +91,7 @@ fn cell_count(bytes: u128, size: u128) -> usize
     bytes.div_ceil(size) as usize
 }
 
-/// Appends the rows of so many cells, which follow one another from `start` on.
+/// Appends the rows of these cells, which follow one another from `start` on.
 fn push_rows(text: &mut Text, objects: &[PlannedObject], start: u128, size: u128, cells: usize)
     requires start { start ≤ 2 ^ 64 }
     requires size { size ≤ 2 ^ 54 }
@@ -116,10 +125,17 @@ fn push_row(text: &mut Text, start: u128, cells: &[u8])
     text.push_line(&line);
 }
 
-/// The marks of 64 cells of `size` bytes, which follow one another from the address `start` on.
+/// Returns the marks of 64 cells of `size` bytes, which follow one another from the address `start`
+/// on.
 ///
-/// A cell has the mark `#` where some of its bytes are live and none quarantined, `~` where some are quarantined and
-/// none live, `*` where there are both, and a point where no object holds a byte of it.
+/// The mark of a cell is:
+///
+/// - `#` if some of its bytes are live and none is quarantined
+/// - `~` if some are quarantined and none is live
+/// - `*` if some are live and some are quarantined
+/// - `.` if no live or quarantined object holds a byte of it
+///
+/// Requires: `start < 2^66`; `size < 2^66`.
 pub fn map_row(objects: &[PlannedObject], start: u128, size: u128) -> [u8; 64]
     requires start { start < 2 ^ 66 }
     requires size { size < 2 ^ 66 }
@@ -137,7 +153,7 @@ pub fn map_row(objects: &[PlannedObject], start: u128, size: u128) -> [u8; 64]
     row
 }
 
-/// The mark of a cell, as [`map_row`] says it.
+/// Returns the mark of a cell, one of those that [`map_row`] lists.
 fn mark_of(objects: &[PlannedObject], cell: &Stretch) -> u8
     ensures { TellsCell objects.now (record { base = cell.now.first; top = cell.now.end }) result }
 {
@@ -151,7 +167,7 @@ fn mark_of(objects: &[PlannedObject], cell: &Stretch) -> u8
     }
 }
 
-/// Whether the cell has a byte of an object in this state.
+/// Returns whether the cell has a byte of an object in this state.
 fn holds_byte(objects: &[PlannedObject], state: ObjectState, cell: &Stretch) -> bool
     ensures { IsTrue result ↔ HoldsByte objects.now state (record { base = cell.now.first; top = cell.now.end }) }
 {

@@ -1,4 +1,4 @@
-//! What the objects of a machine take of its pool, and what is left.
+//! The bytes of a machine's pool that its objects take, and those that are left.
 ghost use Rattle.std.specs.Prelude.{◌≡◌, ◌≤◌, ◌<◌, ◌+◌, ◌^◌, IfOk, count_by, length, max, option_map, unwrap_or};
 ghost use Rattle.std.specs.List.Sorted.{IsNonDecreasingBy, IsPermutation};
 ghost use Rattle.cc_bounds.specs.Span.{from_zero};
@@ -10,37 +10,39 @@ use cc_cap::Cap;
 use cc_machine::{Machine, ObjectState, PlannedObject};
 use std::alloc::{AllocError, Global};
 
-/// What the objects of a machine take of its pool, and what is left, in bytes. At most 2^80 bytes are held.
+/// The use of a machine's slots, objects and pool, and the bytes that are left.
 #[derive(Clone, Copy, PartialEq, Eq)]
 pub struct Usage {
-    /// How many slots there are, slot 0 and revoked ones counted: from 1 up.
+    /// The number of slots, including slot 0 and revoked ones: at least 1.
     pub slots: u32,
-    /// The most slots, and the most objects, that the machine can have.
+    /// The maximum number of slots, and of objects, of the machine.
     pub limit: u32,
-    /// How many objects were made.
+    /// The number of objects that were made.
     pub made: usize,
-    /// How many of them are live.
+    /// The number of live objects.
     pub live: usize,
-    /// How many were freed, and wait for the next sweep.
+    /// The number of objects that were freed and not swept so far.
     pub quarantined: usize,
-    /// How many were swept.
+    /// The number of swept objects.
     pub swept: usize,
-    /// How many bytes were asked for, of all objects that are held: live or quarantined.
+    /// The number of bytes that were requested for all held objects, live or quarantined.
     pub asked: u128,
-    /// How many bytes these objects hold, padding counted.
+    /// The number of bytes that these objects hold, including padding.
     pub held: u128,
-    /// How many bytes the pool has, and 0 where there is none.
+    /// The number of bytes of the pool, or 0 if there is none.
     pub pool: u128,
-    /// How many holes the pool has. A hole is the bytes between a held object and the next, or between one and an end of
-    /// the pool, where there are any; a pool with bytes and no held object is one hole.
+    /// The number of holes of the pool.
+    ///
+    /// A hole is the bytes between a held object and the next, or between one and an end of the
+    /// pool, if there are any. A pool with bytes and no held object is one hole.
     pub holes: usize,
-    /// How many bytes the largest hole has, and 0 where there is none.
+    /// The number of bytes of the largest hole, or 0 if there is none.
     pub largest: u128,
-    /// The highest top of all objects that were made, swept ones counted, and 0 where none was made.
+    /// The highest top of all objects that were made, including swept ones, or 0 if none was made.
     pub end: u128,
 }
 
-/// How many holes there are, and how many bytes the largest has.
+/// The number of holes, and the number of bytes of the largest.
 #[derive(Clone, Copy)]
 struct Holes {
     count: usize,
@@ -48,7 +50,7 @@ struct Holes {
 }
 
 impl Holes {
-    /// Adds a gap of so many bytes, which is a hole unless it has none.
+    /// Adds a gap of `gap` bytes. An empty gap is not a hole.
     fn add(&mut self, gap: u128)
         requires { self.old.count ≤ 65536 }
         ensures count { self.new.count ≡ self.old.count + length (hole gap) }
@@ -61,9 +63,11 @@ impl Holes {
     }
 }
 
-/// What a machine uses of its slots, of its objects and of its pool.
+/// Returns the use of a machine's slots, objects and pool. At most 2^80 bytes are held.
 ///
-/// Takes memory for the held spans, which it brings into order, and gives it back; `AllocError` where it is refused.
+/// Allocates memory for the held spans, which it sorts, and frees it.
+///
+/// Errors: `AllocError` if the allocation fails.
 pub fn usage_of(alloc: Global, machine: &Machine) -> Result<Usage, AllocError>
     ensures usage { IfOk result (IsUsage machine.now) }
     ensures fits { IfOk result (λ usage. usage.held ≤ 2 ^ 80) }
@@ -89,7 +93,7 @@ pub fn usage_of(alloc: Global, machine: &Machine) -> Result<Usage, AllocError>
     })
 }
 
-/// The bounds of a pool, and base and top 0 where there is none.
+/// Returns the bounds of a pool, or base and top 0 if there is none.
 pub(crate) fn pool_span(pool: Option<Cap>) -> Span
     ensures value { result ≡ unwrap_or (option_map (λ pool. pool.span) pool) (from_zero 0) }
     ensures in_order { result.base ≤ result.top }
@@ -101,7 +105,6 @@ pub(crate) fn pool_span(pool: Option<Cap>) -> Span
     }
 }
 
-/// How many objects are live.
 fn live_count(objects: &[PlannedObject]) -> usize
     ensures { result ≡ count_by (λ object. is_live object.state) objects.now }
 {
@@ -111,7 +114,7 @@ fn live_count(objects: &[PlannedObject]) -> usize
         .count()
 }
 
-/// How many objects are freed, and not swept yet.
+/// Returns the number of objects that are freed and not swept.
 fn freed_count(objects: &[PlannedObject]) -> usize
     ensures { result ≡ count_by (λ object. is_freed object.state) objects.now }
 {
@@ -121,7 +124,6 @@ fn freed_count(objects: &[PlannedObject]) -> usize
         .count()
 }
 
-/// How many objects are swept.
 fn swept_count(objects: &[PlannedObject]) -> usize
     ensures { result ≡ count_by (λ object. is_swept object.state) objects.now }
 {
@@ -131,14 +133,14 @@ fn swept_count(objects: &[PlannedObject]) -> usize
         .count()
 }
 
-/// Whether an object holds its bytes: until it is swept.
+/// Returns whether an object holds its bytes: it does until it is swept.
 fn is_held(object: &PlannedObject) -> bool
     ensures { result ≡ is_held object.now.state }
 {
     !matches!(object.state, ObjectState::Swept)
 }
 
-/// The bytes that were asked for, of all held objects: without padding.
+/// Returns the number of bytes that were requested for the held objects, without padding.
 fn asked_bytes(objects: &[PlannedObject]) -> u128
     requires { asked_bytes_of objects.now < 2 ^ 128 }
     ensures { result ≡ asked_bytes_of objects.now }
@@ -154,7 +156,7 @@ fn asked_bytes(objects: &[PlannedObject]) -> u128
     asked
 }
 
-/// The highest top of the objects, and 0 where there is none.
+/// Returns the highest top of the objects, or 0 if there is none.
 fn highest_top(objects: &[PlannedObject]) -> u128
     ensures { result ≡ highest_top objects.now }
 {
@@ -167,7 +169,7 @@ fn highest_top(objects: &[PlannedObject]) -> u128
     highest
 }
 
-/// The spans of the held objects, in the order of the objects.
+/// Returns the spans of the held objects, in the order of the objects.
 fn held_spans(alloc: Global, objects: &[PlannedObject]) -> Result<Vec<Span>, AllocError>
     ensures { IfOk result (λ spans. spans.items ≡ held_spans objects.now) }
 {
@@ -178,7 +180,7 @@ fn held_spans(alloc: Global, objects: &[PlannedObject]) -> Result<Vec<Span>, All
         .collect(alloc)
 }
 
-/// The spans of the held objects, in the order of their addresses.
+/// Returns the spans of the held objects, in the order of their addresses.
 fn spans_in_order(alloc: Global, objects: &[PlannedObject]) -> Result<Vec<Span>, AllocError>
     ensures same { IfOk result (λ spans. IsPermutation (held_spans objects.now) spans.items) }
     ensures sorted { IfOk result (λ spans. IsNonDecreasingBy (λ span. span.base) spans.items) }
@@ -188,7 +190,8 @@ fn spans_in_order(alloc: Global, objects: &[PlannedObject]) -> Result<Vec<Span>,
     Ok(spans)
 }
 
-/// The holes that these spans, which stand in the order of their addresses, leave in a pool.
+/// Returns the holes that these spans leave in a pool. The spans are in the order of their
+/// addresses.
 fn holes_beside(pool: &Span, order: &[Span]) -> Holes
     requires { length order.now ≤ 65536 }
     ensures count { result.count ≡ length (holes pool.now.base pool.now.top order.now) }

@@ -1,4 +1,4 @@
--- What the root capability is granted for a request.
+-- The bounds that the root capability is granted for a request.
 use Rattle.std.proofs.Common.{◌≡◌, ℕ, ◌+◌, ◌*◌, ◌%◌, ◌<◌, ◌≤◌, ◌^◌, ◌∙◌, ap, inl, inr, refl, subst, sym, arith}
 use Rattle.std.proofs.Math.Nat.{mod-eq_of_lt}
 use Rattle.std.proofs.Math.Pow.{pow-add, pow_mono}
@@ -16,13 +16,14 @@ use Rattle.cc_cap.specs.Derivation.{SetsAddress, SetsBounds}
 use Rattle.cc_cap.proofs.BoundsLemmas.{root-IsCapability}
 use Rattle.cc_explain.specs.Request.{granted_capability}
 
--- a request is the span of its length from its base on
+-- A request is the span of its length from its base on.
 pub span_from-is : (request : Span) (size : ℕ) → IsSpan request → size ≡ length_of request → span_from request.base size ≡ request
 span_from-is request size is_span is_size =
     let order = is_span.in_order in
     same_span (span_from request.base size) request refl (omega (arith, is_size, order))
 
--- the granule of a long request is eight times two to the exponent of what is granted
+-- The granule of a request of at least 4,096 bytes is eight times two to the exponent of the
+-- granted span.
 pub long_granule : (request granted : Span) (exponent : ℕ) → IsSpan request → IsGranted request granted → 4096 ≤ length_of request
     → exponent ≡ exponent_of granted → exponent ≤ 52 → IsGranule request (8 * 2 ^ exponent % 2 ^ 64)
 long_granule request granted exponent is_span is_granted long is_exponent fits =
@@ -33,7 +34,7 @@ long_granule request granted exponent is_span is_granted long is_exponent fits =
     let is : 8 * 2 ^ exponent % 2 ^ 64 ≡ 2 ^ (exponent_of request + 3) = whole ∙ ap (λ (e : ℕ). 2 ^ (e + 3)) same in
     subst (λ (g : ℕ). IsGranule request g) (granule_of-long request long ∙ sym is) (granule_of-is request is_span)
 
--- the root's address can be moved to each address
+-- The root's address can be moved to each address.
 pub root_moves : (base : ℕ) (result : Result Capability Refusal) → base < 2 ^ 64 → SetsAddress root_capability base result
     → result ≡ Ok (at_address root_capability base)
 root_moves base result fits (inl (unsealed, inl (within, is))) = is
@@ -41,7 +42,7 @@ root_moves base result fits (inl (unsealed, inr (outside, is))) =
     absurd (outside (inside-Represents (from_zero (2 ^ 64)) base root-IsCapability.is_span root-IsCapability.sound (omega arith) (omega (arith, fits))))
 root_moves base result fits (inr (sealed, is)) = absurd (sealed refl)
 
--- of the root each request within the address space is granted
+-- The root is granted each request within the address space.
 pub root_grants : (request : Span) (size : ℕ) (result : Result Capability Refusal) → IsSpan request → size ≡ length_of request
     → SetsBounds (at_address root_capability request.base) size result
     → (granted : Span) × IsGranted request granted × (result ≡ Ok (granted_capability request granted))

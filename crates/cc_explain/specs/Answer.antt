@@ -1,4 +1,4 @@
--- What a command writes to a sink: its answer.
+-- The output of a command, which it writes to a sink.
 use Rattle.std.specs.Prelude.{◌≡◌, ◌⊎◌, ℕ, List, Option, Result, Ok, Err, OnOk, OnErr}
 use Rattle.std.specs.Io.KnownBytes.{Appends}
 use Rattle.std.specs.Str.Parse.{digits_value}
@@ -10,21 +10,24 @@ use Rattle.cc_text.specs.Text.{refusal_text, with_line_feed}
 use Rattle.cc_io.specs.declared.summary.IoError.{IoError}
 use Rattle.cc_io.specs.declared.summary.Summary.{Summary}
 
--- the answer is the line of a refusal
+-- IsRefusalLine holds if `answer` is the line of the refusal.
 abbrev pub IsRefusalLine : Refusal → (answer : List ℕ) → Type 0
 IsRefusalLine refusal answer = answer ≡ with_line_feed (refusal_text refusal)
 
--- the answer to a text that may spell a word: to the word its answer, and to any other text the refusal `error 1 syntax`
+-- AnswersText holds if `answer` is the output for a string. For a word it satisfies `IsAnswer`, and
+-- for any other string it is the refusal `error 1 syntax`.
 abbrev pub AnswersText : (IsAnswer : (word : ℕ) → (answer : List ℕ) → Type 0) → (text answer : List ℕ) → Type 0
 AnswersText IsAnswer text answer =
     (IsWordText text × IsAnswer (digits_value 16 text) answer) ⊎ ((¬ IsWordText text) × IsRefusalLine Syntax answer)
 
--- the answer to what texts spell: to a value its answer, and else the refusal
+-- AnswersResult holds if `answer` is the output for a result. For a value it satisfies `IsAnswer`,
+-- and otherwise it is the line of the refusal.
 abbrev pub AnswersResult : {A : Type 0} → (IsAnswer : A → (answer : List ℕ) → Type 0) → Result A Refusal → (answer : List ℕ) → Type 0
 AnswersResult IsAnswer (Ok value) answer = IsAnswer value answer
 AnswersResult IsAnswer (Err refusal) answer = IsRefusalLine refusal answer
 
--- an answer of this kind was written: the whole of it where the call succeeds, and else a beginning
+-- WritesAnswer holds if output that satisfies `IsAnswer` was written: all of it if the call
+-- succeeds, and otherwise a prefix of it.
 pub record WritesAnswer (IsAnswer : List ℕ → Type 0) (old new : Option (List ℕ)) (result : Result Summary IoError) : Type 0 where
   pub answer : List ℕ
   pub is_answer : IsAnswer answer

@@ -1,4 +1,4 @@
--- What `show` writes for a text.
+-- The output of `show` for a string.
 use Rattle.std.specs.Prelude.{ℕ, List, ◌++◌, codes, decimal, Bool, if◌then◌else◌}
 use Rattle.cc_word.specs.Word.{bit_of}
 use Rattle.cc_word.specs.WordText.{digits_of, hexadecimal}
@@ -11,11 +11,11 @@ use Rattle.cc_explain.specs.Answer.{AnswersText}
 use Rattle.cc_explain.specs.Permissions.{permissions_text}
 use Rattle.cc_explain.specs.WordTelling.{TellsWord}
 
--- a name, one space, a value and the line feed
+-- A name, one space, a value and the line feed.
 abbrev pub line_of : (name value : List ℕ) → List ℕ
 line_of name value = with_line_feed (name ++ codes " " ++ value)
 
--- the lines of a word and of its fields
+-- The lines of a word and of its fields.
 abbrev pub field_lines_of : (word : ℕ) (fields : Fields) → List ℕ
 field_lines_of word fields =
     line_of (codes "word") (digits_of 32 word)
@@ -28,7 +28,8 @@ field_lines_of word fields =
     ++ line_of (codes "b") (digits_of 4 fields.b)
     ++ line_of (codes "address") (hexadecimal fields.address)
 
--- the lines of what the fields decode to, and of whether the word is canonical
+-- The lines of the exponent and the bounds that the fields decode to, and of whether the word is
+-- canonical.
 abbrev pub bounds_lines_of : (fields : Fields) (bounds : Span) (canonical : Bool) → List ℕ
 bounds_lines_of fields bounds canonical =
     line_of (codes "exponent") (decimal (stored_exponent fields))
@@ -36,10 +37,11 @@ bounds_lines_of fields bounds canonical =
     ++ line_of (codes "top") (hexadecimal bounds.top)
     ++ line_of (codes "canonical") (if canonical then codes "yes" else codes "no")
 
--- all thirteen lines of a listing
+-- All thirteen lines of a listing.
 abbrev pub listing_of : (word : ℕ) (fields : Fields) (bounds : Span) (canonical : Bool) → List ℕ
 listing_of word fields bounds canonical = field_lines_of word fields ++ bounds_lines_of fields bounds canonical
 
--- the answer to a text: to a word its listing
+-- IsListing holds if the listing is the output for a string: for a word its listing, and for any
+-- other string `error 1 syntax`.
 abbrev pub IsListing : (text listing : List ℕ) → Type 0
 IsListing = AnswersText (TellsWord listing_of)

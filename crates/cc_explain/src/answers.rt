@@ -1,4 +1,4 @@
-//! Writes the answer of a command at once, and an answer that is a refusal.
+//! Writes the output of a command all at once, and output that is a refusal.
 ghost use Rattle.std.specs.Prelude.{◌≡◌, ◌↔◌, [], false, true, IfOk, IsErr, OnOk, OnErr};
 ghost use Rattle.std.specs.Io.KnownBytes.{Appends};
 ghost use Rattle.cc_io.specs.Devices.{TakesBeginning};
@@ -8,9 +8,11 @@ use cc_io::{IoError, Sink, Summary, write_all};
 use cc_text::{Text, refusal_bytes};
 use cc_word::Refusal;
 
-/// Writes the line of a refusal, `error CODE NAME`, and flushes the sink once after it. The summary tells an error.
+/// Writes the line of a refusal, `error CODE NAME`, and flushes the sink once after it. The summary
+/// reports an error.
 ///
-/// Where the sink fails, a beginning of the line was written.
+/// Requires: the sink has not failed.
+/// Errors: `Write` if and only if the sink fails. A prefix of the line is then written.
 pub fn write_refusal<W: Sink>(refusal: Refusal, sink: &mut W) -> Result<Summary, IoError>
     requires { W.has_failed sink.old ≡ false }
     ensures shown { WritesAnswer (IsRefusalLine refusal) (W.taken_bytes sink.old) (W.taken_bytes sink.new) result }

@@ -37,7 +37,7 @@ fn push_grant(text: &mut Text, request: &Span, grant: &Grant)
     push_word(text, grant.word);
 }
 
-/// Appends a line: these bytes, and then the span's length, base and top.
+/// Appends a line: the given bytes, and then the span's length, base and top.
 fn push_span(text: &mut Text, before: &[u8], span: &Span)
     requires is_span { IsSpan span.now }
     requires before { length before.now ≤ 60 }
@@ -50,7 +50,8 @@ fn push_span(text: &mut Text, before: &[u8], span: &Span)
     end_with_hexadecimal(text, b" to ", span.top, b"");
 }
 
-/// Appends the line of a request's granule, and from 4,096 bytes up a line that says why half of it is not enough.
+/// Appends the line of a request's granule, and for at least 4,096 bytes a line that says why half
+/// of it is not enough.
 fn push_unit(text: &mut Text, request: &Span, granule: u64)
     requires is_span { IsSpan request.now }
     requires is_granule { IsGranule request.now granule }
@@ -104,7 +105,7 @@ fn push_half(text: &mut Text, request: &Span, granule: u64)
     }
 }
 
-/// Appends the line that says how many bytes are granted before the request, and how many behind it.
+/// Appends the line of the number of bytes that are granted before the request, and after it.
 fn push_lost(text: &mut Text, request: &Span, granted: &Span)
     requires covers { IsWithin request.now granted.now }
     requires room { length text.old + 160 ≤ ROOM }
@@ -121,7 +122,8 @@ fn push_lost(text: &mut Text, request: &Span, granted: &Span)
     );
 }
 
-/// Appends the line of the length that the request's is rounded up to, and of the bases at which it has exact bounds.
+/// Appends the line of the request's length rounded up, and of the bases at which that length has
+/// exact bounds.
 fn push_exact(text: &mut Text, request: &Span)
     requires is_span { IsSpan request.now }
     requires room { length text.old + 160 ≤ ROOM }

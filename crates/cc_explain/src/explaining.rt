@@ -1,4 +1,5 @@
-//! The explanation of a word: each step of decoding it, with its numbers, and a picture of its window.
+//! The explanation of a word: each step of decoding it, with its numbers, and a picture of its
+//! window.
 ghost use Rattle.std.specs.Prelude.{◌≡◌, ◌↔◌, [], false, true, IfOk, IsErr, IsTrue, OnErr, OnOk};
 ghost use Rattle.cc_explain.specs.Answer.{WritesAnswer};
 ghost use Rattle.cc_explain.specs.Explanation.{IsExplanation};
@@ -14,12 +15,15 @@ use cc_io::{IoError, Sink, Summary};
 use cc_text::Text;
 use cc_word::{Refusal, read_word, unpack};
 
-/// Writes how the word that a text spells is decoded: its fields, each step with its numbers, the bounds,
-/// whether the word is canonical and if not why, and a picture of its window. For a text that is no word it
-/// writes the line `error 1 syntax`. Flushes the sink once after the last line.
+/// Writes how a word is decoded: its fields, each step with its numbers, the bounds, whether the
+/// word is canonical and if not why, and a picture of its window. Flushes the sink once after the
+/// last line.
 ///
-/// A word is 32 hexadecimal digits of either case. No line has more than 100 bytes. Where the sink fails, a
-/// beginning of the answer was written.
+/// A word is 32 hexadecimal digits of either case. For any other string, the output is the line
+/// `error 1 syntax`. No line has more than 100 bytes.
+///
+/// Requires: the sink has not failed.
+/// Errors: `Write` if and only if the sink fails. A prefix of the output is then written.
 pub fn explain_word<W: Sink>(text: &[u8], sink: &mut W) -> Result<Summary, IoError>
     requires { W.has_failed sink.old ≡ false }
     ensures shown { WritesAnswer (IsExplanation text.now) (W.taken_bytes sink.old) (W.taken_bytes sink.new) result }
@@ -34,8 +38,8 @@ pub fn explain_word<W: Sink>(text: &[u8], sink: &mut W) -> Result<Summary, IoErr
     Ok(summary)
 }
 
-/// Appends the explanation of the word that a text spells, or the refusal of a text that is no word. The summary tells
-/// an error exactly for the latter.
+/// Appends the explanation of the word, or the refusal of a string that is not a word. The summary
+/// reports an error if and only if the string is not a word.
 fn push_explanation(answer: &mut Text, text: &[u8]) -> Summary
     requires { answer.old ≡ [] }
     ensures explanation { IsExplanation text.now answer.new }

@@ -1,4 +1,4 @@
-//! The listing of a word: thirteen lines, of its fields and of what they decode to.
+//! The listing of a word: thirteen lines with its fields and the values that they decode to.
 ghost use Rattle.std.specs.Prelude.{◌≡◌, ◌+◌, ◌≤◌, ◌++◌, ◌↔◌, [], codes, decimal, false, true, length, IfOk, IsErr, IsTrue, OnErr, OnOk, if◌then◌else◌};
 ghost use Rattle.cc_word.specs.Word.{bit_of, word_of};
 ghost use Rattle.cc_word.specs.WordText.{digits_of, hexadecimal};
@@ -15,12 +15,14 @@ use cc_io::{IoError, Sink, Summary};
 use cc_text::{Line, ROOM, Text};
 use cc_word::{Fields, Refusal, read_word, unpack};
 
-/// Writes the listing of the word that a text spells, or the line `error 1 syntax` for a text that is
-/// no word, and flushes the sink once after the last line.
+/// Writes the listing of a word, and flushes the sink once after the last line.
 ///
-/// The listing has thirteen lines: the word, its eight fields, the exponent, base and top that they decode to, and
-/// whether the word is canonical. A word is 32 hexadecimal digits of either case. Where the sink fails, a beginning of
-/// the answer was written.
+/// The listing has thirteen lines: the word, its eight fields, the exponent, base and top that they
+/// decode to, and whether the word is canonical. A word is 32 hexadecimal digits of either case.
+/// For any other string, the output is the line `error 1 syntax`.
+///
+/// Requires: the sink has not failed.
+/// Errors: `Write` if and only if the sink fails. A prefix of the output is then written.
 pub fn show_word<W: Sink>(text: &[u8], sink: &mut W) -> Result<Summary, IoError>
     requires { W.has_failed sink.old ≡ false }
     ensures shown { WritesAnswer (IsListing text.now) (W.taken_bytes sink.old) (W.taken_bytes sink.new) result }
@@ -35,8 +37,8 @@ pub fn show_word<W: Sink>(text: &[u8], sink: &mut W) -> Result<Summary, IoError>
     Ok(summary)
 }
 
-/// Appends the listing of the word that a text spells, or the refusal of a text that is no word. The summary tells an
-/// error exactly for the latter.
+/// Appends the listing of the word, or the refusal of a string that is not a word. The summary
+/// reports an error if and only if the string is not a word.
 fn push_answer(answer: &mut Text, text: &[u8]) -> Summary
     requires { answer.old ≡ [] }
     ensures listing { IsListing text.now answer.new }
@@ -81,7 +83,8 @@ fn push_field_lines(text: &mut Text, word: u128, fields: &Fields)
     push_hexadecimal_line(text, b"address", u128::from(fields.address));
 }
 
-/// Appends the lines of what the fields decode to, and of whether the word is canonical.
+/// Appends the lines of the exponent and the bounds that the fields decode to, and of whether the
+/// word is canonical.
 fn push_bounds_lines(text: &mut Text, fields: &Fields, bounds: &Span, canonical: bool)
     requires { length text.old + 143 ≤ ROOM }
     ensures { text.new ≡ text.old ++ bounds_lines_of fields.now bounds.now canonical }
@@ -153,7 +156,7 @@ fn push_permissions_line(text: &mut Text, perms: u16)
     text.push_line(&line);
 }
 
-/// The beginning of a line: its name and a space.
+/// Returns the start of a line: its name and a space.
 fn line_named(name: &[u8]) -> Line
     requires { length name.now ≤ 9 }
     ensures { result ≡ name.now ++ codes " " }

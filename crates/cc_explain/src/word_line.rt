@@ -1,4 +1,4 @@
-//! The answer of `show --line`: a word on one line.
+//! The output of `show --line`: the one-line form of a word.
 ghost use Rattle.std.specs.Prelude.{◌≡◌, ◌↔◌, [], false, true, IfOk, IsErr, IsTrue, OnErr, OnOk};
 ghost use Rattle.cc_explain.specs.Answer.{WritesAnswer};
 ghost use Rattle.cc_explain.specs.LineAnswer.{IsLineAnswer};
@@ -10,11 +10,14 @@ use cc_io::{IoError, Sink, Summary};
 use cc_text::Text;
 use cc_word::{Refusal, read_word};
 
-/// Writes the line of the word that a text spells, such as `0x10070 [rwxRW,0x10070-0x12070]`, or the line
-/// `error 1 syntax` for a text that is no word, and flushes the sink once after it.
+/// Writes the one-line form of a word, such as `0x10070 [rwxRW,0x10070-0x12070]`, and flushes the
+/// sink once after it.
 ///
-/// The line is that of a word whose tag is set. A word is 32 hexadecimal digits of either case. Where the sink fails, a
-/// beginning of the line was written.
+/// It is the form of a word whose tag is set. A word is 32 hexadecimal digits of either case. For
+/// any other string, the output is the line `error 1 syntax`.
+///
+/// Requires: the sink has not failed.
+/// Errors: `Write` if and only if the sink fails. A prefix of the line is then written.
 pub fn show_line<W: Sink>(text: &[u8], sink: &mut W) -> Result<Summary, IoError>
     requires { W.has_failed sink.old ≡ false }
     ensures shown { WritesAnswer (IsLineAnswer text.now) (W.taken_bytes sink.old) (W.taken_bytes sink.new) result }
@@ -29,8 +32,8 @@ pub fn show_line<W: Sink>(text: &[u8], sink: &mut W) -> Result<Summary, IoError>
     Ok(summary)
 }
 
-/// Appends the line of the word that a text spells, or the refusal of a text that is no word. The summary tells an
-/// error exactly for the latter.
+/// Appends the one-line form of the word, or the refusal of a string that is not a word. The
+/// summary reports an error if and only if the string is not a word.
 fn push_line_answer(answer: &mut Text, text: &[u8]) -> Summary
     requires { answer.old ≡ [] }
     ensures line { IsLineAnswer text.now answer.new }

@@ -5,7 +5,7 @@ use Rattle.cc_explain.specs.Explanation.{IsWordExplanation, explanation_of, fiel
 use Rattle.cc_explain.proofs.StepLemmas.{steps-fit}
 use Rattle.cc_explain.proofs.explaining.push_explanation.Goals as goal
 
--- four texts, one after another
+-- Four lists of bytes, one after another.
 grown : (one two three four first second third last : List ℕ) → first ≡ one → second ≡ first ++ two → third ≡ second ++ three
     → last ≡ third ++ four → last ≡ one ++ two ++ three ++ four
 grown one two three four first second third last is_first is_second is_third is_last =
