@@ -1,7 +1,7 @@
-// Times each call of the library, and the plain C body for it, over the same seeded inputs, and holds
-// the checksums of all results against each other.
+// Times each function of the library, and its plain C body, over the same seeded inputs, and compares the
+// checksums of all results.
 //
-//   calls COUNT ROUNDS [NAME]   a line for each call, or for the one: name, ns of the library, ns of C, checksum
+//   calls COUNT ROUNDS [NAME]   a line for each function, or for the named one: name, ns of the library, ns of C, checksum
 #define _POSIX_C_SOURCE 200809L
 
 #include "plain.h"
@@ -11,10 +11,10 @@
 #include <string.h>
 #include <time.h>
 
-// How many inputs are timed at once: few enough to stay in a processor's cache.
+// The number of inputs that are timed together: few enough to stay in a processor's cache.
 #define BLOCK ((size_t)4096)
 
-// The inputs, each kind by itself.
+// The inputs, an array for each kind.
 static cheri_cap_u128 *randoms, *canonicals, *lengths;
 static uint64_t *bases, *requests, *addresses;
 static cheri_cap_fields *fields;
@@ -70,8 +70,8 @@ static void make_input(size_t i)
     plain_write_word(randoms[i].high, randoms[i].low, texts[i]);
 }
 
-// Words for the rules: of two unsealed ones in three the authority seals and unseals; a quarter of the parents are
-// other words, and the rest the root's.
+// Creates words for the rules. The authority of two in three unsealed words seals and unseals. A quarter of the parents
+// are other words, and all others are the root's.
 static void make_rule_input(size_t i)
 {
     cheri_cap_fields own = fields[i];
@@ -86,8 +86,8 @@ static void make_rule_input(size_t i)
     parents[i] = next_random() % 4 != 0 ? cheri_cap_root() : unsealed[next_random() % (i + 1)];
 }
 
-// Room for so many values of a kind.
-static void *room(size_t count, size_t size)
+// Allocates `count` values of a kind.
+static void *allocate(size_t count, size_t size)
 {
     void *made = calloc(count, size);
     if (made == NULL) {
@@ -99,18 +99,18 @@ static void *room(size_t count, size_t size)
 
 static void make_inputs(size_t count)
 {
-    randoms = room(count, sizeof *randoms);
-    canonicals = room(count, sizeof *canonicals);
-    lengths = room(count, sizeof *lengths);
-    requests = room(count, sizeof *requests);
-    bases = room(count, sizeof *bases);
-    addresses = room(count, sizeof *addresses);
-    fields = room(count, sizeof *fields);
-    texts = room(count, sizeof *texts);
-    unsealed = room(count, sizeof *unsealed);
-    sealed = room(count, sizeof *sealed);
-    authorities = room(count, sizeof *authorities);
-    parents = room(count, sizeof *parents);
+    randoms = allocate(count, sizeof *randoms);
+    canonicals = allocate(count, sizeof *canonicals);
+    lengths = allocate(count, sizeof *lengths);
+    requests = allocate(count, sizeof *requests);
+    bases = allocate(count, sizeof *bases);
+    addresses = allocate(count, sizeof *addresses);
+    fields = allocate(count, sizeof *fields);
+    texts = allocate(count, sizeof *texts);
+    unsealed = allocate(count, sizeof *unsealed);
+    sealed = allocate(count, sizeof *sealed);
+    authorities = allocate(count, sizeof *authorities);
+    parents = allocate(count, sizeof *parents);
     for (size_t i = 0; i < count; i++)
         make_input(i);
     for (size_t i = 0; i < count; i++)
@@ -136,7 +136,7 @@ static uint64_t fold_text(const char *text)
     return words[0] + 3 * words[1] + 5 * words[2] + 7 * words[3];
 }
 
-// The checksum of the results of one body of a call, from that of the results before.
+// Returns the checksum of the results of one body of a function, from that of the previous results.
 #define LOOP(name, body, setup, result, folded)                                                                        \
     static uint64_t name##_by_##body(size_t first, size_t end, uint64_t checksum)                                      \
     {                                                                                                                  \
@@ -175,7 +175,7 @@ RULE(unseal, (WORD(sealed), WORD(authorities)))
 RULE(rebuild, (WORD(parents), WORD(unsealed)))
 CALL(is_subset, bool, is_subset, (WORD(unsealed), WORD(parents)), r)
 
-// A block of words at once, and then the checksum of the results.
+// Runs a block of words in one call, and then adds the results to the checksum.
 #define BLOCKWISE(name, body, type, call, words, folded)                                                               \
     static uint64_t name##_by_##body(size_t first, size_t end, uint64_t checksum)                                      \
     {                                                                                                                  \
@@ -238,7 +238,7 @@ static double now(void)
     return (double)time.tv_sec * 1e9 + (double)time.tv_nsec;
 }
 
-// The nanoseconds that a body takes for the inputs of a block, and their checksum.
+// The nanoseconds that a body takes for the inputs of a block, and the checksum of its results.
 typedef struct {
     double least, sum;
     uint64_t before, after;
@@ -253,7 +253,7 @@ static void measure(loop *body, size_t first, size_t end, measurement *of)
         of->least = taken;
 }
 
-// Adds the least time of a block to the sum, and goes on to the next.
+// Adds the minimum time of a block to the sum, and begins the next block.
 static void next_block(measurement *of)
 {
     of->sum += of->least;
@@ -261,7 +261,7 @@ static void next_block(measurement *of)
     of->before = of->after;
 }
 
-// Prints the row of a call, and answers whether the two bodies' results are the same.
+// Prints the row of a function, and returns whether the results of the two bodies are equal.
 static bool compare(const char *name, loop *library_body, loop *plain_body, size_t count, size_t rounds)
 {
     measurement library = {1e99, 0, 0, 0}, plain = {1e99, 0, 0, 0};

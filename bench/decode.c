@@ -1,5 +1,5 @@
-// Answers words in bulk as `cheri-cap decode [--format text] [FILE]` does, in plain C: what bench/decode measures the program
-// against. Both buffers are its own; lines are found by memchr, and digits are written by a table.
+// Decodes many words as `cheri-cap decode [--format text] [FILE]` does, in plain C, for the comparison of bench/decode. It has
+// its own two buffers; lines are found by memchr, and digits are written by a table.
 #include "plain.c"
 
 #include <fcntl.h>

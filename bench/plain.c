@@ -41,8 +41,8 @@ cheri_cap_u128 plain_pack(cheri_cap_fields fields)
     return (cheri_cap_u128){high ^ NULL_HIGH, fields.address};
 }
 
-// The bounds of stored fields at an address: the address is moved within its window to where B stands, and the length is
-// added. From exponent 51 up the top is T alone, of which bit 64 is a bit.
+// Returns the bounds of stored fields at an address: the address is moved within its window to the place of B, and the
+// length is added. For exponents of at least 51 the top is T alone, which then includes bit 64.
 static inline span decoded(uint32_t ie, uint32_t t, uint32_t b, uint64_t address)
 {
     unsigned exponent = 0;
@@ -85,7 +85,7 @@ cheri_cap_bounds plain_decode(uint64_t high, uint64_t low)
     return bounds_of(high, low);
 }
 
-// The power of two of the granule of [base, top).
+// Returns the power of two of the granule of [base, top).
 static inline unsigned granule_power(uint64_t base, u128 top)
 {
     u128 length = top - base;
@@ -130,8 +130,8 @@ cheri_cap_granted plain_set_bounds(uint64_t base, uint64_t length_high, uint64_t
     };
 }
 
-// Whether the fields of a word store a span: one within the address space, and with none of B lost at the greatest
-// exponents. What any fields decode to is encoded by the least exponent, so nothing has to be encoded again.
+// Returns whether the fields of a word store a span: one within the address space that loses no bit of B at the largest
+// exponents. The bounds of any fields are encoded with the smallest exponent, so they need not be encoded again.
 static inline bool is_stored(uint64_t plain, span bounds)
 {
     uint32_t b = plain & 0x3fff;
@@ -171,7 +171,7 @@ bool plain_represents(uint64_t high, uint64_t low, uint64_t address)
     return represents(high, low, address);
 }
 
-// ---- Many words at once: the bodies above, inlined into a loop
+// ---- Batches: the bodies above, inlined into a loop
 
 static inline size_t least(size_t one, size_t other)
 {
@@ -223,7 +223,7 @@ uint64_t plain_alignment_mask(uint64_t length_high, uint64_t length_low)
     return -plain_granule(length_high, length_low);
 }
 
-// The value of each hexadecimal digit, and for any other byte one that eight digits do not reach.
+// The value of each hexadecimal digit, and for any other byte a value that eight digits do not reach.
 #define NONE (UINT64_C(1) << 32)
 
 static const uint64_t digit_values[256] = {
@@ -245,7 +245,7 @@ static const uint64_t digit_values[256] = {
     NONE, NONE, NONE, NONE, NONE, NONE, NONE, NONE, NONE, NONE, NONE, NONE, NONE, NONE, NONE, NONE,
 };
 
-// The number of eight digits, or a greater one where a byte is none.
+// Returns the number of eight digits, or a larger one if a byte is not a digit.
 static inline uint64_t value_of_eight(const char *text)
 {
     const unsigned char *digits = (const unsigned char *)text;
@@ -317,7 +317,7 @@ void plain_write_word(uint64_t high, uint64_t low, char *text)
 #define BOUNDS_BITS UINT64_C(0x0000000007ffffff)
 #define TYPE_BITS (UINT64_C(0x3ffff) << 27)
 
-// The bounds of the capability of a word, where there is one.
+// Sets the bounds of the capability of a word, if there is one.
 static inline bool read_bounds(uint64_t high, uint64_t low, span *bounds)
 {
     uint64_t plain = high ^ NULL_HIGH;

@@ -1,5 +1,5 @@
-// Plain C bodies for the calls of cheri_cap.h: what the library is measured against. They are tested only
-// in that the benchmark compares their answers with the library's.
+// Plain C bodies for the functions of cheri_cap.h, with which the library is compared. The only test of them is that the
+// benchmark compares their results with the library's.
 #ifndef PLAIN_H
 #define PLAIN_H
 

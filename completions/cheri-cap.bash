@@ -1,4 +1,4 @@
-# Completion of cheri-cap's words for bash. tests/install compares it with the program's help.
+# Completion of cheri-cap's arguments for bash. tests/install compares it with the program's help.
 
 _cheri_cap() {
   local word=${COMP_WORDS[COMP_CWORD]} before=${COMP_WORDS[COMP_CWORD - 1]} command=${COMP_WORDS[1]} options='-h --help'

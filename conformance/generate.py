@@ -1,11 +1,11 @@
 #!/usr/bin/env python3
-"""The conformance set: which words are in it, and what each of them means.
+"""The conformance set: its words, and the values of each.
 
-It uses nothing of the library: the rules of decoding are written here from the public standard (UCAM-CL-TR-987;
-Woodruff et al. 2019), and what is canonical from the definition of a sound span. docs/CONFORMANCE.md describes the table.
+It does not use the library: the rules of decoding are written here from the public standard (UCAM-CL-TR-987;
+Woodruff et al. 2019), and canonical words from the definition of a sound span. docs/CONFORMANCE.md describes the table.
 
-    generate.py            compares conformance.tsv with what it works out; status 1 where they differ
-    generate.py --write    writes it
+    generate.py            compares conformance.tsv with the table that it computes; status 1 if they differ
+    generate.py --write    writes the table
 """
 
 import sys
@@ -22,7 +22,7 @@ UNSEALED = 0x3FFFF
 LAST_SEALING_TYPE = 0x3FFEF
 MOST_EXPONENT = 52
 
-# Words with what they hold, written down by hand: name, word, type, ie, t, b, exponent, base, top, canonical.
+# Words with their values, written by hand: name, word, type, ie, t, b, exponent, base, top, canonical.
 WORKED = """
 null                         00000000000000000000000000000000 3ffff 1 006 0004 52 0x0                0x10000000000000000 yes
 root                         ffff0000000000000000000000000000 3ffff 1 006 0004 52 0x0                0x10000000000000000 yes
@@ -50,7 +50,7 @@ flag_set                     ffff2000000000000000000000000000 3ffff 1 006 0004 5
 all_ones                     ffffffffffffffffffffffffffffffff 00000 0 ff9 3ffb 0  0xfffffffffffffffb 0x10000000000000ff9 no
 """
 
-# The same fields of bounds at four addresses: name, address, base, top.
+# One pair of bounds fields at four addresses: name, address, base, top.
 WINDOW = """
 window_last_address          0x37ff             0x0                0x200
 window_next_lap              0x3800             0x4000             0x4200
@@ -61,11 +61,11 @@ WINDOW_UPPER = 0xFFFF000004818004
 
 
 def fields_of(word):
-    """The fields as stored, from bit 0 up, with the exclusive-or of the null capability taken away."""
-    fields, rest = {}, word ^ NULL_MASK
+    """Returns the fields as stored, beginning with bit 0, without the exclusive-or of the null capability."""
+    fields, bits = {}, word ^ NULL_MASK
     widths = dict(address=64, b=14, t=12, ie=1, otype=18, flag=1, reserved=2, perms=16)
     for name, width in widths.items():
-        fields[name], rest = rest & ((1 << width) - 1), rest >> width
+        fields[name], bits = bits & ((1 << width) - 1), bits >> width
     return fields
 
 
@@ -75,7 +75,7 @@ def exponent_of(fields):
 
 
 def decode(fields):
-    """The base and the top, by the standard's rules: mantissas, corrections, the top's bit 64."""
+    """Returns the base and the top, by the standard's rules: mantissas, corrections, bit 64 of the top."""
     exponent, ie, address = exponent_of(fields), fields["ie"], fields["address"]
     base_mantissa, low = fields["b"], fields["t"]
     if ie:
@@ -98,7 +98,7 @@ def decode(fields):
 
 
 def granted(base, top):
-    """The exponent and the span that setting bounds to [base, top) grants, found by trying one granule after another."""
+    """Returns the exponent and the span that setting bounds to [base, top) grants. Tries one granule after another."""
     if top - base < 4096:
         return 0, base, top
     granule = 8
@@ -108,14 +108,14 @@ def granted(base, top):
 
 
 def is_representable(base, exponent, address):
-    """Whether the address stands in the window of the base, after some number of laps of the address space."""
+    """Returns whether the address, plus some multiple of 2^64, is in the window of the base."""
     section = 1 << (exponent + 11)
     start = (base // section - 1) * section
     return (address - start) % ADDRESS_SPACE < 8 * section
 
 
 def is_canonical(fields):
-    """Whether the fields are those of a capability: a sound span as it is stored, and an address in its window."""
+    """Returns whether the fields are those of a capability: a sound span as it is stored, and an address in its window."""
     base, top = decode(fields)
     if fields["reserved"] or LAST_SEALING_TYPE < fields["otype"] < UNSEALED:
         return False
@@ -130,7 +130,7 @@ def is_canonical(fields):
 
 
 def row_of(name, word):
-    """The row of a word, as printed texts."""
+    """Returns the row of a word, as printed strings."""
     fields, (base, top) = fields_of(word), decode(fields_of(word))
     canonical, is_sealed = is_canonical(fields), fields["otype"] != UNSEALED
     refusal = "16" if canonical else "15"
@@ -154,7 +154,7 @@ def row_of(name, word):
 
 
 def expect(row, **values):
-    """Stops where what was worked out is not what was written down by hand."""
+    """Stops if a computed value is not the one that was written by hand."""
     for column, value in values.items():
         if row[column] != value:
             sys.exit(f"{row['name']}: {column} is {row[column]}, and not {value}")
@@ -169,7 +169,7 @@ def worked_rows():
 
 
 def exponent_rows():
-    """Every exponent field over mantissas that are zero, so that the bounds are the least of their exponent."""
+    """Returns a row for each exponent field, with mantissas of zero, so that the bounds are the smallest of their exponent."""
     for field in range(64):
         upper = 0xFFFF000000000000 + (field // 8 ^ 6) * 0x4000 + (field % 8 ^ 4)
         exponent = min(field, MOST_EXPONENT)
@@ -192,7 +192,7 @@ def window_rows():
 
 
 def table():
-    """The names of the columns, and then the rows, as lists of cells."""
+    """Returns the names of the columns, and then the rows, as lists of cells."""
     rows = [*worked_rows(), *exponent_rows(), *reserved_rows(), *window_rows()]
     return [COLUMNS, *([row[column] for column in COLUMNS] for row in rows)]
 
@@ -208,7 +208,7 @@ def main(arguments):
     elif arguments:
         sys.exit(__doc__)
     if TABLE.read_text() != text:
-        sys.exit(f"{TABLE} is not the table that the generator works out")
+        sys.exit(f"{TABLE} is not the table that the generator computes")
 
 
 if __name__ == "__main__":

@@ -1,19 +1,19 @@
-// Holds the header and the library against the conformance table, a file of rows with fifteen words, and
-// against some lengths. What the table says was not made by the library. It is C11 and C++17.
+// Compares the header and the library with the conformance table, a file of rows with fifteen values, and with some
+// lengths. The library did not compute the table. It is C11 and C++17.
 //
-//   conformance TABLE   the failures, and at the end how many rows and failures there are
+//   conformance TABLE   the failures, and at the end the numbers of rows and of failures
 //   conformance names   for each permission of the header a word that has it alone, its bits and its name
 //   conformance refusals   the header's refusals, as scripts print them
 #include <cheri_cap.h>
-#include <cheri_cap.h> // a second time changes nothing
+#include <cheri_cap.h> // a second include changes nothing
 #include <inttypes.h>
 #include <stdio.h>
 #include <stdlib.h>
 #include <string.h>
 
-// The words of the table, and room for more.
-#define ROOM 256u
-static cheri_cap_u128 words[ROOM];
+// The capacity for the words of the table, and more.
+#define CAPACITY 256u
+static cheri_cap_u128 words[CAPACITY];
 
 enum { NAME, WORD, PERMS, RESERVED, FLAG, TYPE, IE, T, B, ADDRESS, EXPONENT, BASE, TOP, CANONICAL, REBUILD, COLUMNS };
 
@@ -78,7 +78,7 @@ static void check_bounds(char **row, cheri_cap_u128 word)
     expect(canonical == (strcmp(row[CANONICAL], "yes") == 0), row[NAME], "canonical");
     if (!canonical)
         return;
-    // A canonical word's bounds are granted as they are, and stored in its own fields.
+    // The bounds of a canonical word are granted without rounding, and stored in its own fields.
     cheri_cap_fields fields = cheri_cap_unpack(word.high, word.low);
     uint64_t length = bounds.top_low - bounds.base;
     cheri_cap_granted set = cheri_cap_set_bounds(bounds.base, bounds.top_high - (bounds.top_low < bounds.base), length);
@@ -116,7 +116,7 @@ static void check_text(char **row, cheri_cap_u128 word)
     expect(memcmp(bytes, big, 16) == 0, row[NAME], "a word's big-endian bytes");
 }
 
-// What the header works out itself, against the library.
+// Compares the inline functions of the header with the library.
 static void check_inline(char **row, cheri_cap_u128 word)
 {
     cheri_cap_bounds bounds = cheri_cap_decode(word.high, word.low);
@@ -136,7 +136,7 @@ static void check_inline(char **row, cheri_cap_u128 word)
     }
 }
 
-// The rules, where the table says what they make: a canonical unsealed word is rebuilt from the root, moved to its
+// Checks the rules for which the table has the result: a canonical unsealed word is rebuilt from the root, moved to its
 // own address, given its own bounds at its base, its own permissions and flag, and is sealed and unsealed.
 static void check_rules(char **row, cheri_cap_u128 word)
 {
@@ -172,7 +172,7 @@ static void check_rules(char **row, cheri_cap_u128 word)
     expect(cheri_cap_is_subset(word.high, word.low, root.high, root.low), row[NAME], "subset of the root");
 }
 
-// The line of a word, from the columns of its row.
+// Writes the line of a word from the columns of its row.
 static void check_line(char **row, cheri_cap_u128 word)
 {
     char text[CHERI_CAP_LINE_SIZE], wanted[128], letters[6] = {0}, *end = letters;
@@ -195,7 +195,7 @@ static void check_line(char **row, cheri_cap_u128 word)
     }
 }
 
-// The fifteen words of a line, or fewer or more.
+// Splits a line into its fifteen values, or fewer or more.
 static int split(char *line, char **row)
 {
     int count = 0;
@@ -224,27 +224,28 @@ static unsigned check_table(FILE *table)
         check_inline(row, halves);
         check_rules(row, halves);
         check_line(row, halves);
-        if (rows < ROOM)
+        if (rows < CAPACITY)
             words[rows] = halves;
         rows++;
     }
     return rows;
 }
 
-// All words of the table at once, where there is room for one answer fewer: each is that of the call for one word.
+// Checks the batch functions on all words of the table, with one array that is one element shorter: each result is that of
+// the function for one word.
 static void check_many(size_t count)
 {
-    static cheri_cap_bounds bounds[ROOM];
-    static uint64_t addresses[ROOM];
-    uint8_t canonical[ROOM], representable[ROOM];
+    static cheri_cap_bounds bounds[CAPACITY];
+    static uint64_t addresses[CAPACITY];
+    uint8_t canonical[CAPACITY], representable[CAPACITY];
     memset(canonical, 7, sizeof canonical);
     memset(representable, 7, sizeof representable);
     bounds[count - 1].exponent = 77;
     for (size_t i = 0; i < count; i++)
         addresses[i] = words[i].low ^ UINT64_C(1) << i % 64;
-    expect(cheri_cap_decode_many(words, count, bounds, count - 1) == count - 1, "many words", "how many were decoded");
-    expect(cheri_cap_is_canonical_many(words, count, canonical, count - 1) == count - 1, "many words", "how many were told canonical");
-    expect(cheri_cap_represents_many(words, count, addresses, count - 1, representable, count) == count - 1, "many words", "how many addresses were told");
+    expect(cheri_cap_decode_many(words, count, bounds, count - 1) == count - 1, "many words", "the number of decoded words");
+    expect(cheri_cap_is_canonical_many(words, count, canonical, count - 1) == count - 1, "many words", "the number of results on canonical words");
+    expect(cheri_cap_represents_many(words, count, addresses, count - 1, representable, count) == count - 1, "many words", "the number of results on addresses");
     for (size_t i = 0; i < count - 1; i++) {
         cheri_cap_bounds alone = cheri_cap_decode(words[i].high, words[i].low);
         expect(bounds[i].base == alone.base && bounds[i].exponent == alone.exponent, "many words", "base and exponent");
@@ -252,7 +253,7 @@ static void check_many(size_t count)
         expect(canonical[i] == cheri_cap_is_canonical(words[i].high, words[i].low), "many words", "canonical");
         expect(representable[i] == cheri_cap_represents(words[i].high, words[i].low, addresses[i]), "many words", "representable");
     }
-    expect(bounds[count - 1].exponent == 77 && canonical[count - 1] == 7 && representable[count - 1] == 7, "many words", "what lies behind");
+    expect(bounds[count - 1].exponent == 77 && canonical[count - 1] == 7 && representable[count - 1] == 7, "many words", "the element after the results");
     expect(cheri_cap_decode_many(words, 0, bounds, count) == 0, "many words", "no words");
 }
 
@@ -293,7 +294,7 @@ static void check_requests(void)
     expect(!cheri_cap_represents(word.high, word.low, UINT64_C(0xefffffffffffffff)), "2^61 bytes", "the address before it");
 }
 
-// Which types a word of the root's bounds may have: those that sealing gives, and unsealed.
+// Checks the types that a word of the root's bounds may have: those that sealing gives, and unsealed.
 static void check_types(void)
 {
     static const struct { uint32_t otype; bool canonical; } rows[] = {
@@ -317,7 +318,7 @@ static void check_types(void)
     OF(GLOBAL) OF(EXECUTE) OF(LOAD) OF(STORE) OF(LOAD_CAP) OF(STORE_CAP) OF(STORE_LOCAL_CAP) OF(SEAL)    \
     OF(CINVOKE) OF(UNSEAL) OF(SYSTEM_REGS) OF(SET_CID) OF(USER0) OF(USER1) OF(USER2) OF(USER3)
 
-// The code and the name of each refusal of a rule.
+// Prints the code and the name of each refusal of a rule.
 static int print_refusals(void)
 {
     for (unsigned refusal = 0; refusal < 256; refusal++) {
@@ -355,7 +356,7 @@ int main(int argc, char **argv)
     expect(cheri_cap_version() == CHERI_CAP_VERSION, "version", "header and library");
     unsigned rows = check_table(table);
     expect(rows >= 24, argv[1], "too few rows");
-    check_many(rows < ROOM ? rows : ROOM);
+    check_many(rows < CAPACITY ? rows : CAPACITY);
     check_lengths();
     check_requests();
     check_types();

@@ -1,5 +1,5 @@
 // Decodes the word of 16 bytes on standard input: cc -Iinclude examples/decode.c libcc_ffi.a
-// With the argument "big" the bytes are in big-endian order, else in little-endian order.
+// With the argument "big" the bytes are in big-endian order, otherwise in little-endian order.
 #include <cheri_cap.h>
 #include <inttypes.h>
 #include <stdio.h>

@@ -1,6 +1,6 @@
-//! Decodes the word of 32 hexadecimal digits that is the argument, as a `u128`: examples/run rust WORD
+//! Decodes the word of 32 hexadecimal digits in the argument, as a `u128`: examples/run rust WORD
 
-/// The fields of a word, as `cheri_cap_fields` of the header.
+/// The fields of a word: `cheri_cap_fields` of the header.
 #[repr(C)]
 struct Fields {
     address: u64,
@@ -13,7 +13,7 @@ struct Fields {
     ie: bool,
 }
 
-/// What a word decodes to, as `cheri_cap_bounds` of the header.
+/// The bounds and the exponent of a word: `cheri_cap_bounds` of the header.
 #[repr(C)]
 struct Bounds {
     base: u64,
@@ -22,7 +22,7 @@ struct Bounds {
     exponent: u8,
 }
 
-// SAFETY: the header's declarations, in Rust. Each function takes every value, and has no state.
+// SAFETY: these are the header's declarations, in Rust. Each function accepts every value, and has no state.
 unsafe extern "C" {
     safe fn cheri_cap_unpack(high: u64, low: u64) -> Fields;
     safe fn cheri_cap_decode(high: u64, low: u64) -> Bounds;

@@ -1,5 +1,5 @@
-// What a SystemVerilog testbench imports through DPI-C beside the library's own functions: examples/testbench.sv.
-// Verilator compiles it as C++.
+// The function that a SystemVerilog testbench, examples/testbench.sv, imports through DPI-C in addition to those of the
+// library. Verilator compiles it as C++.
 #include <cheri_cap.h>
 
 #ifdef __cplusplus
@@ -9,8 +9,8 @@ extern "C" {
 void cheri_cap_dpi_decode(unsigned long long high, unsigned long long low, unsigned long long *base,
                           unsigned long long *top_high, unsigned long long *top_low);
 
-// DPI-C knows no function that answers a struct, so the bounds go out through pointers. A longint unsigned of
-// SystemVerilog is an unsigned long long of C.
+// Decodes a word. A function of DPI-C cannot return a struct, so the bounds are returned through pointers. A longint
+// unsigned of SystemVerilog is an unsigned long long of C.
 void cheri_cap_dpi_decode(unsigned long long high, unsigned long long low, unsigned long long *base,
                           unsigned long long *top_high, unsigned long long *top_low)
 {

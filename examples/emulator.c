@@ -1,6 +1,6 @@
-// An emulator in small: registers with words and tags, and 10,000 seeded instructions on them by the rules of the
-// library. It writes the same instructions as a script of cheri-cap, and the replies that they have to have. Status 1
-// where a rule made no word, or refused none. It is C11 and C++17. Run it so:
+// A small emulator: registers with words and tags, and 10,000 seeded instructions on them by the rules of the library.
+// It also writes these instructions as a script of cheri-cap, and the replies that they must get. The status is 1 if a
+// rule returned no word, or refused none. It is C11 and C++17. Usage:
 //   emulator SCRIPT REPLIES
 #include <cheri_cap.h>
 #include <inttypes.h>
@@ -35,7 +35,8 @@ static uint64_t next_number(void)
     return number >> next_random() % 64;
 }
 
-// A register that is read. One without its tag is loaded with the root again, slot 0, so that the script can go on.
+// Returns a register that is read. One without its tag is loaded with the root again, slot 0, so that the script can
+// continue.
 static capability *read_register(uint64_t number)
 {
     capability *found = &registers[number];
@@ -98,7 +99,7 @@ static cheri_cap_made execute(uint64_t rule, FILE *script, const capability *sou
     }
 }
 
-// Writes the reply to an instruction, and its result to a register: without a tag where the rule refuses.
+// Writes the reply to an instruction, and its result to a register: without a tag if the rule refuses.
 static void finish(FILE *replies, const cheri_cap_made *made, capability *target)
 {
     cheri_cap_bounds bounds = cheri_cap_decode(made->high, made->low);
@@ -114,7 +115,7 @@ static void finish(FILE *replies, const cheri_cap_made *made, capability *target
     target->slot = slots++;
 }
 
-// Executes all but the first, and answers whether each rule made a word and refused one.
+// Executes all except the first, and returns whether each rule returned a word and refused one.
 static bool run(FILE *script, FILE *replies)
 {
     unsigned made_by[RULES] = {0}, refused_by[RULES] = {0};
@@ -134,7 +135,7 @@ static bool run(FILE *script, FILE *replies)
 
 int main(int argc, char **argv)
 {
-    // The root at address 7, which seals with type 7 and unseals it.
+    // The root at address 7, which seals with type 7 and unseals this type.
     cheri_cap_made made = cheri_cap_set_address(cheri_cap_root().high, 0, 7);
     FILE *script = argc == 3 ? fopen(argv[1], "w") : stdout, *replies = argc == 3 ? fopen(argv[2], "w") : stdout;
     if (argc != 3 || !script || !replies) {

@@ -1,4 +1,4 @@
-// Words in memory, as an emulator keeps them, for a debugger to look at: docs/EMBEDDING.md shows them in gdb.
+// Words in memory, as an emulator stores them, for a debugger: docs/EMBEDDING.md shows them in gdb.
 #include <stdint.h>
 
 // A register, or 16 bytes of memory, of a little-endian processor.

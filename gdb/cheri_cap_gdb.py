@@ -1,13 +1,13 @@
-"""Commands of gdb for words of CHERI Concentrate in the memory of the program that is debugged.
+"""gdb commands for words of CHERI Concentrate in the memory of the program that is debugged.
 
     (gdb) source .../cheri_cap_gdb.py
-    (gdb) capdump ADDRESS [COUNT]       the words from an address on, 16 bytes each; one, if no count is given
+    (gdb) capdump ADDRESS [COUNT]       the words from an address, 16 bytes each [default count: 1]
     (gdb) capinfo EXPRESSION            the fields and bounds of a value of 16 bytes
-    (gdb) capinfo WORD                  those of a word of 32 hexadecimal digits
-    (gdb) capprint TYPE                 from now on print values of this type, which has 16 bytes, as capabilities
+    (gdb) capinfo WORD                  the fields and bounds of a word of 32 hexadecimal digits
+    (gdb) capprint TYPE                 print values of this type, which has 16 bytes, as capabilities
 
-Bytes are taken in the byte order of the target (`show endian`). The module cheri_cap.py has to lie beside this file, as
-./install puts it, or in the folder python/ of a checkout.
+Bytes are read in the byte order of the target (`show endian`). The module cheri_cap.py must be in the directory of this
+file, as ./install puts it, or in the directory python/ of a checkout.
 """
 
 import os
@@ -25,7 +25,7 @@ BYTES = 16
 
 
 def byte_order():
-    """The byte order of the target, as Python names it."""
+    """Returns the byte order of the target, as Python names it."""
     return "big" if "big endian" in gdb.execute("show endian", to_string=True) else "little"
 
 
@@ -37,26 +37,26 @@ def evaluate(text):
 
 
 def address_of(value):
-    """The address that a value is, or that of an array."""
+    """Returns the value as an address, or the address of an array."""
     try:
         return int(value.address if value.type.strip_typedefs().code == gdb.TYPE_CODE_ARRAY else value)
     except gdb.error:
-        raise gdb.GdbError("ADDRESS is a number, a pointer or an array; & before a value is its address")
+        raise gdb.GdbError("ADDRESS must be a number, a pointer or an array; & before a value gives its address")
 
 
 def count_of(value):
-    """A number of words."""
+    """Returns the value as a number of words."""
     try:
         count = int(value)
     except gdb.error:
         count = -1
     if count < 0:
-        raise gdb.GdbError("COUNT is a number of words, from 0 up")
+        raise gdb.GdbError("COUNT must be a number of words, at least 0")
     return count
 
 
 def from_memory(address):
-    """The capability at an address of the inferior."""
+    """Returns the capability at an address of the inferior."""
     try:
         data = gdb.selected_inferior().read_memory(address, BYTES)
     except gdb.error as error:
@@ -65,21 +65,22 @@ def from_memory(address):
 
 
 def of_value(value):
-    """The capability that a value of 16 bytes is, in memory or, where it is a number, in a register."""
+    """Returns a value of 16 bytes as a capability. It is in memory or, if it is a number, in a register."""
     if value.type.sizeof != BYTES:
         raise gdb.GdbError(f"a capability has {BYTES} bytes, and this value has {value.type.sizeof}")
     if value.address is not None:
         return from_memory(int(value.address))
     if value.type.strip_typedefs().code == gdb.TYPE_CODE_INT:
         return Capability(int(value.format_string(format="x", symbols=False), 16) % 2**128)
-    raise gdb.GdbError("this value is not in memory, and no number")
+    raise gdb.GdbError("this value is not in memory, and is not a number")
 
 
 class CapDump(gdb.Command):
-    """Show the capabilities from an address on: capdump ADDRESS [COUNT]
+    """Show the capabilities from an address: capdump ADDRESS [COUNT]
 
-ADDRESS is a number, a pointer or an array; one with spaces stands in quotes. COUNT words of 16 bytes each, one if it is
-left out, in the byte order of the target. Each line has the address, the word and what it stands for. Whether memory holds a capability is told by its tag, which is not looked at."""
+ADDRESS is a number, a pointer or an array. Quote it if it contains spaces. COUNT is the number of words [default: 1],
+of 16 bytes each, in the byte order of the target. Each line has the address, the word and its one-line form. Only the
+tag of memory says whether it holds a capability, and the tag is not read."""
 
     def __init__(self):
         super().__init__("capdump", gdb.COMMAND_DATA, gdb.COMPLETE_EXPRESSION)
@@ -98,7 +99,7 @@ left out, in the byte order of the target. Each line has the address, the word a
 class CapInfo(gdb.Command):
     """Show the fields and the bounds of a capability: capinfo EXPRESSION, or capinfo WORD
 
-EXPRESSION is a value of 16 bytes, and WORD 32 hexadecimal digits. The lines are those of `cheri-cap show`."""
+EXPRESSION is a value of 16 bytes, and WORD is 32 hexadecimal digits. The lines are those of `cheri-cap show`."""
 
     def __init__(self):
         super().__init__("capinfo", gdb.COMMAND_DATA, gdb.COMPLETE_EXPRESSION)
@@ -113,7 +114,7 @@ EXPRESSION is a value of 16 bytes, and WORD 32 hexadecimal digits. The lines are
 
 
 class Printer:
-    """How `print` shows a value of a type that capprint named."""
+    """The form in which `print` shows a value of a type that capprint named."""
 
     def __init__(self, value):
         self.value = value
@@ -141,7 +142,7 @@ class Printers(gdb.printing.PrettyPrinter):
 class CapPrint(gdb.Command):
     """Print the values of a type as capabilities: capprint TYPE
 
-TYPE has 16 bytes, as `capability` or `struct capability`. It holds until gdb ends."""
+TYPE has 16 bytes, such as `capability` or `struct capability`. The setting lasts until gdb ends."""
 
     def __init__(self, printers):
         super().__init__("capprint", gdb.COMMAND_DATA, gdb.COMPLETE_SYMBOL)

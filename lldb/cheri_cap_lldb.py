@@ -1,12 +1,12 @@
-"""Commands of LLDB for words of CHERI Concentrate in the memory of the program that is debugged.
+"""LLDB commands for words of CHERI Concentrate in the memory of the program that is debugged.
 
     (lldb) command script import .../cheri_cap_lldb.py
-    (lldb) capdump ADDRESS [COUNT]       the words from an address on, 16 bytes each; one, if no count is given
+    (lldb) capdump ADDRESS [COUNT]       the words from an address, 16 bytes each [default count: 1]
     (lldb) capinfo EXPRESSION            the fields and bounds of a value of 16 bytes
-    (lldb) capinfo WORD                  those of a word of 32 hexadecimal digits
+    (lldb) capinfo WORD                  the fields and bounds of a word of 32 hexadecimal digits
 
-Bytes are taken in the byte order of the target. The module cheri_cap.py has to lie beside this file, as ./install puts it,
-or in the folder python/ of a checkout.
+Bytes are read in the byte order of the target. The module cheri_cap.py must be in the directory of this file, as
+./install puts it, or in the directory python/ of a checkout.
 """
 
 import os
@@ -24,7 +24,7 @@ BYTES = 16
 
 
 class Refused(Exception):
-    """What the user is told."""
+    """An error with a message for the user."""
 
 
 def evaluate(context, text):
@@ -38,12 +38,12 @@ def evaluate(context, text):
 
 
 def order_of(context):
-    """The byte order of the target, as Python names it."""
+    """Returns the byte order of the target, as Python names it."""
     return "big" if context.GetTarget().GetByteOrder() == lldb.eByteOrderBig else "little"
 
 
 def from_memory(context, address):
-    """The capability at an address, of the process or, where there is none, of the program's file."""
+    """Returns the capability at an address of the process or, if there is none, of the program's file."""
     target, error = context.GetTarget(), lldb.SBError()
     is_running = context.GetProcess().IsValid()
     place = target.ResolveLoadAddress(address) if is_running else target.ResolveFileAddress(address)
@@ -54,23 +54,23 @@ def from_memory(context, address):
 
 
 def address_of(context, text):
-    """The address that an expression is, or that of an array."""
+    """Returns the expression as an address, or the address of an array."""
     value = evaluate(context, text)
     if value.GetType().GetCanonicalType().IsArrayType():
         value = evaluate(context, f"&({text})")
     error = lldb.SBError()
     address = value.GetValueAsUnsigned(error, 0)
     if error.Fail():
-        raise Refused("ADDRESS is a number, a pointer or an array; & before a value is its address")
+        raise Refused("ADDRESS must be a number, a pointer or an array; & before a value gives its address")
     return address
 
 
 def count_of(context, text):
-    """A number of words."""
+    """Returns the expression as a number of words."""
     error = lldb.SBError()
     count = evaluate(context, text).GetValueAsSigned(error, -1)
     if error.Fail() or count < 0:
-        raise Refused("COUNT is a number of words, from 0 up")
+        raise Refused("COUNT must be a number of words, at least 0")
     return count
 
 
@@ -85,8 +85,8 @@ def of_value(context, value):
 
 
 def capdump(debugger, command, context, result, _):
-    """Show the capabilities from an address on: capdump ADDRESS [COUNT]. COUNT words of 16 bytes each, one if it is left
-    out, in the byte order of the target."""
+    """Show the capabilities from an address: capdump ADDRESS [COUNT]. COUNT is the number of words [default: 1], of 16
+    bytes each, in the byte order of the target."""
     try:
         words = shlex.split(command)
         if len(words) not in (1, 2):

@@ -9,14 +9,17 @@
     >>> Capability.from_bytes(cap.to_bytes("little"), "little") == cap
     True
 
-A word has 128 bits, and every word has fields and bounds. It is as it stands in memory: null is all zeros. Addresses,
+A word has 128 bits, and every word has fields and bounds. A word is in its memory form: null is all zeros. Addresses,
 bases, tops, lengths and granules are numbers of bytes. Bounds are [base, top): the top is the address after the last
-byte, and may be 2**64. A word carries no tag: whether memory holds a capability is for the caller to know.
+byte, and may be 2**64. A word carries no tag: the caller must know whether memory holds a capability.
 
-What the library answers is proved; this module, which calls it, is tested and not proved. It needs no other module than
-Python's own, Python 3.8 or later, and x86-64 Linux. The library is looked for in this order: the file that the
-environment's CHERI_CAP_LIBRARY names; where ./install put it beside this module; examples/out of a checkout, where
-`examples/run shared` puts it; and where the loader looks.
+The results of the library are proved. This module, which calls it, is tested and not proved. It needs Python 3.8 or
+later with no other modules than Python's own, and x86-64 Linux. It searches for the library in this order:
+
+- the file that the environment's CHERI_CAP_LIBRARY names
+- the file that ./install installed together with this module
+- the file that `examples/run shared` puts into examples/out of a checkout
+- the loader's search path
 """
 
 import ctypes
@@ -45,7 +48,7 @@ __all__ = [
 #: The version of the library that this module calls.
 VERSION = 1
 
-#: The names of the permissions, from bit 0 up.
+#: The names of the permissions, beginning with bit 0.
 PERMISSIONS = (
     "GLOBAL",
     "EXECUTE",
@@ -65,7 +68,7 @@ PERMISSIONS = (
     "USER3",
 )
 
-#: The refusals of derivations: their codes and names.
+#: The codes and names of the refusals of derivations.
 REFUSALS = {
     7: "sealed",
     8: "unsealed",
@@ -81,13 +84,13 @@ REFUSALS = {
 
 #: The object type of a capability that is not sealed.
 UNSEALED = 0x3FFFF
-#: That of a sealed entry, as each return address of CheriBSD is; a reserved type.
+#: The object type of a sealed entry, such as each return address of CheriBSD. It is reserved.
 SENTRY = 0x3FFFE
-#: Sealing gives the types from 0 to this one; those between it and UNSEALED are reserved.
+#: The highest type that sealing gives, from 0. The types between it and UNSEALED are reserved.
 LAST_SEALING = 0x3FFEF
 
 _HALF = 2**64 - 1
-_HINT = "CHERI_CAP_LIBRARY names its file, and `examples/run shared` of a checkout makes it"
+_HINT = "set CHERI_CAP_LIBRARY to its file; `examples/run shared` of a checkout builds it"
 _LINE_SIZE = 96
 
 
@@ -136,7 +139,7 @@ class _Made(ctypes.Structure):
 
 _WORD = [c_uint64, c_uint64]
 
-# the header's calls: what each answers, and its parameters
+# the functions of the header: the result and the parameters of each
 _CALLS = {
     "version": (c_uint32, []),
     "unpack": (_Fields, _WORD),
@@ -165,7 +168,7 @@ _CALLS = {
 
 
 def _place() -> str:
-    """The library's file, or its name, which the loader looks for."""
+    """Returns the library's file, or its name, for which the loader searches."""
     name = f"libcheri_cap.so.{VERSION}"
     here = Path(__file__).resolve().parent
     for place in here.parent.parent / "lib" / name, here.parent / "examples" / "out" / name:
@@ -185,7 +188,7 @@ def _load():
     except (OSError, AttributeError) as error:
         raise ImportError(f"cheri_cap: the shared library cannot be used: {error}; {_HINT}") from error
     if calls["version"]() != VERSION:
-        raise ImportError(f"cheri_cap: {place} is of version {calls['version']()}, and this module is for {VERSION}")
+        raise ImportError(f"cheri_cap: {place} has version {calls['version']()}, but this module needs version {VERSION}")
     return calls
 
 
@@ -193,9 +196,9 @@ _calls = _load()
 
 
 def _halves(number: int, most: int, what: str) -> Tuple[int, int]:
-    """The two halves of a number from 0 to `most`."""
+    """Returns the two halves of a number from 0 to `most`."""
     if not 0 <= number <= most:
-        raise ValueError(f"{what} is from 0 to {most:#x}, and not {number:#x}")
+        raise ValueError(f"{what} must be from 0 to {most:#x}, not {number:#x}")
     return number >> 64, number & _HALF
 
 
@@ -208,7 +211,7 @@ def _length(number: int) -> Tuple[int, int]:
 
 
 class Refusal(Exception):
-    """A derivation is refused: `code`, a number, and `name`, one word of `REFUSALS`."""
+    """The refusal of a derivation: `code`, a number, and `name`, one of `REFUSALS`."""
 
     def __init__(self, code: int):
         super().__init__(code)
@@ -220,7 +223,7 @@ class Refusal(Exception):
 
 
 class Fields(NamedTuple):
-    """The fields of a word, as they are stored but for the exclusive-or of the null capability, which is taken away."""
+    """The fields of a word as stored, except that the exclusive-or of the null capability is removed."""
 
     #: the permissions, 16 bits; `PERMISSIONS` names them
     perms: int
@@ -228,7 +231,7 @@ class Fields(NamedTuple):
     reserved: int
     #: whether code runs in capability mode
     flag: bool
-    #: the object type, 18 bits; `UNSEALED` where it is not sealed
+    #: the object type, 18 bits; `UNSEALED` if it is not sealed
     otype: int
     #: the internal exponent: whether the low three bits of t and of b hold the exponent
     ie: bool
@@ -241,7 +244,7 @@ class Fields(NamedTuple):
 
 
 class Granted(NamedTuple):
-    """What a request for bounds is granted."""
+    """The bounds that a request is granted."""
 
     #: the first address, in bytes
     base: int
@@ -249,7 +252,7 @@ class Granted(NamedTuple):
     top: int
     #: 0 to 52
     exponent: int
-    #: whether the request is granted as it is
+    #: whether the request is granted without rounding
     exact: bool
     #: the fields that store the bounds
     ie: bool
@@ -258,12 +261,14 @@ class Granted(NamedTuple):
 
 
 class Capability:
-    """A word of 128 bits, read as a capability. It cannot be changed; two are equal where their words are."""
+    """A word of 128 bits, read as a capability. It cannot be changed. Two are equal if their words are."""
 
     __slots__ = ("_word", "_fields", "_bounds")
 
     def __init__(self, word: int = 0):
-        """The capability of a word from 0 to 2**128 - 1, all of which have fields and bounds; null, if left out."""
+        """Creates the capability of a word from 0 to 2**128 - 1 [default: null].
+
+        Every such word has fields and bounds."""
         _halves(word, 2**128 - 1, "a word")
         self._word = word
         self._fields = None
@@ -273,28 +278,32 @@ class Capability:
 
     @classmethod
     def root(cls) -> "Capability":
-        """The capability with every permission over every address, at address 0."""
+        """Returns the capability with every permission over every address, at address 0."""
         return cls(0xFFFF << 112)
 
     @classmethod
     def parse(cls, text: str) -> "Capability":
-        """The word of 32 hexadecimal digits of either case, and nothing else; ValueError for any other text."""
+        """Returns the word of 32 hexadecimal digits of either case, and nothing else.
+
+        Errors: ValueError for any other text."""
         given = text.encode("utf-8")
         read = _calls["read_word"](given, len(given))
         if not read.found:
-            raise ValueError(f"a word is 32 hexadecimal digits, and not {text!r}")
+            raise ValueError(f"a word must be 32 hexadecimal digits, not {text!r}")
         return cls(read.high << 64 | read.low)
 
     @classmethod
     def from_bytes(cls, data: bytes, byteorder: str = "little") -> "Capability":
-        """The word of 16 bytes of memory, in the byte order of the memory: "little" or "big"."""
+        """Returns the word of 16 bytes of memory, in the byte order of the memory: "little" or "big"."""
         if len(data) != 16:
-            raise ValueError(f"a word is 16 bytes, and not {len(data)}")
+            raise ValueError(f"a word must be 16 bytes, not {len(data)}")
         return cls(int.from_bytes(data, byteorder))
 
     @classmethod
     def from_fields(cls, fields: Fields) -> "Capability":
-        """The word of fields; ValueError for a number that is wider than its field."""
+        """Returns the word of fields.
+
+        Errors: ValueError for a number that is wider than its field."""
         given = _Fields(**fields._asdict())
         if any(getattr(given, name) != value for name, value in fields._asdict().items()):
             raise ValueError(f"a field is too wide: {fields}")
@@ -305,7 +314,7 @@ class Capability:
         return made
 
     def to_bytes(self, byteorder: str = "little") -> bytes:
-        """The 16 bytes of the word in memory of this byte order, "little" or "big"."""
+        """Returns the 16 bytes of the word in memory of this byte order, "little" or "big"."""
         return self._word.to_bytes(16, byteorder)
 
     @property
@@ -337,7 +346,7 @@ class Capability:
 
     @property
     def permissions(self) -> Tuple[str, ...]:
-        """The names of the permissions that it has, from bit 0 up."""
+        """The names of the permissions that it has, beginning with bit 0."""
         return tuple(name for bit, name in enumerate(PERMISSIONS) if self.perms >> bit & 1)
 
     @property
@@ -347,12 +356,12 @@ class Capability:
 
     @property
     def otype(self) -> int:
-        """The object type, 18 bits: `UNSEALED` where it is not sealed."""
+        """The object type, 18 bits: `UNSEALED` if it is not sealed."""
         return self.fields.otype
 
     @property
     def is_sealed(self) -> bool:
-        """Whether its type is another than `UNSEALED` (CGetSealed)."""
+        """Whether its type is not `UNSEALED` (CGetSealed)."""
         return self.otype != UNSEALED
 
     @property
@@ -374,7 +383,7 @@ class Capability:
 
     @property
     def top(self) -> int:
-        """The address after the last byte of the bounds; for a canonical word at most 2**64, else below 2**65."""
+        """The address after the last byte of the bounds: for a canonical word at most 2**64, otherwise below 2**65."""
         return self._decoded()[1]
 
     @property
@@ -384,85 +393,105 @@ class Capability:
 
     @property
     def length(self) -> int:
-        """The number of bytes in the bounds, 0 to 2**64; 0 where the top is below the base, which no canonical word has."""
+        """The number of bytes in the bounds, 0 to 2**64.
+
+        It is 0 if the top is below the base, which no canonical word has."""
         return max(self.top - self.base, 0)
 
     @property
     def is_canonical(self) -> bool:
-        """Whether the word is that of some capability that derivation makes, sealed or not."""
+        """Whether the word is that of a capability which derivation creates, sealed or not."""
         return _calls["is_canonical"](*self._halves())
 
     def holds(self, address: int) -> bool:
-        """Whether the bounds hold the byte at the address."""
+        """Returns whether the bounds contain the byte at the address."""
         return self.base <= _address(address) < self.top
 
     def representable(self, address: int) -> bool:
-        """Whether the word with that address decodes to the same bounds. False for a word that does not store its bounds
-        as setting bounds stores them."""
+        """Returns whether the word with that address decodes to the same bounds.
+
+        It is False for a word that does not store its bounds as setting bounds stores them."""
         return _calls["represents"](*self._halves(), _address(address))
 
-    # ---- Derivation: each makes another capability, or raises the first `Refusal` of those named, in this order
+    # ---- Derivation: each returns another capability, or raises the first `Refusal` of those listed, in this order
 
     def set_address(self, address: int) -> "Capability":
-        """The same bounds at another address (CSetAddr). canonical, sealed, unrepresentable."""
+        """CSetAddr: returns the capability with another address and the same bounds.
+
+        Refusals: canonical; sealed; unrepresentable."""
         return self._derived("set_address", _address(address))
 
     def increment(self, amount: int) -> "Capability":
-        """The same bounds with the address moved by so many bytes, modulo 2**64 (CIncOffset). canonical, sealed,
-        unrepresentable."""
+        """CIncOffset: returns the capability with `amount` added to its address, modulo 2**64, and the same bounds.
+
+        Refusals: canonical; sealed; unrepresentable."""
         return self._derived("increment", amount & _HALF)
 
     def set_bounds(self, length: int) -> "Capability":
-        """The bounds of `length` bytes from the address on, rounded outwards where they cannot be stored exactly
-        (CSetBounds). canonical, sealed, bounds."""
+        """CSetBounds: returns the capability with the bounds of `length` bytes from its address.
+
+        Bounds that cannot be stored exactly are rounded outward.
+
+        Refusals: canonical; sealed; bounds."""
         return self._derived("set_bounds_on", *_halves(length, 2**128 - 1, "a length"))
 
     def set_bounds_exact(self, length: int) -> "Capability":
-        """The same, but never rounded (CSetBoundsExact). canonical, sealed, bounds, inexact."""
+        """CSetBoundsExact: returns the capability with the bounds of `length` bytes from its address, never rounded.
+
+        Refusals: canonical; sealed; bounds; inexact."""
         return self._derived("set_bounds_exact_on", *_halves(length, 2**128 - 1, "a length"))
 
     def and_perms(self, mask: int) -> "Capability":
-        """With the permissions that are also in the mask of 16 bits (CAndPerm). canonical, sealed."""
+        """CAndPerm: returns the capability with only those of its permissions that are also in the mask of 16 bits.
+
+        Refusals: canonical; sealed."""
         return self._derived("and_perms", _halves(mask, 0xFFFF, "a mask")[1])
 
     def set_flag(self, flag: bool) -> "Capability":
-        """With this flag (CSetFlags). canonical, sealed."""
+        """CSetFlags: returns the capability with this flag.
+
+        Refusals: canonical; sealed."""
         return self._derived("set_flag", bool(flag))
 
     def seal(self, authority: "Capability") -> "Capability":
-        """Sealed with the authority's address as its type (CSeal). canonical and sealed, of either; permission, bounds
-        and type, of the authority."""
+        """CSeal: returns the capability sealed, with the authority's address as its type.
+
+        Refusals: canonical and sealed, of either; permission, bounds and type, of the authority."""
         return self._derived("seal", *authority._halves())
 
     def unseal(self, authority: "Capability") -> "Capability":
-        """Unsealed (CUnseal); GLOBAL stays only where both have it. canonical, of either; unsealed; sealed, permission
-        and bounds, of the authority; mismatch."""
+        """CUnseal: returns the capability unsealed. GLOBAL stays only if both have it.
+
+        Refusals: canonical, of either; unsealed; sealed, permission and bounds, of the authority; mismatch."""
         return self._derived("unseal", *authority._halves())
 
     def rebuild(self, other: "Capability") -> "Capability":
-        """The other word again, where it grants no more than this authority (CBuildCap). canonical and sealed, of the
-        authority; canonical and exceeds, of the other."""
+        """CBuildCap: returns the other word again, if it grants no more than this authority.
+
+        Refusals: canonical and sealed, of the authority; canonical and exceeds, of the other."""
         return self._derived("rebuild", *other._halves())
 
     def is_subset(self, outer: "Capability") -> bool:
-        """Whether all its bytes and permissions are within those of the other (CTestSubset), for any two words."""
+        """CTestSubset: returns whether all its bytes and permissions are within those of `outer`, for any two words."""
         return _calls["is_subset"](*self._halves(), *outer._halves())
 
-    # ---- Texts
+    # ---- Strings
 
     def line(self, tagged: bool = True) -> str:
-        """The word on one line, as CheriBSD's `%#p` shows it: 0x10070 [rwxRW,0x10070-0x12070], and behind it (sentry),
-        (sealed) or, without its tag, (invalid). LOAD is r, STORE w, EXECUTE x, LOAD_CAP R, STORE_CAP W."""
+        """Returns the one-line form of the word, as CheriBSD's `%#p` shows it: 0x10070 [rwxRW,0x10070-0x12070].
+
+        (sentry), (sealed) or, without its tag, (invalid) follows. LOAD is r, STORE w, EXECUTE x, LOAD_CAP R,
+        STORE_CAP W."""
         text = (c_char * _LINE_SIZE)()
         length = _calls["format"](*self._halves(), tagged, text)
         return text.raw[:length].decode("ascii")
 
     def __str__(self) -> str:
-        """`line()`, as if it were tagged."""
+        """Returns `line()` as if it were tagged."""
         return self.line()
 
     def listing(self) -> str:
-        """The fields and bounds, one on each line: what `cheri-cap show` writes."""
+        """Returns the fields and bounds, one on each line, as `cheri-cap show` prints them."""
         field = self.fields
         lines = {
             "word": self.digits,
@@ -512,26 +541,27 @@ class Capability:
 
 
 def grant(base: int, length: int) -> Granted:
-    """The least bounds that a word can store and that cover `length` bytes from `base` on; ValueError where these end
-    above 2**64."""
+    """Returns the tightest bounds that a word can store and that cover `length` bytes from `base`.
+
+    Errors: ValueError if these end above 2**64."""
     found = _calls["set_bounds"](_address(base), *_length(length))
     if not found.in_range:
-        raise ValueError(f"{length:#x} bytes from {base:#x} on end above 2**64")
+        raise ValueError(f"{length:#x} bytes from {base:#x} end above 2**64")
     top = found.top_high << 64 | found.top_low
     return Granted(found.base, top, found.exponent, found.exact, found.ie, found.t, found.b)
 
 
 def granule(length: int) -> int:
-    """The unit in which the bounds of so many bytes, 0 to 2**64, are stored from address 0 up."""
+    """Returns the unit in which the bounds of `length` bytes, 0 to 2**64, from address 0 are stored."""
     return _calls["granule"](*_length(length))
 
 
 def round_length(length: int) -> int:
-    """The representable length (CRRL): the length, 0 to 2**64, rounded up to a multiple of its granule."""
+    """CRRL: returns the representable length: the length, 0 to 2**64, rounded up to a multiple of its granule."""
     halves = _calls["round_length"](*_length(length))
     return halves.high << 64 | halves.low
 
 
 def alignment_mask(length: int) -> int:
-    """The representable alignment mask (CRAM): an address "and" the mask is a multiple of the length's granule."""
+    """CRAM: returns the representable alignment mask. An address "and" the mask is a multiple of the length's granule."""
     return _calls["alignment_mask"](*_length(length))

@@ -1,10 +1,10 @@
-/* Stands before the C library's allocator in a program that is run with it (LD_PRELOAD).
+/* Replaces the C library's allocator in a program that is run with it (LD_PRELOAD).
 
-   Counts the blocks that the program takes and gives back, and refuses some:
-     REFUSE=N       the request number N, counted from 1
+   Counts the blocks that the program allocates and frees, and lets some allocations fail:
+     REFUSE=N       allocation number N, counted from 1
      REFUSE_FROM=N  that one and all later ones
-   At the end it writes to the file COUNTS: "asked A refused R held H bytes B", where H is the number of blocks
-   that were taken and not given back, and B how many bytes all requests together asked for. */
+   At the end it writes to the file COUNTS: "asked A refused R held H bytes B". A is the number of allocations, R of
+   those that failed, H of blocks that were allocated and not freed, and B of bytes in all allocations. */
 #include <fcntl.h>
 #include <stddef.h>
 #include <stdio.h>

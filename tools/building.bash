@@ -1,39 +1,39 @@
-# Proves and builds what a script needs, where that is not built from the sources as they are. Sourced by ./cheri-cap,
-# ./install and examples/run, each of which first sets
+# Proves and builds the program or the library that a script needs, if it is not built from the present sources. Sourced by
+# ./cheri-cap, ./install and examples/run, each of which first sets
 #
-#   top    the folder of the checkout
-#   who    the name that stands before what is said on standard error
+#   top    the directory of the checkout
+#   who    the name that begins each line on standard error
 #
-# and then calls `stand_built`. What a build was made of is kept in two files beside what it made:
+# and then calls `stand_built`. Two files next to the product of a build describe the build:
 #
-#   built-from    the toolchain's identity, and the checksums of the sources and of what was built
+#   built-from    the toolchain's identity, and the checksums of the sources and of the product
 #   seen          their names, sizes and times when they last had these checksums
 #
-# Where `seen` is as the files are, no file is read. Names are relative to the checkout, so that it can be moved and
-# copied. The times are those of the last change of any kind, which no program sets back.
+# If `seen` matches the files, no file is read. Names are relative to the checkout, so that it can be moved and copied. The
+# times are those of the last change of any kind, which no program sets back.
 
 : "${top:?}" "${who:?}"
 readonly NOT_BUILT=125
-# a crate that takes long tells how far it is, after so many seconds each
+# the progress of a slow crate is printed at this interval, in seconds
 readonly TELLS_EACH=20
 
 say() {
   printf '%s: %s\n' "$who" "$1" >&2
 }
 
-# Ends with the status that says: not proved or not built, and nothing was run.
+# Ends with the status for: not proved or not built, and nothing was run.
 stop() {
   say "$1"
   exit "$NOT_BUILT"
 }
 
-# Sets `identity` to the line that tells which toolchain is there, from the file in its folder or, where there is none,
-# by asking it. Nothing where there is no toolchain.
+# Sets `identity` to the line that identifies the installed toolchain, from the file in its directory or, if there is none, by
+# asking it. Without a toolchain it is empty.
 identify() {
-  local folders folder rt=''
-  IFS=: read -ra folders <<<"$PATH"
-  for folder in "${folders[@]}"; do
-    [[ ! -f ${folder:-.}/rt || ! -x ${folder:-.}/rt ]] || { rt=${folder:-.}/rt && break; }
+  local directories directory rt=''
+  IFS=: read -ra directories <<<"$PATH"
+  for directory in "${directories[@]}"; do
+    [[ ! -f ${directory:-.}/rt || ! -x ${directory:-.}/rt ]] || { rt=${directory:-.}/rt && break; }
   done
   [[ ! -L $rt ]] || rt=$(readlink -f -- "$rt")
   if [[ -z $rt ]]; then
@@ -45,8 +45,7 @@ identify() {
   fi
 }
 
-# The crates below the one named, lowest first, and then that one, added to `order`. crates.txt has a line NAME: BELOW..
-# for each; what it does not name is the toolchain's.
+# Sets `needs` from crates.txt, which has a line NAME: BELOW.. for each crate. Names without a line are the toolchain's.
 read_crates() {
   local line name
   while read -r name line; do
@@ -54,6 +53,7 @@ read_crates() {
     if [[ $name == [^#]* && $name$line == *:* ]]; then needs[${name%:}]=${line#*:}; fi
   done <"$top/crates.txt"
 }
+# Adds the crates below the named one to `order`, lowest first, and then that one.
 list_crates() {
   local name
   if [[ -n ${needs[$1]+known} && -z ${listed[$1]-} ]]; then
@@ -63,8 +63,8 @@ list_crates() {
   fi
 }
 
-# The sources, and what else is named first, up to the word --: each as find prints it by the words that follow. To be
-# called in a subshell, which find takes the place of.
+# Lists the sources, and the files that are named first, up to the argument --: each as find prints it by the arguments that
+# follow. Must be called in a subshell, which find replaces.
 files() {
   local also=()
   while [[ $1 != -- ]]; do also+=("$1") && shift; done
@@ -72,20 +72,21 @@ files() {
     \( -name out -o -name must-fail \) -prune -o -type f "${@:2}"
 }
 
-# Names, sizes and times; the checksums. Each is called in a subshell too, and goes to the checkout.
+# Prints names, sizes and times. Must be called in a subshell, which goes to the checkout.
 looks() {
   cd -- "$top" && files "$@" -- -printf '%p %s %C@\n'
 }
+# Prints the checksums. Must be called in a subshell, which goes to the checkout.
 checksums() {
   cd -- "$top" && files "$@" -- -print0 | LC_ALL=C sort -z | xargs -0 sha256sum --
 }
 
-# Writes a text into a file, whole or not at all. Fails where the folder is not to be written to.
+# Writes a text into a file, as a whole or not at all. Fails if the directory is not writable.
 keep() {
   { printf '%s\n' "$2" >"$1.new.$$" && mv -f -- "$1.new.$$" "$1"; } 2>/dev/null
 }
 
-# Whether what stands built is what was built, and from these sources. Without a toolchain, whichever built it.
+# Returns whether the existing build is unchanged, and from these sources. Without a toolchain, any may have built it.
 is_current() {
   local identity=$1 product=$2 kept=$3 built_by found seen
   [[ -f $top/$product && -f $kept/built-from ]] && read -r built_by <"$kept/built-from" || return
@@ -97,7 +98,7 @@ is_current() {
 }
 
 # Keeps other builds out of this checkout until it is unlocked or this process ends, and the toolchain's commands out of the
-# crates' folders, which it locks in this order.
+# crates' directories, which it locks in this order.
 lock_checkout() {
   local names name locked said=''
   mapfile -t names < <(printf '%s\n' "${order[@]}" | LC_ALL=C sort)
@@ -105,7 +106,7 @@ lock_checkout() {
     exec {locked}<"$top/$name"
     locks+=("$locked")
     if type -P flock >/dev/null && ! flock -n "$locked"; then
-      [[ -n $said ]] || say 'another build is at work in this checkout: waiting for it'
+      [[ -n $said ]] || say 'another build is running in this checkout: waiting for it'
       said=yes
       flock "$locked" || true
     fi
@@ -116,21 +117,21 @@ unlock_checkout() {
   for locked in "${locks[@]}"; do exec {locked}<&-; done
 }
 
-# Removes the libraries of the crates in `order`, two fifths of what a build leaves. A later build writes them again from what
-# is kept beside them, and proves nothing for it.
+# Removes the libraries of the crates in `order`, two fifths of the files of a build. A later build writes them again from the
+# files next to them, and proves nothing for it.
 drop_libraries() {
   local name
   for name in "${order[@]}"; do rm -rf -- "$top/crates/$name/out/rlib" || true; done
 }
 
-# Proves and builds all crates in `order`, the last by the rt command given, and keeps what they were made of: the
-# checksums, which are those of the sources that were built if all of them look the same before and after. The first build of
-# the program leaves no libraries, since most users never need them; one that follows a change keeps them for the next.
+# Proves and builds all crates in `order`, the last by the given rt command, and stores the checksums. They are those of the
+# sources that were built, if all names, sizes and times are equal before and after. The first build of the program leaves no
+# libraries, since most users never need them. A build that follows a change keeps them for the next.
 build_all() {
   local product=$1 kept=$2 first='' before found made_of
   local slots processors memory
   local -A costs=() ranks=()
-  mkdir -p -- "$kept" 2>/dev/null && keep "$kept/building" "$identity" || stop "the build cannot be kept: $kept is not to be written to"
+  mkdir -p -- "$kept" 2>/dev/null && keep "$kept/building" "$identity" || stop "the build cannot be stored: $kept is not writable"
   rm -f -- "$kept/building"
   measure_machine
   weigh_crates
@@ -139,12 +140,12 @@ build_all() {
   prove_crates "${@:3}"
   found=$(looks "$product") && made_of=$(checksums "$product") || stop "$product was not built"
   [[ $(looks | LC_ALL=C sort) == "$before" ]] || stop 'a source changed while it was built: start it again'
-  keep "$kept/built-from" "$identity"$'\n'"$made_of" && keep "$kept/seen" "$found" || stop "the build cannot be kept in $kept"
+  keep "$kept/built-from" "$identity"$'\n'"$made_of" && keep "$kept/seen" "$found" || stop "the build cannot be stored in $kept"
   [[ -z $first || $who != cheri-cap ]] || drop_libraries
 }
 
-# Sets `order`, `needs` and `identity` for a crate, and answers whether the file of its folder out/ stands as built from the
-# sources as they are:  is_built CRATE FILE
+# Sets `order`, `needs` and `identity` for a crate, and returns whether the file of its directory out/ is built from the present
+# sources:  is_built CRATE FILE
 is_built() {
   needs=() listed=() order=()
   read_crates
@@ -153,11 +154,11 @@ is_built() {
   is_current "$identity" "crates/$1/out/$2" "$top/crates/$1/out"
 }
 want_toolchain() {
-  [[ -n $identity ]] || stop "the toolchain's command rt is not found or tells no version, and what stands built is not from these sources: see README.md, \"Install\""
+  [[ -n $identity ]] || stop "the toolchain's command rt was not found or has no version, and the existing build is not from these sources: see README.md, \"Install\""
 }
 
-# Sees to it that a file of a crate's folder out/ stands as built from the sources as they are, else builds it by the rt
-# command that follows:  stand_built CRATE FILE run -- --version
+# Builds a file of a crate's directory out/ by the rt command that follows, unless it is already built from the present
+# sources:  stand_built CRATE FILE run -- --version
 stand_built() {
   local product=crates/$1/out/$2 kept=$top/crates/$1/out identity
   local -A needs listed

@@ -1,13 +1,13 @@
-# Links the shared library from the static one. Sourced by ./install and examples/run, behind tools/building.bash.
+# Links the shared library from the static one. Sourced by ./install and examples/run, after tools/building.bash.
 
 readonly compiler=${CC:-cc}
 
-# Ends where there is no C compiler.
+# Ends if there is no C compiler.
 want_compiler() {
-  type -P "$compiler" >/dev/null || stop "the C compiler $compiler is not found; CC names another"
+  type -P "$compiler" >/dev/null || stop "the C compiler $compiler is not found; set CC to another"
 }
 
-# The name by which programs ask the loader for the library. Its number is that of the header, which goes up where a
+# Prints the name by which programs ask the loader for the library. Its number is that of the header, which increases if a
 # change breaks callers.
 soname() {
   local line
@@ -16,19 +16,19 @@ soname() {
   done <"$top/include/cheri_cap.h"
 }
 
-# The linker's list of what the shared library shows: what the header declares, and nothing else.
-shown_symbols() {
+# Prints the linker's list of exported symbols: the functions that the header declares, and nothing else.
+exported_symbols() {
   printf '{\n  global:\n'
   sed -En 's/^[a-z0-9_]+ (cheri_cap_[a-z0-9_]+)\(.*/    \1;/p' "$top/include/cheri_cap.h"
   printf '  local:\n    *;\n};\n'
 }
 
-# Links the shared library in a folder, under its soname, from the static library.
+# Links the shared library in a directory, under its soname, from the static library.
 link_shared() {
-  local static=$1 folder=$2 name
+  local static=$1 directory=$2 name
   name=$(soname)
-  shown_symbols >"$folder/symbols"
-  "$compiler" -shared -Wl,-soname,"$name" -Wl,--version-script,"$folder/symbols" -Wl,-z,defs -Wl,-z,relro,-z,now -s \
-    -o "$folder/$name" -Wl,--whole-archive "$static" -Wl,--no-whole-archive || stop 'the shared library cannot be linked'
-  rm -- "$folder/symbols"
+  exported_symbols >"$directory/symbols"
+  "$compiler" -shared -Wl,-soname,"$name" -Wl,--version-script,"$directory/symbols" -Wl,-z,defs -Wl,-z,relro,-z,now -s \
+    -o "$directory/$name" -Wl,--whole-archive "$static" -Wl,--no-whole-archive || stop 'the shared library cannot be linked'
+  rm -- "$directory/symbols"
 }

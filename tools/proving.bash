@@ -1,10 +1,10 @@
 # Proves and builds the crates of a program or of a static library, each as soon as the crates below it are built, and as
 # many at a time as the machine has processors and memory for. Sourced by tools/building.bash.
 #
-# `rt lib` locks the folders of its crate and of all crates below it. So in one checkout it never proves two crates at the
-# same time that have a crate below them in common. Each crate is therefore proved in a view, a folder with its sources, those
+# `rt lib` locks the directories of its crate and of all crates below it. So in one checkout it never proves two crates at the
+# same time that have a crate below them in common. Each crate is therefore proved in a view, a directory with its sources, those
 # of the crates below it, and their libraries. The files of a view are hard links to one copy of the sources, made when the
-# build begins, and to crates/*/out/. When the crate is proved, the view's folder out/ is moved to the crate's own.
+# build begins, and to crates/*/out/. When the crate is proved, the view's directory out/ is moved to the crate's own.
 
 # Memory of one job, in MB. A crate gets a job for each JOB_SECONDS of its cost, and at most MOST_JOBS.
 readonly JOB_MEMORY=2000 MOST_JOBS=4 JOB_SECONDS=60
@@ -55,7 +55,7 @@ weigh_crates() {
 }
 
 # Sets `picked` to the crate to begin next, and `jobs` to its number of jobs. Fails if no crate can begin. Of the crates that
-# wait and have all crates below them built, it is the one of the highest rank. It gets the free slots, less one for each other
+# wait and have all crates below them built, it is the one of the highest rank. It gets the free slots, minus one for each other
 # crate that could begin.
 pick() {
   local name it ready=0 most
@@ -69,7 +69,7 @@ pick() {
   done
   [[ -n $picked ]] || return
   most=$((1 + ${costs[$picked]} / JOB_SECONDS)) jobs=$((slots - busy - ready + 1))
-  # the last crate has few functions of its own, and its code is compiled by one process
+  # the last crate itself has few functions, and one process compiles its code
   [[ $picked != "${order[-1]}" ]] || most=1
   ((most <= MOST_JOBS)) || most=$MOST_JOBS
   ((jobs <= most)) || jobs=$most
@@ -97,7 +97,7 @@ estimate() {
   minutes=$((now / 60 + 1))
 }
 
-# Says before a first build how long it takes on this machine, and what is quicker.
+# Says before a first build how long it takes on this machine, and which ways are quicker.
 announce() {
   local minutes
   estimate
@@ -107,8 +107,8 @@ announce() {
   fi
 }
 
-# Copies folders into another folder, as hard links if the file system has them:  link_folders FROM TO NAME..
-link_folders() {
+# Copies directories into another, as hard links if the file system has them:  link_directories FROM TO NAME..
+link_directories() {
   local from=$1 to=$2
   shift 2
   (($# > 0)) || return 0
@@ -161,20 +161,20 @@ make_view() {
   list_below "$name"
   below[$name]=yes
   list_lines >"$view/crates.txt" || return
-  link_folders "$apart/sources" "$view/crates" "${!below[@]}" || return
+  link_directories "$apart/sources" "$view/crates" "${!below[@]}" || return
   for it in "${!below[@]}"; do
     out+=("$view/crates/$it/out")
     [[ ! -d $top/crates/$it/out/rlib ]] || stand+=("$it/out/rlib")
   done
   [[ ! -d $top/crates/$name/out/incremental ]] || stand+=("$name/out/incremental")
-  mkdir -- "${out[@]}" && link_folders "$top/crates" "$view/crates" "${stand[@]}" || return
+  mkdir -- "${out[@]}" && link_directories "$top/crates" "$view/crates" "${stand[@]}" || return
   # no hard link, since the linker may write into the program
   for it in "$name" "$name.stamp"; do
     [[ ! -f $top/crates/$name/out/$it ]] || cp -p -- "$top/crates/$name/out/$it" "$view/crates/$name/out/$it" || return
   done
 }
 
-# Moves the contents of a view's folder out/, or one entry of it, to the crate's own:  move_out CRATE [ENTRY]
+# Moves the contents of a view's directory out/, or one entry of it, to the crate's own:  move_out CRATE [ENTRY]
 move_out() {
   local name=$1 from=$apart/$1/crates/$1/out to=$top/crates/$1/out it
   mkdir -p -- "$to" "$apart/$name/old" || return
@@ -185,7 +185,7 @@ move_out() {
   done
 }
 
-# Does the same, and removes the view. A signal meanwhile is kept for later, so that it ends no move.
+# Calls move_out, and removes the view. A signal meanwhile is kept for later, so that it ends no move.
 place() {
   local name=$1 mover again status=128
   moving=yes
@@ -216,7 +216,7 @@ begin() {
   pids[$name]=$!
 }
 
-# Says how many functions of a crate are checked or, since one job prints no number, how long the crate takes by its cost.
+# Says the number of checked functions of a crate or, since one job prints no number, how long the crate takes by its cost.
 tell() {
   local name=$1 after=$((SECONDS - ${began[$1]})) line=''
   told[$name]=$SECONDS
@@ -228,7 +228,7 @@ tell() {
   fi
 }
 
-# Puts a crate whose process has ended in its place. Stops the build if the process failed.
+# Moves a crate whose process has ended to its place. Stops the build if the process failed.
 finish() {
   local name=$1 status=0
   wait "${pids[$name]}" || status=$?
@@ -245,7 +245,7 @@ finish() {
     place "$name" incremental || true
     stop "$name is not proved, so nothing was built"
   fi
-  place "$name" || stop "what was built of $name cannot be kept in crates/$name/out"
+  place "$name" || stop "the build of $name cannot be stored in crates/$name/out"
   states[$name]=built left=$((left - 1))
   say "${places[$name]}: $name took $((SECONDS - ${began[$name]})) s"
 }
@@ -295,7 +295,7 @@ prove_crates() {
   rm -rf -- "$apart"
   aside copy_sources || stop "the sources cannot be copied to $apart"
   for name in "${order[@]}"; do states[$name]=waits; done
-  # a pipe that nothing writes to, to wait at
+  # a pipe that nothing writes to, for waiting
   exec {idle}<> <(:)
   while ((left > 0)); do
     while pick; do begin "$picked" "$jobs"; done

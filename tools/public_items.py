@@ -1,8 +1,8 @@
-"""What the crates of this repository make public, read from their sources.
+"""The public items of the crates of this repository, read from their sources.
 
 `Crate(name).find(path)` returns the item that callers reach as `name::path`. Its `signature` is the head of a function,
-from `fn` to its result, without its contract and with single spaces. This reads the layout that `rt fmt` keeps; it is
-not a compiler.
+from `fn` to its result, without its contract and with single spaces. This reads the layout of `rt fmt`, and is not a
+compiler.
 """
 import re
 from functools import lru_cache
@@ -20,7 +20,7 @@ TOKENS = re.compile(r"""//[^\n]*|"(?:\\.|[^"\\])*"|b?'(?:\\.|[^\\'\n])'""", flag
 
 
 def without_comments(text):
-    """The source with no comment, and with empty quotes for each text, byte and character."""
+    """Returns the source without comments, and with empty quotes for each string, byte and character."""
     return TOKENS.sub(lambda it: "" if it[0].startswith("//") else '""', text)
 
 
@@ -35,7 +35,7 @@ def one_line(text):
 
 
 def block_after(text, start):
-    """What stands between the first brace from `start` on and the one that closes it."""
+    """Returns the text between the first brace after `start` and the one that closes it."""
     first = text.index("{", start)
     depth = 0
     for at in range(first, len(text)):
@@ -46,13 +46,13 @@ def block_after(text, start):
 
 
 def head_of(text, start):
-    """The head of the function that begins at `start`: up to its contract, its body or its semicolon."""
+    """Returns the head of the function that begins at `start`, up to its contract, its body or its semicolon."""
     end = re.compile(r"\n\s*(?:requires|ensures|decreases|where)\b|\{|;(?![^\[]*\])").search(text, start)
     return one_line(text[start : end.start()])
 
 
 def functions_in(text, head):
-    """The functions that stand right in this text, each with its head; `head` is what stands before `fn`."""
+    """Returns the functions at the top level of this text, each with its head. `head` is the text before `fn`."""
     flat, before = text, None
     while flat != before:
         flat, before = re.sub(r"\{[^{}]*\}", lambda it: " " * len(it[0]), flat), flat
@@ -61,7 +61,7 @@ def functions_in(text, head):
 
 
 class Item:
-    """A public item: its kind, its source file, and what it has."""
+    """A public item: its kind, its source file, and its members."""
 
     def __init__(self, crate, kind, name, text, at):
         self.crate, self.kind, self.name = crate, kind, name
@@ -89,25 +89,25 @@ class Item:
 
 class Crate:
     def __init__(self, name):
-        self.name, self.folder = name, TOP / "crates" / name / "src"
+        self.name, self.directory = name, TOP / "crates" / name / "src"
 
     def sources(self):
-        return [source_of(it) for it in sorted(self.folder.glob("**/*.rt"))]
+        return [source_of(it) for it in sorted(self.directory.glob("**/*.rt"))]
 
     def module(self, path):
-        """The source of a module, as `lib` or `words`."""
-        file = self.folder / f"{path.replace('::', '/')}.rt"
+        """Returns the source of a module, such as `lib` or `words`."""
+        file = self.directory / f"{path.replace('::', '/')}.rt"
         return source_of(file) if file.exists() else None
 
     def declared(self, module, name):
-        """The item that a module declares as public."""
+        """Returns the item that a module declares as public."""
         text = self.module(module)
         if text and (it := re.search(rf"(?m)^pub (?:extern \"\" )?({KINDS}) {name}\b", text)):
             return Item(self, it[1], name, text, it.start(1))
         return None
 
     def find(self, path, module="lib"):
-        """The item that callers reach as this path of the crate, or None; for a method its type, if that has it."""
+        """Returns the item that callers reach as this path of the crate, or None. For a method it is the type, if that has it."""
         first, _, rest = path.partition("::")
         text = self.module(module)
         if text is None:

@@ -1,7 +1,2 @@
-mod RequestLemmas
 mod TallyLemmas
 mod SessionLemmas
-mod UsageLemmas
-mod MapLemmas
-mod WritingLemmas
-mod DrawingLemmas

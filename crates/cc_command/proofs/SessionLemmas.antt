@@ -1,4 +1,4 @@
--- What a session writes and counts, from what the engine of cc_io writes.
+-- The output and the counts of a session, from the output of the engine of cc_io.
 use Rattle.std.proofs.Common.{◌≡◌, ℕ, ◌<◌, ◌≤◌, ◌+◌, List, [], ◌∷◌, ◌++◌, length, take, map, refl, sym, ◌∙◌, ap, subst, append_assoc, append-nil, arith, length-append, Bool, true, false, ◌||◌, Option, OnOk, Result, Ok, Err, slice_index_or}
 use Rattle.std.proofs.lemmas.List.{map-append, take_all, take_more}
 use Rattle.std.proofs.lemmas.List.Folds.{list_any-append}
@@ -25,7 +25,7 @@ use Rattle.cc_command.specs.Tally.{Exchange, IsTally}
 
 -- ---- one line
 
--- the answer to a line that is not refused
+-- The reply to a line that is not refused.
 unfoldable pub line_answered : (old : State) (line out out_now : List ℕ) (new : State) → (r : GetsReply old (operation_of line) out out_now new) → length out_now ≤ length out + 193
     → AnswersLine old line (with_line_feed (reply_text r.reply)) false new
 line_answered old line out out_now new r fits = record {
@@ -36,7 +36,7 @@ line_answered old line out out_now new r fits = record {
   fits = omega (arith, fits, ap (λ (l : List ℕ). length l) r.text_is, length-append out (with_line_feed (reply_text r.reply)));
 }
 
--- ---- the opening
+-- ---- the setup operations
 
 or_false : (b : Bool) → b ≡ (b || false)
 or_false true = refl

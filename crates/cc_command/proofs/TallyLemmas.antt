@@ -1,4 +1,4 @@
--- How a tally changes by one more reply.
+-- The change of a tally by one more reply.
 use Rattle.std.proofs.Common.{◌≡◌, ◌∙◌, ◌+◌, ◌-◌, ◌<◌, ◌≤◌, ◌^◌, ◌==◌, ◌&&◌, ◌||◌, ℕ, zero, suc, Bool, true, false, cond, List, [], ◌∷◌, ◌++◌, ap, arith, count_by, get_or, subst, if◌then◌else◌, inl, inr, length, length-append, length-take, min, nat_le, nat_lt, refl, sym, take}
 use Rattle.std.specs.List.{list_any}
 use Rattle.std.proofs.lemmas.Bool.{cases_lt, eqb-false, eqb-true, lt-leb, lt-ltb, true≢false}
@@ -19,7 +19,7 @@ use Rattle.cc_command.specs.declared.tally.Tally.{Tally}
 
 -- ---- the refusals
 
--- each code is from 1 to 22
+-- Each code is from 1 to 22.
 pub code_within : (refusal : Refusal) → (1 ≤ code_of refusal) × (code_of refusal ≤ 22)
 code_within Syntax = (omega arith, omega arith)
 code_within Unfinished = (omega arith, omega arith)
@@ -44,7 +44,7 @@ code_within NoRoom = (omega arith, omega arith)
 code_within NoObject = (omega arith, omega arith)
 code_within Full = (omega arith, omega arith)
 
--- a reply that is not a refusal is not this refusal
+-- A reply that is not a refusal is not this refusal.
 no_refusal : (refusal : Refusal) (reply : Reply) → is_error reply ≡ false → is_refusal refusal reply ≡ false
 no_refusal refusal (Made slot word span) is = refl
 no_refusal refusal (Shown word span perms flag otype parent) is = refl
@@ -61,7 +61,7 @@ count_by-more : {A : Type 0} (passes : A → Bool) (list : List A) (last : A) (b
     → count_by passes (list ++ last ∷ []) ≡ count_by passes list + (if b then 1 else 0)
 count_by-more passes list last b is = sum_by_push (λ x. cond (passes x) 1 0) list last ∙ ap (λ (b : Bool). count_by passes list + cond b 1 0) is
 
--- the number of those that pass is above 0 if one passes, and 0 if none does
+-- The number of elements that pass is above 0 if one passes, and 0 if none does.
 record HasSome (some : Bool) (number : ℕ) : Type 0 where
   above : some ≡ true → 0 < number
   none : some ≡ false → number ≡ 0
@@ -78,7 +78,7 @@ any-counted passes (first ∷ list) = by_test (passes first) (list_any passes li
       none = λ e. let same = rest.none e in omega (arith, is, same);
     }
 
--- likewise the number of the first
+-- If no exchange passes, the number of the first that passes is 0.
 first-counted : (passes : Exchange → Bool) (number : ℕ) (exchanges : List Exchange) → count_by passes exchanges ≡ 0 → first_from passes (suc number) exchanges ≡ 0
 first-counted passes number [] none = refl
 first-counted passes number (first ∷ exchanges) none =
@@ -101,7 +101,7 @@ first-above passes number (first ∷ exchanges) some =
     by_test true is rest = omega arith
     by_test false is rest = rest (omega (arith, is, some))
 
--- the number of the first exchange that passes, with one more exchange
+-- The number of the first exchange that passes, with one more exchange.
 first-more : (passes : Exchange → Bool) (number : ℕ) (exchanges : List Exchange) (last : Exchange)
     → first_from passes (suc number) (exchanges ++ last ∷ []) ≡ first_after (first_from passes (suc number) exchanges) (passes last) (suc number + length exchanges)
 first-more passes number [] last = by_test (passes last)
@@ -128,7 +128,7 @@ first_after-counted zero (suc found) number b is = absurd (omega (arith, is))
 first_after-counted (suc first) zero number b is = absurd (omega (arith, is))
 first_after-counted (suc first) (suc found) number b is = is
 
--- the number of the first exchange that passes, as counters of 64 bits show it
+-- The number of the first exchange that passes, as 64-bit counters show it.
 first-grows : (passes : Exchange → Bool) (exchanges : List Exchange) (last : Exchange) (first number : ℕ) (b : Bool) → passes last ≡ b
     → first ≡ counted (first_from passes 1 exchanges) → number ≡ counted (length exchanges + 1)
     → first_after first b number ≡ counted (first_from passes 1 (exchanges ++ last ∷ []))
@@ -140,7 +140,7 @@ first-grows passes exchanges last first number b is was number_is =
     ∙ ap (λ (b : Bool). counted (first_after found b (suc 0 + length exchanges))) (sym is)
     ∙ ap counted (sym (first-more passes 0 exchanges last))
 
--- ... and one that does not pass changes nothing
+-- One more exchange that does not pass changes nothing.
 first_after-other : (first number : ℕ) → first_after first false number ≡ first
 first_after-other zero number = refl
 first_after-other (suc first) number = refl
@@ -158,7 +158,7 @@ same_count : (refusal : Refusal) (times first times' first' : ℕ) → times ≡
     → ◌≡◌ {A = Count} (record { refusal = refusal; times = times; first = first }) (record { refusal = refusal; times = times'; first = first' })
 same_count refusal times first times' first' p q = λ i. record { refusal = refusal; times = p i; first = q i }
 
--- the first line that got a refusal, with one more line that got it
+-- The first line that got a refusal, with one more line that got it.
 first_new : (some : Bool) (before during times found number : ℕ) → HasSome some before → (during ≡ 0 → found ≡ 0) → (0 < during → 0 < found)
     → times ≡ counted (before + during)
     → (if times == 0 then counted number else (if some then 0 else counted found)) ≡ (if some then 0 else counted (first_after found true number))
@@ -198,7 +198,7 @@ exchange_other opening exchanges last refusal is =
 
 -- ---- all counts
 
--- the counts at the indices of their refusals
+-- The counts at the indices of their refusals.
 abbrev AreCounts : (opening : List Reply) (exchanges : List Exchange) (counts : List Count) → Type 0
 AreCounts opening exchanges counts = (refusal : Refusal) (none : Count) → get_or counts (code_of refusal - 1) none ≡ count_in opening exchanges refusal
 
@@ -219,7 +219,7 @@ counts_refused opening exchanges line refusal number old new one number_is was o
 
 -- ---- the tally
 
--- one more line, whose reply is not a refusal
+-- One more line, whose reply is not a refusal.
 pub line_taken : (opening : List Reply) (exchanges : List Exchange) (line : List ℕ) (reply : Reply) (old : Tally) (lines : ℕ) → lines ≡ min (old.lines + 1) (2 ^ 64 - 1)
     → is_error reply ≡ false → IsTally opening exchanges old
     → IsTally opening (exchanges ++ record { line = line; reply = reply } ∷ [])
@@ -240,7 +240,7 @@ line_taken opening exchanges line reply old lines lines_are is was =
           ∙ ap counted (sym (first-kept (λ (exchange : Exchange). is_error exchange.reply && has_marked_word exchange.line) exchanges last is_word));
     }
 
--- the first 129 bytes of a line show whether it has at most 128
+-- The first 129 bytes of a line show whether it has at most 128.
 return-cut : (line : List ℕ) → ends_in_return (take 129 line) ≡ ends_in_return line
 return-cut line = elim (cases_lt (length line) 129) [
   | inl short ↦ ap ends_in_return (take_all 129 line (omega (arith, short)))
@@ -259,7 +259,7 @@ word-cut line = elim (cases_lt (length line) 129) [
       rw (cut, whole) refl
 ]
 
--- one more line, which is refused
+-- One more line, which is refused.
 pub line_refused : (opening : List Reply) (exchanges : List Exchange) (line : List ℕ) (refusal : Refusal) (old new : Tally) → new.lines ≡ min (old.lines + 1) (2 ^ 64 - 1)
     → HasOneMore refusal new.lines old.counts new.counts
     → new.full ≡ first_after old.full (is_refusal Full (Refused refusal)) new.lines
@@ -284,9 +284,10 @@ line_refused opening exchanges line refusal old new lines_are one full_is return
           (has_marked_word (take 129 line)) (sym (word-cut line)) was.marked_word number;
     }
 
--- ---- whether a refusal is a reply to the opening
+-- ---- whether a refusal is a reply to a setup operation
 
--- a reply to the opening is the refusal if and only if it was counted, and the number of the first line is 0
+-- A reply to a setup operation is the refusal if and only if the refusal was counted, and the
+-- number of its first line is 0.
 record IsInOpening (some : Bool) (times first : ℕ) : Type 0 where
   counted_so : some ≡ true → (0 < times) × (first ≡ 0)
   not_so : some ≡ false → first ≡ 0 → times ≡ 0

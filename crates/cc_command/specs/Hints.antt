@@ -1,4 +1,4 @@
--- Hints after a run: what the writer of a script may not see in its replies.
+-- Hints after a run: what the writer of a script might not see in its replies.
 use Rattle.std.specs.Prelude.{ℕ, zero, suc, Bool, ◌==◌, ◌&&◌, nat_lt, List, [], ◌++◌, Option, Some, None, codes, if◌then◌else◌}
 use Rattle.std.specs.List.{list_any}
 use Rattle.cc_word.specs.declared.refusal.Refusal.TheVariants.{Full, Inexact}
@@ -12,8 +12,9 @@ use Rattle.cc_command.specs.Tally.{Exchange, counted, first_from, is_refusal}
 use Rattle.cc_command.specs.declared.hints.Hints.{Hints}
 use Rattle.cc_command.specs.declared.tally.Count.{Count}
 
--- The hints after a run with these replies to its opening, and these lines with their replies: that the pool is not exact,
--- if the opening made one of `pool` bytes and was refused for that, and the first lines that are worth a hint.
+-- The hints after a run with these replies to its setup operations, and these lines with their
+-- replies. `inexact` is `pool` if a reply to the setup operations is `Inexact`. The others are the
+-- numbers of the first lines that are worth a hint.
 abbrev pub hints_of : (opening : List Reply) (exchanges : List Exchange) (pool : Option ℕ) → Hints
 hints_of opening exchanges pool = record {
   inexact = if list_any (is_refusal Inexact) opening then pool else None;
@@ -22,20 +23,20 @@ hints_of opening exchanges pool = record {
   full = counted (first_from (λ e. is_refusal Full e.reply) 1 exchanges);
 }
 
--- the hint at the line of this number, and nothing for 0
+-- The hint at the line with this number, or nothing for 0.
 abbrev pub line_hint : (line : ℕ) (after : List ℕ) → List ℕ
 line_hint zero after = []
 line_hint (suc before) after = line_with_decimal (codes "hint: line ") (suc before) after
 
--- the hint that a pool of this length is not exact: its padded size is, at a base that is a multiple of the granule of
--- that length; nothing where there is no such pool
+-- The hint that a pool of this length is not exact: its padded size is, at a base that is a
+-- multiple of the granule of that length. Nothing if there is no such pool.
 abbrev pub pool_hint : (inexact : Option ℕ) → List ℕ
 pool_hint None = []
 pool_hint (Some size) =
     with_hexadecimal (codes "hint: the pool's bounds are not exact: ") (padded_size size)
     ++ line_with_hexadecimal (codes " bytes from a multiple of ") (granule_of (from_zero size)) (codes " are")
 
--- the hints, one on each line
+-- The hints, one on each line.
 abbrev pub hints_text : Hints → List ℕ
 hints_text hints =
     pool_hint hints.inexact
@@ -43,6 +44,7 @@ hints_text hints =
     ++ (line_hint hints.marked_word (codes " has a word with 0x or a colon: a word is 32 digits alone")
     ++ line_hint hints.full (codes " is refused as full: --slots N gives more, up to 65536")))
 
--- A count says that a reply to the opening is its refusal. No public clause cites it.
+-- `is_in_opening` holds if the count shows that a reply to the setup operations is its refusal. No
+-- public clause cites it.
 abbrev pub is_in_opening : Count → Bool
 is_in_opening count = nat_lt 0 count.times && (count.first == 0)

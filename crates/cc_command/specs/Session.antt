@@ -1,4 +1,4 @@
--- A machine that answers the lines of a script, and the counts of its replies.
+-- A machine that replies to the lines of a script, and the counts of its replies.
 use Rattle.std.specs.Prelude.{◌≡◌, ℕ, Bool, List, [], ◌∷◌, ◌++◌, map, take, Option, Result, Ok, OnOk}
 use Rattle.std.specs.List.{list_any}
 use Rattle.cc_word.specs.declared.refusal.Refusal.TheVariants.{Unfinished}
@@ -23,22 +23,24 @@ pub record SessionState : Type 0 where
   pub machine : State
   pub tally : Tally
 
--- SessionAnswers holds if the machine answers the line, and the tally counts the reply. `line` is the first 129 bytes of the
--- line.
+-- SessionAnswers holds if the machine replies to the line, and the tally counts the reply. `line`
+-- is the first 129 bytes of the line.
 pub record SessionAnswers (old : SessionState) (line text : List ℕ) (error : Bool) (new : SessionState) : Type 0 where
   pub answered : AnswersLine old.machine line text error new.machine
   pub counted :
       (opening : List Reply) (exchanges : List Exchange) (whole : List ℕ) → line ≡ take 129 whole → IsTally opening exchanges old.tally
       → IsTally opening (exchanges ++ record { line = whole; reply = answered.reply } ∷ []) new.tally
 
--- SessionRefuses holds if trailing bytes are refused as an unfinished line, and the tally counts the refusal.
+-- SessionRefuses holds if trailing bytes are refused as an unfinished line, and the tally counts
+-- the refusal.
 pub record SessionRefuses (old : SessionState) (rest text : List ℕ) (error : Bool) (new : SessionState) : Type 0 where
   pub answered : RefusesRest old.machine rest text error new.machine
   pub counted :
       (opening : List Reply) (exchanges : List Exchange) → IsTally opening exchanges old.tally
       → IsTally opening (exchanges ++ record { line = []; reply = Refused Unfinished } ∷ []) new.tally
 
--- TakesOperation holds if the machine takes the operation, its reply is appended to the page, and the tally counts it.
+-- TakesOperation holds if the machine takes the operation, its reply is appended to the page, and
+-- the tally counts it.
 pub record TakesOperation (old : SessionState) (op : Op) (page page_now : List ℕ) (error : Bool) (new : SessionState) : Type 0 where
   pub reply : Reply
   pub step : Step old.machine op reply new.machine
@@ -46,7 +48,8 @@ pub record TakesOperation (old : SessionState) (op : Op) (page page_now : List �
   pub error_is : error ≡ is_error reply
   pub counted : (opening : List Reply) → IsTally opening [] old.tally → IsTally (opening ++ reply ∷ []) [] new.tally
 
--- OpensSession holds if the machine took the operations, the page has their replies, and the tally counts them.
+-- OpensSession holds if the machine took the setup operations, the page has their replies, and the
+-- tally counts them.
 pub record OpensSession (old : SessionState) (ops : List Op) (page : List ℕ) (any_error : Bool) (new : SessionState) : Type 0 where
   pub replies : List Reply
   pub takes : TakesAll old.machine (map Ok ops) replies new.machine
@@ -65,7 +68,8 @@ abbrev pub rest_exchange : (rest : List ℕ) → List Exchange
 rest_exchange [] = []
 rest_exchange (byte ∷ rest) = record { line = []; reply = Refused Unfinished } ∷ []
 
--- CountsRun holds if the tally has counted the replies to the opening, to the lines of the text, and to its trailing bytes.
+-- CountsRun holds if the tally has counted the replies to the setup operations, to the lines of the
+-- text, and to its trailing bytes.
 pub record CountsRun (old : State) (opening : List Op) (text : List ℕ) (tally : Tally) (new : State) : Type 0 where
   pub first : List Reply
   pub mid : State
@@ -76,14 +80,14 @@ pub record CountsRun (old : State) (opening : List Op) (text : List ℕ) (tally 
   pub exchanges_are : exchanges ≡ exchanges_of (lines_of text) replies ++ rest_exchange (rest_of text)
   pub is_tally : IsTally first exchanges tally
 
--- AnswersSession holds if the bytes written are the machine's answer, up to a failure, and the tally at the end has counted
--- the replies of this run.
+-- AnswersSession holds if the bytes written are the machine's output, up to a failure. If the run
+-- succeeds, the tally at the end has counted the replies of this run.
 pub record AnswersSession (room : ℕ) (old : State) (opening : List Op) (to_come left : Option (List ℕ)) (Wrote : List ℕ → Type 0) (result : Result Summary IoError) (tally : Tally) (new : State) : Type 0 where
   pub answers : AnswersScript (StopsInReplies room) old opening to_come left Wrote result new
   pub counts : OnOk result (CountsRun old opening answers.given tally new)
 
--- RunsSession holds if a run is that of the script, on a page of `room` bytes, and the tally at the end has counted the replies
--- of this run.
+-- RunsSession holds if a run is that of the script, on a page of `room` bytes. If the run succeeds,
+-- the tally at the end has counted the replies of this run.
 pub record RunsSession (room : ℕ) (opening : List Op) (before : IoState) (result : Result Summary IoError) (tally : Tally) (after : IoState) : Type 0 where
   pub runs : RunsScript (StopsInReplies room) opening before result after
   pub counts : OnOk result (CountsRun before.machine opening runs.answers.given tally after.machine)

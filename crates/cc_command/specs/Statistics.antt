@@ -1,64 +1,68 @@
--- The text of the summary of a run: a line for each number, which is a name, a space and the number.
+-- The bytes of the summary of a run: a line for each number, which is a name, a space and the
+-- number.
 use Rattle.std.specs.Prelude.{ℕ, zero, suc, ◌-◌, ◌*◌, ◌/◌, ◌%◌, List, [], ◌∷◌, ◌++◌, codes, decimal}
 use Rattle.cc_word.specs.Refusal.{name_of}
 use Rattle.cc_script.specs.Output.{with_line_feed}
 use Rattle.cc_text.specs.Numbered.{line_with_decimal, line_with_hexadecimal}
 use Rattle.cc_command.specs.declared.tally.Count.{Count}
 use Rattle.cc_command.specs.declared.tally.Tally.{Tally}
-use Rattle.cc_command.specs.declared.usage.Usage.{Usage}
+use Rattle.cc_draw.specs.declared.usage.Usage.{Usage}
 
--- how many replies are this refusal, and the number of the script's line that got the first; it is 0 where a reply to the
--- opening is this refusal
+-- The lines of a refusal: the number of replies that are it, and the number of the script's line
+-- that got the first. The second number is 0 if a reply to the setup operations is this refusal.
 abbrev pub count_lines : Count → List ℕ
 count_lines count =
     with_line_feed (codes "refused." ++ name_of count.refusal ++ codes " " ++ decimal count.times)
     ++ with_line_feed (codes "first." ++ name_of count.refusal ++ codes " " ++ decimal count.first)
 
--- the text, unless the number of times is 0
+-- The bytes `text`, or nothing if `times` is 0.
 abbrev pub lines_if : (times : ℕ) → List ℕ → List ℕ
 lines_if zero text = []
 lines_if (suc times) text = text
 
--- the lines of those counts that are not 0, in the order of the list
+-- The lines of the counts that are not 0, in the order of the list.
 abbrev pub counts_text : List Count → List ℕ
 counts_text [] = []
 counts_text (count ∷ counts) = lines_if count.times (count_lines count) ++ counts_text counts
 
--- the lines of the slots, of the limit, and of the objects by their states
+-- The lines of the slots, of the limit, and of the objects by their states.
 abbrev pub objects_text : Usage → List ℕ
 objects_text usage =
     line_with_decimal (codes "slots ") usage.slots [] ++ line_with_decimal (codes "limit ") usage.limit []
     ++ line_with_decimal (codes "made ") usage.made [] ++ line_with_decimal (codes "live ") usage.live []
     ++ line_with_decimal (codes "quarantined ") usage.quarantined [] ++ line_with_decimal (codes "swept ") usage.swept []
 
--- the line of the padding in percent, from hundredths of a percent: a point stands before the last two digits
+-- The line of the padding in percent, from hundredths of a percent, with a point before the last
+-- two digits.
 unfoldable pub percent_text : ℕ → List ℕ
 percent_text hundredths =
     with_line_feed (codes "padding.percent " ++ decimal (hundredths / 100) ++ codes "." ++ decimal (hundredths / 10 % 10) ++ decimal (hundredths % 10))
 
--- how many hundredths of a percent of the whole the part is, rounded down, and 0 where the whole is 0
+-- The part in hundredths of a percent of the whole, rounded down, or 0 if the whole is 0.
 abbrev pub hundredths_of : (part whole : ℕ) → ℕ
 hundredths_of part zero = 0
 hundredths_of part (suc less) = part * 10000 / suc less
 
--- the lines of the bytes asked for, of the held ones, and of the padding: held bytes that nobody asked for
+-- The lines of the requested bytes, of the held bytes, and of the padding: held bytes beyond the
+-- requested ones.
 abbrev pub bytes_text : Usage → List ℕ
 bytes_text usage =
     line_with_decimal (codes "asked ") usage.asked [] ++ line_with_decimal (codes "held ") usage.held []
     ++ line_with_decimal (codes "padding ") (usage.held - usage.asked) [] ++ percent_text (hundredths_of (usage.held - usage.asked) usage.held)
 
--- the line of the last byte below an end, or of `none` where the end is 0
+-- The line of the last byte below an end, or of `none` if the end is 0.
 abbrev pub end_text : (end : ℕ) → List ℕ
 end_text zero = codes "highest none\n"
 end_text (suc last) = line_with_hexadecimal (codes "highest ") last []
 
--- the lines of the pool, of its free bytes, of its holes, and of the highest byte that an object had
+-- The lines of the pool, of its free bytes, of its holes, and of the highest byte that an object
+-- had.
 abbrev pub holes_text : Usage → List ℕ
 holes_text usage =
     line_with_decimal (codes "pool ") usage.pool [] ++ line_with_decimal (codes "free ") (usage.pool - usage.held) []
     ++ line_with_decimal (codes "holes ") usage.holes [] ++ line_with_decimal (codes "largest ") usage.largest [] ++ end_text usage.end
 
--- the summary of a run
+-- The summary of a run.
 abbrev pub statistics_text : Usage → Tally → List ℕ
 statistics_text usage tally =
     line_with_decimal (codes "lines ") tally.lines [] ++ counts_text tally.counts

@@ -1,22 +1,32 @@
-//! The explanation of a length: what bounds of that length are granted, and why.
+//! The explanation of a length: the bounds that are granted to a request of that length, and why.
 ghost use Rattle.std.specs.Prelude.{◌≡◌, ◌↔◌, [], false, true, IfOk, IsErr, IsTrue, OnErr, OnOk};
-ghost use Rattle.cc_command.specs.Answer.{WritesAnswer};
+ghost use Rattle.cc_explain.specs.Answer.{WritesAnswer};
 ghost use Rattle.cc_command.specs.Request.{IsLengthExplanation, request_in};
 
-use crate::answers::{push_refusal, write_answer};
-use crate::explained_request::push_grant;
-use crate::request::{grant_of, read_request};
+use crate::request::read_request;
+use cc_explain::{push_explained_request, push_refusal, write_answer};
 use cc_io::{IoError, Sink, Summary};
 use cc_text::Text;
 
-/// Writes what setting bounds grants to a request, whose base and length two texts spell: the granule, and why half
-/// of it is not enough; the granted bounds, and how many bytes of them lie beside the request; which length has exact
-/// bounds, and at which bases; and the word of the root capability with the granted bounds. Flushes the sink once after
-/// the last line.
+/// Writes the bounds that are granted to a request with this base and length, and why. Flushes the
+/// sink once after the last line.
 ///
-/// The answer is `error 1 syntax` where a text spells no number; else `error 4 range` where the base is above 2^64 - 1
-/// or the length above 2^64; and else `error 9 bounds` where the request ends past 2^64. No line has more than 100
-/// bytes. Where the sink fails, a beginning of the answer was written.
+/// The lines have, in this order:
+///
+/// - the granule, and why half of it is not enough
+/// - the granted bounds, and the number of their bytes before and after the request
+/// - the length that has exact bounds, and the bases at which it has them
+/// - the word of the root capability with the granted bounds
+///
+/// No line has more than 100 bytes. For arguments that are not a request, the output is the first
+/// of these refusals that applies:
+///
+/// - `error 1 syntax`: an argument is not a number
+/// - `error 4 range`: the base is at least 2^64, or the length above 2^64
+/// - `error 9 bounds`: the request ends past 2^64
+///
+/// Requires: the sink has not failed.
+/// Errors: `Write` if and only if the sink fails. A prefix of the output is then written.
 pub fn explain_length<W: Sink>(base: &str, length: &str, sink: &mut W) -> Result<Summary, IoError>
     requires { W.has_failed sink.old ≡ false }
     ensures shown { WritesAnswer (IsLengthExplanation base.now length.now) (W.taken_bytes sink.old) (W.taken_bytes sink.new) result }
@@ -31,7 +41,7 @@ pub fn explain_length<W: Sink>(base: &str, length: &str, sink: &mut W) -> Result
     Ok(summary)
 }
 
-/// Appends the explanation of the request that two texts spell, or why they spell none.
+/// Appends the explanation of the request, or the refusal of arguments that are not a request.
 fn push_request(answer: &mut Text, base: &str, length: &str) -> Summary
     requires { answer.old ≡ [] }
     ensures explanation { IsLengthExplanation base.now length.now answer.new }
@@ -39,7 +49,7 @@ fn push_request(answer: &mut Text, base: &str, length: &str) -> Summary
 {
     match read_request(base, length) {
         Ok(request) => {
-            push_grant(answer, &request, &grant_of(&request));
+            push_explained_request(answer, &request);
             Summary { any_error: false }
         }
         Err(refusal) => {

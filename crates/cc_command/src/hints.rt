@@ -1,4 +1,4 @@
-//! Hints after a run, one on each line: what the writer of a script may not see in its replies.
+//! Hints after a run, one on each line: what the writer of a script might not see in its replies.
 ghost use Rattle.std.specs.Prelude.{◌≡◌, ◌+◌, ◌≤◌, ◌++◌, ◌↔◌, [], Err, IsErr, List, OnErr, OnOk, codes, false, length, option_map, true};
 ghost use Rattle.std.specs.Io.KnownBytes.{Appends};
 ghost use Rattle.cc_io.specs.Devices.{TakesBeginning};
@@ -8,31 +8,35 @@ ghost use Rattle.cc_word.specs.declared.refusal.Refusal.TheVariants.{Inexact};
 ghost use Rattle.cc_command.specs.Hints.{hints_of, hints_text, is_in_opening, line_hint, pool_hint};
 ghost use Rattle.cc_command.specs.Tally.{Exchange, IsTally, is_refusal};
 
-use crate::answers::write_answer;
 use crate::tally::{Count, Tally};
 use cc_bounds::{granule, round_length};
+use cc_explain::write_answer;
 use cc_io::{IoError, Sink};
 use cc_machine::Len;
 use cc_text::{ROOM, Text, end_with_decimal, end_with_hexadecimal, push_hexadecimal};
 
-/// What is worth a hint after a run. Lines of the script are numbered from 1; 0 says that there is no such line.
+/// The facts about a run that are worth a hint. Lines of the script are numbered from 1, and 0
+/// means that there is no such line.
 #[derive(Clone, Copy, Debug, PartialEq, Eq)]
 pub struct Hints {
-    /// The length that was asked for the pool, where its bounds cannot be stored exactly.
+    /// The requested length of the pool in bytes, if a reply to the setup operations is `Inexact`.
     pub inexact: Option<Len>,
-    /// The first refused line that ends in a carriage return.
+    /// The number of the first refused line that has at most 128 bytes and ends in a carriage
+    /// return.
     pub carriage_return: u64,
-    /// The first refused `rebuild` line whose word is written with `0x` or a colon.
+    /// The number of the first refused `rebuild` line of at most 128 bytes whose word is written
+    /// with `0x` or a colon.
     pub marked_word: u64,
-    /// The first line that is refused as full.
+    /// The number of the first line that is refused as `Full`.
     pub full: u64,
 }
 
-/// The place of `Inexact` among the counts of a tally, which are in the order of the codes.
+/// The index of `Inexact` among the counts of a tally, which are in the order of the codes.
 const INEXACT: usize = 9;
 
 impl Hints {
-    /// Returns the hints after a run with these counts. `pool` is the length of the pool that the opening asked for, if any.
+    /// Returns the hints after a run with these counts. `pool` is the length of the pool that the
+    /// setup operations requested, if any.
     pub fn of(tally: &Tally, pool: Option<Len>) -> Hints
         ensures { (opening : List Reply) (exchanges : List Exchange) → IsTally opening exchanges tally.now → result ≡ hints_of opening exchanges pool }
     {
@@ -45,21 +49,24 @@ impl Hints {
     }
 }
 
-/// Returns whether a reply to the opening is `Inexact`.
+/// Returns whether a reply to the setup operations is `Inexact`.
 fn is_pool_inexact(tally: &Tally) -> bool
     ensures { (opening : List Reply) (exchanges : List Exchange) → IsTally opening exchanges tally.now → result ≡ list_any (is_refusal Inexact) opening }
 {
     is_in_opening(&tally.counts[INEXACT])
 }
 
-/// Returns whether a reply to the opening is the refusal of a count.
+/// Returns whether a reply to the setup operations is the refusal of a count.
 fn is_in_opening(count: &Count) -> bool
     ensures { result ≡ is_in_opening count.now }
 {
     count.times > 0 && count.first == 0
 }
 
-/// Writes the hints, and flushes the sink once after them. Where the sink fails, a beginning of them was written.
+/// Writes the hints, and flushes the sink once after them.
+///
+/// Requires: the sink has not failed.
+/// Errors: `Write` if and only if the sink fails. A prefix of the hints is then written.
 pub fn show_hints<W: Sink>(hints: &Hints, sink: &mut W) -> Result<(), IoError>
     requires { W.has_failed sink.old ≡ false }
     ensures ok { OnOk result (Appends (W.taken_bytes sink.old) (W.taken_bytes sink.new) (hints_text hints.now)) }
@@ -73,7 +80,9 @@ pub fn show_hints<W: Sink>(hints: &Hints, sink: &mut W) -> Result<(), IoError>
     write_answer(&text, sink)
 }
 
-/// Puts the hints into the empty text.
+/// Appends the hints.
+///
+/// Requires: `text` is empty.
 fn push_hints(text: &mut Text, hints: &Hints)
     requires { text.old ≡ [] }
     ensures { text.new ≡ hints_text hints.now }
@@ -96,7 +105,8 @@ fn push_hints(text: &mut Text, hints: &Hints)
     );
 }
 
-/// Appends the hint that a pool of this length is not exact, and which length and bases are; nothing for `None`.
+/// Appends the hint that a pool of this length is not exact, and which length and bases are.
+/// Appends nothing for `None`.
 fn push_pool_hint(text: &mut Text, inexact: Option<Len>)
     requires { length text.old + 240 ≤ ROOM }
     ensures value { text.new ≡ text.old ++ pool_hint inexact }
@@ -118,7 +128,7 @@ fn push_pool_hint(text: &mut Text, inexact: Option<Len>)
     }
 }
 
-/// Appends the hint at the line of this number; nothing for 0.
+/// Appends the hint at the line with this number. Appends nothing for 0.
 fn push_line_hint(text: &mut Text, line: u64, after: &[u8])
     requires after { length after.now ≤ 70 }
     requires room { length text.old + 140 ≤ ROOM }

@@ -1,4 +1,4 @@
-//! What a refused line may have done wrong.
+//! Possible mistakes in a refused line.
 ghost use Rattle.std.specs.Prelude.{◌≡◌};
 ghost use Rattle.cc_command.specs.LineHints.{ends_in_return, has_marked_word};
 
@@ -15,7 +15,8 @@ pub(crate) fn ends_in_return(line: &[u8]) -> bool
     line.len() <= MOST_BYTES && line.ends_with(b"\r")
 }
 
-/// Returns whether a line of at most 128 bytes is a `rebuild` whose word is written with `0x` or a colon.
+/// Returns whether a line of at most 128 bytes is a `rebuild` whose word is written with `0x` or a
+/// colon.
 pub(crate) fn has_marked_word(line: &[u8]) -> bool
     ensures { result ≡ has_marked_word line.now }
 {

@@ -1,21 +1,26 @@
-//! The answer of `round`: how setting bounds rounds a length.
+//! The output of `round`: how setting bounds rounds a length.
 ghost use Rattle.std.specs.Prelude.{◌≡◌, ◌↔◌, [], false, true, IfOk, IsErr, IsTrue, OnErr, OnOk};
 ghost use Rattle.cc_script.specs.Commands.{length_in};
-ghost use Rattle.cc_command.specs.Answer.{WritesAnswer};
+ghost use Rattle.cc_explain.specs.Answer.{WritesAnswer};
 ghost use Rattle.cc_command.specs.Rounding.{IsRounding};
 
-use crate::answers::{push_refusal, write_answer};
+use cc_explain::{push_refusal, write_answer};
 use cc_io::{IoError, Sink, Summary};
 use cc_machine::Reply;
 use cc_script::{read_length, reply_line};
 use cc_text::Text;
 
-/// Writes the line `round LENGTH GRANULE MASK` for the length that a text spells, and flushes the sink
-/// once after it. LENGTH is how many bytes such bounds take, GRANULE is of what their base has to be a
-/// multiple, and MASK rounds an address down to such a multiple.
+/// Writes the line `round LENGTH GRANULE MASK` for a length, and flushes the sink once after it.
 ///
-/// The line is `error 1 syntax` for a text that spells no number, and else `error 4 range` for a number
-/// above 2^64. Where the sink fails, a beginning of the line was written.
+/// LENGTH is the number of bytes that bounds of this length take. Their base must be a multiple of
+/// GRANULE. MASK rounds an address down to such a multiple. For any other string, the line is the
+/// first of these refusals that applies:
+///
+/// - `error 1 syntax`: the string is not a number
+/// - `error 4 range`: the number is above 2^64
+///
+/// Requires: the sink has not failed.
+/// Errors: `Write` if and only if the sink fails. A prefix of the line is then written.
 pub fn show_round<W: Sink>(text: &[u8], sink: &mut W) -> Result<Summary, IoError>
     requires { W.has_failed sink.old ≡ false }
     ensures shown { WritesAnswer (IsRounding text.now) (W.taken_bytes sink.old) (W.taken_bytes sink.new) result }
@@ -30,7 +35,9 @@ pub fn show_round<W: Sink>(text: &[u8], sink: &mut W) -> Result<Summary, IoError
     Ok(summary)
 }
 
-/// Puts the line for the length that a text spells, or the refusal of a text that spells none, into the empty answer.
+/// Appends the line for the length, or the refusal of a string that is not a length.
+///
+/// Requires: `answer` is empty.
 fn push_rounding(answer: &mut Text, text: &[u8]) -> Summary
     requires { answer.old ≡ [] }
     ensures rounding { IsRounding text.now answer.new }

@@ -1,4 +1,4 @@
-//! A machine that answers the lines of a script, and the counts of its replies.
+//! A machine that replies to the lines of a script, and the counts of its replies.
 ghost use Rattle.std.specs.Prelude.{◌≡◌, ◌+◌, ◌*◌, ◌≤◌, ◌↔◌, [], Err, OnOk, false, length, true};
 ghost use Rattle.std.specs.Io.KnownBytes.{Appends};
 ghost use Rattle.cc_machine.specs.Run.{IsReached};
@@ -14,7 +14,7 @@ use cc_text::{Page, refusal_bytes};
 use cc_word::Refusal;
 use std::marker::Model;
 
-/// A machine that answers the lines of a script, and the counts of its replies.
+/// A machine that replies to the lines of a script, and the counts of its replies.
 #[derive(Drop)]
 pub struct Session {
     machine: Machine,
@@ -30,7 +30,7 @@ impl Model for Session {
 }
 
 impl Session {
-    /// Makes the session of a machine. No reply is counted yet.
+    /// Creates a session of a machine, with no reply counted so far.
     pub fn new(machine: Machine) -> Self
         ensures machine { result.machine ≡ machine }
         ensures tally { IsTally [] [] result.tally }
@@ -55,15 +55,15 @@ impl Session {
         &self.tally
     }
 
-    /// Proves of the machine what is true of every machine: a run leads to its state.
+    /// Proves the claim that holds for every machine: its state is one that a run leads to.
     fn tell_reached(&self)
         ensures { IsReached self.now.machine }
     {
         let _ = self.machine.slots();
     }
 
-    /// Steps the machine by an operation, and appends the reply and a line feed to the page. Returns whether the reply is an
-    /// error.
+    /// Steps the machine by an operation, and appends the reply and a line feed to the page.
+    /// Returns whether the reply is an error.
     fn take_operation<const N: usize>(&mut self, op: &Op, page: &mut Page<N>) -> bool
         requires { length page.old + 193 ≤ N }
         ensures takes { TakesOperation self.old op.now page.old page.new result self.new }
@@ -77,8 +77,8 @@ impl Session {
         is_refusal(&reply)
     }
 
-    /// Steps the machine by the operations of an opening, and puts their replies on the empty page. Returns whether a reply is
-    /// an error.
+    /// Steps the machine by the setup operations, and puts their replies on the empty page. Returns
+    /// whether a reply is an error.
     fn take_opening<const N: usize>(&mut self, opening: &[Op], page: &mut Page<N>) -> bool
         requires empty { page.old ≡ [] }
         requires room { 193 * length opening.now ≤ N }
@@ -127,16 +127,19 @@ impl<const N: usize> Answerer<N> for Session {
     }
 }
 
-/// Runs the script that begins with these operations and goes on as the source gives. The replies are collected on the page,
-/// which is written when it is full and before each further read of the source.
+/// Runs the script that begins with these setup operations and continues with the bytes that the
+/// source gives.
 ///
-/// The sink is flushed once, at the end. Allocates nothing. Whatever the result, the machine then keeps the laws of every run.
+/// The replies are collected on the page. It is written when one more reply might not fit, and
+/// before each read of the source. The sink is flushed once, at the end. Allocates nothing.
+/// Whatever the result, the machine then keeps the laws of every run.
 ///
-/// Requires: neither the source nor the sink has failed; no reply is counted yet; the replies to the opening, 193 bytes each,
-/// fit the page, and so does one reply.
-/// Errors: `Read` if and only if the source failed. The replies to all complete lines that it gave are then written, and the
-/// machine has taken these lines alone. `Write` if and only if the sink failed. A prefix of the output is then written; the
-/// machine has taken the line whose reply was cut, and at most the lines after it whose replies were on the same page.
+/// Requires: neither the source nor the sink has failed; no reply is counted yet; the replies to
+/// the setup operations, 193 bytes each, fit the page, and so does one reply.
+/// Errors: `Read` if and only if the source failed. The replies to all complete lines that it gave
+/// are then written, and the machine has taken these lines alone. `Write` if and only if the sink
+/// failed. A prefix of the output is then written. The machine has taken the line whose reply was
+/// cut, and at most the lines after it whose replies were on the same page.
 pub fn run_session<R: Source, W: Sink, const N: usize>(
     opening: &[Op],
     session: &mut Session,
@@ -172,7 +175,7 @@ pub fn run_session<R: Source, W: Sink, const N: usize>(
     result
 }
 
-/// Answers the opening, and then the script.
+/// Replies to the setup operations, and then to the script.
 fn answer_session<R: Source, W: Sink, const N: usize>(
     opening: &[Op],
     session: &mut Session,

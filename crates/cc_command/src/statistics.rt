@@ -5,19 +5,22 @@ ghost use Rattle.cc_io.specs.Devices.{TakesBeginning};
 ghost use Rattle.cc_text.specs.Numbered.{line_with_decimal};
 ghost use Rattle.cc_command.specs.Statistics.{bytes_text, count_lines, counts_text, end_text, holes_text, hundredths_of, objects_text, percent_text, statistics_text};
 
-use crate::answers::write_answer;
 use crate::tally::{Count, Tally};
-use crate::usage::Usage;
+use cc_draw::Usage;
+use cc_explain::write_answer;
 use cc_io::{IoError, Sink};
 use cc_script::Line;
 use cc_text::{ROOM, Text, end_with_decimal, end_with_hexadecimal};
 
-/// Writes the summary of a run, a line for each number, and flushes the sink once after the last: the number of lines that were
-/// answered; for each refusal the number of replies that are it, and the line that got the first; and what the machine uses.
+/// Writes the summary of a run, a line for each number, and flushes the sink once after the last.
 ///
-/// The operations of an opening are not counted as lines, and a refusal that one of them got has the line 0.
+/// The summary has the number of lines that got a reply. For each refusal it has the number of
+/// replies that are it, and the number of the line that got the first. The other numbers say what
+/// the machine uses. Setup operations are not counted as lines, and a refusal that one of them got
+/// has the line 0.
 ///
-/// Requires: the sink has not failed; at most 2^80 bytes are held, which [`usage_of`](crate::usage_of) ensures.
+/// Requires: the sink has not failed; at most 2^80 bytes are held, which
+/// [`usage_of`](crate::usage_of) ensures.
 /// Errors: `Write` if the sink fails. A prefix of the summary is then written.
 pub fn show_statistics<W: Sink>(usage: &Usage, tally: &Tally, sink: &mut W) -> Result<(), IoError>
     requires sink { W.has_failed sink.old ≡ false }
@@ -33,7 +36,9 @@ pub fn show_statistics<W: Sink>(usage: &Usage, tally: &Tally, sink: &mut W) -> R
     write_answer(&text, sink)
 }
 
-/// Puts the summary of a run into the empty text.
+/// Appends the summary of a run.
+///
+/// Requires: `text` is empty.
 fn push_statistics(text: &mut Text, usage: &Usage, tally: &Tally)
     requires empty { text.old ≡ [] }
     requires fits { usage.now.held ≤ 2 ^ 80 }
@@ -46,7 +51,7 @@ fn push_statistics(text: &mut Text, usage: &Usage, tally: &Tally)
     push_holes(text, usage);
 }
 
-/// Appends the line of a number behind its name, which ends with a space.
+/// Appends the line of a number after its name, which ends with a space.
 fn push_number(text: &mut Text, name: &[u8], number: u128)
     requires name { length name.now ≤ 60 }
     requires room { length text.old + length name.now + 41 ≤ ROOM }
@@ -72,7 +77,8 @@ fn push_counts(text: &mut Text, counts: &[Count])
     }
 }
 
-/// Appends two lines of a refusal: how many replies are it, and which line of the script got the first.
+/// Appends two lines of a refusal: the number of replies that are it, and the line of the script
+/// that got the first.
 fn push_count(text: &mut Text, count: &Count)
     requires { length text.old + 140 ≤ ROOM }
     ensures value { text.new ≡ text.old ++ count_lines count.now }
@@ -107,7 +113,8 @@ fn push_objects(text: &mut Text, usage: &Usage)
     push_number(text, b"swept ", usage.swept as u128);
 }
 
-/// Appends how many bytes were asked for, how many are held, and the padding: held bytes that nobody asked for.
+/// Appends the lines of the requested bytes, of the held bytes, and of the padding: held bytes
+/// beyond the requested ones.
 fn push_bytes(text: &mut Text, usage: &Usage)
     requires fits { usage.now.held ≤ 2 ^ 80 }
     requires room { length text.old ≤ 3480 }
@@ -121,7 +128,7 @@ fn push_bytes(text: &mut Text, usage: &Usage)
     push_percent(text, hundredths_of(padding, usage.held));
 }
 
-/// How many hundredths of a percent of the whole the part is, rounded down, and 0 where the whole is 0.
+/// Returns the part in hundredths of a percent of the whole, rounded down, or 0 if the whole is 0.
 fn hundredths_of(part: u128, whole: u128) -> u128
     requires { part ≤ 2 ^ 80 }
     ensures { result ≡ hundredths_of part whole }
@@ -129,7 +136,7 @@ fn hundredths_of(part: u128, whole: u128) -> u128
     if whole == 0 { 0 } else { part * 10_000 / whole }
 }
 
-/// Appends the line of the padding in percent of the held bytes, with two digits behind the point.
+/// Appends the line of the padding in percent of the held bytes, with two digits after the point.
 #[tactic(auto, unfolding(crate::specs::Statistics::percent_text))]
 fn push_percent(text: &mut Text, hundredths: u128)
     requires { length text.old + 140 ≤ ROOM }
@@ -145,7 +152,8 @@ fn push_percent(text: &mut Text, hundredths: u128)
     text.push_line(&line);
 }
 
-/// Appends the lines of the pool, of its free bytes, of its holes and of the highest byte that an object had.
+/// Appends the lines of the pool, of its free bytes, of its holes and of the highest byte that an
+/// object had.
 fn push_holes(text: &mut Text, usage: &Usage)
     requires { length text.old ≤ 3780 }
     ensures { text.new ≡ text.old ++ holes_text usage.now }
@@ -157,7 +165,7 @@ fn push_holes(text: &mut Text, usage: &Usage)
     push_end(text, usage.end);
 }
 
-/// Appends the line of the last byte below `end`, or of `none` where that is 0.
+/// Appends the line of the last byte below `end`, or of `none` if `end` is 0.
 fn push_end(text: &mut Text, end: u128)
     requires { length text.old + 60 ≤ ROOM }
     ensures { text.new ≡ text.old ++ end_text end }

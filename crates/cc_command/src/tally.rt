@@ -1,4 +1,4 @@
-//! What is counted of the replies to a script.
+//! The counts of the replies to a script.
 ghost use Rattle.std.specs.Prelude.{◌≡◌, ◌-◌, ◌<◌, ℕ, List, [], ◌∷◌, ◌++◌, Bool, false, length, take};
 ghost use Rattle.cc_machine.specs.declared.reply.Reply.{Reply as ReplySpec};
 ghost use Rattle.cc_machine.specs.declared.reply.Reply.TheVariants.{Refused};
@@ -18,24 +18,27 @@ pub struct Count {
     pub refusal: Refusal,
     /// The number of replies that are this refusal, at most 2^64 - 1.
     pub times: u64,
-    /// The number of the line that got the first of them, from 1 up. It is 0 if no reply is this refusal, or if a reply
-    /// to the opening is.
+    /// The number of the line that got the first of them, at least 1. It is 0 if no reply is this
+    /// refusal, or if a reply to the setup operations is.
     pub first: u64,
 }
 
-/// The counts of the replies to a script: the number of lines, a count for each refusal, and the first lines that are
-/// worth a hint. Lines are numbered from 1, and 0 is the number of no line.
+/// The counts of the replies to a script: the number of lines, a count for each refusal, and the
+/// first lines that are worth a hint. Lines are numbered from 1, and 0 means that there is no such
+/// line.
 #[derive(Drop)]
 pub struct Tally {
-    /// The number of lines, at most 2^64 - 1.
+    /// The number of lines, at most 2^64 - 1. Trailing bytes count as a line.
     pub lines: u64,
     /// The counts of the refusals, in the order of their codes.
     pub counts: [Count; 22],
     /// The number of the first line that is refused as `Full`.
     pub full: u64,
-    /// The number of the first refused line that has at most 128 bytes and ends in a carriage return.
+    /// The number of the first refused line that has at most 128 bytes and ends in a carriage
+    /// return.
     pub carriage_return: u64,
-    /// The number of the first refused `rebuild` line of at most 128 bytes whose word is written with `0x` or a colon.
+    /// The number of the first refused `rebuild` line of at most 128 bytes whose word is written
+    /// with `0x` or a colon.
     pub marked_word: u64,
 }
 
@@ -91,8 +94,8 @@ fn is_full(refusal: Refusal) -> bool
     Refusal::Full.code() == refusal.code()
 }
 
-/// Returns the number of the first line that passes, after one more line: `first`, or if that is 0 the number of the
-/// new line, if it passes.
+/// Returns the number of the first line that passes, after one more line: `first`, or if that is 0
+/// the number of the new line, if it passes.
 fn first_after(first: u64, passes: bool, number: u64) -> u64
     ensures { result ≡ first_after first passes number }
 {
@@ -100,8 +103,8 @@ fn first_after(first: u64, passes: bool, number: u64) -> u64
 }
 
 impl Count {
-    /// Returns this count with one more reply, to the line of this number; 0 is the number of an operation of the
-    /// opening.
+    /// Returns this count with one more reply, to the line with this number. The number of a setup
+    /// operation is 0.
     fn more(self, number: u64) -> Count
         ensures { result ≡ count_more number self }
     {
@@ -113,8 +116,8 @@ impl Count {
     }
 }
 
-/// Counts one more reply that is this refusal, to the line of this number; 0 is the number of an operation of the
-/// opening.
+/// Counts one more reply that is this refusal, to the line with this number. The number of a setup
+/// operation is 0.
 fn add_reply(counts: &mut [Count; 22], refusal: Refusal, number: u64)
     ensures { HasOneMore refusal number counts.old counts.new }
 {
@@ -136,7 +139,7 @@ impl Tally {
         }
     }
 
-    /// Counts the reply to an operation of the opening.
+    /// Counts the reply to a setup operation.
     pub fn take_opening(&mut self, reply: &Reply)
         ensures { (opening : List ReplySpec) → IsTally opening [] self.old → IsTally (opening ++ reply.now ∷ []) [] self.new }
     {

@@ -1,3 +1,4 @@
 mod PermissionLemmas
 pub mod StepLemmas
 mod StandingLemmas
+mod RequestLemmas

@@ -1,4 +1,4 @@
--- The explanation of a word.
+-- The explanation of a word, and what `explain` writes for a text.
 use Rattle.std.specs.Prelude.{◌≡◌, ℕ, ◌+◌, ◌-◌, ◌*◌, ◌/◌, ◌%◌, ◌^◌, List, ◌++◌, codes, nat_le, if◌then◌else◌}
 use Rattle.cc_word.specs.Word.{word_of, bit_of}
 use Rattle.cc_word.specs.declared.fields.Fields.{Fields}
@@ -8,6 +8,7 @@ use Rattle.cc_bounds.specs.Span.{span_from}
 use Rattle.cc_bounds.specs.Window.{section_of}
 use Rattle.cc_text.specs.Text.{with_line_feed}
 use Rattle.cc_text.specs.Numbered.{line_feed, line_with_decimal, line_with_hexadecimal, with_decimal, with_digits, with_hexadecimal}
+use Rattle.cc_explain.specs.Answer.{AnswersText}
 use Rattle.cc_explain.specs.Picture.{IsRow}
 use Rattle.cc_explain.specs.Standing.{IsStanding}
 use Rattle.cc_explain.specs.Steps.{AreSteps}
@@ -199,3 +200,7 @@ pub record IsWordExplanation (word : ℕ) (explanation : List ℕ) : Type 0 wher
   pub is_standing : IsStanding word fields bounds standing
   pub are_rows : AreRows fields steps rows
   pub lines : explanation ≡ explanation_of word fields steps bounds standing rows
+
+-- the answer to a text: to a word its explanation
+abbrev pub IsExplanation : (text explanation : List ℕ) → Type 0
+IsExplanation = AnswersText IsWordExplanation

@@ -1,7 +1,11 @@
 -- In reading order.
+pub mod Answer
 pub mod Permissions
+pub mod WordTelling
+pub mod Listing
+pub mod LineAnswer
 pub mod Steps
 pub mod Standing
 pub mod Picture
 pub mod Explanation
-pub mod WordTelling
+pub mod Request

@@ -1,15 +1,26 @@
-//! Explains a word: the names of its permissions, the steps of decoding its bounds, whether it is
-//! canonical, and a picture of its window.
+//! What is shown of a word: its listing, its one-line form, and its explanation, with the steps of
+//! decoding its bounds and a picture of its window. Also the explanation of a request for bounds.
 #![tactic(auto)]
 
+mod answers;
+mod explained_request;
 mod explained_steps;
+mod explaining;
+mod listing;
 mod permissions;
 mod picture;
+mod request;
 mod standing;
 mod steps;
+mod word_line;
 
+pub use answers::{push_refusal, write_answer, write_refusal};
+pub use explained_request::push_explained_request;
 pub use explained_steps::{push_fields, push_mantissas, push_window_lines, push_word};
+pub use explaining::explain_word;
+pub use listing::show_word;
 pub use permissions::push_permissions;
 pub use picture::{CELLS, Rows, Stretch, push_picture, rows_of, shares_byte};
 pub use standing::{Standing, standing_of};
 pub use steps::{Steps, decoding_steps};
+pub use word_line::show_line;

@@ -7,8 +7,8 @@ ghost use Rattle.cc_plan.specs.Chain.{IsChain, IsGapPlace, IsOneMore, end_of, mo
 ghost use Rattle.cc_plan.specs.Gap.{room_of};
 
 use crate::gap::room;
+use crate::position::position_for;
 use crate::rounding::fit_below;
-use crate::sorted::position_for;
 use arrayvec::ArrayVec;
 use cc_bounds::Span;
 use std::marker::Model;

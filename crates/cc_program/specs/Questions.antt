@@ -1,9 +1,9 @@
 -- What `show`, `explain` and `round` answer, and where that is an error.
 use Rattle.std.specs.Prelude.{ℕ, true, false, IsErr, List}
 use Rattle.cc_script.specs.Commands.{length_in}
-use Rattle.cc_command.specs.Explanation.{IsExplanation}
-use Rattle.cc_command.specs.LineAnswer.{IsLineAnswer}
-use Rattle.cc_command.specs.Listing.{IsListing, IsWordText}
+use Rattle.cc_explain.specs.Explanation.{IsExplanation}
+use Rattle.cc_explain.specs.LineAnswer.{IsLineAnswer}
+use Rattle.cc_explain.specs.Listing.{IsListing, IsWordText}
 use Rattle.cc_command.specs.Request.{IsLengthExplanation, request_in}
 use Rattle.cc_command.specs.Rounding.{IsRounding}
 use Rattle.cc_arguments.specs.declared.question.Question.{Question}

@@ -25,7 +25,7 @@ both_pass : (a b : Bool) (n : ℕ) → (if a && b then Some n else None) ≡ (if
 both_pass true b n = refl
 both_pass false b n = refl
 
--- what two parts spell
+-- The number of two parts.
 parts : (radix n : ℕ) (first rest : List ℕ)
     → number_further radix n (first ++ rest)
     ≡ (if list_all (λ digit. is_digit digit radix) first then number_further radix (digits_value_after radix n first) rest else None)
@@ -34,7 +34,7 @@ parts radix n first rest =
     (both_pass (list_all (λ digit. is_digit digit radix) first) (list_all (λ digit. is_digit digit radix) rest)
     (digits_value_after radix (digits_value_after radix n first) rest))
 
--- digits whose number is known
+-- Digits whose number is known.
 given : (a : Bool) (n v : ℕ) → Some v ≡ (if a then Some n else None) → (a ≡ true) × (v ≡ n)
 given true n v h = (refl, cc h)
 given false n v h = cc h
@@ -59,7 +59,7 @@ parts_missed radix n m first rest h =
     let none = missed (list_all (λ digit. is_digit digit radix) first) (digits_value_after radix n first) h in
     sym (parts radix m first rest ∙ rw none refl)
 
--- eight digits behind a number
+-- Eight digits after those of a number.
 eight_decimal : (n : ℕ) (ds : List ℕ) → length ds ≡ 8 → digits_value_after 10 n ds ≡ n * 10 ^ 8 + digits_value_after 10 0 ds
 eight_decimal n (d0 ∷ d1 ∷ d2 ∷ d3 ∷ d4 ∷ d5 ∷ d6 ∷ d7 ∷ []) h = omega arith
 eight_decimal n _ h = absurd (omega arith)
@@ -73,7 +73,7 @@ eight_after : (radix n : ℕ) (ds : List ℕ) → (radix ≡ 10) ⊎ (radix ≡ 
 eight_after radix n ds (inl ten) h = rw ten (eight_decimal n ds h)
 eight_after radix n ds (inr sixteen) h = rw sixteen (eight_hexadecimal n ds h)
 
--- the first eight of the digits that are left
+-- The first eight of the remaining digits.
 pub eight_known : (radix n v : ℕ) (ds : List ℕ) → (radix ≡ 10) ⊎ (radix ≡ 16) → 8 ≤ length ds
     → Some v ≡ number_further radix 0 (take 8 ds) → number_further radix (n * radix ^ 8 + v) (drop 8 ds) ≡ number_further radix n ds
 eight_known radix n v ds known some h =
@@ -103,7 +103,7 @@ known_small radix v ds h =
     let is = digits_known radix 0 v ds h in
     rw is.1 (digits_value-lt radix ds (all_digits radix ds is.0))
 
--- a number of 64 bits stays one
+-- A number that fits 64 bits with all remaining digits still does after some of them.
 pub fits_further : (n v b p : ℕ) → (n + 1) * (b * p) ≤ 2 ^ 64 → v < b → (n * b + v + 1) * p ≤ 2 ^ 64
 fits_further n v b p room small =
     let grown : n * b + v + 1 ≤ (n + 1) * b = omega (arith, small) in
@@ -111,7 +111,7 @@ fits_further n v b p room small =
     let same : (n + 1) * b * p ≡ (n + 1) * (b * p) = mul_assoc (n + 1) b p in
     omega (arith, room, more, same)
 
--- a hexadecimal digit is a digit to base 16
+-- A hexadecimal digit is a digit to base 16.
 pub hex_same : (byte : ℕ) → byte < 256 → is_digit byte 16 ≡ is_hex_digit byte
 hex_same byte fits = agree_below_at (λ b. is_digit b 16) is_hex_digit 256 byte refl fits
 
@@ -120,7 +120,8 @@ all_hex_same : (ds : List ℕ) → ((i : ℕ) → get_or ds i 0 < 256)
 all_hex_same [] fits = refl
 all_hex_same (d ∷ ds) fits = rw (hex_same d (fits 0), all_hex_same ds (λ i. fits (suc i))) refl
 
--- what eight hexadecimal digits spell, and what it means that they don't
+-- The number of eight hexadecimal digits, and the result for bytes of which one is not such a
+-- digit.
 pub hexadecimal_known : (ds : List ℕ) (v : ℕ) → ((i : ℕ) → get_or ds i 0 < 256) → AllPass is_hex_digit ds
     → v ≡ digits_value_after 16 0 ds → Some v ≡ number_further 16 0 ds
 hexadecimal_known ds v fits passes is =
@@ -133,7 +134,8 @@ hexadecimal_missed ds fits fails = by (list_all is_hex_digit ds) refl where
   by true e = absurd (fails (AllPass-from_list_all is_hex_digit ds e))
   by false e = rw (all_hex_same ds fits, e) refl
 
--- what a byte is worth as a decimal digit, or more than 9
+-- IsDecimal holds if `worth` is the value of the byte as a decimal digit, or more than 9 for
+-- another byte.
 pub record IsDecimal (byte worth : ℕ) : Type 0 where
   pub digit : (worth < 10) ↔ (digit_value byte < 10)
   pub value : worth < 10 → worth ≡ digit_value byte
@@ -168,7 +170,7 @@ decimal_known (d0 ∷ d1 ∷ d2 ∷ d3 ∷ d4 ∷ d5 ∷ d6 ∷ d7 ∷ []) a b c
     ) (ap Some sum)
 decimal_known _ a b c d e f g h eight is0 is1 is2 is3 is4 is5 is6 is7 small = absurd (omega (arith, eight))
 
--- digits that all pass are each small
+-- If all digits pass, each is small.
 first_small : (byte : ℕ) (rest : Bool) → (is_digit byte 10 && rest) ≡ true → (digit_value byte < 10) × (rest ≡ true)
 first_small byte rest h = passes_small 10 byte (is_digit byte 10) rest refl h
 
@@ -202,7 +204,7 @@ decimal_missed (d0 ∷ d1 ∷ d2 ∷ d3 ∷ d4 ∷ d5 ∷ d6 ∷ d7 ∷ []) a b 
         absurd (omega (arith, large, s0, s1, s2, s3, s4, s5, s6, s7))
 decimal_missed _ a b c d e f g h eight is0 is1 is2 is3 is4 is5 is6 is7 large = absurd (omega (arith, eight))
 
--- how many digits have a number of 64 bits
+-- The number of digits that always fit 64 bits.
 pub radix_most : (radix : ℕ) → (radix ≡ 10) ⊎ (radix ≡ 16) → radix ≤ 16
 radix_most radix (inl ten) = omega (arith, ten)
 radix_most radix (inr sixteen) = omega (arith, sixteen)
@@ -232,11 +234,11 @@ pub radix_some : (radix : ℕ) → (radix ≡ 10) ⊎ (radix ≡ 16) → 1 ≤ r
 radix_some radix (inl ten) = omega (arith, ten)
 radix_some radix (inr sixteen) = omega (arith, sixteen)
 
--- all the digits, where there is one
+-- All the digits, if there is one.
 pub whole_numeral : (radix : ℕ) (ds : List ℕ) → 0 < length ds → number_further radix 0 ds ≡ numeral_of radix ds
 whole_numeral radix ds some = rw (lt-ltb 0 (length ds) some) refl
 
--- the first of them and the rest
+-- The first digits, and the remaining ones.
 pub split_known : (radix at v : ℕ) (ds : List ℕ) → 0 < length ds → Some v ≡ number_further radix 0 (take at ds)
     → number_further radix v (drop at ds) ≡ numeral_of radix ds
 split_known radix at v ds some h =
@@ -250,7 +252,7 @@ split_missed radix at ds some h =
     ∙ ap (number_further radix 0) (take-append-drop at ds)
     ∙ whole_numeral radix ds some
 
--- the rest fits where all does
+-- The remaining digits fit if all do.
 pub split_fits : (radix at v : ℕ) (ds : List ℕ) → at ≤ length ds → radix ^ length ds ≤ 2 ^ 64 → Some v ≡ number_further radix 0 (take at ds)
     → (v + 1) * radix ^ length (drop at ds) ≤ 2 ^ 64
 split_fits radix at v ds within fits h =
@@ -263,7 +265,7 @@ split_fits radix at v ds within fits h =
     mul-le-mul_right (radix ^ length (drop at ds)) (omega (arith, small)) in
     omega (arith, fits, power, grown)
 
--- a product of which all fits fits itself
+-- A part of a product fits if the product does.
 pub product_fits : (n b p : ℕ) → 1 ≤ p → (n + 1) * (b * p) ≤ 2 ^ 64 → (n + 1) * b ≤ 2 ^ 64
 product_fits n b p some room =
     let grown : (n + 1) * b * 1 ≤ (n + 1) * b * p = mul-le-mul_left ((n + 1) * b) some in
@@ -281,7 +283,7 @@ pub positive : (radix : ℕ) → (radix ≡ 10) ⊎ (radix ≡ 16) → (k : ℕ)
 positive radix (inl ten) k = power_grows radix k (omega (arith, ten))
 positive radix (inr sixteen) k = power_grows radix k (omega (arith, sixteen))
 
--- eight of the digits that are left, as the loop reads them
+-- Eight of the remaining digits, as the loop reads them.
 pub room_of_eight : (radix n : ℕ) (rest : List ℕ) → (radix ≡ 10) ⊎ (radix ≡ 16) → 8 ≤ length rest
     → (n + 1) * radix ^ length rest ≤ 2 ^ 64 → (n + 1) * radix ^ 8 ≤ 2 ^ 64
 room_of_eight radix n rest known some room =
@@ -305,6 +307,6 @@ sum_fits radix x k known room =
     let grown : (x + 1) * 1 ≤ (x + 1) * radix ^ k = mul-le-mul_left (x + 1) (positive radix known k) in
     omega (arith, room, grown)
 
--- what stands from a place on, as slices are read
+-- The elements from a position on, as slices are read.
 pub tail_whole : (at : ℕ) (ds : List ℕ) → take (length ds - at) (drop at ds) ≡ drop at ds
 tail_whole at ds = take_all (length ds - at) (drop at ds) (omega (arith, length-drop at ds))

@@ -1,4 +1,4 @@
--- The operations of an opening are answered one after another.
+-- The setup operations get their replies one after another.
 use Rattle.std.proofs.Common.{◌≡◌, ℕ, ◌+◌, ◌<◌, ◌≤◌, drop, slice_index_or, List, [], ◌∷◌, ◌++◌, length, take, map, refl, sym, ◌∙◌, ap, subst, append_assoc, append-nil, Bool, true, false, ◌||◌, Option, Result, Ok}
 use Rattle.std.proofs.lemmas.List.{map-append, take_all, take_more, take-append-drop}
 use Rattle.std.proofs.lemmas.List.Folds.{list_any-append}
@@ -23,11 +23,11 @@ or_false false = refl
 pub opening_begins : (a : State) (t : Option (List ℕ)) → AnswersOpening a [] t t false a
 opening_begins a t = record { replies = []; takes = refl; written = appends_none t; error_is = refl }
 
--- the operations up to and with the next
+-- The operations up to and with the next.
 next_taken : (ops : List Op) (i : ℕ) (op : Op) → i < length ops → op ≡ slice_index_or ops i op → take (i + 1) ops ≡ take i ops ++ op ∷ []
 next_taken ops i op within is = take_more ops i op within ∙ ap (λ (o : Op). take i ops ++ o ∷ []) (sym is)
 
--- the next operation was answered
+-- The next operation got its reply.
 pub opening_more : (a b c : State) (t u v : Option (List ℕ)) (ops : List Op) (i : ℕ) (op : Op) (reply : Reply) (e f : Bool)
     → AnswersOpening a (take i ops) t u e b → i < length ops → op ≡ slice_index_or ops i op
     → Step b op reply c → Appends u v (with_line_feed (reply_text reply)) → f ≡ is_error reply
@@ -41,7 +41,7 @@ opening_more a b c t u v ops i op reply e f p within is step written f_is = reco
   error_is = rw (list_any-append is_error p.replies (reply ∷ []), ← p.error_is, ← or_false (is_error reply), ← f_is) refl;
 }
 
--- the sink failed in the reply to the next operation
+-- The sink failed in the reply to the next operation.
 pub opening_stops : (a b c : State) (t u v : Option (List ℕ)) (ops : List Op) (i : ℕ) (op : Op) (reply : Reply) (e : Bool)
     → AnswersOpening a (take i ops) t u e b → i < length ops → op ≡ slice_index_or ops i op
     → Step b op reply c → TakesBeginning u v (with_line_feed (reply_text reply)) → StopsInReply a (map Ok ops) (Appends t v) c
@@ -65,7 +65,7 @@ opening_stops a b c t u v ops i op reply e p within is step s =
       written = appends_twice t u v (replies_text p.replies) (take s.count (with_line_feed (reply_text reply))) p.written s.taken;
     }
 
--- all operations were answered
+-- All operations got their replies.
 pub opening_whole : (a b : State) (t u : Option (List ℕ)) (ops : List Op) (i : ℕ) (e : Bool)
     → AnswersOpening a (take i ops) t u e b → length ops ≤ i → AnswersOpening a ops t u e b
 opening_whole a b t u ops i e p past = subst (λ (l : List Op). AnswersOpening a l t u e b) (take_all i ops past) p

@@ -1,4 +1,4 @@
--- A script has one output, and where the sink failed, what was taken is a beginning of it.
+-- A script has one output. If the sink failed, the bytes taken are a prefix of it.
 use Rattle.std.proofs.Common.{◌≡◌, ℕ, Bool, ◌+◌, List, [], ◌∷◌, ◌++◌, length, take, refl, sym, ◌∙◌, ap, subst, append_assoc, append-nil, Option, Result, Ok, Err, inl, inr, not, ◌||◌, ◌==◌, ◌⊎◌}
 use Rattle.std.proofs.lemmas.List.{take-append-le}
 use Rattle.std.proofs.Math.Seq.{take-append-add}
@@ -23,7 +23,7 @@ takes-one old new new' (Ok op) reply reply' one other = Step-one old new new' op
 takes-one old new new' (Err refusal) reply reply' one other =
     record { reply_same = one.0 ∙ sym other.0; state_same = one.1 ∙ sym other.1 }
 
--- commands that are taken from one state get the same replies, and lead to the same state
+-- Commands that are taken from one state get the same replies, and lead to the same state.
 all-one : (old new new' : State) (commands : List (Result Op Refusal)) (replies replies' : List Reply)
     → TakesAll old commands replies new → TakesAll old commands replies' new' → IsSameRun replies replies' new new'
 all-one old new new' [] [] [] one other = record { replies_same = refl; state_same = one ∙ sym other }
@@ -52,9 +52,10 @@ one_output old new other opening text output other_output any_error other_error 
       same.state_same,
     )
 
--- ---- a beginning of it
+-- ---- a prefix of the output
 
--- a run of commands cut in two: the front leads to a state in between, and the back leads on from there
+-- IsCut holds if a run of commands is cut in two: the front leads to a state in between, and the
+-- back leads on from there.
 record IsCut (old end : State) (front back : List (Result Op Refusal)) (replies : List Reply) : Type 0 where
   first : List Reply
   second : List Reply
@@ -79,7 +80,7 @@ cut old end (command ∷ front) back (reply ∷ replies) taken =
       after = rest.after;
     }
 
--- the output, where the replies to the first of the commands are known
+-- The output, if the replies to the first of the commands are known.
 output_from : (old new end : State) (opening : List Op) (text output : List ℕ) (any_error : Bool)
     (earlier later : List (Result Op Refusal)) (replies : List Reply)
     → commands_of opening text ≡ earlier ++ later → TakesAll old earlier replies new → ScriptOutput old opening text output any_error end
@@ -114,7 +115,7 @@ begins_in_reply old new end t u opening text output any_error s whole =
     ∙ ap (λ (l : List ℕ). front ++ l) (take-append-le s.count reply is.0 s.within) in
     (length front + s.count, subst (λ (l : List ℕ). Appends t u l) (sym part) s.written)
 
--- the same where replies were collected on a page
+-- The bytes taken are a prefix of the output if replies were collected on a page.
 pub begins_in_replies : (room : ℕ) (old new end : State) (t u : Option (List ℕ)) (opening : List Op) (text output : List ℕ) (any_error : Bool)
     → StopsInReplies room old (commands_of opening text) (Appends t u) new → ScriptOutput old opening text output any_error end
     → (count : ℕ) × Appends t u (take count output)

@@ -1,4 +1,4 @@
--- Commands that are taken one after another, and the texts of their replies.
+-- Commands that are taken one after another, and the lines of their replies.
 use Rattle.std.proofs.Common.{◌≡◌, ℕ, List, [], ◌∷◌, ◌++◌, sym, refl, ◌∙◌, ap, subst, append_assoc, Bool, true, false, ◌||◌, Result}
 use Rattle.cc_word.specs.declared.refusal.Refusal.{Refusal}
 use Rattle.cc_machine.specs.declared.op.Op.{Op}

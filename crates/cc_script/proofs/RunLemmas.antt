@@ -1,4 +1,4 @@
--- What a run of commands does to the machine.
+-- The effect of a run of commands on the machine.
 use Rattle.std.proofs.Common.{ℕ, Bool, List, [], ◌∷◌, subst, Result, Ok, Err}
 use Rattle.cc_machine.specs.declared.reply.Reply.{Reply}
 use Rattle.cc_word.specs.declared.refusal.Refusal.{Refusal}
@@ -16,13 +16,13 @@ use Rattle.cc_script.specs.Laws.{TakesWithin, TakesAllWithin, KeepsLaws}
 
 -- ---- the operations among commands
 
--- a command that is taken, and then a run
+-- A command that is taken, and then a run.
 runs_command : (a b c : State) (command : Result Op Refusal) (reply : Reply) (ops : List Op) (replies : List Reply)
     → Takes a command reply b → Run b ops replies c → Run a (with_operation command ops) (with_reply command reply replies) c
 runs_command a b c (Ok op) reply ops replies t r = (b, t, r)
 runs_command a b c (Err refusal) reply ops replies t r = subst (λ (s : State). Run s ops replies c) t.1 r
 
--- commands that are taken run their operations
+-- Commands that are taken run their operations.
 pub commands_run : (a b : State) (commands : List (Result Op Refusal)) (replies : List Reply) → TakesAll a commands replies b
     → Run a (operations_of commands) (operation_replies commands replies) b
 commands_run a b [] [] t = t
@@ -32,7 +32,7 @@ commands_run a b (command ∷ commands) (reply ∷ replies) t =
     runs_command a t.0 b command reply (operations_of commands) (operation_replies commands replies) t.1
     (commands_run t.0 b commands replies t.2)
 
--- commands that are taken lead from a reached state to a reached state
+-- Commands that are taken lead from a reached state to a reached state.
 pub commands_reach : (a b : State) (commands : List (Result Op Refusal)) (replies : List Reply) → IsReached a → TakesAll a commands replies b → IsReached b
 commands_reach a b commands replies reached t =
     IsReached-run a b (operations_of commands) (operation_replies commands replies) reached (commands_run a b commands replies t)
@@ -46,7 +46,7 @@ within_command given start a b c (Ok op) reply ops replies t r = (reply ∷ repl
 within_command given start a b c (Err refusal) reply ops replies t r =
     (replies, subst (λ (s : State). RunsWithin given start s ops replies c) t.1 r)
 
--- commands that use only given slots run operations that do
+-- Commands that use only given slots run operations that do.
 commands_within : (given : ℕ → Bool) (start a b : State) (commands : List (Result Op Refusal)) (replies : List Reply)
     → TakesAllWithin given start a commands replies b → (all : List Reply) × RunsWithin given start a (operations_of commands) all b
 commands_within given start a b [] [] t = ([], t)
@@ -62,7 +62,7 @@ commands_confined given a b commands replies reached t =
     let r = commands_within given a a b commands replies t in
     IsConfined-run given a b (operations_of commands) r.0 (Keeps-reached a reached) r.1
 
--- machines are in reached states, and these keep the laws
+-- Machines are in reached states, and these keep the laws.
 pub laws_kept : (a b : State) → IsReached a → IsReached b → KeepsLaws a b
 laws_kept a b before after = record {
   tree = IsMonotonicTree-reached b after;

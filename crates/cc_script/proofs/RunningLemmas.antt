@@ -1,4 +1,4 @@
--- What a run of a script writes, from what the engine of cc_io writes.
+-- The output of a script's run, from the output of the engine of cc_io.
 use Rattle.std.proofs.Common.{◌≡◌, ℕ, ◌<◌, ◌≤◌, ◌+◌, List, [], ◌∷◌, ◌++◌, length, take, map, refl, sym, ◌∙◌, ap, subst, append_assoc, append-nil, arith, length-append, length-take, ◌==◌, Bool, true, ◌||◌, not, nat_lt, Option, Some, None, IfSome, Result, Ok, Err, inl, inr}
 use Rattle.std.proofs.lemmas.Bool.{cases_lt, lt-ltb}
 use Rattle.std.proofs.lemmas.List.{take_all, map-append}
@@ -31,7 +31,7 @@ use Rattle.cc_script.specs.Answering.{AnswersLine, AnswersOpening, RefusesRest}
 use Rattle.cc_script.proofs.OutputLemmas.{stopped_begins, begins_in_replies}
 use Rattle.cc_script.proofs.ReplyLemmas.{takes_further, replies_text-append, or_assoc}
 
--- what is answered of an opening and of the script after it
+-- The result of the setup operations and of the script after them.
 abbrev pub joined : (error : Bool) → Result Summary IoError → Result Summary IoError
 joined error (Ok summary) = Ok (record { any_error = error || summary.any_error })
 joined error (Err fault) = Err fault
@@ -55,13 +55,13 @@ commands_seen (line ∷ entries) =
     ap (λ (c : Result Op Refusal). c ∷ map operation_of (seen entries)) (start_enough line)
     ∙ ap (λ (l : List (Result Op Refusal)). operation_of line ∷ l) (commands_seen entries)
 
--- ---- an answerer that answers as the machine does
+-- ---- an answerer that replies like the machine
 
 pub record AnswersAs {S : Type 0} (machine : S → State) (Answered Ended : Relation S) : Type 0 where
   pub line : (old : S) (line text : List ℕ) (error : Bool) (new : S) → Answered old line text error new → AnswersLine (machine old) line text error (machine new)
   pub rest : (old : S) (rest text : List ℕ) (error : Bool) (new : S) → Ended old rest text error new → RefusesRest (machine old) rest text error (machine new)
 
--- a machine that is lent
+-- A borrowed machine.
 pub of_lent : AnswersAs (λ (script : Script). script.machine.now) ByLent ByLentAtEnd
 of_lent = record { line = λ old line text error new by. by.answered; rest = λ old rest text error new by. by.answered }
 
@@ -85,13 +85,13 @@ lent_text a b text left t u (Err Write) (inr (inl p)) = lent_all p.mid b p.on_pa
 lent_text a b text left t u (Err Write) (inr (inr p)) =
     lent_end p.1.mid b (take 129 (rest_of text)) p.1.ending p.1.ends ∙ lent_all a p.1.mid (seen (lines_of text)) p.1.answers p.1.takes
 
--- the machine that was lent is still the one that is
+-- The machine that was borrowed is still the one that is.
 pub still_lent : (a b : Script) (pending : List ℕ) (to_come left t u : Option (List ℕ)) (result : Result Summary IoError)
     → pending ≡ [] → Pumps ByLent ByLentAtEnd lines 193 193 a pending to_come left t u result b → b.machine.ghost_name ≡ a.machine.ghost_name
 still_lent a b pending to_come left t u result none p =
     lent_text a b p.text left t u result (subst (λ (l : List ℕ). PumpsText ByLent ByLentAtEnd lines 193 193 a l p.text left t u result b) none p.pumps)
 
--- the answer to a line that is refused
+-- The reply to a line that is refused.
 unfoldable pub refused_line : (old : State) (line : List ℕ) (refusal : Refusal) (bytes : List ℕ) (new : State)
     → Takes old (operation_of line) (Refused refusal) new → bytes ≡ with_line_feed (refusal_text refusal) → length bytes ≤ 193
     → AnswersLine old line bytes true new
@@ -104,7 +104,8 @@ refused_line old line refusal bytes new takes is fits = record {
   fits = fits;
 }
 
--- the opening was answered: a part of the replies is written, and the others are pending
+-- Opened holds if the setup operations got their replies, of which a part is written, and the
+-- others are pending.
 pub record Opened (start : State) (opening : List Op) (pending : List ℕ) (taken taken_now : Option (List ℕ)) (error : Bool) (new : State) : Type 0 where
   pub replies : List Reply
   pub takes : TakesAll start (map Ok opening) replies new
@@ -123,7 +124,7 @@ all_written start opening t u error new o = record {
   error_is = o.error_is;
 }
 
--- what an answerer answered is what the machine replies
+-- RepliesAll holds if the replies of an answerer are those of the machine.
 pub record RepliesAll (old : State) (entries : List (List ℕ)) (answers : List Answer) (new : State) : Type 0 where
   pub replies : List Reply
   pub takes : TakesAll old (map operation_of entries) replies new
@@ -152,7 +153,7 @@ module _ {S : Type 0} (machine : S → State) (Answered Ended : Relation S) (lik
   replies_all a b [] (answer ∷ answers) t = absurd t
   replies_all a b (entry ∷ entries) [] t = absurd t
 
-  -- the answers to the lines of a text
+  -- The replies to the lines of a text.
   lines_all : (a b : S) (text : List ℕ) (answers : List Answer) → AnswersAll Answered a (seen (lines_of text)) answers b → RepliesAll (machine a) (lines_of text) answers (machine b)
   lines_all a b text answers t =
       let p = replies_all a b (seen (lines_of text)) answers t in
@@ -173,7 +174,7 @@ module _ {S : Type 0} (machine : S → State) (Answered Ended : Relation S) (lik
         stays = r.stays;
       }
 
-  -- ---- what was written
+  -- ---- the bytes written
 
   ok_part : (start : State) (opening : List Op) (a b : S) (pending text : List ℕ) (s t u : Option (List ℕ)) (e error : Bool)
       → Opened start opening pending s t e (machine a) → PumpsOutput Answered Ended lines a pending text t u error b
@@ -203,7 +204,7 @@ module _ {S : Type 0} (machine : S → State) (Answered Ended : Relation S) (lik
         written = appends_twice s t u o.done (pending ++ w.output) o.written w.written;
       }
 
-  -- the bytes of an opening and of what comes after it
+  -- The bytes of the setup operations and of all that comes after them.
   written_after : (start : State) (opening : List Op) (a : S) (pending : List ℕ) (s t u : Option (List ℕ)) (e : Bool) (o : Opened start opening pending s t e (machine a))
       (replies : List Reply) (answers more more_text : List ℕ) → answers ≡ replies_text replies → more ≡ more_text
       → Appends t u (pending ++ answers ++ more) → Appends s u (replies_text (o.replies ++ replies) ++ more_text)
@@ -244,14 +245,15 @@ module _ {S : Type 0} (machine : S → State) (Answered Ended : Relation S) (lik
             p.text_is (ap (take q.count) r.text_is) q.written;
       }
 
-  -- the commands of an opening, of lines before some, of these, and of the lines after them
+  -- The commands of the setup operations, of lines before some, of these, and of the lines after
+  -- them.
   commands_are : (opening : List Op) (text : List ℕ) (earlier later : List (List ℕ)) → seen (lines_of text) ≡ earlier ++ later
       → commands_of opening text ≡ (map Ok opening ++ map operation_of earlier) ++ map operation_of later
   commands_are opening text earlier later is =
       ap (λ (l : List (Result Op Refusal)). map Ok opening ++ l) (sym (commands_seen (lines_of text)) ∙ ap (map operation_of) is ∙ map-append operation_of earlier later)
       ∙ sym (append_assoc (map Ok opening) (map operation_of earlier) (map operation_of later))
 
-  -- on a page of one reply
+  -- On a page of one reply.
   in_reply_part : (start : State) (opening : List Op) (a b : S) (pending text : List ℕ) (s t u : Option (List ℕ)) (e : Bool)
       → Opened start opening pending s t e (machine a) → StopsInAnswer Answered a pending (seen (lines_of text)) t u b
       → StopsInReply start (commands_of opening text) (Appends s u) (machine b)
@@ -274,7 +276,7 @@ module _ {S : Type 0} (machine : S → State) (Answered Ended : Relation S) (lik
             p.text_is (ap (take q.count) last.text_is) q.written;
       }
 
-  -- no answer is empty
+  -- No reply is empty.
   some_answer : (old : S) (line text : List ℕ) (error : Bool) (new : S) → Answered old line text error new → 0 < length text
   some_answer old line text error new r =
       let l = like.line old line text error new r in
@@ -282,7 +284,7 @@ module _ {S : Type 0} (machine : S → State) (Answered Ended : Relation S) (lik
 
   -- ---- on a page of more than one reply
 
-  -- an answer has at most 193 bytes
+  -- A reply has at most 193 bytes.
   answer_fits : (a b : S) (entry : List ℕ) (answer : Answer) → Answered a entry answer.text answer.is_error b → length answer.text ≤ 193
   answer_fits a b entry answer r = (like.line a entry answer.text answer.is_error b r).fits
 
@@ -290,7 +292,7 @@ module _ {S : Type 0} (machine : S → State) (Answered Ended : Relation S) (lik
     pub some : 0 < length entries
     pub fits : length answer.text ≤ 193
 
-  -- the last of some answers
+  -- The last of some replies.
   last_fits : (a b : S) (entries : List (List ℕ)) (first : List Answer) (last : Answer) → AnswersAll Answered a entries (first ++ last ∷ []) b → Last a b entries last
   last_fits a b [] [] last t = absurd t
   last_fits a b [] (x ∷ first) last t = absurd t
@@ -345,13 +347,13 @@ module _ {S : Type 0} (machine : S → State) (Answered Ended : Relation S) (lik
             p.text_is (ap (take q.count) r.text_is) q.written;
       }
 
--- there are operations where there are replies
+-- If there are replies, there are operations.
 some_opening : (a b : State) (opening : List Op) (replies : List Reply) → TakesAll a (map Ok opening) replies b → 0 < length (replies_text replies) → 0 < length (map {B = Result Op Refusal} Ok opening)
 some_opening a b [] [] t some = absurd (omega (arith, some))
 some_opening a b [] (r ∷ rs) t some = absurd t
 some_opening a b (op ∷ opening) replies t some = omega arith
 
--- the sink failed in the replies to the opening, which are on the page
+-- The sink failed in the replies to the setup operations, which are on the page.
 pub opening_part : (room : ℕ) (start : State) (opening : List Op) (a b : State) (pending text : List ℕ) (s u : Option (List ℕ)) (e : Bool)
     → (o : Opened start opening pending s s e a) → o.done ≡ [] → length pending ≤ room → b ≡ a → StopsInPending a pending s u b
     → StopsInReplies room start (commands_of opening text) (Appends s u) b
@@ -374,7 +376,7 @@ opening_part room start opening a b pending text s u e o none fits same q =
       written = subst (λ (l : List ℕ). Appends s u (take q.written.count l)) (sym text_is) q.written.taken;
     }
 
--- ---- what is still to come
+-- ---- the unread bytes
 
 abbrev pub rest_left : Option (List ℕ) → List ℕ
 rest_left None = []
@@ -388,7 +390,7 @@ rest_left-none : (left : Option (List ℕ)) → IsAtEnd left → rest_left left 
 rest_left-none None at_end = refl
 rest_left-none (Some bytes) at_end = at_end
 
--- ---- where the sink failed, a beginning of the output was written
+-- ---- if the sink failed, a prefix of the output was written
 
 commands_further : (opening : List Op) (xs ys : List ℕ)
     → commands_of opening (xs ++ ys) ≡ commands_of opening xs ++ map operation_of (lines_from (rest_from [] xs) ys)
@@ -397,7 +399,7 @@ commands_further opening xs ys =
     (ap (map operation_of) (lines_further [] xs ys) ∙ map-append operation_of (lines_from [] xs) (lines_from (rest_from [] xs) ys))
     ∙ sym (append_assoc (map Ok opening) (map operation_of (lines_from [] xs)) (map operation_of (lines_from (rest_from [] xs) ys)))
 
--- a failure in the replies to some commands is one in those to these and more
+-- A failure in the replies to some commands is one in the replies to these and more.
 stops_before : (a b : State) (t u : Option (List ℕ)) (xs ys : List (Result Op Refusal))
     → StopsInReply a xs (Appends t u) b → StopsInReply a (xs ++ ys) (Appends t u) b
 stops_before a b t u xs ys q = record {
@@ -454,7 +456,7 @@ begins_after a b t u opening given rest none s =
     let whole : given ++ rest ≡ given = ap (λ (l : List ℕ). given ++ l) none ∙ append-nil given in
     subst (λ (x : List ℕ). BeginsOutput a opening x (Appends t u)) (sym whole) (stopped_begins a b opening given t u (inr s))
 
--- the sink failed in the replies to the opening, and the source was not read
+-- The sink failed in the replies to the setup operations, and the source was not read.
 pub stops_in_opening : (a b : State) (c t u : Option (List ℕ)) (opening : List Op)
     → StopsInReply a (map Ok opening) (Appends t u) b → AnswersScript StopsInReply a opening c c (Appends t u) (Err Write) b
 stops_in_opening a b c t u opening p =
@@ -486,7 +488,7 @@ module _ {S : Type 0} (machine : S → State) (Answered Ended : Relation S) (lik
       let q = after_part machine Answered Ended like start opening a b [] given s t u e o p.1 in
       (inr (none, q), begins_after start (machine b) s u opening given (rest_left left) none q)
 
-  -- where a page holds one reply
+  -- If a page holds one reply.
   pub answers_script : (start : State) (opening : List Op) (a b : S) (to_come left s t u : Option (List ℕ)) (e : Bool) (result : Result Summary IoError)
       → Opened start opening [] s t e (machine a) → (pending : List ℕ) → pending ≡ [] → Pumps Answered Ended lines 193 193 a pending to_come left t u result b
       → AnswersScript StopsInReply start opening to_come left (Appends s u) (joined e result) (machine b)
@@ -520,7 +522,7 @@ module _ {S : Type 0} (machine : S → State) (Answered Ended : Relation S) (lik
       let q = after_part machine Answered Ended like start opening a b pending given s s u e o p.1 in
       (inr (none, q), begins_after start (machine b) s u opening given (rest_left left) none q)
 
-  -- where a page of any length holds the replies to the opening, and then those to the lines
+  -- If a page of any length holds the replies to the setup operations, and then those to the lines.
   unfoldable pub answers_script_on_page : (room : ℕ) (start : State) (opening : List Op) (a b : S) (pending : List ℕ) (to_come left s u : Option (List ℕ)) (e : Bool) (result : Result Summary IoError)
       → (o : Opened start opening pending s s e (machine a)) → o.done ≡ [] → length pending ≤ room
       → Pumps Answered Ended lines room 193 a pending to_come left s u result b

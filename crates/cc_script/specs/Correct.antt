@@ -1,4 +1,5 @@
--- The theorem of a script's run: what it finds, what it answers, and what it leaves.
+-- The theorem of a script's run: the state before it, its output and result, and the state after
+-- it.
 use Rattle.std.specs.Prelude.{◌≡◌, ℕ, ◌≤◌, ◌<◌, ◌↔◌, Bool, true, List, [], ◌∷◌, ◌++◌, length, take, Option, IfSome, Result, Ok, Err, OnOk, ◌⊎◌}
 use Rattle.std.specs.Io.KnownBytes.{Appends, Consumes}
 use Rattle.cc_word.specs.declared.refusal.Refusal.{Refusal}
@@ -12,22 +13,23 @@ use Rattle.cc_io.specs.declared.summary.IoError.{IoError}
 use Rattle.cc_io.specs.declared.summary.IoError.TheVariants.{Read, Write}
 use Rattle.cc_io.specs.declared.summary.Summary.{Summary}
 
--- ---- What was written of a script. `Wrote bytes` says that the sink took these bytes.
+-- ---- The bytes written for a script. `Wrote bytes` says that the sink took these bytes.
 
--- the whole output
+-- WritesOutput holds if the whole output was written.
 pub record WritesOutput (old : State) (opening : List Op) (text : List ℕ) (Wrote : List ℕ → Type 0) (any_error : Bool) (new : State) : Type 0 where
   pub output : List ℕ
   pub of_text : ScriptOutput old opening text output any_error new
   pub written : Wrote output
 
--- the replies to the opening and to the lines of the text, and nothing for the rest
+-- WritesReplies holds if the replies to the setup operations and to the lines of the text were
+-- written, and nothing for trailing bytes.
 pub record WritesReplies (old : State) (opening : List Op) (text : List ℕ) (Wrote : List ℕ → Type 0) (new : State) : Type 0 where
   pub replies : List Reply
   pub takes : TakesAll old (commands_of opening text) replies new
   pub written : Wrote (replies_text replies)
 
--- the replies to the commands before one of them, and a beginning of the reply to that one; the machine has taken
--- that command, and none behind it
+-- StopsInReply holds if the replies to the commands before one of them were written, and a prefix
+-- of the reply to that one. The machine has taken that command, and none after it.
 pub record StopsInReply (old : State) (commands : List (Result Op Refusal)) (Wrote : List ℕ → Type 0) (new : State) : Type 0 where
   pub earlier : List (Result Op Refusal)
   pub command : Result Op Refusal
@@ -42,8 +44,9 @@ pub record StopsInReply (old : State) (commands : List (Result Op Refusal)) (Wro
   pub within : count ≤ length (with_line_feed (reply_text reply))
   pub written : Wrote (replies_text replies ++ take count (with_line_feed (reply_text reply)))
 
--- the replies to the commands before some of them, and a beginning of the replies to these, which are on a page of `room`
--- bytes together; the machine has taken all on the page, and none behind it
+-- StopsInReplies holds if the replies to the commands before some of them were written, and a
+-- prefix of the replies to these. These replies are on a page of `room` bytes together. The machine
+-- has taken all the commands on the page, and none after them.
 pub record StopsInReplies (room : ℕ) (old : State) (commands : List (Result Op Refusal)) (Wrote : List ℕ → Type 0) (new : State) : Type 0 where
   pub earlier : List (Result Op Refusal)
   pub on_page : List (Result Op Refusal)
@@ -60,7 +63,8 @@ pub record StopsInReplies (room : ℕ) (old : State) (commands : List (Result Op
   pub within : count ≤ length (replies_text page)
   pub written : Wrote (replies_text replies ++ take count (replies_text page))
 
--- the replies to all commands, and a beginning of the reply to the rest
+-- StopsAfterLines holds if the replies to all commands were written, and a prefix of the refusal of
+-- trailing bytes.
 pub record StopsAfterLines (old : State) (opening : List Op) (text : List ℕ) (Wrote : List ℕ → Type 0) (new : State) : Type 0 where
   pub replies : List Reply
   pub takes : TakesAll old (commands_of opening text) replies new
@@ -68,19 +72,21 @@ pub record StopsAfterLines (old : State) (opening : List Op) (text : List ℕ) (
   pub within : count ≤ length (rest_text (rest_of text))
   pub written : Wrote (replies_text replies ++ take count (rest_text (rest_of text)))
 
--- a beginning of the output of the script
+-- BeginsOutput holds if the bytes written are a prefix of each output of the script.
 abbrev pub BeginsOutput : (old : State) (opening : List Op) (text : List ℕ) (Wrote : List ℕ → Type 0) → Type 0
 BeginsOutput old opening text Wrote =
     (output : List ℕ) (any_error : Bool) (end : State) → ScriptOutput old opening text output any_error end
     → (count : ℕ) × Wrote (take count output)
 
--- Where the sink may fail in the replies to commands: `StopsInReply` where each reply is written before the next line is
--- taken, `StopsInReplies room` where replies are collected on a page.
+-- The type of the claims that say in which replies to commands the sink can fail. It is
+-- `StopsInReply` if each reply is written before the next line is taken, and `StopsInReplies room`
+-- if replies are collected on a page.
 abbrev pub StopsAt : Type 1
 StopsAt = (old : State) → (commands : List (Result Op Refusal)) → (Wrote : List ℕ → Type 0) → (new : State) → Type 0
 
--- What a run writes of a script, by what it answers: the whole output, or what came before the failure of a device. The
--- source gave the bytes `given`, and has `rest` still to come.
+-- WritesScript holds if the bytes written for a script are those that the result says: the whole
+-- output, or the part before the source or the sink failed. The source gave the bytes `given`, and
+-- has `rest` unread.
 abbrev pub WritesScript : (Stops : StopsAt) → (old : State) (opening : List Op) (given rest : List ℕ) (Wrote : List ℕ → Type 0) → Result Summary IoError → (new : State) → Type 0
 WritesScript Stops old opening given rest Wrote (Ok summary) new =
     (rest ≡ []) × WritesOutput old opening given Wrote summary.any_error new
@@ -89,8 +95,9 @@ WritesScript Stops old opening given rest Wrote (Err Write) new =
     (Stops old (commands_of opening given) Wrote new ⊎ ((rest ≡ []) × StopsAfterLines old opening given Wrote new))
     × BeginsOutput old opening (given ++ rest) Wrote
 
--- What was written belongs to the script of the operations of `opening` and then the bytes that the source gave. Where it
--- tells its bytes, `given` and `rest` are those that were to come; where not, nothing ties them to what was read.
+-- AnswersScript holds if the bytes written belong to the script of the setup operations and then
+-- the bytes that the source gave. If the source says its bytes, `given` and `rest` are those that
+-- were unread. Otherwise nothing ties them to the bytes that were read.
 pub record AnswersScript (Stops : StopsAt) (old : State) (opening : List Op) (to_come left : Option (List ℕ)) (Wrote : List ℕ → Type 0) (result : Result Summary IoError) (new : State) : Type 0 where
   pub given : List ℕ
   pub rest : List ℕ
@@ -100,8 +107,9 @@ pub record AnswersScript (Stops : StopsAt) (old : State) (opening : List Op) (to
 
 -- ---- The theorem.
 
--- The state of the machine and of the devices of a run: the bytes that the source has unread and those that the sink has taken,
--- if the devices say which they are; whether the sink is flushed; and whether a call of each device has failed.
+-- The state of the machine, of the source and of the sink in a run. `unread` has the bytes that the
+-- source has left, and `taken` those that the sink has taken, if source and sink say which they
+-- are. The other fields say whether the sink is flushed, and whether a call of each has failed.
 pub record IoState : Type 0 where
   pub machine : State
   pub unread : Option (List ℕ)
@@ -110,9 +118,10 @@ pub record IoState : Type 0 where
   pub flushed : Bool
   pub sink_failed : Bool
 
--- RunsScript holds if the machine took the operations of `opening` and then the script that the source gave, and the bytes written
--- are its replies, up to a failure of a device. The result is `Read` if and only if the source failed, and `Write` if and only if
--- the sink failed. At the end the sink is flushed.
+-- RunsScript holds if the machine took the setup operations and then the script that the source
+-- gave. The bytes written are its replies, up to a failure of the source or the sink. The result is
+-- `Read` if and only if the source failed, and `Write` if and only if the sink failed. If the run
+-- succeeds, the sink is flushed at the end.
 pub record RunsScript (Stops : StopsAt) (opening : List Op) (before : IoState) (result : Result Summary IoError) (after : IoState) : Type 0 where
   pub answers :
       AnswersScript Stops before.machine opening before.unread after.unread (Appends before.taken after.taken) result after.machine

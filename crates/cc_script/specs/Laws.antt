@@ -1,4 +1,4 @@
--- What a script's run keeps, whatever it answers.
+-- The laws that a script's run keeps, whatever its result.
 use Rattle.std.specs.Prelude.{◌≡◌, ℕ, Bool, List, [], ◌∷◌, Result, Ok, Err}
 use Rattle.cc_word.specs.declared.refusal.Refusal.{Refusal}
 use Rattle.cc_machine.specs.declared.op.Op.{Op}
@@ -12,12 +12,13 @@ use Rattle.cc_machine.specs.Confinement.{StepsWithin, IsConfined}
 use Rattle.cc_machine.specs.Reach.{ReachesAll}
 use Rattle.cc_script.specs.Output.{operations_of}
 
--- the machine takes a command; if this is an operation that is not refused, it uses only slots that are held
+-- TakesWithin holds if the machine takes the command. If this is an operation that is not refused,
+-- it uses only slots that are held: given ones, and ones made since `start`.
 abbrev pub TakesWithin : (given : ℕ → Bool) → (start old : State) → (command : Result Op Refusal) → Reply → State → Type 0
 TakesWithin given start old (Ok op) reply new = StepsWithin given start old op reply new
 TakesWithin given start old (Err refusal) reply new = (reply ≡ Refused refusal) × (new ≡ old)
 
--- it takes the commands so, one after another
+-- TakesAllWithin holds if `TakesWithin` does for all the commands, one after another.
 abbrev pub TakesAllWithin :
     (given : ℕ → Bool) → (start old : State) → (commands : List (Result Op Refusal)) → List Reply → State → Type 0
 TakesAllWithin given start old [] [] new = new ≡ old
@@ -27,9 +28,10 @@ TakesAllWithin given start old (command ∷ commands) (reply ∷ replies) new =
 TakesAllWithin given start old [] (reply ∷ replies) new = ⊥
 TakesAllWithin given start old (command ∷ commands) [] new = ⊥
 
--- The laws of every run from the old state to the new. The new state keeps the laws of a single state. Where commands led
--- to it that used only given slots, and slots made since, it is confined to the given slots. Where the operations that
--- led to it are the path to a capability, it has that capability.
+-- KeepsLaws holds if the laws of every run from the old state to the new one do. The new state
+-- keeps the laws of a single state. If commands led to it that used only given slots, and slots
+-- made since, it is confined to the given slots. If the operations that led to it are the path to a
+-- capability, it has that capability.
 pub record KeepsLaws (old new : State) : Type 0 where
   pub tree : IsMonotonicTree new
   pub sealing : HasSealingAuthority new

@@ -1,4 +1,4 @@
--- The texts of replies, without their line feed.
+-- The lines of replies, without their line feed.
 use Rattle.std.specs.Prelude.{ℕ, Bool, true, false, List, [], ◌++◌, codes, decimal, Option, Some, None}
 use Rattle.cc_word.specs.Word.{bit_of}
 use Rattle.cc_word.specs.WordText.{digits_of}
@@ -11,29 +11,29 @@ use Rattle.cc_plan.specs.declared.align.Align.TheVariants.{One, Sixteen}
 use Rattle.cc_machine.specs.declared.reply.Reply.{Reply}
 use Rattle.cc_machine.specs.declared.reply.Reply.TheVariants.{Made, Shown, Rounded, PoolSet, Allocated, Freed, Swept, Refused}
 
--- base and top
+-- The base and the top.
 abbrev pub bounds_text : Span → List ℕ
 bounds_text span = hexadecimal span.base ++ codes " " ++ hexadecimal span.top
 
--- a slot that was made: its number, its word, its bounds
+-- A slot that was made: its number, its word, its bounds.
 abbrev pub made_text : (slot word : ℕ) → Span → List ℕ
 made_text slot word span = decimal slot ++ codes " " ++ digits_of 32 word ++ codes " " ++ bounds_text span
 
--- the parent's slot, or `-` for the root, which has none
+-- The parent's slot, or `-` for the root, which has none.
 abbrev pub parent_text : Option ℕ → List ℕ
 parent_text None = codes "-"
 parent_text (Some slot) = decimal slot
 
--- the alignment of a pool: nothing for 1, and ` align 16` for 16
+-- The alignment of a pool: nothing for 1, and ` align 16` for 16.
 abbrev pub align_text : Align → List ℕ
 align_text One = []
 align_text Sixteen = codes " align 16"
 
--- how many slots were revoked, and how many bytes are held afterwards
+-- The number of slots that were revoked, and the number of bytes that are held afterward.
 abbrev pub revoked_text : (revoked held : ℕ) → List ℕ
 revoked_text revoked held = codes " revoked " ++ decimal revoked ++ codes " held " ++ decimal held
 
--- the text of a reply
+-- The line of a reply.
 unfoldable pub reply_text : Reply → List ℕ
 reply_text (Made slot word span) = codes "slot " ++ made_text slot word span
 reply_text (Shown word span perms flag otype parent) =
@@ -49,7 +49,7 @@ reply_text (Freed object revoked held) = codes "freed " ++ decimal object ++ rev
 reply_text (Swept objects revoked held) = codes "swept " ++ decimal objects ++ revoked_text revoked held
 reply_text (Refused refusal) = refusal_text refusal
 
--- the reply is an error: a refusal
+-- `is_error` holds if the reply is an error: a refusal.
 abbrev pub is_error : Reply → Bool
 is_error (Refused refusal) = true
 is_error reply = false

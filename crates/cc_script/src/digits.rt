@@ -1,4 +1,4 @@
-//! Digits, and the numbers that they spell.
+//! Digits, and the numbers that they parse as.
 ghost use Rattle.std.specs.Prelude.{◌≡◌, ◌⊎◌, ◌↔◌, ◌+◌, ◌*◌, ◌%◌, ◌<◌, ◌≤◌, ◌^◌, length, min, take, false, Some, SomeIff, IsSome, IsTrue};
 ghost use Rattle.std.specs.Char.{digit_value};
 ghost use Rattle.cc_script.specs.Numbers.{numeral_of, capped};
@@ -7,10 +7,10 @@ ghost use Rattle.cc_script.specs.Looks.{Tells};
 
 use cc_word::read_quarter;
 
-/// More than every limit: numbers from here on are read as this one.
+/// A number above every limit. Numbers of at least this value are read as this one.
 const OVER_ALL_LIMITS: u128 = 1 << 65;
 
-/// The value of each byte as a digit or a letter, of either case, or 36 where it is neither.
+/// The value of each byte as a digit or a letter, of either case, or 36 if it is neither.
 #[rattlefmt::skip]
 const DIGIT_VALUES: [u8; 256] = [
     36, 36, 36, 36, 36, 36, 36, 36, 36, 36, 36, 36, 36, 36, 36, 36,
@@ -31,18 +31,20 @@ const DIGIT_VALUES: [u8; 256] = [
     36, 36, 36, 36, 36, 36, 36, 36, 36, 36, 36, 36, 36, 36, 36, 36,
 ];
 
-/// What a first look at a text tells of the number that it spells.
+/// The result of the fast path that reads a number.
 #[derive(Clone, Copy)]
 pub enum Look {
-    /// It spells this one.
+    /// The number that the string parses as.
     Number(u64),
-    /// It spells none.
+    /// The string is not a number.
     NoNumber,
-    /// Nothing: it is long.
+    /// No result, since the string is long.
     Long,
 }
 
-/// The number that some digits spell.
+/// Returns the number that the digits parse as, on the fast path for few digits.
+///
+/// Requires: `radix` is 10 or 16.
 #[inline(always)]
 pub fn read_few(digits: &[u8], radix: u8) -> Look
     requires radix { (radix ≡ 10) ⊎ (radix ≡ 16) }
@@ -60,7 +62,10 @@ pub fn read_few(digits: &[u8], radix: u8) -> Look
     }
 }
 
-/// The number that one or more digits spell, or [`OVER_ALL_LIMITS`] where it is above that.
+/// Returns the number that one or more digits parse as, or [`OVER_ALL_LIMITS`] if it is above that.
+/// Returns `None` if there is no byte, or one is not a digit.
+///
+/// Requires: `radix` is 10 or 16.
 #[inline(always)]
 pub fn read_digits(digits: &[u8], radix: u8) -> Option<u128>
     requires radix { (radix ≡ 10) ⊎ (radix ≡ 16) }
@@ -78,7 +83,7 @@ pub fn read_digits(digits: &[u8], radix: u8) -> Option<u128>
     }
 }
 
-/// Whether there are so few digits that their number fits 64 bits, whatever they are.
+/// Returns whether there are so few digits that their number fits 64 bits, whatever they are.
 #[inline(always)]
 #[tactic(auto, using(crate::proofs::EightLemmas::sixteen_fit, crate::proofs::EightLemmas::nineteen_fit))]
 fn are_few(digits: &[u8], radix: u8) -> bool
@@ -93,8 +98,8 @@ fn are_few(digits: &[u8], radix: u8) -> bool
     }
 }
 
-/// The number that digits spell whose number fits 64 bits whatever they are: the first of them one by one, so that
-/// eights are left.
+/// Returns the number of digits so few that it fits 64 bits whatever they are. The first of them
+/// are read one by one, so that a multiple of eight is left.
 #[inline(always)]
 fn read_short(digits: &[u8], radix: u8) -> Option<u64>
     requires radix { (radix ≡ 10) ⊎ (radix ≡ 16) }
@@ -109,7 +114,7 @@ fn read_short(digits: &[u8], radix: u8) -> Option<u64>
     }
 }
 
-/// The same of more digits, or [`OVER_ALL_LIMITS`] where it is above that.
+/// Returns the number of at least 16 digits, or [`OVER_ALL_LIMITS`] if it is above that.
 #[cold]
 #[inline(never)]
 fn read_long(digits: &[u8], radix: u8) -> Option<u128>
@@ -123,7 +128,8 @@ fn read_long(digits: &[u8], radix: u8) -> Option<u128>
     }
 }
 
-/// The same, where the first sixteen digits spell this number.
+/// Returns the number of at least 16 digits, or [`OVER_ALL_LIMITS`] if it is above that. `first` is
+/// the number of the first sixteen.
 #[inline(always)]
 fn read_behind(first: u64, digits: &[u8], radix: u8) -> Option<u128>
     requires radix { (radix ≡ 10) ⊎ (radix ≡ 16) }
@@ -141,7 +147,7 @@ fn read_behind(first: u64, digits: &[u8], radix: u8) -> Option<u128>
     Some(number)
 }
 
-/// The number with one digit more at its end, or [`OVER_ALL_LIMITS`] where it is above that.
+/// Returns the number with one more digit at its end, or [`OVER_ALL_LIMITS`] if it is above that.
 fn with_digit(number: u128, radix: u8, digit: u8) -> u128
     requires number { number ≤ 2 ^ 65 }
     requires radix { radix ≤ 16 }
@@ -151,7 +157,7 @@ fn with_digit(number: u128, radix: u8, digit: u8) -> u128
     (number * u128::from(radix) + u128::from(digit)).min(OVER_ALL_LIMITS)
 }
 
-/// The number that up to seven digits spell, which is 0 where there is none.
+/// Returns the number of up to seven digits, which is 0 if there are none.
 #[inline(always)]
 fn read_first(digits: &[u8], radix: u8) -> Option<u64>
     requires radix { (radix ≡ 10) ⊎ (radix ≡ 16) }
@@ -166,7 +172,8 @@ fn read_first(digits: &[u8], radix: u8) -> Option<u64>
     Some(number)
 }
 
-/// The number that eights of digits spell behind those of a number.
+/// Returns the number of the digits of `first` and these digits after them, which are read eight at
+/// a time.
 #[inline(always)]
 fn read_eights(first: u64, digits: &[u8], radix: u8) -> Option<u64>
     requires radix { (radix ≡ 10) ⊎ (radix ≡ 16) }
@@ -183,7 +190,7 @@ fn read_eights(first: u64, digits: &[u8], radix: u8) -> Option<u64>
     Some(number)
 }
 
-/// What one is worth that eight digits follow.
+/// Returns the factor of a digit that eight digits follow.
 #[inline(always)]
 fn eighth_power(radix: u8) -> u64
     requires radix { (radix ≡ 10) ⊎ (radix ≡ 16) }
@@ -193,7 +200,6 @@ fn eighth_power(radix: u8) -> u64
     if radix == 16 { 1 << 32 } else { 100_000_000 }
 }
 
-/// The number that eight digits spell.
 #[inline(always)]
 fn read_eight(digits: &[u8; 8], radix: u8) -> Option<u32>
     requires radix { (radix ≡ 10) ⊎ (radix ≡ 16) }
@@ -206,9 +212,9 @@ fn read_eight(digits: &[u8; 8], radix: u8) -> Option<u32>
     }
 }
 
-/// The number that eight decimal digits spell.
+/// Returns the number of eight decimal digits.
 ///
-/// No digit waits for another, so that the compiler takes all in one vector.
+/// No digit depends on another, so that the compiler takes all in one vector.
 #[inline(always)]
 fn read_eight_decimal(digits: &[u8; 8]) -> Option<u32>
     ensures { result ≡ number_further 10 0 digits.now }
@@ -233,7 +239,7 @@ fn read_eight_decimal(digits: &[u8; 8]) -> Option<u32>
     )
 }
 
-/// The value of a decimal digit, and more than 9 for another byte.
+/// Returns the value of a decimal digit, and more than 9 for another byte.
 #[inline(always)]
 fn decimal_value(byte: u8) -> u8
     ensures digit { result < 10 ↔ digit_value byte < 10 }
@@ -242,7 +248,7 @@ fn decimal_value(byte: u8) -> u8
     byte.wrapping_sub(b'0')
 }
 
-/// The value of a decimal digit.
+/// Returns the value of a decimal digit, or `None` for another byte.
 #[inline(always)]
 pub fn value_of_decimal(byte: u8) -> Option<u8>
     ensures value { SomeIff result (digit_value byte < 10) (digit_value byte) }
@@ -252,7 +258,8 @@ pub fn value_of_decimal(byte: u8) -> Option<u8>
     if value < 10 { Some(value) } else { None }
 }
 
-/// The value of a digit of either case, where it is below the radix: a decimal one without the table.
+/// Returns the value of a digit of either case, if it is below the radix. Does not use the table
+/// for radix 10.
 #[inline(always)]
 fn value_in(byte: u8, radix: u8) -> Option<u8>
     requires { (radix ≡ 10) ⊎ (radix ≡ 16) }
@@ -266,7 +273,7 @@ fn value_in(byte: u8, radix: u8) -> Option<u8>
     }
 }
 
-/// The value of a digit of either case, where it is below the radix.
+/// Returns the value of a digit of either case, if it is below the radix.
 #[tactic(auto, using(crate::proofs::NumberLemmas::value_listed))]
 fn value_of_digit(byte: u8, radix: u8) -> Option<u8>
     requires { radix ≤ 16 }

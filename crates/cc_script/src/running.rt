@@ -1,4 +1,4 @@
-//! Runs a script.
+//! Runs of scripts.
 ghost use Rattle.std.specs.Prelude.{◌≡◌, [], Ok, Err, IfOk, OnErr, OnOk, IsErr, map, ◌↔◌, false, true};
 ghost use Rattle.std.specs.Io.KnownBytes.{Appends};
 ghost use Rattle.cc_io.specs.Devices.{TakesBeginning};
@@ -15,16 +15,17 @@ use cc_io::{Failed, IoError, Lines, Sink, Source, Summary, pump, write_all};
 use cc_machine::{Machine, Op, Reply};
 use cc_text::WholeLine;
 
-/// Runs the script that the source gives: each line is stepped by the machine, and its reply is written before the next
-/// line is taken.
+/// Runs the script that the source gives: steps the machine by each line, and writes its reply
+/// before the next line is taken.
 ///
-/// The sink is flushed once, at the end of the script. Allocates nothing. Whatever the result, the machine then keeps the
-/// laws of every run.
+/// The sink is flushed once, at the end of the script. Allocates nothing. Whatever the result, the
+/// machine then keeps the laws of every run.
 ///
 /// Requires: neither the source nor the sink has failed.
-/// Errors: `Read` if and only if the source failed. The replies to all complete lines that it gave are then written, and the
-/// machine has taken these lines alone. `Write` if and only if the sink failed. A prefix of the output is then written, and
-/// the machine has taken the line whose reply was cut, and none after it.
+/// Errors: `Read` if and only if the source failed. The replies to all complete lines that it gave
+/// are then written, and the machine has taken these lines alone. `Write` if and only if the sink
+/// failed. A prefix of the output is then written, and the machine has taken the line whose reply
+/// was cut, and none after it.
 pub fn run_script<R: Source, W: Sink>(
     machine: &mut Machine,
     source: &mut R,
@@ -52,8 +53,14 @@ pub fn run_script<R: Source, W: Sink>(
     run_script_after(&[], machine, source, sink)
 }
 
-/// Runs the script that begins with these operations and goes on as the source gives, as [`run_script`] runs one that is all
-/// from the source. An operation gets the reply that a line which spells it gets.
+/// Runs the script that begins with these setup operations and continues with the bytes that the
+/// source gives.
+///
+/// It runs like a script that [`run_script`] takes from the source alone. A setup operation gets
+/// the reply that a line with this operation gets.
+///
+/// Requires: neither the source nor the sink has failed.
+/// Errors: those of [`run_script`].
 pub fn run_script_after<R: Source, W: Sink>(
     opening: &[Op],
     machine: &mut Machine,
@@ -85,14 +92,14 @@ pub fn run_script_after<R: Source, W: Sink>(
     result
 }
 
-/// Proves of the machine what is true of every machine: a run leads to its state.
+/// Proves the claim that holds for every machine: its state is one that a run leads to.
 pub fn tell_reached(machine: &Machine)
     ensures { IsReached machine.now }
 {
     let _ = machine.slots();
 }
 
-/// Lends the machine, and has the opening and the script answered by it.
+/// Borrows the machine to reply to the setup operations and to the script.
 fn lend_machine<R: Source, W: Sink>(
     opening: &[Op],
     machine: &mut Machine,
@@ -110,7 +117,7 @@ fn lend_machine<R: Source, W: Sink>(
     answer_script(opening, &mut script, source, sink)
 }
 
-/// Answers the opening, and then the script.
+/// Replies to the setup operations, and then to the script.
 fn answer_script<R: Source, W: Sink>(
     opening: &[Op],
     script: &mut Script<'_>,
@@ -138,7 +145,8 @@ fn answer_script<R: Source, W: Sink>(
     }
 }
 
-/// Steps the machine by the operations of the opening, and writes their replies. Returns whether a reply is an error.
+/// Steps the machine by the setup operations, and writes their replies. Returns whether a reply is
+/// an error.
 fn take_opening<W: Sink>(
     machine: &mut Machine,
     opening: &[Op],

@@ -1,8 +1,8 @@
-//! Words in bulk between devices that fail.
+//! Many words between a source and a sink that fail.
 use cc_decode::{Format, InputForm, Options, decode_words};
 use cc_io::{IoError, SliceSink, SliceSource, Summary};
 
-/// Two words, lines that are none, and a rest.
+/// Two words, lines that are not words, and trailing bytes.
 const TEXT: &[u8] = b"\
 ffff0000000f803d0000000000010070
 02001FFFC48190040000000000001000
@@ -22,9 +22,9 @@ ffffffffffffffffffffffffffffffff 0xfffffffffffffffb 0x10000000000000ff9 ffff 1 0
 error 2 unfinished
 ";
 
-/// How the decoding of the text ends, and how many bytes of the answers were then taken; `None` where other bytes were.
-/// The source gives at most `pieces.0` bytes at once, and the sink takes `pieces.1`; `fails` says which call of each
-/// fails, if one does.
+/// Returns how the decoding of the input ends, and the number of bytes of the replies that were
+/// then taken, or `None` if other bytes were. The source gives at most `pieces.0` bytes at once,
+/// and the sink takes `pieces.1`. `fails` says which call of each fails, if one does.
 fn decode(
     pieces: (usize, usize),
     fails: (Option<u32>, Option<u32>),
@@ -45,7 +45,7 @@ fn decode(
     }
 }
 
-/// How many line feeds a text has.
+/// Returns the number of line feeds.
 fn count_lines(text: &[u8]) -> usize {
     let mut count = 0usize;
     for byte in text {
@@ -54,7 +54,8 @@ fn count_lines(text: &[u8]) -> usize {
     count
 }
 
-/// Where this call of the source fails, the lines that came whole before it are answered.
+/// Returns whether, if this call of the source fails, exactly the complete lines before it get
+/// replies.
 fn read_fails(call: u32) -> bool {
     let given = (call as usize).saturating_sub(1).saturating_mul(13);
     let lines = count_lines(&TEXT[..given.min(TEXT.len())]);
@@ -73,8 +74,8 @@ fn each_read_fails_in_turn(rt: HostRuntime) {
     }
 }
 
-/// Where this call of the sink fails, a beginning of the answers was written. The twenty-ninth would be a second flush
-/// behind 27 writes, and is never made.
+/// Returns whether, if this call of the sink fails, a prefix of the replies was written. The
+/// twenty-ninth would be a second flush after 27 writes, and is never made.
 fn write_fails(call: u32) -> bool {
     match decode((4096, 11), (None, Some(call))) {
         Some((Err(IoError::Write), _)) => call < 29,

@@ -1,3 +1,3 @@
-//! What commands and plans tell of devices that fail.
+//! The results of commands and plans whose source or sink fails.
 mod devices;
 mod planning;

@@ -1,6 +1,6 @@
-//! Tests of cc_script, cc_command and cc_decode: devices of a caller's own, devices that fail in mid-stream, and values
-//! that no script of the program reaches. They stand apart from these crates, so that the bodies are not proved once more
-//! beside the tests.
+//! Tests of cc_script, cc_command and cc_decode: a caller's own sources and sinks, ones that fail
+//! in midstream, and values that no script of the program reaches. They are a separate crate, so
+//! that the function bodies are not proved again with the tests.
 #![tactic(auto)]
 
 #[cfg(test)]

@@ -1,4 +1,4 @@
-//! What a command tells of sinks and writers that fail.
+//! The result of a command whose sink or writer fails.
 use cc_command::show_word;
 use cc_script::{FromWriter, ScriptFault, SliceSink, Summary};
 use std::io::{self, Write};
@@ -21,8 +21,8 @@ top 0x10000000000000000
 canonical yes
 ";
 
-/// Where call `fail_at` of the sink fails, a write or the flush, the listing was written up to it; where there are fewer
-/// calls, all of it was. The sink takes `piece` bytes at once.
+/// Returns whether, if call `fail_at` of the sink fails, a write or the flush, the listing was
+/// written up to it. If there are fewer calls, all of it was. The sink takes `piece` bytes at once.
 fn fails_at(listing: &[u8], piece: usize, fail_at: u32) -> bool {
     let mut room = [0; 512];
     let mut sink = SliceSink::new(&mut room, piece.max(1), Some(fail_at));
@@ -49,7 +49,7 @@ fn each_call_fails_in_turn(rt: HostRuntime) {
     }
 }
 
-/// A writer that answers its calls as it is told to, and counts the flushes.
+/// A writer with given results of its calls, which counts the flushes.
 #[derive(Drop)]
 struct Faulty {
     write: Answer,
@@ -85,7 +85,7 @@ impl Write for Faulty {
     }
 }
 
-/// How a writer answers, and its flush; whether the command ends well; and how often it flushes.
+/// The result of a write, and of a flush; whether the command succeeds; and the number of flushes.
 const ANSWERS: [(Answer, Answer, bool, u32); 6] = [
     (Answer::All, Answer::All, true, 1),
     (Answer::Nothing, Answer::All, false, 0),
@@ -95,7 +95,7 @@ const ANSWERS: [(Answer, Answer, bool, u32); 6] = [
     (Answer::All, Answer::Broken, false, 1),
 ];
 
-/// A command to such a writer ends as the row says.
+/// Returns whether a command to such a writer ends as the row says.
 fn ends(row: &(Answer, Answer, bool, u32)) -> bool {
     let (write, flush, is_ok, flushes) = *row;
     let mut writer = Faulty {

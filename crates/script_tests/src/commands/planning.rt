@@ -1,4 +1,4 @@
-//! A plan between devices that fail: its pool is made before the first read.
+//! A plan whose source or sink fails: its pool is made before the first read.
 use cc_command::plan_script;
 use cc_machine::{Align, Len, Machine};
 use cc_script::{ScriptFault, SliceSink, SliceSource};
@@ -7,7 +7,8 @@ use std::alloc::{AllocError, Global};
 #[rattlefmt::skip]
 const OPENED: &[u8] = b"slot 1 ffff0000000000000000000000010000 0x0 0x10000000000000000\nslot 2 ffff0000000190000000000000010000 0x10000 0x20000\npool 2 0x10000 0x20000\n";
 
-/// How many bytes the sink has room for; which read fails; and how many slots there are when the plan has failed.
+/// The number of bytes that the sink has space for, the read that fails, and the number of slots
+/// when the plan has failed.
 type Row = (usize, Option<u32>, ScriptFault, u32);
 
 /// The first reply and its line feed have 64 bytes.
@@ -19,8 +20,8 @@ const ROWS: [Row; 5] = [
     (65, None, ScriptFault::Write, 3),
 ];
 
-/// The plan of a pool of 64 kibibytes and no script fails so, and as much of its opening as the sink has room for was
-/// written.
+/// Returns whether the plan of a pool of 64 KiB with an empty script fails as the row says. The
+/// replies to its setup operations are then written as far as the sink has space.
 fn plan_fails(machine: &mut Machine, row: &Row) -> bool {
     let (size, fail_at, fault, _) = *row;
     let Some(length) = Len::new(0x10000) else {
@@ -36,7 +37,7 @@ fn plan_fails(machine: &mut Machine, row: &Row) -> bool {
         && room.get(..taken) == OPENED.get(..taken)
 }
 
-/// So it does on a new machine, which then has so many slots.
+/// Returns whether the plan does so on a new machine, which then has the row's number of slots.
 fn fails(alloc: Global, row: &Row) -> bool {
     match Machine::with_limit(alloc, 16) {
         Ok(mut machine) => plan_fails(&mut machine, row) && machine.slots() == row.3,

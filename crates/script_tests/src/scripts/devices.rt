@@ -18,7 +18,7 @@ impl Read for Endless {
     }
 }
 
-/// It gives 2^30 bytes, then none into no room, and then fails.
+/// Returns whether the source gives 2^30 bytes, then none into an empty buffer, and then fails.
 fn gives_2_to_the_30(source: &mut FromReader<Endless>) -> bool {
     let mut piece = [0u8; 65_536];
     for _ in 0..16_384 {
@@ -78,7 +78,7 @@ fn is_flushed_once(sink: &mut FromWriter<InterruptedOnce>) -> bool {
     sink.flush().is_err() && sink.flush().is_err()
 }
 
-/// What was interrupted is not asked again.
+/// An interrupted reader or writer is not called again.
 #[test]
 fn interrupted_devices_have_failed(rt: HostRuntime) {
     let mut source = FromReader::new(FIRST);

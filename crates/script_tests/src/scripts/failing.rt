@@ -1,5 +1,5 @@
-//! One script, cut after each of its bytes, and with each call of its devices failing in turn; run by `run_script`, and by
-//! sessions with pages of different sizes.
+//! One script, cut after each of its bytes, and with each call of its source and sink failing in
+//! turn. It is run by `run_script`, and by sessions with pages of different sizes.
 ghost use Rattle.std.specs.Prelude.{None, ◌≡◌, false};
 
 use super::End;
@@ -13,7 +13,7 @@ use std::alloc::{AllocError, Global};
 pub(super) const SCRIPT: &[u8] =
     b"addr 0 0x10000\nexact 1 0x10000\npool 2\nalloc 100\nalloc 5000\nfree 2\nsweep\nalloc 65537\nbounds 3 16\nfree 1\nsweep\nshow 4\nshow 0";
 
-/// The replies to its lines, and the last one, to the rest.
+/// The replies to its lines, and last the one to its trailing bytes.
 pub(super) const OUTPUT: &[u8] = b"\
 slot 1 ffff0000000000000000000000010000 0x0 0x10000000000000000
 slot 2 ffff0000000190000000000000010000 0x10000 0x20000
@@ -32,7 +32,7 @@ error 2 unfinished
 
 const UNFINISHED: &[u8] = b"error 2 unfinished\n";
 
-/// How many bytes of the output are the replies to so many lines.
+/// Returns the number of bytes of the output that are the replies to this many lines.
 fn replies_to(lines: usize) -> usize {
     let mut left = lines;
     for (at, byte) in OUTPUT.iter().enumerate() {
@@ -44,7 +44,8 @@ fn replies_to(lines: usize) -> usize {
     OUTPUT.len()
 }
 
-/// How many bytes of the output are the replies to the whole lines of a beginning of the script.
+/// Returns the number of bytes of the output that are the replies to the complete lines of a prefix
+/// of the script.
 fn replies_in(text: &[u8]) -> usize {
     let mut lines = 0usize;
     for byte in text {
@@ -53,8 +54,8 @@ fn replies_in(text: &[u8]) -> usize {
     replies_to(lines)
 }
 
-/// How many bytes the source gives at most at once, and the sink takes; which call of each fails; and which page the
-/// replies are put on.
+/// The maximum number of bytes that the source gives at once, and that the sink takes; the call of
+/// each that fails; and the page for the replies.
 #[derive(Clone, Copy)]
 struct Devices {
     pieces: (usize, usize),
@@ -62,7 +63,7 @@ struct Devices {
     page: On,
 }
 
-/// The page that replies are put on: that of `run_script`, or one that is lent to a session.
+/// The page for the replies: that of `run_script`, or one that a session borrows.
 #[derive(Clone, Copy)]
 enum On {
     Script,
@@ -96,7 +97,7 @@ impl Sink for Seen<'_> {
     }
 }
 
-/// How the run of a text on this page ends.
+/// Returns how the run of the script with this page ends.
 fn run(mut machine: Machine, page: On, source: &mut SliceSource, sink: &mut Seen) -> End
     requires source { source.old.has_failed ≡ false }
     requires sink { sink.old.inner.has_failed ≡ false }
@@ -118,9 +119,9 @@ fn run(mut machine: Machine, page: On, source: &mut SliceSource, sink: &mut Seen
     }
 }
 
-/// How the run of a text on a new machine ends, and how many bytes the slice took; `None` where they are no beginning of
-/// this output, which is the replies to whole lines and `rest`, or where a run that
-/// ends well does not flush the sink last.
+/// Returns how the run of a script on a new machine ends, and the number of bytes that the slice
+/// took. Returns `None` if they are not a prefix of this output, which is the replies to complete
+/// lines and `rest`. Returns `None` too if a run succeeds and does not flush the sink last.
 fn run_anew(
     alloc: Global,
     text: &[u8],
@@ -151,8 +152,8 @@ fn run_anew(
     }
 }
 
-/// The first `cut` bytes of the script, read in pieces of this size, are answered as a script of their own. The eighth
-/// reply is the first error.
+/// Returns whether the first `cut` bytes of the script, read in chunks of this size, get the
+/// replies of a separate script. The eighth reply is the first error.
 fn is_cut(alloc: Global, cut: usize, size: usize, page: On) -> bool {
     let text = &SCRIPT[..cut.min(SCRIPT.len())];
     let devices = Devices {
@@ -172,7 +173,7 @@ fn is_cut(alloc: Global, cut: usize, size: usize, page: On) -> bool {
     }
 }
 
-/// So they are in pieces of each size, and on each page.
+/// Returns whether they do in chunks of each size, and on each page.
 fn is_cut_in_all(alloc: Global, cut: usize) -> bool {
     for size in [1usize, 7, 128] {
         for page in &PAGES {
@@ -191,8 +192,8 @@ fn script_cut_after_each_byte(rt: HostRuntime) {
     }
 }
 
-/// Where this call of the source fails, in pieces of this size, the lines that came whole before it are answered,
-/// whatever the page.
+/// Returns whether, if this call of the source fails, in chunks of this size, exactly the complete
+/// lines before it get replies, whatever the page.
 fn read_fails(alloc: Global, size: usize, call: u32) -> bool {
     let given = (call as usize).saturating_sub(1).saturating_mul(size);
     let replies = replies_in(&SCRIPT[..given.min(SCRIPT.len())]);
@@ -220,8 +221,8 @@ fn each_read_fails(rt: HostRuntime) {
     }
 }
 
-/// Each call of the sink fails in turn, each after no fewer bytes than the one before, and then none does: the last one
-/// that fails is the flush, behind all bytes.
+/// Returns whether each call of the sink fails in turn, each after no fewer bytes than the one
+/// before, and then none does. The last call that fails is the flush, after all bytes.
 fn writes_fail(alloc: Global, pieces: (usize, usize), page: On) -> bool {
     let mut before = 0usize;
     for call in 1u32..1000 {
@@ -241,7 +242,7 @@ fn writes_fail(alloc: Global, pieces: (usize, usize), page: On) -> bool {
     false
 }
 
-/// So they do where a piece has one line at most, and where it has the whole script.
+/// Returns whether they do if a chunk has at most one line, and if it has the whole script.
 fn writes_fail_in_all(alloc: Global, size: usize) -> bool {
     for page in &PAGES {
         if !writes_fail(alloc, (6, size), *page)

@@ -1,4 +1,4 @@
-//! A sink of a caller's own, which counts its flushes; and unequal answers of a run.
+//! A caller's own sink, which counts its flushes, and unequal results of a run.
 ghost use Rattle.std.specs.Prelude.{None};
 
 use cc_machine::Machine;
@@ -35,7 +35,8 @@ impl Sink for Counting {
     }
 }
 
-/// How often a sink that takes so many writes is flushed in a run of the script whose read `fail_at` fails.
+/// Returns the number of flushes of a sink that takes `writes` writes, in a run of the script whose
+/// read `fail_at` fails.
 fn count_flushes(machine: &mut Machine, script: &[u8], writes: u32, fail_at: Option<u32>) -> u32 {
     let mut source = SliceSource::new(script, 3, fail_at);
     let mut sink = Counting {
@@ -47,7 +48,7 @@ fn count_flushes(machine: &mut Machine, script: &[u8], writes: u32, fail_at: Opt
     sink.flushes
 }
 
-/// On a new machine the sink is flushed as often as the row says.
+/// Returns whether, on a new machine, the sink is flushed as often as the row says.
 fn is_flushed(alloc: Global, row: &(&[u8], u32, Option<u32>, u32)) -> bool {
     let (script, writes, fail_at, count) = *row;
     match Machine::with_limit(alloc, 16) {
@@ -56,7 +57,8 @@ fn is_flushed(alloc: Global, row: &(&[u8], u32, Option<u32>, u32)) -> bool {
     }
 }
 
-/// A script, how many writes the sink takes, the read that fails, and how often the sink is flushed.
+/// A script, the number of writes that the sink takes, the read that fails, and the number of
+/// flushes.
 const FLUSHES: [(&[u8], u32, Option<u32>, u32); 4] = [
     (SCRIPT, 100, None, 1),
     (b"", 100, None, 1),

@@ -1,21 +1,24 @@
-//! Runs that begin with operations, before their script.
+//! Runs that begin with setup operations, before their script.
 use super::End;
 use cc_machine::{Len, Machine, Op};
 use cc_plan::Align;
 use cc_script::{ScriptFault, SliceSink, SliceSource, Summary, run_script_after};
 use std::alloc::{AllocError, Global};
 
-/// Which call of the source fails and which of the sink, by number from 1 up; `None` where none does.
+/// The call of the source that fails and the one of the sink, by number from 1 up, or `None` if
+/// none does.
 type Fails = (Option<u32>, Option<u32>);
 
 /// The replies to the operations of a plan of 65,536 bytes from 0x10000.
 const PLAN: &[u8] =
     b"slot 1 ffff0000000000000000000000010000 0x0 0x10000000000000000\nslot 2 ffff0000000190000000000000010000 0x10000 0x20000\npool 2 0x10000 0x20000\n";
 
-/// A script, the calls that fail, the replies to the opening and to the script, and how the run ends.
+/// A script, the calls that fail, the replies to the setup operations and to the script, and the
+/// end of the run.
 type Row<'a> = (&'a [u8], Fails, (&'a [u8], &'a [u8]), End);
 
-/// How the run of a script after an opening ends, and how many bytes of the replies are then in the room.
+/// Returns how the run of a script after setup operations ends, and the number of bytes of the
+/// replies that are then in `room`.
 fn run_after(
     opening: &[Op],
     machine: &mut Machine,
@@ -29,7 +32,7 @@ fn run_after(
     (end, sink.taken())
 }
 
-/// The run after this opening ends as the row says, and has its replies.
+/// Returns whether the run after these setup operations ends as the row says, and has its replies.
 fn writes(opening: &[Op], machine: &mut Machine, row: &Row) -> bool {
     let (script, fails, (first, then), wanted) = *row;
     let mut room = [0u8; 512];
@@ -37,7 +40,7 @@ fn writes(opening: &[Op], machine: &mut Machine, row: &Row) -> bool {
     end == wanted && room.starts_with(first) && room.get(first.len()..taken) == Some(then)
 }
 
-/// The same on a new machine.
+/// Returns whether such a run on a new machine does.
 fn writes_anew(alloc: Global, opening: &[Op], row: &Row) -> bool {
     match Machine::with_limit(alloc, 16) {
         Ok(mut machine) => writes(opening, &mut machine, row),
@@ -45,7 +48,7 @@ fn writes_anew(alloc: Global, opening: &[Op], row: &Row) -> bool {
     }
 }
 
-/// The same after the operations of a plan.
+/// Returns whether such a run after the operations of a plan does.
 fn is_planned(alloc: Global, row: &Row) -> bool {
     match Len::new(65_536) {
         Some(len) => {
@@ -65,8 +68,8 @@ const OBJECT: &[u8] =
 
 const FIRST: &[u8] = b"slot 1 ffff0000000000000000000000010000 0x0 0x10000000000000000\n";
 
-/// The plan has three replies and the script one, and then the sink is flushed, once: its sixth call is never made. Then
-/// the first read fails, and the second write.
+/// The plan has three replies and the script one, and then the sink is flushed, once: its sixth
+/// call is never made. Then the first read fails, and the second write.
 const PLANNED: [Row; 3] = [
     (
         b"alloc 100\n",

@@ -1,4 +1,4 @@
-//! Lines of replies that no script reaches: each number at its greatest.
+//! Lines of replies that no script reaches: each number at its maximum.
 use cc_bounds::Span;
 use cc_cap::{ObjType, Perms};
 use cc_machine::{Align, Reply};

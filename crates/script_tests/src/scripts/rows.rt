@@ -1,4 +1,5 @@
-//! Scripts that take no memory: `tests/opening` refuses each request that these tests make once the machine is opened.
+//! Scripts that allocate nothing: `tests/opening` makes every allocation fail that these tests make
+//! once the machine is created.
 use super::End;
 use super::failing::{OUTPUT, SCRIPT};
 use cc_machine::Machine;
@@ -23,7 +24,7 @@ error 20 noroom
 ",
 );
 
-/// The script has its output, in small pieces.
+/// Returns whether the script has its output, in small chunks.
 fn writes(machine: &mut Machine, row: &Row) -> bool {
     let (script, output) = *row;
     let mut room = [0u8; 1024];
@@ -34,7 +35,7 @@ fn writes(machine: &mut Machine, row: &Row) -> bool {
     end == ERRORS && room.get(..taken) == Some(output)
 }
 
-/// The same on a new machine.
+/// Returns whether the script has its output on a new machine.
 fn writes_anew(alloc: Global, row: &Row) -> bool {
     match Machine::with_limit(alloc, 64) {
         Ok(mut machine) => writes(&mut machine, row),

@@ -1,4 +1,5 @@
-//! Sessions: when the page is written, how far the machine is ahead of a sink that fails, and what is counted.
+//! Sessions: when the page is written, the distance of the machine ahead of a sink that fails, and
+//! the counts.
 ghost use Rattle.std.specs.Prelude.{[], ◌≤◌, ◌*◌, length};
 ghost use Rattle.cc_command.specs.Tally.{IsTally};
 
@@ -11,7 +12,8 @@ use std::alloc::{AllocError, Global};
 use std::cell::Cell;
 use std::io::{self, Read, Write};
 
-/// A call of a device: a read that gives these bytes, a write of this length, or a flush.
+/// A call of a reader or a writer: a read that gives these bytes, a write of this length, or a
+/// flush.
 #[derive(Clone, Copy)]
 enum Call {
     Gives(&'static [u8]),
@@ -81,7 +83,7 @@ const SCRIPT: &[Call] = &[
     Flush,
 ];
 
-/// A session writes the replies to a piece at once.
+/// A session writes the replies to a chunk at once.
 const PIECES: &[Call] = &[
     Gives(b"a\n"),
     Takes(15),
@@ -96,8 +98,8 @@ const PIECES: &[Call] = &[
     Flush,
 ];
 
-/// A page of 400 bytes is written once it has less than 193 left: at 210, which are fourteen replies. The opening goes out
-/// before the first read.
+/// A page of 400 bytes is written when fewer than 193 bytes of it are free: at 210, which are
+/// fourteen replies. The replies to the setup operations are written before the first read.
 const SMALL: &[Call] = &[
     Takes(26),
     Gives(b"a\na\na\na\na\na\na\na\na\na\na\na\na\na\na\na\n"),
@@ -113,7 +115,7 @@ const REFUSED: [Op; 3] = [Op::Show(7), Op::Show(8), Op::Show(9)];
 
 const ERRORS: End = Ok(Summary { any_error: true });
 
-/// The session after the opening makes these calls, and no other.
+/// Returns whether the session after these setup operations makes these calls, and no other.
 fn makes<const N: usize>(
     machine: Machine,
     opening: &[Op],
@@ -131,7 +133,7 @@ fn makes<const N: usize>(
     end == ERRORS && calls.get().is_empty()
 }
 
-/// `run_script` makes these calls, and no other.
+/// Returns whether `run_script` makes these calls, and no other.
 fn script_makes(mut machine: Machine, calls: &'static [Call]) -> bool {
     let calls = Cell::new(calls);
     let mut source = FromReader::new(Expects { calls: &calls });
@@ -139,7 +141,7 @@ fn script_makes(mut machine: Machine, calls: &'static [Call]) -> bool {
     run_script(&mut machine, &mut source, &mut sink) == ERRORS && calls.get().is_empty()
 }
 
-/// The run makes the calls of the table of this number, on a new machine.
+/// Returns whether the run makes the calls of the table with this number, on a new machine.
 fn makes_calls(alloc: Global, table: u32) -> bool {
     let Ok(machine) = Machine::with_limit(alloc, 4) else {
         return false;
@@ -168,12 +170,12 @@ fn replies_come_before_the_next_read(rt: HostRuntime) {
 const SLOTS: &[u8] =
     b"addr 0 0\naddr 0 0\naddr 0 0\naddr 0 0\naddr 0 0\naddr 0 0\naddr 0 0\naddr 0 0\naddr 0 0\naddr 0 0\n";
 
-/// How many bytes the source gives at most at once; the calls that fail; the slots that there are then, and the bytes taken;
-/// and how the run ends.
+/// The maximum number of bytes that the source gives at once; the calls that fail; the number of
+/// slots then, and the number of bytes taken; and the end of the run.
 type Row = (usize, (Option<u32>, Option<u32>), (u32, usize), End);
 
-/// The page of 400 bytes is written after four replies, so the machine is ahead by four lines at most. After a failed read it
-/// is ahead by none.
+/// The page of 400 bytes is written after four replies, so the machine is ahead by four lines at
+/// most. After a failed read it is ahead by none.
 const AHEAD: [Row; 6] = [
     (
         90,
@@ -188,7 +190,7 @@ const AHEAD: [Row; 6] = [
     (50, (Some(2), None), (6, 320), Err(IoError::Read)),
 ];
 
-/// The session on this machine ends as the row says.
+/// Returns whether the session on this machine ends as the row says.
 fn ends(machine: Machine, row: &Row) -> bool {
     let (piece, fails, (slots, wanted), end) = *row;
     let mut room = [0u8; 1024];
@@ -214,11 +216,11 @@ fn machine_is_ahead_by_one_page(rt: HostRuntime) {
     }
 }
 
-/// Two slots; a refusal at lines 2 to 8 and of the rest.
+/// Two slots. A refusal at lines 2 to 8, and of the trailing bytes.
 const COUNTED: &[u8] =
     b"addr 0 1\naddr 0 0\nshow 9\nshow 9\r\nrebuild 0 00000000:00000000:00000000:00000000\nshow 7\naddr 0 0\nexact 0 0x10001\nsweep\nsho";
 
-/// The code of a refusal, and how many replies are it, and the first line that got it.
+/// The code of a refusal, the number of replies that are it, and the first line that got it.
 const COUNTS: [(usize, u64, u64); 6] = [
     (1, 2, 4),
     (2, 1, 10),
@@ -238,7 +240,8 @@ fn is_counted(counts: &[Count; 22]) -> bool {
     true
 }
 
-/// The pool of this length is hinted at if and only if the opening is refused as inexact.
+/// Returns whether there is a hint for the pool of this length if and only if the setup operations
+/// are refused as inexact.
 fn is_hinted(session: &Session, len: Len, is_inexact: bool) -> bool {
     match Hints::of(session.tally(), Some(len)).inexact {
         Some(hinted) => is_inexact && hinted.get() == len.get(),
@@ -246,7 +249,8 @@ fn is_hinted(session: &Session, len: Len, is_inexact: bool) -> bool {
     }
 }
 
-/// The session after this opening counts ten lines, and which of them are worth a hint.
+/// Returns whether the session after these setup operations counts ten lines, and those of them
+/// that are worth a hint.
 fn counts_lines(session: &mut Session, opening: &[Op; 2]) -> bool
     requires { IsTally [] [] session.old.tally }
 {
@@ -268,7 +272,8 @@ fn counts_lines(session: &mut Session, opening: &[Op; 2]) -> bool
         && tally.marked_word == 5
 }
 
-/// An inexact length is hinted at if the opening asks for it, though the script does in any case.
+/// Returns whether there is a hint for an inexact length if the setup operations request it. The
+/// script requests it in any case.
 fn counts(machine: Machine, len: Len) -> bool {
     let mut session = Session::new(machine);
     counts_lines(&mut session, &[Op::Exact(0, len), Op::Show(7)])

@@ -1,9 +1,0 @@
-use Rattle.std.proofs.Common.{◌≡◌, ◌+◌, length}
-use Rattle.cc_command.specs.Usage.{asked_bytes_of}
-use Rattle.cc_command.proofs.usage.asked_bytes.Given as goal
-
-abbrev pub invariant-objects : goal.invariant-objects
-invariant-objects l = l.asked + asked_bytes_of l.rest ≡ asked_bytes_of l.objects
-
-abbrev pub decreases-objects : goal.decreases-objects
-decreases-objects l = length l.rest

@@ -1,0 +1,4 @@
+mod UsageLemmas
+mod MapLemmas
+mod WritingLemmas
+mod DrawingLemmas

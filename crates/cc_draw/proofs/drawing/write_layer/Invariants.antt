@@ -1,0 +1,15 @@
+use Rattle.std.proofs.Common.{◌≡◌, ◌≤◌, ◌+◌, false, length}
+use Rattle.cc_draw.specs.Drawing.{layer_text}
+use Rattle.cc_draw.proofs.WritingLemmas.{Writing}
+use Rattle.cc_draw.proofs.drawing.write_layer.Given as goal
+
+abbrev pub invariant-objects : goal.invariant-objects
+invariant-objects g l = record {
+  writes : Writing (g.W.Sink.taken_bytes l.initial.sink) (g.W.Sink.taken_bytes l.sink)
+      (layer_text l.layout l.state l.number l.rest) (layer_text l.layout l.state 1 l.objects);
+  works : g.W.Sink.has_failed l.sink ≡ false;
+  number : l.number + length l.rest ≤ 65537;
+}
+
+abbrev pub decreases-objects : goal.decreases-objects
+decreases-objects g l = length l.rest

@@ -1,0 +1,23 @@
+use Rattle.std.proofs.Common.{◌≡◌, ◌∙◌, ℕ, ap, refl, subst}
+use Rattle.std.specs.Int.{div_ceil}
+use Rattle.cc_bounds.specs.Span.{length_of}
+use Rattle.cc_draw.specs.Map.{AreMapRows}
+use Rattle.cc_explain.specs.Picture.{cell_bytes, cell_count}
+use Rattle.cc_draw.proofs.map.push_map.Goals as goal
+
+pub returns : goal.returns
+returns c =
+    let told = c.push_rows.ensures in
+    let objects = c.args.objects.now in
+    let bytes : ℕ = length_of c.args.pool.now in
+    let size : ℕ = c.cell_size-size.result in
+    let cells : ℕ = c.cell_count-cells.result in
+    let size_is : size ≡ cell_bytes 1024 bytes = c.cell_size-size.ensures.value ∙ ap (cell_bytes 1024) c.len-bytes.ensures in
+    let cells_is : cells ≡ cell_count 1024 bytes = c.cell_count-cells.ensures.value ∙ ap (cell_count 1024) c.len-bytes.ensures in
+    record {
+      rows = told.0;
+      are_rows = subst (λ (n : ℕ). AreMapRows objects n (div_ceil (cell_count 1024 bytes) 64) c.args.pool.now.base (cell_count 1024 bytes) told.0) size_is
+          (subst (λ (n : ℕ). AreMapRows objects size (div_ceil n 64) c.args.pool.now.base n told.0) cells_is
+          (subst (λ (n : ℕ). AreMapRows objects size (div_ceil cells 64) n cells told.0) c.from.ensures told.1));
+      lines = rw (told.2, c.end_with_hexadecimal.ensures.value, c.requires.empty, size_is) refl;
+    }

@@ -1,0 +1,4 @@
+-- In reading order.
+pub mod Usage
+pub mod Map
+pub mod Drawing

@@ -1,0 +1,13 @@
+//! What is shown of a machine's pool: what its objects take of it and what is left, as numbers, as a map of text, and as an
+//! SVG drawing. The map and the drawing are written to a sink.
+#![tactic(auto)]
+
+mod drawing;
+mod layout;
+mod map;
+mod usage;
+
+pub use drawing::show_drawing;
+pub use layout::cells_of;
+pub use map::{map_row, show_map};
+pub use usage::{Usage, usage_of};

@@ -1,0 +1,184 @@
+//! A map of a pool: a mark for each cell, which says what holds its bytes.
+ghost use Rattle.std.specs.Prelude.{◌≡◌, ◌<◌, ◌≤◌, ◌+◌, ◌^◌, ◌++◌, ◌↔◌, ℕ, List, [], false, true, IfOk, IsErr, IsTrue, OnErr, OnOk, length};
+ghost use Rattle.std.specs.Int.{div_ceil};
+ghost use Rattle.cc_machine.specs.Planned.{plan_of};
+ghost use Rattle.cc_explain.specs.Answer.{WritesAnswer};
+ghost use Rattle.cc_draw.specs.Map.{AreMapRows, HoldsByte, IsMap, IsMapOf, IsMapRow, TellsCell, map_row_text};
+ghost use Rattle.cc_explain.specs.Picture.{cell_bytes, cell_count};
+
+use crate::usage::pool_span;
+use cc_bounds::Span;
+use cc_explain::{CELLS, Stretch, shares_byte, write_answer};
+use cc_io::{IoError, Sink, Summary};
+use cc_machine::{Machine, ObjectState, PlannedObject};
+use cc_text::{Line, ROOM, Text, end_with_hexadecimal};
+
+/// The maximum number of cells of a map.
+const MOST_CELLS: u128 = 1024;
+
+/// Writes a map of the machine's pool, and flushes the sink once after it.
+///
+/// The map is a line with the size of a cell, and then at most 16 rows of up to 64 cells. Each row
+/// begins with the address of its first cell. At most 1,024 cells, as small as that allows, cover
+/// the pool, and their marks are those of [`map_row`]. The last cell may reach past the pool's top.
+/// Without a pool there is no row.
+///
+/// Requires: the sink has not failed.
+/// Errors: `Write` if and only if the sink fails. A prefix of the map is then written.
+pub fn show_map<W: Sink>(machine: &Machine, sink: &mut W) -> Result<Summary, IoError>
+    requires { W.has_failed sink.old ≡ false }
+    ensures shown { WritesAnswer (IsMap (plan_of machine.now)) (W.taken_bytes sink.old) (W.taken_bytes sink.new) result }
+    ensures any_error { IfOk result (λ summary. summary.any_error ≡ false) }
+    ensures flushed { OnOk result (W.is_flushed sink.new ≡ true) }
+    ensures fails { IsErr result ↔ (W.has_failed sink.new ≡ true) }
+    ensures write { OnErr result (result ≡ Err IoError.Write) }
+{
+    let mut text = Text::new();
+    push_map_of_machine(&mut text, machine);
+    write_answer(&text, sink)?;
+    Ok(Summary { any_error: false })
+}
+
+/// Appends the map of a machine's pool.
+///
+/// Requires: `text` is empty.
+fn push_map_of_machine(text: &mut Text, machine: &Machine)
+    requires { text.old ≡ [] }
+    ensures { IsMap (plan_of machine.now) text.new }
+{
+    let planner = machine.planner();
+    push_map(text, planner.objects(), &pool_span(planner.pool()));
+}
+
+/// Appends the map of these objects in this pool.
+///
+/// Requires: `text` is empty.
+fn push_map(text: &mut Text, objects: &[PlannedObject], pool: &Span)
+    requires empty { text.old ≡ [] }
+    requires in_order { pool.now.base ≤ pool.now.top }
+    requires fits { pool.now.top ≤ 2 ^ 64 }
+    ensures { IsMapOf objects.now pool.now text.new }
+{
+    let bytes = pool.len();
+    let size = cell_size(bytes);
+    let cells = cell_count(bytes, size);
+    end_with_hexadecimal(
+        text,
+        b"cells of ",
+        size,
+        b" bytes: # live, ~ quarantined, * both, . free",
+    );
+    push_rows(text, objects, u128::from(pool.base), size, cells);
+}
+
+/// Returns the number of bytes of a cell: the smallest number, at least 1, with which 1,024 cells
+/// cover `bytes` bytes.
+fn cell_size(bytes: u128) -> u128
+    requires { bytes ≤ 2 ^ 64 }
+    ensures value { result ≡ cell_bytes 1024 bytes }
+    ensures fits { result ≤ 2 ^ 54 }
+{
+    bytes.div_ceil(MOST_CELLS).max(1)
+}
+
+/// Returns the number of cells of this size that cover the bytes. The last may reach past their
+/// end.
+fn cell_count(bytes: u128, size: u128) -> usize
+    requires { size ≡ cell_bytes 1024 bytes }
+    ensures value { result ≡ cell_count 1024 bytes }
+    ensures few { result ≤ 1024 }
+{
+    bytes.div_ceil(size) as usize
+}
+
+/// Appends the rows of these cells, which follow one another from `start` on.
+fn push_rows(text: &mut Text, objects: &[PlannedObject], start: u128, size: u128, cells: usize)
+    requires start { start ≤ 2 ^ 64 }
+    requires size { size ≤ 2 ^ 54 }
+    requires cells { cells ≤ 1024 }
+    requires room { length text.old ≤ 200 }
+    ensures { (rows : List ℕ) × AreMapRows objects.now size (div_ceil cells 64) start cells rows × (text.new ≡ text.old ++ rows) }
+{
+    let mut first = start;
+    let mut left = cells;
+    let mut rows_left = cells.div_ceil(CELLS);
+    'rows: while rows_left > 0 {
+        let row = map_row(objects, first, size);
+        push_row(text, first, &row[..left.min(CELLS)]);
+        first += 64 * size;
+        left = left.saturating_sub(CELLS);
+        rows_left -= 1;
+    }
+}
+
+/// Appends a row: the address of its first cell, and the marks of its cells.
+fn push_row(text: &mut Text, start: u128, cells: &[u8])
+    requires cells { length cells.now ≤ 64 }
+    requires room { length text.old + 120 ≤ ROOM }
+    ensures value { text.new ≡ text.old ++ map_row_text start cells.now }
+    ensures fits { length text.new ≤ length text.old + 120 }
+{
+    let mut line = Line::new();
+    line.push_hexadecimal(start);
+    line.push(b" ");
+    line.push(cells);
+    text.push_line(&line);
+}
+
+/// Returns the marks of 64 cells of `size` bytes, which follow one another from the address `start`
+/// on.
+///
+/// The mark of a cell is:
+///
+/// - `#` if some of its bytes are live and none is quarantined
+/// - `~` if some are quarantined and none is live
+/// - `*` if some are live and some are quarantined
+/// - `.` if no live or quarantined object holds a byte of it
+///
+/// Requires: `start < 2^66`; `size < 2^66`.
+pub fn map_row(objects: &[PlannedObject], start: u128, size: u128) -> [u8; 64]
+    requires start { start < 2 ^ 66 }
+    requires size { size < 2 ^ 66 }
+    ensures { IsMapRow objects.now start size result }
+{
+    let mut row = [b'.'; CELLS];
+    for index in 0..CELLS {
+        let first = start + index as u128 * size;
+        let cell = Stretch {
+            first,
+            end: first + size,
+        };
+        row[index] = mark_of(objects, &cell);
+    }
+    row
+}
+
+/// Returns the mark of a cell, one of those that [`map_row`] lists.
+fn mark_of(objects: &[PlannedObject], cell: &Stretch) -> u8
+    ensures { TellsCell objects.now (record { base = cell.now.first; top = cell.now.end }) result }
+{
+    let live = holds_byte(objects, ObjectState::Live, cell);
+    let quarantined = holds_byte(objects, ObjectState::Freed, cell);
+    match (live, quarantined) {
+        (true, false) => b'#',
+        (false, true) => b'~',
+        (true, true) => b'*',
+        (false, false) => b'.',
+    }
+}
+
+/// Returns whether the cell has a byte of an object in this state.
+fn holds_byte(objects: &[PlannedObject], state: ObjectState, cell: &Stretch) -> bool
+    ensures { IsTrue result ↔ HoldsByte objects.now state (record { base = cell.now.first; top = cell.now.end }) }
+{
+    for object in objects {
+        let bytes = Stretch {
+            first: u128::from(object.span.base),
+            end: object.span.top,
+        };
+        if object.state == state && shares_byte(&bytes, cell) {
+            return true;
+        }
+    }
+    false
+}

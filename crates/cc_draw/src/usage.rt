@@ -1,0 +1,213 @@
+//! The bytes of a machine's pool that its objects take, and those that are left.
+ghost use Rattle.std.specs.Prelude.{◌≡◌, ◌≤◌, ◌<◌, ◌+◌, ◌^◌, IfOk, count_by, length, max, option_map, unwrap_or};
+ghost use Rattle.std.specs.List.Sorted.{IsNonDecreasingBy, IsPermutation};
+ghost use Rattle.cc_bounds.specs.Span.{from_zero};
+ghost use Rattle.cc_plan.specs.Plan.{held_spans, is_freed, is_held};
+ghost use Rattle.cc_draw.specs.Usage.{IsUsage, asked_bytes_of, greatest, highest_top, hole, holes, is_live, is_swept};
+
+use cc_bounds::Span;
+use cc_cap::Cap;
+use cc_machine::{Machine, ObjectState, PlannedObject};
+use std::alloc::{AllocError, Global};
+
+/// The use of a machine's slots, objects and pool, and the bytes that are left.
+#[derive(Clone, Copy, PartialEq, Eq)]
+pub struct Usage {
+    /// The number of slots, including slot 0 and revoked ones: at least 1.
+    pub slots: u32,
+    /// The maximum number of slots, and of objects, of the machine.
+    pub limit: u32,
+    /// The number of objects that were made.
+    pub made: usize,
+    /// The number of live objects.
+    pub live: usize,
+    /// The number of objects that were freed and not swept so far.
+    pub quarantined: usize,
+    /// The number of swept objects.
+    pub swept: usize,
+    /// The number of bytes that were requested for all held objects, live or quarantined.
+    pub asked: u128,
+    /// The number of bytes that these objects hold, including padding.
+    pub held: u128,
+    /// The number of bytes of the pool, or 0 if there is none.
+    pub pool: u128,
+    /// The number of holes of the pool.
+    ///
+    /// A hole is the bytes between a held object and the next, or between one and an end of the
+    /// pool, if there are any. A pool with bytes and no held object is one hole.
+    pub holes: usize,
+    /// The number of bytes of the largest hole, or 0 if there is none.
+    pub largest: u128,
+    /// The highest top of all objects that were made, including swept ones, or 0 if none was made.
+    pub end: u128,
+}
+
+/// The number of holes, and the number of bytes of the largest.
+#[derive(Clone, Copy)]
+struct Holes {
+    count: usize,
+    largest: u128,
+}
+
+impl Holes {
+    /// Adds a gap of `gap` bytes. An empty gap is not a hole.
+    fn add(&mut self, gap: u128)
+        requires { self.old.count ≤ 65536 }
+        ensures count { self.new.count ≡ self.old.count + length (hole gap) }
+        ensures largest { self.new.largest ≡ max self.old.largest (greatest (hole gap)) }
+    {
+        if gap > 0 {
+            self.count += 1;
+            self.largest = self.largest.max(gap);
+        }
+    }
+}
+
+/// Returns the use of a machine's slots, objects and pool. At most 2^80 bytes are held.
+///
+/// Allocates memory for the held spans, which it sorts, and frees it.
+///
+/// Errors: `AllocError` if the allocation fails.
+pub fn usage_of(alloc: Global, machine: &Machine) -> Result<Usage, AllocError>
+    ensures usage { IfOk result (IsUsage machine.now) }
+    ensures fits { IfOk result (λ usage. usage.held ≤ 2 ^ 80) }
+{
+    let planner = machine.planner();
+    let objects = planner.objects();
+    let pool = pool_span(planner.pool());
+    let order = spans_in_order(alloc, objects)?;
+    let holes = holes_beside(&pool, order.as_slice());
+    Ok(Usage {
+        slots: machine.slots(),
+        limit: planner.limit(),
+        made: objects.len(),
+        live: live_count(objects),
+        quarantined: freed_count(objects),
+        swept: swept_count(objects),
+        asked: asked_bytes(objects),
+        held: planner.held_bytes(),
+        pool: pool.top - u128::from(pool.base),
+        holes: holes.count,
+        largest: holes.largest,
+        end: highest_top(objects),
+    })
+}
+
+/// Returns the bounds of a pool, or base and top 0 if there is none.
+pub(crate) fn pool_span(pool: Option<Cap>) -> Span
+    ensures value { result ≡ unwrap_or (option_map (λ pool. pool.span) pool) (from_zero 0) }
+    ensures in_order { result.base ≤ result.top }
+    ensures fits { result.top ≤ 2 ^ 64 }
+{
+    match pool {
+        Some(pool) => pool.span(),
+        None => Span { base: 0, top: 0 },
+    }
+}
+
+fn live_count(objects: &[PlannedObject]) -> usize
+    ensures { result ≡ count_by (λ object. is_live object.state) objects.now }
+{
+    objects
+        .iter()
+        .filter(|object| matches!(object.state, ObjectState::Live))
+        .count()
+}
+
+/// Returns the number of objects that are freed and not swept.
+fn freed_count(objects: &[PlannedObject]) -> usize
+    ensures { result ≡ count_by (λ object. is_freed object.state) objects.now }
+{
+    objects
+        .iter()
+        .filter(|object| matches!(object.state, ObjectState::Freed))
+        .count()
+}
+
+fn swept_count(objects: &[PlannedObject]) -> usize
+    ensures { result ≡ count_by (λ object. is_swept object.state) objects.now }
+{
+    objects
+        .iter()
+        .filter(|object| matches!(object.state, ObjectState::Swept))
+        .count()
+}
+
+/// Returns whether an object holds its bytes: it does until it is swept.
+fn is_held(object: &PlannedObject) -> bool
+    ensures { result ≡ is_held object.now.state }
+{
+    !matches!(object.state, ObjectState::Swept)
+}
+
+/// Returns the number of bytes that were requested for the held objects, without padding.
+fn asked_bytes(objects: &[PlannedObject]) -> u128
+    requires { asked_bytes_of objects.now < 2 ^ 128 }
+    ensures { result ≡ asked_bytes_of objects.now }
+{
+    let mut asked = 0;
+    let mut rest = objects;
+    'objects: while let Some((object, after)) = rest.split_first() {
+        if is_held(object) {
+            asked += object.size;
+        }
+        rest = after;
+    }
+    asked
+}
+
+/// Returns the highest top of the objects, or 0 if there is none.
+fn highest_top(objects: &[PlannedObject]) -> u128
+    ensures { result ≡ highest_top objects.now }
+{
+    let mut highest = 0;
+    let mut rest = objects;
+    'objects: while let Some((object, after)) = rest.split_first() {
+        highest = object.span.top.max(highest);
+        rest = after;
+    }
+    highest
+}
+
+/// Returns the spans of the held objects, in the order of the objects.
+fn held_spans(alloc: Global, objects: &[PlannedObject]) -> Result<Vec<Span>, AllocError>
+    ensures { IfOk result (λ spans. spans.items ≡ held_spans objects.now) }
+{
+    objects
+        .iter()
+        .filter(|object| is_held(object))
+        .map(|object| object.span)
+        .collect(alloc)
+}
+
+/// Returns the spans of the held objects, in the order of their addresses.
+fn spans_in_order(alloc: Global, objects: &[PlannedObject]) -> Result<Vec<Span>, AllocError>
+    ensures same { IfOk result (λ spans. IsPermutation (held_spans objects.now) spans.items) }
+    ensures sorted { IfOk result (λ spans. IsNonDecreasingBy (λ span. span.base) spans.items) }
+{
+    let mut spans = held_spans(alloc, objects)?;
+    spans.sort_unstable_by_key(|span| span.base);
+    Ok(spans)
+}
+
+/// Returns the holes that these spans leave in a pool. The spans are in the order of their
+/// addresses.
+fn holes_beside(pool: &Span, order: &[Span]) -> Holes
+    requires { length order.now ≤ 65536 }
+    ensures count { result.count ≡ length (holes pool.now.base pool.now.top order.now) }
+    ensures largest { result.largest ≡ greatest (holes pool.now.base pool.now.top order.now) }
+{
+    let mut holes = Holes {
+        count: 0,
+        largest: 0,
+    };
+    let mut from = u128::from(pool.base);
+    let mut rest = order;
+    'spans: while let Some((span, after)) = rest.split_first() {
+        holes.add(u128::from(span.base).saturating_sub(from));
+        from = span.top;
+        rest = after;
+    }
+    holes.add(pool.top.saturating_sub(from));
+    holes
+}

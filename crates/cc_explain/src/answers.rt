@@ -1,0 +1,51 @@
+//! Writes the output of a command all at once, and output that is a refusal.
+ghost use Rattle.std.specs.Prelude.{◌≡◌, ◌↔◌, [], false, true, IfOk, IsErr, OnOk, OnErr};
+ghost use Rattle.std.specs.Io.KnownBytes.{Appends};
+ghost use Rattle.cc_io.specs.Devices.{TakesBeginning};
+ghost use Rattle.cc_explain.specs.Answer.{IsRefusalLine, WritesAnswer};
+
+use cc_io::{IoError, Sink, Summary, write_all};
+use cc_text::{Text, refusal_bytes};
+use cc_word::Refusal;
+
+/// Writes the line of a refusal, `error CODE NAME`, and flushes the sink once after it. The summary
+/// reports an error.
+///
+/// Requires: the sink has not failed.
+/// Errors: `Write` if and only if the sink fails. A prefix of the line is then written.
+pub fn write_refusal<W: Sink>(refusal: Refusal, sink: &mut W) -> Result<Summary, IoError>
+    requires { W.has_failed sink.old ≡ false }
+    ensures shown { WritesAnswer (IsRefusalLine refusal) (W.taken_bytes sink.old) (W.taken_bytes sink.new) result }
+    ensures any_error { IfOk result (λ summary. summary.any_error ≡ true) }
+    ensures flushed { OnOk result (W.is_flushed sink.new ≡ true) }
+    ensures fails { IsErr result ↔ (W.has_failed sink.new ≡ true) }
+    ensures write { OnErr result (result ≡ Err IoError.Write) }
+{
+    let mut answer = Text::new();
+    push_refusal(&mut answer, refusal);
+    write_answer(&answer, sink)?;
+    Ok(Summary { any_error: true })
+}
+
+/// Puts the line of a refusal into an empty text.
+pub fn push_refusal(text: &mut Text, refusal: Refusal)
+    requires { text.old ≡ [] }
+    ensures { IsRefusalLine refusal text.new }
+{
+    text.push(refusal_bytes(refusal));
+}
+
+/// Writes an answer, then flushes the sink.
+///
+/// If the sink fails, a prefix of the answer was written.
+pub fn write_answer<W: Sink>(answer: &Text, sink: &mut W) -> Result<(), IoError>
+    requires { W.has_failed sink.old ≡ false }
+    ensures ok { OnOk result (Appends (W.taken_bytes sink.old) (W.taken_bytes sink.new) answer.now) }
+    ensures err { OnErr result (TakesBeginning (W.taken_bytes sink.old) (W.taken_bytes sink.new) answer.now) }
+    ensures flushed { OnOk result (W.is_flushed sink.new ≡ true) }
+    ensures fails { IsErr result ↔ (W.has_failed sink.new ≡ true) }
+    ensures write { OnErr result (result ≡ Err IoError.Write) }
+{
+    write_all(sink, answer.bytes()).map_err(|_| IoError::Write)?;
+    sink.flush().map_err(|_| IoError::Write)
+}

@@ -1,0 +1,168 @@
+//! The listing of a word: thirteen lines with its fields and the values that they decode to.
+ghost use Rattle.std.specs.Prelude.{◌≡◌, ◌+◌, ◌≤◌, ◌++◌, ◌↔◌, [], codes, decimal, false, true, length, IfOk, IsErr, IsTrue, OnErr, OnOk, if◌then◌else◌};
+ghost use Rattle.cc_word.specs.Word.{bit_of, word_of};
+ghost use Rattle.cc_word.specs.WordText.{digits_of, hexadecimal};
+ghost use Rattle.cc_explain.specs.Answer.{WritesAnswer};
+ghost use Rattle.cc_explain.specs.Listing.{IsListing, IsWordText, bounds_lines_of, field_lines_of, line_of, listing_of};
+ghost use Rattle.cc_explain.specs.Permissions.{permissions_text};
+
+use crate::answers::{push_refusal, write_answer};
+use crate::permissions::push_permissions;
+use bitflags::Flags;
+use cc_bounds::{Span, decode, exponent};
+use cc_cap::{Perms, is_canonical};
+use cc_io::{IoError, Sink, Summary};
+use cc_text::{Line, ROOM, Text};
+use cc_word::{Fields, Refusal, read_word, unpack};
+
+/// Writes the listing of a word, and flushes the sink once after the last line.
+///
+/// The listing has thirteen lines: the word, its eight fields, the exponent, base and top that they
+/// decode to, and whether the word is canonical. A word is 32 hexadecimal digits of either case.
+/// For any other string, the output is the line `error 1 syntax`.
+///
+/// Requires: the sink has not failed.
+/// Errors: `Write` if and only if the sink fails. A prefix of the output is then written.
+pub fn show_word<W: Sink>(text: &[u8], sink: &mut W) -> Result<Summary, IoError>
+    requires { W.has_failed sink.old ≡ false }
+    ensures shown { WritesAnswer (IsListing text.now) (W.taken_bytes sink.old) (W.taken_bytes sink.new) result }
+    ensures any_error { IfOk result (λ summary. IsTrue summary.any_error ↔ (¬ IsWordText text.now)) }
+    ensures flushed { OnOk result (W.is_flushed sink.new ≡ true) }
+    ensures fails { IsErr result ↔ (W.has_failed sink.new ≡ true) }
+    ensures write { OnErr result (result ≡ Err IoError.Write) }
+{
+    let mut answer = Text::new();
+    let summary = push_answer(&mut answer, text);
+    write_answer(&answer, sink)?;
+    Ok(summary)
+}
+
+/// Appends the listing of the word, or the refusal of a string that is not a word. The summary
+/// reports an error if and only if the string is not a word.
+fn push_answer(answer: &mut Text, text: &[u8]) -> Summary
+    requires { answer.old ≡ [] }
+    ensures listing { IsListing text.now answer.new }
+    ensures any_error { IsTrue result.any_error ↔ (¬ IsWordText text.now) }
+{
+    match read_word(text) {
+        Some(word) => {
+            let fields = unpack(word);
+            push_listing(answer, word, &fields, &decode(&fields), is_canonical(word));
+            Summary { any_error: false }
+        }
+        None => {
+            push_refusal(answer, Refusal::Syntax);
+            Summary { any_error: true }
+        }
+    }
+}
+
+/// Appends all thirteen lines of a word with these fields and bounds.
+fn push_listing(text: &mut Text, word: u128, fields: &Fields, bounds: &Span, canonical: bool)
+    requires { text.old ≡ [] }
+    ensures { text.new ≡ listing_of word fields.now bounds.now canonical }
+{
+    push_field_lines(text, word, fields);
+    push_bounds_lines(text, fields, bounds, canonical);
+}
+
+/// Appends the lines of a word and of its fields.
+fn push_field_lines(text: &mut Text, word: u128, fields: &Fields)
+    requires { text.old ≡ [] }
+    ensures value { text.new ≡ field_lines_of word fields.now }
+    ensures fits { length text.new ≤ 382 }
+{
+    push_digits_line(text, b"word", word, 32);
+    push_permissions_line(text, fields.perms);
+    push_decimal_line(text, b"reserved", u128::from(fields.reserved));
+    push_decimal_line(text, b"flag", u128::from(fields.flag));
+    push_digits_line(text, b"type", u128::from(fields.otype), 5);
+    push_decimal_line(text, b"ie", u128::from(fields.ie));
+    push_digits_line(text, b"t", u128::from(fields.t), 3);
+    push_digits_line(text, b"b", u128::from(fields.b), 4);
+    push_hexadecimal_line(text, b"address", u128::from(fields.address));
+}
+
+/// Appends the lines of the exponent and the bounds that the fields decode to, and of whether the
+/// word is canonical.
+fn push_bounds_lines(text: &mut Text, fields: &Fields, bounds: &Span, canonical: bool)
+    requires { length text.old + 143 ≤ ROOM }
+    ensures { text.new ≡ text.old ++ bounds_lines_of fields.now bounds.now canonical }
+{
+    push_decimal_line(text, b"exponent", u128::from(exponent(fields)));
+    push_hexadecimal_line(text, b"base", u128::from(bounds.base));
+    push_hexadecimal_line(text, b"top", bounds.top);
+    push_canonical_line(text, canonical);
+}
+
+/// Appends the line that says whether the word is canonical.
+fn push_canonical_line(text: &mut Text, canonical: bool)
+    requires { length text.old + 14 ≤ ROOM }
+    ensures value { text.new ≡ text.old ++ line_of (codes "canonical") (if canonical then codes "yes" else codes "no") }
+    ensures fits { length text.new ≤ length text.old + 14 }
+{
+    let mut line = line_named(b"canonical");
+    line.push(if canonical { b"yes" } else { b"no" });
+    text.push_line(&line);
+}
+
+/// Appends a line whose value is the last `count` hexadecimal digits of a number.
+fn push_digits_line(text: &mut Text, name: &[u8], number: u128, count: usize)
+    requires digits { count ≤ 32 }
+    requires name { length name.now ≤ 9 }
+    requires room { length text.old + length name.now + count + 2 ≤ ROOM }
+    ensures value { text.new ≡ text.old ++ line_of name.now (digits_of count number) }
+    ensures fits { length text.new ≤ length text.old + length name.now + count + 2 }
+{
+    let mut line = line_named(name);
+    line.push_digits(number, count);
+    text.push_line(&line);
+}
+
+/// Appends a line whose value is a number in decimal.
+fn push_decimal_line(text: &mut Text, name: &[u8], number: u128)
+    requires name { length name.now ≤ 9 }
+    requires room { length text.old + length name.now + 42 ≤ ROOM }
+    ensures value { text.new ≡ text.old ++ line_of name.now (decimal number) }
+    ensures fits { length text.new ≤ length text.old + length name.now + 42 }
+{
+    let mut line = line_named(name);
+    line.push_decimal(number);
+    text.push_line(&line);
+}
+
+/// Appends a line whose value is a number in hexadecimal, with `0x` and without leading zeros.
+fn push_hexadecimal_line(text: &mut Text, name: &[u8], number: u128)
+    requires name { length name.now ≤ 9 }
+    requires room { length text.old + length name.now + 36 ≤ ROOM }
+    ensures value { text.new ≡ text.old ++ line_of name.now (hexadecimal number) }
+    ensures fits { length text.new ≤ length text.old + length name.now + 36 }
+{
+    let mut line = line_named(name);
+    line.push_hexadecimal(number);
+    text.push_line(&line);
+}
+
+/// Appends the line of the permissions, as digits and by name.
+fn push_permissions_line(text: &mut Text, perms: u16)
+    requires { length text.old + 137 ≤ ROOM }
+    ensures value { text.new ≡ text.old ++ line_of (codes "perms") (digits_of 4 perms ++ codes " " ++ permissions_text perms) }
+    ensures fits { length text.new ≤ length text.old + 137 }
+{
+    let mut line = line_named(b"perms");
+    line.push_digits(u128::from(perms), 4);
+    line.push(b" ");
+    push_permissions(&mut line, Perms::from_bits_retain(perms));
+    text.push_line(&line);
+}
+
+/// Returns the start of a line: its name and a space.
+fn line_named(name: &[u8]) -> Line
+    requires { length name.now ≤ 9 }
+    ensures { result ≡ name.now ++ codes " " }
+{
+    let mut line = Line::new();
+    line.push(name);
+    line.push(b" ");
+    line
+}
