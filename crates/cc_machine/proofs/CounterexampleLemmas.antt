@@ -309,4 +309,3 @@ pub ruleset exactness_breaks = (object_without_bytes-breaks, object_off_alignmen
 pub ruleset disjointness_breaks = (live_in_freed-breaks)
 
 pub ruleset reaching_breaks = (five_refusals-break)
-

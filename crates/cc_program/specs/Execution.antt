@@ -9,15 +9,15 @@ use Rattle.cc_machine.specs.declared.op.Op.{Op}
 use Rattle.cc_machine.specs.declared.reply.Reply.{Reply}
 use Rattle.cc_machine.specs.State.{initial_state}
 use Rattle.cc_machine.specs.Planned.{plan_of}
-use Rattle.cc_command.specs.Answer.{IsRefusalLine, WritesAnswer}
-use Rattle.cc_command.specs.Drawing.{IsDrawing}
-use Rattle.cc_command.specs.Map.{IsMap}
+use Rattle.cc_explain.specs.Answer.{IsRefusalLine, WritesAnswer}
+use Rattle.cc_draw.specs.Drawing.{IsDrawing}
+use Rattle.cc_draw.specs.Map.{IsMap}
 use Rattle.cc_command.specs.Planning.{plan_opening, pool_of}
 use Rattle.cc_command.specs.Session.{AnswersSession, SessionState}
 use Rattle.cc_command.specs.Statistics.{statistics_text}
 use Rattle.cc_command.specs.Tally.{Exchange, IsTally}
-use Rattle.cc_command.specs.Usage.{IsUsage}
-use Rattle.cc_command.specs.declared.usage.Usage.{Usage}
+use Rattle.cc_draw.specs.Usage.{IsUsage}
+use Rattle.cc_draw.specs.declared.usage.Usage.{Usage}
 use Rattle.cc_arguments.specs.declared.invocation.PoolTexts.{PoolTexts}
 use Rattle.cc_decode.specs.declared.options.Options.{Options}
 use Rattle.cc_decode.specs.Correct.{Lists, ListsWhole}

@@ -6,8 +6,8 @@ use Rattle.cc_command.specs.Hints.{hints_of, hints_text}
 use Rattle.cc_command.specs.Session.{SessionState}
 use Rattle.cc_command.specs.Statistics.{statistics_text}
 use Rattle.cc_command.specs.Tally.{Exchange}
-use Rattle.cc_command.specs.Usage.{IsUsage}
-use Rattle.cc_command.specs.declared.usage.Usage.{Usage}
+use Rattle.cc_draw.specs.Usage.{IsUsage}
+use Rattle.cc_draw.specs.declared.usage.Usage.{Usage}
 use Rattle.cc_program.specs.declared.report.Report.{Report}
 use Rattle.cc_program.specs.declared.report.Terminals.{Terminals}
 

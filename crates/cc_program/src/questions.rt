@@ -1,6 +1,6 @@
 //! `show`, `explain` and `round`: which call answers each question.
 ghost use Rattle.std.specs.Prelude.{◌≡◌, ◌↔◌, [], Err, false, true, IfOk, IsErr, IsTrue, OnErr, OnOk};
-ghost use Rattle.cc_command.specs.Answer.{WritesAnswer};
+ghost use Rattle.cc_explain.specs.Answer.{WritesAnswer};
 ghost use Rattle.cc_program.specs.Questions.{IsAnswerTo, IsUnanswerable};
 
 use cc_arguments::Question;

@@ -3,9 +3,9 @@ use Rattle.std.specs.Borrow.{Bor}
 use Rattle.std.specs.Prelude.{Result, IfOk, IsTrue, ◌↔◌}
 use Rattle.cc_io.specs.declared.summary.IoError.{IoError}
 use Rattle.cc_io.specs.declared.summary.Summary.{Summary}
-use Rattle.cc_command.specs.Answer.{WritesAnswer}
-use Rattle.cc_command.specs.Explanation.{IsExplanation}
-use Rattle.cc_command.specs.Listing.{IsWordText}
+use Rattle.cc_explain.specs.Answer.{WritesAnswer}
+use Rattle.cc_explain.specs.Explanation.{IsExplanation}
+use Rattle.cc_explain.specs.Listing.{IsWordText}
 use Rattle.cc_arguments.specs.declared.question.Question.{Question}
 use Rattle.cc_program.specs.Questions.{IsAnswerTo, IsUnanswerable}
 use Rattle.cc_program.proofs.questions.answer_question.Goals as goal
