@@ -1,6 +1,6 @@
 -- The result of a command, from that of its devices.
-use Rattle.std.proofs.Common.{◌≡◌, ℕ, List, Option, Result, Ok, Err, MatchResult, subst, sym}
-use Rattle.cc_word.specs.declared.refusal.Refusal.{Refusal}
+use Rattle.std.proofs.Common.{◌≡◌, ◌∙◌, ℕ, List, Option, Some, None, Result, Ok, Err, subst, sym}
+use Rattle.std.specs.Prelude.{IfSome}
 use Rattle.cc_io.specs.declared.summary.IoError.{IoError}
 use Rattle.cc_io.specs.declared.summary.IoError.TheVariants.{Read, Write}
 use Rattle.cc_io.specs.declared.summary.Summary.{Summary}
@@ -39,3 +39,8 @@ on_devices-map Holds Also so (Err fault.Read) holds = so (Err Read) holds
 on_devices-map Holds Also so (Err fault.Write) holds = so (Err Write) holds
 on_devices-map Holds Also so (Err fault.Memory) holds = tt
 on_devices-map Holds Also so (Err fault.Open) holds = tt
+
+-- What is known of the bytes of a source, by a source with the same bytes.
+pub known_too : (known one other : Option (List ℕ)) → one ≡ other → IfSome known (λ bytes. other ≡ Some bytes) → IfSome known (λ bytes. one ≡ Some bytes)
+known_too None one other same told = tt
+known_too (Some bytes) one other same told = same ∙ told

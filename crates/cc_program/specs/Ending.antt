@@ -2,7 +2,7 @@
 use Rattle.std.specs.Prelude.{◌≡◌, ◌⊎◌, List, Option, Result}
 use Rattle.clap.specs.Words.{Row, Text}
 use Rattle.cc_io.specs.declared.summary.Summary.{Summary}
-use Rattle.cc_program.specs.Execution.{Executes, OnDevices, Traffic}
+use Rattle.cc_program.specs.Execution.{Console, Executes, OnDevices}
 use Rattle.cc_arguments.specs.Invocation.{IsInvocation}
 use Rattle.cc_program.specs.Outcome.{ending_of}
 use Rattle.cc_arguments.specs.declared.invocation.Invocation.{Invocation}
@@ -16,9 +16,9 @@ use Rattle.cc_program.specs.declared.report.Terminals.{Terminals}
 pub record ExecutesCommand (found : Option (Text × List Row)) (terminals : Terminals) (ending : Ending) : Type 0 where
   pub invocation : Invocation
   pub is_invocation : IsInvocation found invocation
-  pub traffic : Traffic
+  pub console : Console
   pub result : Result Summary Fault
-  pub executes : OnDevices (Executes invocation terminals traffic) result
+  pub executes : OnDevices (Executes invocation terminals console) result
   pub ends : ending ≡ ending_of result
 
 -- EndsCommand holds if the command that clap found was executed, or memory ran out before it began.

@@ -7,7 +7,7 @@ use Rattle.cc_io.specs.declared.summary.IoError.TheVariants.{Read, Write}
 use Rattle.cc_io.specs.declared.summary.Summary.{Summary}
 use Rattle.cc_machine.specs.declared.op.Op.{Op}
 use Rattle.cc_machine.specs.declared.reply.Reply.{Reply}
-use Rattle.cc_machine.specs.State.{initial_state}
+use Rattle.cc_machine.specs.State.{State, initial_state}
 use Rattle.cc_machine.specs.Planned.{plan_of}
 use Rattle.cc_explain.specs.Answer.{IsRefusalLine, WritesAnswer}
 use Rattle.cc_draw.specs.Drawing.{IsDrawing}
@@ -33,15 +33,45 @@ use Rattle.cc_arguments.specs.declared.question.Question.{Question}
 use Rattle.cc_program.specs.declared.report.Report.{Report}
 use Rattle.cc_program.specs.declared.report.Terminals.{Terminals}
 
--- The bytes of the inputs, and those that the output and standard error have taken before and after a command, if they are known;
--- and whether a write to standard error has failed.
+-- The bytes that a source has unread and those that a sink and standard error have taken, before and after a run, if the devices
+-- say which they are; and whether a write to standard error has failed.
 pub record Traffic : Type 0 where
+  pub unread : Option (List ℕ)
+  pub left : Option (List ℕ)
+  pub output : Option (List ℕ)
+  pub output_now : Option (List ℕ)
+  pub errors : Option (List ℕ)
+  pub errors_now : Option (List ℕ)
+  pub errors_failed : Bool
+
+-- The bytes of the inputs, if they are known, and the others as in `Traffic`.
+pub record Console : Type 0 where
   pub input : InputName → Option (List ℕ)
   pub output : Option (List ℕ)
   pub output_now : Option (List ℕ)
   pub errors : Option (List ℕ)
   pub errors_now : Option (List ℕ)
   pub errors_failed : Bool
+
+-- The traffic of a run that reads one of the inputs.
+abbrev pub traffic_of : Console → (unread left : Option (List ℕ)) → Traffic
+traffic_of console unread left = record {
+  unread = unread;
+  left = left;
+  output = console.output;
+  output_now = console.output_now;
+  errors = console.errors;
+  errors_now = console.errors_now;
+  errors_failed = console.errors_failed;
+}
+
+-- FromInput holds if the claim holds of a run that reads this input: its unread bytes at first are those of the input, if these are
+-- known.
+pub record FromInput (input : InputName) (console : Console) (Does : Traffic → Result Summary IoError → Type 0) (result : Result Summary IoError) : Type 0 where
+  pub unread : Option (List ℕ)
+  pub left : Option (List ℕ)
+  pub known : IfSome (console.input input) (λ bytes. unread ≡ Some bytes)
+  pub does : Does (traffic_of console unread left) result
 
 -- OnDevices holds if the result is that of the devices, and the claim holds of it. It holds if memory ran out or the input was not
 -- opened.
@@ -63,18 +93,11 @@ pub record Refuses (output output_now : Option (List ℕ)) (refusal : Refusal) (
   pub written : WritesAnswer (IsRefusalLine refusal) output output_now result
   pub error_is : IfOk result (λ summary. summary.any_error ≡ true)
 
--- Unread holds if these are the unread bytes of an input at first, if its bytes are known.
-abbrev pub Unread : (known unread : Option (List ℕ)) → Type 0
-Unread known unread = IfSome known (λ bytes. unread ≡ Some bytes)
-
--- ReportsRun holds if a new machine of at most `limit` slots and objects took the operations of `opening` and then the script, the
--- bytes written are its replies, up to a failure, and a run that came to its end was reported.
-pub record ReportsRun (report : Report) (opening : List Op) (pool : Option ℕ) (limit : ℕ) (input : InputName) (traffic : Traffic) (result : Result Summary IoError) : Type 0 where
+-- ReportsRun holds if a machine in the state `start` took the operations of `opening` and then the script, the bytes written are
+-- its replies, up to a failure, and a run that came to its end was reported.
+pub record ReportsRun (report : Report) (opening : List Op) (pool : Option ℕ) (start : State) (traffic : Traffic) (result : Result Summary IoError) : Type 0 where
   pub session : SessionState
-  pub unread : Option (List ℕ)
-  pub left : Option (List ℕ)
-  pub known : Unread (traffic.input input) unread
-  pub answers : AnswersSession 65536 (initial_state limit) opening unread left (Appends traffic.output traffic.output_now) result session.tally session.machine
+  pub answers : AnswersSession 65536 start opening traffic.unread traffic.left (Appends traffic.output traffic.output_now) result session.tally session.machine
   pub reported : OnOk result (traffic.errors_failed ≡ false → (first : List Reply) (exchanges : List Exchange)
       → IsTally first exchanges session.tally → WritesReport report session first exchanges pool traffic.errors traffic.errors_now)
 
@@ -98,43 +121,38 @@ abbrev pub DrawsPool : (svg : Bool) → SessionState → (output output_now : Op
 DrawsPool true session output output_now = DrawsPage session output output_now
 DrawsPool false session output output_now = DrawsMap session output output_now
 
--- DrawsEnd holds if a new machine of at most `limit` slots and objects took the operations of `opening` and then the script to its
--- end, and its pool was drawn as it is then. The summary says whether a reply is an error.
-pub record DrawsEnd (svg : Bool) (opening : List Op) (limit : ℕ) (input : InputName) (bytes_of : InputName → Option (List ℕ)) (output output_now : Option (List ℕ)) (summary : Summary) : Type 0 where
+-- DrawsEnd holds if a machine in the state `start` took the operations of `opening` and then the script to its end, and its pool was
+-- drawn as it is then. The summary says whether a reply is an error.
+pub record DrawsEnd (svg : Bool) (opening : List Op) (start : State) (traffic : Traffic) (summary : Summary) : Type 0 where
   pub session : SessionState
-  pub unread : Option (List ℕ)
-  pub left : Option (List ℕ)
-  pub known : Unread (bytes_of input) unread
-  pub answers : AnswersSession 65536 (initial_state limit) opening unread left (Appends None None) (Ok summary) session.tally session.machine
-  pub drawn : DrawsPool svg session output output_now
+  pub answers : AnswersSession 65536 start opening traffic.unread traffic.left (Appends None None) (Ok summary) session.tally session.machine
+  pub drawn : DrawsPool svg session traffic.output traffic.output_now
 
 -- The pool was drawn at the end of the run. Nothing was written if a read failed.
-abbrev pub DrawsRun : (svg : Bool) (opening : List Op) (limit : ℕ) (input : InputName) (bytes_of : InputName → Option (List ℕ)) (output output_now : Option (List ℕ)) → Result Summary IoError → Type 0
-DrawsRun svg opening limit input bytes_of output output_now (Ok summary) = DrawsEnd svg opening limit input bytes_of output output_now summary
-DrawsRun svg opening limit input bytes_of output output_now (Err Read) = output_now ≡ output
-DrawsRun svg opening limit input bytes_of output output_now (Err Write) = ⊤
+abbrev pub DrawsRun : (svg : Bool) (opening : List Op) (start : State) → Traffic → Result Summary IoError → Type 0
+DrawsRun svg opening start traffic (Ok summary) = DrawsEnd svg opening start traffic summary
+DrawsRun svg opening start traffic (Err Read) = traffic.output_now ≡ traffic.output
+DrawsRun svg opening start traffic (Err Write) = ⊤
 
 -- ListsWords holds if the rows of the words that the input gave were written, up to a failure.
-pub record ListsWords (options : Options) (input : InputName) (bytes_of : InputName → Option (List ℕ)) (output output_now : Option (List ℕ)) (result : Result Summary IoError) : Type 0 where
-  pub unread : Option (List ℕ)
-  pub left : Option (List ℕ)
-  pub known : Unread (bytes_of input) unread
-  pub lists : Lists options unread left output output_now result
-  pub whole : IfSome unread (λ text. ListsWhole options text left output output_now result)
+pub record ListsWords (options : Options) (traffic : Traffic) (result : Result Summary IoError) : Type 0 where
+  pub lists : Lists options traffic.unread traffic.left traffic.output traffic.output_now result
+  pub whole : IfSome traffic.unread (λ text. ListsWhole options text traffic.left traffic.output traffic.output_now result)
 
 -- What a command with a pool does if BASE and LENGTH are numbers that a pool can have; otherwise they are refused.
-abbrev pub WithPool : (pool : PoolTexts) → Traffic → (Does : (base size : ℕ) → Result Summary IoError → Type 0) → Result Summary IoError → Type 0
-WithPool pool traffic Does result =
+abbrev pub WithPool : (pool : PoolTexts) → Console → (Does : (base size : ℕ) → Result Summary IoError → Type 0) → Result Summary IoError → Type 0
+WithPool pool console Does result =
     MatchResult (pool_of pool.base.now pool.length.now) (λ numbers. Does numbers.0 numbers.1 result)
-    (λ refusal. Refuses traffic.output traffic.output_now refusal result)
+    (λ refusal. Refuses console.output console.output_now refusal result)
 
 -- Executes holds if the bytes written and the summary are those of the command for its input, up to a failure.
-abbrev pub Executes : Invocation → Terminals → Traffic → Result Summary IoError → Type 0
-Executes (Ask question) terminals traffic result = AnswersQuestion question traffic.output traffic.output_now result
-Executes (Run limit stats file) terminals traffic result = ReportsRun (report_of stats terminals) [] None limit (file_input file) traffic result
-Executes (Plan limit pool align stats file) terminals traffic result =
-    WithPool pool traffic
-    (λ base size. ReportsRun (report_of stats terminals) (plan_opening base size align) (Some size) limit (file_input file) traffic) result
-Executes (Map limit pool align svg file) terminals traffic result =
-    WithPool pool traffic (λ base size. DrawsRun svg (plan_opening base size align) limit (file_input file) traffic.input traffic.output traffic.output_now) result
-Executes (Decode options file) terminals traffic result = ListsWords options (file_input file) traffic.input traffic.output traffic.output_now result
+abbrev pub Executes : Invocation → Terminals → Console → Result Summary IoError → Type 0
+Executes (Ask question) terminals console result = AnswersQuestion question console.output console.output_now result
+Executes (Run limit stats file) terminals console result =
+    FromInput (file_input file) console (ReportsRun (report_of stats terminals) [] None (initial_state limit)) result
+Executes (Plan limit pool align stats file) terminals console result =
+    WithPool pool console
+    (λ base size. FromInput (file_input file) console (ReportsRun (report_of stats terminals) (plan_opening base size align) (Some size) (initial_state limit))) result
+Executes (Map limit pool align svg file) terminals console result =
+    WithPool pool console (λ base size. FromInput (file_input file) console (DrawsRun svg (plan_opening base size align) (initial_state limit))) result
+Executes (Decode options file) terminals console result = FromInput (file_input file) console (ListsWords options) result

@@ -4,7 +4,7 @@ ghost use Rattle.clap.specs.Words.{Row, Text};
 ghost use Rattle.cc_machine.specs.State.{initial_state};
 ghost use Rattle.cc_command.specs.Tally.{IsTally};
 ghost use Rattle.cc_arguments.specs.Invocation.{IsInvocation};
-ghost use Rattle.cc_program.specs.Execution.{DrawsRun, Executes, ListsWords, OnDevices, ReportsRun};
+ghost use Rattle.cc_program.specs.Execution.{Console, DrawsRun, Executes, FromInput, ListsWords, OnDevices, ReportsRun, Traffic};
 ghost use Rattle.cc_program.specs.Input.{IsFile, ReadsFile};
 
 use crate::discard::Discard;
@@ -18,7 +18,7 @@ use cc_command::{
     usage_of, write_refusal,
 };
 use cc_decode::{Options, decode_words};
-use cc_io::{FromReader, Sink, Summary};
+use cc_io::{FromReader, Sink, Source, Summary};
 use cc_machine::{Len, Machine, Op};
 use cc_text::Waiting;
 use std::alloc::{AllocError, Global};
@@ -142,14 +142,14 @@ fn run<R: AllocGlobal, I: Inputs, W: Sink, E: Sink>(
     requires few { 193 * length opening.now ≤ 65536 }
     requires sink { W.has_failed sink.old ≡ false }
     requires errors { E.has_failed errors.old ≡ false }
-    ensures runs { OnDevices (ReportsRun report opening.now pool limit input.entry (record {
+    ensures runs { OnDevices (FromInput input.entry (record {
       input = I.bytes_of inputs.now;
       output = W.taken_bytes sink.old;
       output_now = W.taken_bytes sink.new;
       errors = E.taken_bytes errors.old;
       errors_now = E.taken_bytes errors.new;
       errors_failed = E.has_failed errors.new;
-    })) result }
+    }) (ReportsRun report opening.now pool (initial_state limit))) result }
     ensures open { result ≡ Err Fault.Open → IsFile input.entry }
     ensures write { (result ≡ Err Fault.Write) ↔ (W.has_failed sink.new ≡ true) }
     ensures flushed { OnOk result (W.is_flushed sink.new ≡ true) }
@@ -157,14 +157,56 @@ fn run<R: AllocGlobal, I: Inputs, W: Sink, E: Sink>(
 {
     let mut session = new_session(rt.alloc(), limit)?;
     let mut source = FromReader::new(inputs.open(input)?);
+    run_and_report(
+        rt,
+        opening,
+        pool,
+        report,
+        &mut session,
+        &mut source,
+        sink,
+        errors,
+    )
+}
+
+/// Runs a script, and reports the run if it came to its end.
+fn run_and_report<R: AllocGlobal, S: Source, W: Sink, E: Sink>(
+    rt: &R,
+    opening: &[Op],
+    pool: Option<Len>,
+    report: Report,
+    session: &mut Session,
+    source: &mut S,
+    sink: &mut W,
+    errors: &mut E,
+) -> Result<Summary, Fault>
+    requires fresh { IsTally [] [] session.old.tally }
+    requires few { 193 * length opening.now ≤ 65536 }
+    requires source { S.has_failed source.old ≡ false }
+    requires sink { W.has_failed sink.old ≡ false }
+    requires errors { E.has_failed errors.old ≡ false }
+    ensures runs { OnDevices (ReportsRun report opening.now pool session.old.machine (record {
+      unread = S.to_come source.old;
+      left = S.to_come source.new;
+      output = W.taken_bytes sink.old;
+      output_now = W.taken_bytes sink.new;
+      errors = E.taken_bytes errors.old;
+      errors_now = E.taken_bytes errors.new;
+      errors_failed = E.has_failed errors.new;
+    })) result }
+    ensures open { result ≢ Err Fault.Open }
+    ensures read { (result ≡ Err Fault.Read) ↔ (S.has_failed source.new ≡ true) }
+    ensures write { (result ≡ Err Fault.Write) ↔ (W.has_failed sink.new ≡ true) }
+    ensures flushed { OnOk result (W.is_flushed sink.new ≡ true) }
+    ensures unreported { OnErr result (E.taken_bytes errors.new ≡ E.taken_bytes errors.old) }
+{
     let mut page = Waiting::new();
-    let summary = run_session(opening, &mut session, &mut source, sink, &mut page)?;
-    write_report(rt, &session, pool, report, errors)?;
+    let summary = run_session(opening, session, source, sink, &mut page)?;
+    write_report(rt, session, pool, report, errors)?;
     Ok(summary)
 }
 
-/// Runs a script on a new machine without writing the replies, and draws the pool if the script came to its end: an SVG
-/// document, or a map and the summary of the run.
+/// Runs a script on a new machine without writing the replies, and draws the pool if the script came to its end.
 fn draw<R: AllocGlobal, I: Inputs, W: Sink>(
     rt: &R,
     limit: u32,
@@ -178,15 +220,41 @@ fn draw<R: AllocGlobal, I: Inputs, W: Sink>(
     requires at_most { limit ≤ 65536 }
     requires few { 193 * length opening.now ≤ 65536 }
     requires sink { W.has_failed sink.old ≡ false }
-    ensures draws { OnDevices (DrawsRun svg opening.now limit input.entry (I.bytes_of inputs.now) (W.taken_bytes sink.old) (W.taken_bytes sink.new)) result }
+    ensures draws { (console : Console) → console.input ≡ I.bytes_of inputs.now → console.output ≡ W.taken_bytes sink.old → console.output_now ≡ W.taken_bytes sink.new
+        → OnDevices (FromInput input.entry console (DrawsRun svg opening.now (initial_state limit))) result }
     ensures open { result ≡ Err Fault.Open → IsFile input.entry }
     ensures write { (result ≡ Err Fault.Write) ↔ (W.has_failed sink.new ≡ true) }
     ensures flushed { OnOk result (W.is_flushed sink.new ≡ true) }
 {
     let mut session = new_session(rt.alloc(), limit)?;
     let mut source = FromReader::new(inputs.open(input)?);
+    draw_end(rt, opening, svg, &mut session, &mut source, sink)
+}
+
+/// Runs a script without writing the replies, and draws the pool if the script came to its end: an SVG document, or a map
+/// and the summary of the run.
+fn draw_end<R: AllocGlobal, S: Source, W: Sink>(
+    rt: &R,
+    opening: &[Op],
+    svg: bool,
+    session: &mut Session,
+    source: &mut S,
+    sink: &mut W,
+) -> Result<Summary, Fault>
+    requires fresh { IsTally [] [] session.old.tally }
+    requires few { 193 * length opening.now ≤ 65536 }
+    requires source { S.has_failed source.old ≡ false }
+    requires sink { W.has_failed sink.old ≡ false }
+    ensures draws { (traffic : Traffic) → traffic.unread ≡ S.to_come source.old → traffic.left ≡ S.to_come source.new
+        → traffic.output ≡ W.taken_bytes sink.old → traffic.output_now ≡ W.taken_bytes sink.new
+        → OnDevices (DrawsRun svg opening.now session.old.machine traffic) result }
+    ensures open { result ≢ Err Fault.Open }
+    ensures read { (result ≡ Err Fault.Read) ↔ (S.has_failed source.new ≡ true) }
+    ensures write { (result ≡ Err Fault.Write) ↔ (W.has_failed sink.new ≡ true) }
+    ensures flushed { OnOk result (W.is_flushed sink.new ≡ true) }
+{
     let mut page = Waiting::new();
-    let summary = run_session(opening, &mut session, &mut source, &mut Discard, &mut page)?;
+    let summary = run_session(opening, session, source, &mut Discard, &mut page)?;
     if svg {
         show_drawing(session.machine(), sink)?;
     } else {
@@ -205,7 +273,8 @@ fn list_words<I: Inputs, W: Sink>(
     sink: &mut W,
 ) -> Result<Summary, Fault>
     requires { W.has_failed sink.old ≡ false }
-    ensures lists { OnDevices (ListsWords options input.entry (I.bytes_of inputs.now) (W.taken_bytes sink.old) (W.taken_bytes sink.new)) result }
+    ensures lists { (console : Console) → console.input ≡ I.bytes_of inputs.now → console.output ≡ W.taken_bytes sink.old → console.output_now ≡ W.taken_bytes sink.new
+        → OnDevices (FromInput input.entry console (ListsWords options)) result }
     ensures open { result ≡ Err Fault.Open → IsFile input.entry }
     ensures memory { result ≢ Err Fault.Memory }
     ensures write { (result ≡ Err Fault.Write) ↔ (W.has_failed sink.new ≡ true) }

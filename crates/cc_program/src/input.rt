@@ -1,5 +1,5 @@
 //! The inputs that commands read.
-ghost use Rattle.std.specs.Prelude.{◌≡◌, ℕ, List, Option, Some, IfErr, IfOk, IfSome, IsTrue, ◌↔◌};
+ghost use Rattle.std.specs.Prelude.{◌≡◌, ℕ, List, None, Option, Some, IfErr, IfOk, IfSome, IsTrue, ◌↔◌};
 ghost use Rattle.cc_program.specs.declared.input.InputName.{InputName as InputNameSpec};
 ghost use Rattle.cc_program.specs.Input.{IsFile, WritesReplies, file_input};
 

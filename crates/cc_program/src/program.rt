@@ -4,7 +4,7 @@ ghost use Rattle.clap.specs.Walk.{texts};
 ghost use Rattle.clap.specs.Words.{App, Row, Text, kind_of, subcommand_of};
 ghost use Rattle.cc_program.specs.declared.outcome.Ending.TheVariants as ending;
 ghost use Rattle.cc_program.specs.Ending.{EndsCommand};
-ghost use Rattle.cc_program.specs.Execution.{Executes, OnDevices, Traffic};
+ghost use Rattle.cc_program.specs.Execution.{Console, Executes, OnDevices};
 ghost use Rattle.cc_program.specs.Input.{ReadsFile};
 ghost use Rattle.cc_arguments.specs.Invocation.{IsInvocation, IsProgram, faults_of, is_taken};
 ghost use Rattle.cc_program.specs.Outcome.{EndsBy, EndsOn, status_of};
@@ -101,7 +101,7 @@ fn execute_in_process<R: AllocGlobal + Files + Input + Print + Eprint>(
     invocation: Invocation<'_>,
 ) -> Result<Summary, Fault>
     requires invocation { (found : Option (Text × List Row)) × IsInvocation found invocation }
-    ensures executes { (traffic : Traffic) × OnDevices (Executes invocation.entry terminals traffic) result }
+    ensures executes { (console : Console) × OnDevices (Executes invocation.entry terminals console) result }
     ensures open { result ≡ Err Fault.Open → ReadsFile invocation.entry }
 {
     let is_typed = writes_replies(invocation) && terminals.input && terminals.errors;

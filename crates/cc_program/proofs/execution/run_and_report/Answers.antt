@@ -1,0 +1,22 @@
+use Rattle.std.proofs.Common.{Err, ◌∙◌, ap}
+use Rattle.std.proofs.lemmas.Result.{err_from_is_err_and}
+use Rattle.cc_program.specs.Execution.{ReportsRun}
+use Rattle.cc_program.proofs.ExecutionLemmas.{on_devices}
+use Rattle.cc_program.proofs.execution.run_and_report.Goals as goal
+
+pub returns-in_err-summary-clause-runs : goal.returns-in_err-summary-clause-runs
+returns-in_err-summary-clause-runs g c =
+    let told = err_from_is_err_and c.from_residual-in_err-summary.result c.from_residual-in_err-summary.ensures.1 in
+    on_devices _ c.from_residual-in_err-summary.result (Err c.in_err-summary.field-0.0) (told.1 ∙ ap Err told.2)
+    (record {
+      session = c.run_session.new.session;
+      answers = record { answers = c.in_err-summary.ensures.runs.runs.answers; counts = c.in_err-summary.ensures.runs.counts };
+      reported = tt;
+    })
+
+pub returns-clause-runs : goal.returns-clause-runs
+returns-clause-runs g c = record {
+  session = c.run_session.new.session;
+  answers = record { answers = c.in_ok-summary.ensures.runs.runs.answers; counts = c.in_ok-summary.ensures.runs.counts };
+  reported = c.in_ok-write_report.ensures.written;
+}
