@@ -55,6 +55,13 @@ impl Session {
         &self.tally
     }
 
+    /// Returns the machine, and drops the counts.
+    pub fn into_machine(self) -> Machine
+        ensures { result ≡ self.machine }
+    {
+        self.machine
+    }
+
     /// Proves the claim that holds for every machine: its state is one that a run leads to.
     fn tell_reached(&self)
         ensures { IsReached self.now.machine }

@@ -1,10 +1,10 @@
 //! Executes a command on given devices.
-ghost use Rattle.std.specs.Prelude.{◌≡◌, ◌≢◌, ◌≤◌, ◌*◌, ◌↔◌, [], false, length, true, Err, IfOk, Option, List, OnErr, OnOk};
+ghost use Rattle.std.specs.Prelude.{◌≡◌, ◌≢◌, ◌≤◌, ◌*◌, ◌↔◌, ℕ, Bool, [], false, length, true, Err, IfOk, Option, List, OnErr, OnOk};
 ghost use Rattle.clap.specs.Words.{Row, Text};
 ghost use Rattle.cc_machine.specs.State.{initial_state};
 ghost use Rattle.cc_command.specs.Tally.{IsTally};
 ghost use Rattle.cc_arguments.specs.Invocation.{IsInvocation};
-ghost use Rattle.cc_program.specs.Execution.{Console, DrawsRun, Executes, FromInput, ListsWords, OnDevices, ReportsRun, Traffic};
+ghost use Rattle.cc_program.specs.Execution.{DrawsRun, Executes, FromInput, ListsWords, OnDevices, ReportsRun, Traffic};
 ghost use Rattle.cc_program.specs.Input.{IsFile, ReadsFile};
 
 use crate::discard::Discard;
@@ -220,8 +220,14 @@ fn draw<R: AllocGlobal, I: Inputs, W: Sink>(
     requires at_most { limit ≤ 65536 }
     requires few { 193 * length opening.now ≤ 65536 }
     requires sink { W.has_failed sink.old ≡ false }
-    ensures draws { (console : Console) → console.input ≡ I.bytes_of inputs.now → console.output ≡ W.taken_bytes sink.old → console.output_now ≡ W.taken_bytes sink.new
-        → OnDevices (FromInput input.entry console (DrawsRun svg opening.now (initial_state limit))) result }
+    ensures draws { (errors errors_now : Option (List ℕ)) (errors_failed : Bool) → OnDevices (FromInput input.entry (record {
+      input = I.bytes_of inputs.now;
+      output = W.taken_bytes sink.old;
+      output_now = W.taken_bytes sink.new;
+      errors = errors;
+      errors_now = errors_now;
+      errors_failed = errors_failed;
+    }) (DrawsRun svg opening.now (initial_state limit))) result }
     ensures open { result ≡ Err Fault.Open → IsFile input.entry }
     ensures write { (result ≡ Err Fault.Write) ↔ (W.has_failed sink.new ≡ true) }
     ensures flushed { OnOk result (W.is_flushed sink.new ≡ true) }
@@ -273,8 +279,14 @@ fn list_words<I: Inputs, W: Sink>(
     sink: &mut W,
 ) -> Result<Summary, Fault>
     requires { W.has_failed sink.old ≡ false }
-    ensures lists { (console : Console) → console.input ≡ I.bytes_of inputs.now → console.output ≡ W.taken_bytes sink.old → console.output_now ≡ W.taken_bytes sink.new
-        → OnDevices (FromInput input.entry console (ListsWords options)) result }
+    ensures lists { (errors errors_now : Option (List ℕ)) (errors_failed : Bool) → OnDevices (FromInput input.entry (record {
+      input = I.bytes_of inputs.now;
+      output = W.taken_bytes sink.old;
+      output_now = W.taken_bytes sink.new;
+      errors = errors;
+      errors_now = errors_now;
+      errors_failed = errors_failed;
+    }) (ListsWords options)) result }
     ensures open { result ≡ Err Fault.Open → IsFile input.entry }
     ensures memory { result ≢ Err Fault.Memory }
     ensures write { (result ≡ Err Fault.Write) ↔ (W.has_failed sink.new ≡ true) }

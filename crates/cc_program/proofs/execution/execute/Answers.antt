@@ -1,5 +1,45 @@
+use Rattle.std.proofs.Common.{◌≡◌, ◌∙◌, Ok, rules, subst}
+use Rattle.cc_command.specs.Planning.{plan_opening, pool_of}
+use Rattle.cc_program.specs.Execution.{Console, FromInput, ListsWords, OnDevices}
+use Rattle.cc_program.specs.declared.input.InputName.{InputName}
+use Rattle.cc_program.proofs.ExecutionLemmas.{by_invocation, map_executes}
 use Rattle.cc_program.proofs.execution.execute.Goals as goal
 
 pub returns-in_ok-answer_question-in-Ask-clause-executes :
     goal.returns-in_ok-answer_question-in-Ask-clause-executes
-returns-in_ok-answer_question-in-Ask-clause-executes g c = ?
+returns-in_ok-answer_question-in-Ask-clause-executes g c =
+    by_invocation _ _ c.in-Ask.is _ _ (Ok c.in_ok-answer_question-in-Ask.field-0)
+    (record { written = c.in_ok-answer_question-in-Ask.ensures.answered; error_is = c.in_ok-answer_question-in-Ask.ensures.any_error })
+
+pub returns-in-Ok-plan_numbers-clause-executes : goal.returns-in-Ok-plan_numbers-clause-executes
+returns-in-Ok-plan_numbers-clause-executes g c =
+    let texts : pool_of c.in-Map.pool.base.now c.in-Map.pool.length.now ≡ c.plan_numbers-in-Map.result =
+    cc (c.as_bytes-in-Map.ensures.value, c.as_bytes-in-Map-2.ensures.value, c.plan_numbers-in-Map.ensures) in
+    let is_opening : c.plan_opening-opening-in-Ok-plan_numbers.result ≡ plan_opening c.in-Ok-plan_numbers.base c.in-Ok-plan_numbers.length c.in-Map.align =
+    search rules in
+    let console : Console = record {
+      input = g.I.Inputs.bytes_of c.args.inputs.now;
+      output = g.W.Sink.taken_bytes c.args.sink.now;
+      output_now = g.W.Sink.taken_bytes c.draw.new.sink;
+      errors = g.E.Sink.taken_bytes c.args.errors.now;
+      errors_now = g.E.Sink.taken_bytes c.args.errors.now;
+      errors_failed = g.E.Sink.has_failed c.args.errors.now;
+    } in
+    by_invocation _ _ c.in-Map.is c.args.terminals console c.draw.result
+    (map_executes c.in-Map.limit c.in-Map.pool c.in-Map.align c.in-Map.svg c.in-Map.file c.args.terminals console _ _ _ _
+    (texts ∙ c.in-Ok-plan_numbers.is) is_opening c.file_input-in-Ok-plan_numbers.ensures
+    (c.draw.ensures.draws (g.E.Sink.taken_bytes c.args.errors.now) (g.E.Sink.taken_bytes c.args.errors.now) (g.E.Sink.has_failed c.args.errors.now)))
+
+pub returns-in-Decode-clause-executes : goal.returns-in-Decode-clause-executes
+returns-in-Decode-clause-executes g c =
+    let console : Console = record {
+      input = g.I.Inputs.bytes_of c.args.inputs.now;
+      output = g.W.Sink.taken_bytes c.args.sink.now;
+      output_now = g.W.Sink.taken_bytes c.list_words.new.sink;
+      errors = g.E.Sink.taken_bytes c.args.errors.now;
+      errors_now = g.E.Sink.taken_bytes c.args.errors.now;
+      errors_failed = g.E.Sink.has_failed c.args.errors.now;
+    } in
+    by_invocation _ _ c.in-Decode.is c.args.terminals console c.list_words.result
+    (subst (λ (input : InputName). OnDevices (FromInput input console (ListsWords c.in-Decode.options)) c.list_words.result) c.file_input-in-Decode.ensures
+    (c.list_words.ensures.lists (g.E.Sink.taken_bytes c.args.errors.now) (g.E.Sink.taken_bytes c.args.errors.now) (g.E.Sink.has_failed c.args.errors.now)))

@@ -1,16 +1,18 @@
-use Rattle.std.proofs.Common.{subst}
-use Rattle.cc_machine.specs.State.{State}
-use Rattle.cc_program.specs.Execution.{ReportsRun}
-use Rattle.cc_program.proofs.ExecutionLemmas.{known_too, on_devices-map}
+use Rattle.std.proofs.Common.{refl}
+use Rattle.cc_machine.specs.State.{initial_state}
+use Rattle.cc_program.proofs.ExecutionLemmas.{runs_input}
 use Rattle.cc_program.proofs.execution.run.Goals as goal
 
 pub returns-clause-runs : goal.returns-clause-runs
 returns-clause-runs g c =
-    on_devices-map _ _
-    (λ io holds. record {
-      unread = _;
-      left = _;
-      known = known_too _ _ _ c.new-source.ensures.to_come c.in_ok-open.ensures.opened;
-      does = subst (λ (start : State). ReportsRun c.args.report c.args.opening.now c.args.pool start _ io) c.in_ok-session.ensures.machine holds;
+    runs_input c.args.report c.args.opening.now c.args.pool c.in_ok-session.session.machine (initial_state c.args.limit) c.args.input
+    (record {
+      input = g.I.Inputs.bytes_of c.args.inputs.now;
+      output = g.W.Sink.taken_bytes c.args.sink.now;
+      output_now = g.W.Sink.taken_bytes c.run_and_report.new.sink;
+      errors = g.E.Sink.taken_bytes c.args.errors.now;
+      errors_now = g.E.Sink.taken_bytes c.run_and_report.new.errors;
+      errors_failed = g.E.Sink.has_failed c.run_and_report.new.errors;
     })
-    c.run_and_report.result c.run_and_report.ensures.runs
+    (g.I.Inputs.bytes_of c.args.inputs.now) _ _ _ c.run_and_report.result c.in_ok-session.ensures.machine refl c.new-source.ensures.to_come
+    c.in_ok-open.ensures.opened c.run_and_report.ensures.runs

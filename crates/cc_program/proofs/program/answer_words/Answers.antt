@@ -21,15 +21,18 @@ returns-in-Ok-clause-ends g c =
 
 pub returns-in-Ok-clause-executes : goal.returns-in-Ok-clause-executes
 returns-in-Ok-clause-executes g c =
-    let told = c.in-Ok.ensures.read in
-    (told.0, told.1, λ taken. inl (record {
-      invocation = c.in-Ok.invocation;
-      is_invocation = told.2;
-      console = c.execute_in_process.ensures.executes.0;
-      result = c.execute_in_process.result;
-      executes = c.execute_in_process.ensures.executes.1;
-      ends = c.ending_of.ensures;
-    }))
+    let told = c.in-Ok.ensures.read in (
+      told.0,
+      told.1,
+      λ taken. inl (record {
+        invocation = c.in-Ok.invocation;
+        is_invocation = told.2;
+        console = c.execute_in_process.ensures.executes.0;
+        result = c.execute_in_process.result;
+        executes = c.execute_in_process.ensures.executes.1;
+        ends = c.ending_of.ensures;
+      }),
+    )
 
 pub returns-in-Err-clause-refused : goal.returns-in-Err-clause-refused
 returns-in-Err-clause-refused g c = λ is_refused.
