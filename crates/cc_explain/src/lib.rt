@@ -1,5 +1,5 @@
-//! What is shown of a word: its listing, with the names of its permissions; its line; and its explanation, with the steps of
-//! decoding its bounds, whether it is canonical, and a picture of its window. Also the explanation of a request for bounds.
+//! The answers about one word: its listing, with the names of its permissions; its line; and its explanation, with the steps
+//! of decoding its bounds, whether it is canonical, and a picture of its window. Also the explanation of a request for bounds.
 #![tactic(auto)]
 
 mod answers;
