@@ -1,5 +1,5 @@
-//! What is shown of a machine's pool: what its objects take of it and what is left, as numbers, as a map of text, and as an
-//! SVG drawing. The map and the drawing are written to a sink.
+//! The use of a machine's pool by its objects, and the bytes that are left: as numbers, as a map in text, and as an SVG
+//! drawing. The map and the drawing are written to a sink.
 #![tactic(auto)]
 
 mod drawing;
