@@ -2,8 +2,7 @@
 ghost use Rattle.std.specs.Prelude.{◌≡◌, ◌⊎◌, ◌↔◌, ◌+◌, ◌*◌, ◌%◌, ◌<◌, ◌≤◌, ◌^◌, length, min, take, false, Some, SomeIff, IsSome, IsTrue};
 ghost use Rattle.std.specs.Char.{digit_value};
 ghost use Rattle.cc_script.specs.Numbers.{numeral_of, capped};
-ghost use Rattle.cc_script.specs.Digits.{number_further};
-ghost use Rattle.cc_script.specs.Looks.{Tells};
+ghost use Rattle.cc_script.specs.Digits.{number_further, Tells};
 
 use cc_word::read_quarter;
 
