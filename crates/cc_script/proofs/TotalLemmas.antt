@@ -15,7 +15,7 @@ use Rattle.cc_machine.specs.Run.{IsReached, IsInAddressSpace}
 use Rattle.cc_machine.proofs.RunLemmas.{IsReached-step}
 use Rattle.cc_machine.proofs.TotalLemmas.{HasOutcome, Step-outcome}
 use Rattle.cc_script.specs.Numbers.{number_of, within_limit}
-use Rattle.cc_script.specs.Commands.{Command, words_of, index_in, address_in, length_in, flag_in, align_in, word_in, permissions_in, both, single, slot_and, slot_and_perhaps, one, alone, of_value, of_slot, of_slot_perhaps, commands, operation_in, command_in, operation_of}
+use Rattle.cc_script.specs.Commands.{Command, words_of, index_in, address_in, length_in, flag_in, align_in, word_in, permissions_in, both, single, slot_and_perhaps, one, alone, of_value, of_slot, of_slot_perhaps, commands, operation_in, command_in, operation_of}
 use Rattle.cc_io.specs.Lines.{lines_of, rest_of}
 use Rattle.cc_script.specs.Replies.{is_error}
 use Rattle.cc_script.specs.Output.{commands_of, Takes, TakesAll, ScriptOutput, replies_text, rest_text}

@@ -1,5 +1,5 @@
 -- Which line spells which command, and the operation or the fault of every line.
-use Rattle.std.specs.Prelude.{◌≡◌, ◌≢◌, ◌<◌, ℕ, Bool, true, false, ◌&&◌, ◌-◌, ◌^◌, ◌==◌, List, [], ◌∷◌, length, codes, nat_lt, if◌then◌else◌, Option, Some, None, option_map, option_and_then, Result, Ok, Err}
+use Rattle.std.specs.Prelude.{◌≡◌, ◌≢◌, ◌<◌, ℕ, Bool, true, false, ◌&&◌, ◌-◌, ◌^◌, ◌==◌, List, [], ◌∷◌, length, codes, nat_lt, if◌then◌else◌, Option, Some, option_map, option_and_then, Result, Ok, Err}
 use Rattle.std.specs.Int.RustNames.{bit_or}
 use Rattle.std.specs.List.{AllByRecursion, join_with_byte, list_all, slice_split}
 use Rattle.std.specs.Option.{ok_or}

@@ -1,9 +1,10 @@
 //! Digits, and the numbers that they spell.
-ghost use Rattle.std.specs.Prelude.{◌≡◌, ◌⊎◌, ◌↔◌, ◌+◌, ◌*◌, ◌%◌, ◌<◌, ◌≤◌, ◌^◌, length, min, take, false, Some, SomeIff, IsSome, IsTrue};
+ghost use Rattle.std.specs.Prelude.{◌≡◌, ◌⊎◌, ◌↔◌, ◌+◌, ◌*◌, ◌%◌, ◌<◌, ◌≤◌, ◌^◌, length, min, take, false, ℕ, Option, Some, SomeIff, IsSome, IsTrue};
 ghost use Rattle.std.specs.Char.{digit_value};
 ghost use Rattle.cc_script.specs.Numbers.{numeral_of, capped};
-ghost use Rattle.cc_script.specs.Digits.{number_further, Tells};
+ghost use Rattle.cc_script.specs.Digits.{number_further, Spells};
 
+use cc_bounds::ADDRESS_SPACE;
 use cc_word::read_quarter;
 
 /// More than every limit: numbers from here on are read as this one.
@@ -30,50 +31,46 @@ const DIGIT_VALUES: [u8; 256] = [
     36, 36, 36, 36, 36, 36, 36, 36, 36, 36, 36, 36, 36, 36, 36, 36,
 ];
 
-/// What a first look at a text tells of the number that it spells.
+/// The number that a text spells, as far as the limits of values need it.
 #[derive(Clone, Copy)]
-pub enum Look {
-    /// It spells this one.
+pub enum Spelled {
+    /// This number.
     Number(u64),
-    /// It spells none.
-    NoNumber,
-    /// Nothing: it is long.
-    Long,
+    /// The number 2^64.
+    Whole,
+    /// A number above 2^64.
+    Over,
+    /// There is none.
+    Nothing,
 }
 
-/// The number that some digits spell.
+/// Returns the number that some digits spell.
 #[inline(always)]
-pub fn read_few(digits: &[u8], radix: u8) -> Look
+pub fn read_digits(digits: &[u8], radix: u8) -> Spelled
     requires radix { (radix ≡ 10) ⊎ (radix ≡ 16) }
-    ensures { Tells result (numeral_of radix digits.now) }
+    ensures { Spells result (numeral_of radix digits.now) }
 {
     if !are_few(digits, radix) {
-        return Look::Long;
+        return spelled_by(read_long(digits, radix));
     }
     if digits.is_empty() {
-        return Look::NoNumber;
+        return Spelled::Nothing;
     }
     match read_short(digits, radix) {
-        Some(number) => Look::Number(number),
-        None => Look::NoNumber,
+        Some(number) => Spelled::Number(number),
+        None => Spelled::Nothing,
     }
 }
 
-/// The number that one or more digits spell, or [`OVER_ALL_LIMITS`] where it is above that.
-#[inline(always)]
-pub fn read_digits(digits: &[u8], radix: u8) -> Option<u128>
-    requires radix { (radix ≡ 10) ⊎ (radix ≡ 16) }
-    ensures { result ≡ capped (2 ^ 65) (numeral_of radix digits.now) }
+/// Returns the number of a numeral that was read up to [`OVER_ALL_LIMITS`].
+fn spelled_by(number: Option<u128>) -> Spelled
+    ensures { (spelled : Option ℕ) → number ≡ capped (2 ^ 65) spelled → Spells result spelled }
 {
-    if digits.is_empty() {
-        return None;
-    }
-    if !are_few(digits, radix) {
-        return read_long(digits, radix);
-    }
-    match read_short(digits, radix) {
-        Some(number) => Some(u128::from(number)),
-        None => None,
+    match number {
+        Some(number) if number < ADDRESS_SPACE => Spelled::Number(number as u64),
+        Some(number) if number > ADDRESS_SPACE => Spelled::Over,
+        Some(_) => Spelled::Whole,
+        None => Spelled::Nothing,
     }
 }
 

@@ -1,4 +1,4 @@
-use Rattle.std.proofs.Common.{refl, ◌∙◌, sym}
+use Rattle.std.proofs.Common.{refl, ◌∙◌}
 use Rattle.cc_script.proofs.CommandLemmas.{misses_name, misses_alone, no_command}
 use Rattle.cc_script.proofs.parsing.take_command.Goals as goal
 

@@ -1,4 +1,4 @@
-use Rattle.std.proofs.Common.{ℕ, ◌∙◌, ◌≤◌, ◌-◌, ◌^◌, ap, arith, sym, Ok}
+use Rattle.std.proofs.Common.{◌∙◌, ◌≤◌, ◌-◌, ◌^◌, ap, arith, sym, Ok}
 use Rattle.cc_script.specs.Commands.{both}
 use Rattle.cc_script.proofs.SpaceLemmas.{number_then}
 use Rattle.cc_script.proofs.values.slot_and.Goals as goal

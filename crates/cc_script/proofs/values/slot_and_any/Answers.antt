@@ -1,5 +1,4 @@
-use Rattle.std.proofs.Common.{ℕ, Result, ◌∙◌, ap}
-use Rattle.cc_word.specs.declared.refusal.Refusal.{Refusal}
+use Rattle.std.proofs.Common.{◌∙◌, ap}
 use Rattle.cc_script.specs.Commands.{both}
 use Rattle.cc_script.proofs.SpaceLemmas.{slot_then}
 use Rattle.cc_script.proofs.values.slot_and_any.Goals as goal

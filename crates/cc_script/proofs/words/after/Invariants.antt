@@ -1,4 +1,4 @@
-use Rattle.std.proofs.Common.{ℕ, ◌≡◌, ◌<◌, ◌≤◌, get_or}
+use Rattle.std.proofs.Common.{ℕ, ◌≡◌, ◌<◌, get_or}
 use Rattle.cc_script.proofs.words.after.Given as goal
 
 abbrev pub invariant-loop-at : goal.invariant-loop-at
