@@ -1,6 +1,6 @@
 -- A value with a space in it spells nothing.
 use Rattle.std.proofs.Common.{true≢false, ◌<◌, ◌++◌, take, drop, get_or, length-take, ◌≡◌, ℕ, ◌+◌, ◌≤◌, Bool, true, false, ◌&&◌, ◌==◌, not, List, [], ◌∷◌, ◌^◌, ◌-◌, length, nat_lt, Option, Some, None, Result, Ok, Err, refl, sym, ◌∙◌, ap, arith, if◌then◌else◌, codes}
-use Rattle.std.proofs.lemmas.Bool.{eqb-true, lt-ltb}
+use Rattle.std.proofs.lemmas.Bool.{eqb-true, le-leb, lt-ltb}
 use Rattle.std.proofs.lemmas.List.{take-append-drop, drop_more, take_rest}
 use Rattle.std.proofs.lemmas.List.Splits.{length-slice_split}
 use Rattle.std.proofs.lemmas.Slice.Eq.{bytes_eq-Decides}
@@ -12,16 +12,11 @@ use Rattle.std.specs.Str.Parse.{digits_value}
 use Rattle.bitflags.specs.Sets.{Row, find_row, find_name}
 use Rattle.hex.specs.Hex.{is_hex_digit}
 use Rattle.cc_word.specs.declared.refusal.Refusal.{Refusal}
-use Rattle.cc_word.specs.declared.refusal.Refusal.TheVariants.{Syntax, OutOfRange}
+use Rattle.cc_word.specs.declared.refusal.Refusal.TheVariants.{Syntax}
 use Rattle.cc_cap.specs.Permissions.{permission_table}
 use Rattle.cc_plan.specs.declared.align.Align.TheVariants.{One, Sixteen}
-use Rattle.cc_machine.specs.declared.op.Op.{Op}
-use Rattle.cc_machine.specs.declared.op.Op.TheVariants as op
-use Rattle.cc_script.specs.declared.keyword.Keyword.{Keyword}
-use Rattle.cc_script.specs.declared.keyword.Keyword.TheVariants as keyword
 use Rattle.cc_script.specs.Numbers.{numeral_of, number_of, within_limit}
-use Rattle.cc_script.specs.Commands.{words_of, permissions_in, with_names, align_in, flag_in, word_in, index_in, one, two, one_value, two_values, command_of, BeginsWithNumber}
-use Rattle.cc_script.proofs.CommandLemmas.{three_values, index_fits, index_over}
+use Rattle.cc_script.specs.Commands.{words_of, permissions_in, with_names, align_in, flag_in, word_in, index_in, address_in, length_in, both, single, slot_and, slot_and_perhaps, BeginsWithNumber, BeginsWithSlot}
 
 -- no byte of the text is a space
 abbrev is_word : List ℕ → Bool
@@ -147,33 +142,11 @@ no_permissions text spaced = by (bytes_eq text (codes "-")) refl where
   by true is = absurd (let word : is_word text ≡ true = ap is_word ((bytes_eq-Decides text (codes "-")).0 is) in cc)
   by false is = rw (is, no_names (slice_split (λ byte. byte == 43) text) 0 (pieces-spaced text spaced)) refl
 
--- ---- commands
+-- ---- words
 
-two-syntax : {B : Type 0} (make : ℕ → B → Op) (slot : Result ℕ Refusal) → two make slot (Err Syntax) ≡ Err Syntax
-two-syntax make (Ok slot) = refl
-two-syntax make (Err Syntax) = refl
-two-syntax make (Err fault) = refl
-
-spaced-second : (k : Keyword) (slot : Result ℕ Refusal) (second : List ℕ) → is_word second ≡ false → two_values k slot second ≡ Err Syntax
-spaced-second keyword.Bounds slot second e = rw (limited (2 ^ 64) second e) (two-syntax op.Bounds slot)
-spaced-second keyword.Exact slot second e = rw (limited (2 ^ 64) second e) (two-syntax op.Exact slot)
-spaced-second keyword.Addr slot second e = rw (limited (2 ^ 64 - 1) second e) (two-syntax op.Addr slot)
-spaced-second keyword.Inc slot second e = rw (limited (2 ^ 64 - 1) second e) (two-syntax op.Inc slot)
-spaced-second keyword.Perms slot second e = rw (no_permissions second e) (two-syntax op.Perms slot)
-spaced-second keyword.Flag slot second e = rw (no_flag second e) (two-syntax op.Flag slot)
-spaced-second keyword.Seal slot second e = rw (limited (2 ^ 32 - 1) second e) (two-syntax op.Seal slot)
-spaced-second keyword.Unseal slot second e = rw (limited (2 ^ 32 - 1) second e) (two-syntax op.Unseal slot)
-spaced-second keyword.Rebuild slot second e = rw (no_word second e) (two-syntax op.Rebuild slot)
-spaced-second keyword.Pool slot second e = rw (no_align second e) (two-syntax op.Pool slot)
-spaced-second keyword.Show slot second e = refl
-spaced-second keyword.Round slot second e = refl
-spaced-second keyword.Alloc slot second e = refl
-spaced-second keyword.Free slot second e = refl
-spaced-second keyword.Sweep slot second e = refl
-
-alone : (text : List ℕ) → is_word text ≡ true → words_of text ≡ text ∷ []
-alone [] is = refl
-alone (x ∷ text) is = by (x == 32) is (λ later. alone text later) where
+one_word : (text : List ℕ) → is_word text ≡ true → words_of text ≡ text ∷ []
+one_word [] is = refl
+one_word (x ∷ text) is = by (x == 32) is (λ later. one_word text later) where
   by : (space : Bool) → (not space && is_word text) ≡ true → (is_word text ≡ true → words_of text ≡ text ∷ []) → (if space then [] ∷ words_of text else onto_first x (words_of text)) ≡ (x ∷ text) ∷ []
   by true is rest = cc
   by false is rest = ap (onto_first x) (rest is)
@@ -187,26 +160,77 @@ many (x ∷ text) spaced = by (x == 32) spaced (words_of text) (many text) (leng
   by false spaced [] later sized = absurd (omega (arith, sized))
   by false spaced (word ∷ words) later sized = later spaced
 
--- a keyword and what stands after its first value: the rest is one value, or has a space and is none
-pub two_or_more : (k : Keyword) (first rest : List ℕ) → two_values k (index_in first) rest ≡ command_of k (first ∷ words_of rest)
-two_or_more k first rest = by (is_word rest) refl where
-  by : (word : Bool) → is_word rest ≡ word → two_values k (index_in first) rest ≡ command_of k (first ∷ words_of rest)
-  by true is = rw (alone rest is) refl
-  by false is = spaced-second k (index_in first) rest is ∙ sym (three_values k first (words_of rest) (many rest is))
+some_words : (text : List ℕ) → 0 < length (words_of text)
+some_words text = omega (arith, length-slice_split (λ byte. byte == 32) text)
 
--- a keyword of one value, which is a number: what stands after the keyword is that, or has a space and is none
-pub one_or_more : (k : Keyword) (value : List ℕ) → (is_word value ≡ false → one_value k value ≡ Err Syntax)
-    → ((first second : List ℕ) → two_values k (index_in first) second ≡ Err Syntax) → one_value k value ≡ command_of k (words_of value)
-one_or_more k value spaced two_none = by (is_word value) refl where
-  fewer : (words : List (List ℕ)) → 2 ≤ length words → Err Syntax ≡ command_of k words
+-- ---- one value
+
+-- if no value of a kind has a space, a text is one word that spells the value, or has the fault `Syntax`
+single_of : {A : Type 0} (value_in : List ℕ → Result A Refusal) (text : List ℕ) → (is_word text ≡ false → value_in text ≡ Err Syntax)
+    → value_in text ≡ single value_in (words_of text)
+single_of value_in text spaced = by (is_word text) refl where
+  fewer : (words : List (List ℕ)) → 2 ≤ length words → Err Syntax ≡ single value_in words
   fewer [] h = absurd (omega arith)
   fewer (a ∷ []) h = absurd (omega arith)
-  fewer (a ∷ b ∷ []) h = sym (two_none a b)
-  fewer (a ∷ b ∷ c ∷ words) h = refl
+  fewer (a ∷ b ∷ words) h = refl
 
-  by : (word : Bool) → is_word value ≡ word → one_value k value ≡ command_of k (words_of value)
-  by true is = rw (alone value is) refl
-  by false is = spaced is ∙ fewer (words_of value) (many value is)
+  by : (word : Bool) → is_word text ≡ word → value_in text ≡ single value_in (words_of text)
+  by true is = rw (one_word text is) refl
+  by false is = spaced is ∙ fewer (words_of text) (many text is)
+
+pub index_in_single : (text : List ℕ) → index_in text ≡ single index_in (words_of text)
+index_in_single text = single_of index_in text (limited (2 ^ 32 - 1) text)
+
+pub address_in_single : (text : List ℕ) → address_in text ≡ single address_in (words_of text)
+address_in_single text = single_of address_in text (limited (2 ^ 64 - 1) text)
+
+pub length_in_single : (text : List ℕ) → length_in text ≡ single length_in (words_of text)
+length_in_single text = single_of length_in text (limited (2 ^ 64) text)
+
+pub flag_in_single : (text : List ℕ) → flag_in text ≡ single flag_in (words_of text)
+flag_in_single text = single_of flag_in text (no_flag text)
+
+pub align_in_single : (text : List ℕ) → align_in text ≡ single align_in (words_of text)
+align_in_single text = single_of align_in text (no_align text)
+
+pub word_in_single : (text : List ℕ) → word_in text ≡ single word_in (words_of text)
+word_in_single text = single_of word_in text (no_word text)
+
+pub permissions_in_single : (text : List ℕ) → permissions_in text ≡ single permissions_in (words_of text)
+permissions_in_single text = single_of permissions_in text (no_permissions text)
+
+-- ---- a slot and a value
+
+both-syntax : {A B : Type 0} (first : Result A Refusal) → both {A = A} {B = B} first (Err Syntax) ≡ Err Syntax
+both-syntax (Ok first) = refl
+both-syntax (Err Syntax) = refl
+both-syntax (Err fault) = refl
+
+slot_first : {A : Type 0} (value_in : List ℕ → Result A Refusal) (word : List ℕ) (words : List (List ℕ))
+    → both (index_in word) (single value_in words) ≡ slot_and value_in (word ∷ words)
+slot_first value_in word [] = both-syntax (index_in word)
+slot_first value_in word (value ∷ []) = refl
+slot_first value_in word (value ∷ other ∷ words) = both-syntax (index_in word)
+
+pub slot_then : {A : Type 0} (value_in : List ℕ → Result A Refusal) (text : List ℕ) (slot : Result ℕ Refusal) (rest : List ℕ)
+    → BeginsWithSlot text slot rest → both slot (single value_in (words_of rest)) ≡ slot_and value_in (words_of text)
+slot_then value_in text slot rest begins =
+    ap (λ (number : Result ℕ Refusal). both number (single value_in (words_of rest))) begins.slot_is
+    ∙ slot_first value_in begins.word (words_of rest)
+    ∙ ap (slot_and value_in) (sym begins.whole)
+
+perhaps_more : {A : Type 0} (usual : A) (value_in : List ℕ → Result A Refusal) (word : List ℕ) (words : List (List ℕ)) → 0 < length words
+    → slot_and value_in (word ∷ words) ≡ slot_and_perhaps usual value_in (word ∷ words)
+perhaps_more usual value_in word [] some = absurd (omega arith)
+perhaps_more usual value_in word (value ∷ words) some = refl
+
+pub slot_then_perhaps : {A : Type 0} (usual : A) (value_in : List ℕ → Result A Refusal) (text : List ℕ) (slot : Result ℕ Refusal) (rest : List ℕ)
+    → BeginsWithSlot text slot rest → both slot (single value_in (words_of rest)) ≡ slot_and_perhaps usual value_in (words_of text)
+slot_then_perhaps usual value_in text slot rest begins =
+    ap (λ (number : Result ℕ Refusal). both number (single value_in (words_of rest))) begins.slot_is
+    ∙ slot_first value_in begins.word (words_of rest)
+    ∙ perhaps_more usual value_in begins.word (words_of rest) (some_words rest)
+    ∙ ap (slot_and_perhaps usual value_in) (sym begins.whole)
 
 -- ---- a number that stands first
 
@@ -255,18 +279,9 @@ number_begins text at number within some space digits is =
       spelled = spelled (take at text) (omega (arith, sized)) digits ∙ ap Some (sym is);
     }
 
--- the command of a keyword whose first value is the number of a slot
-pub indexed : (k : Keyword) (text second : List ℕ) (slot : ℕ) → BeginsWithNumber text slot second → slot ≤ 2 ^ 32 - 1
-    → two_values k (Ok slot) second ≡ command_of k (words_of text)
-indexed k text second slot begins fits =
-    ap (λ (first : Result ℕ Refusal). two_values k first second) (sym (index_fits begins.word slot begins.spelled fits))
-    ∙ two_or_more k begins.word second
-    ∙ ap (command_of k) (sym begins.whole)
-
--- the same where the number is over a slot's limit
-pub number_over : (k : Keyword) (text second : List ℕ) (number : ℕ) → BeginsWithNumber text number second → 2 ^ 32 - 1 < number
-    → two_values k (Err OutOfRange) second ≡ command_of k (words_of text)
-number_over k text second number begins over =
-    ap (λ (first : Result ℕ Refusal). two_values k first second) (sym (index_over begins.word number begins.spelled over))
-    ∙ two_or_more k begins.word second
-    ∙ ap (command_of k) (sym begins.whole)
+-- a number that stands first and is one of a slot
+pub number_then : {A : Type 0} (value_in : List ℕ → Result A Refusal) (text : List ℕ) (number : ℕ) (rest : List ℕ)
+    → BeginsWithNumber text number rest → number ≤ 2 ^ 32 - 1 → both (Ok number) (single value_in (words_of rest)) ≡ slot_and value_in (words_of text)
+number_then value_in text number rest begins fits =
+    slot_then value_in text (Ok number) rest
+    (record { word = begins.word; whole = begins.whole; slot_is = rw (begins.spelled, le-leb number (2 ^ 32 - 1) fits) refl })

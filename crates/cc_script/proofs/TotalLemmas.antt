@@ -1,7 +1,8 @@
 -- The operation of a line is in the address space, and from a state that a run leads to every script has an output.
-use Rattle.std.proofs.Common.{◌≡◌, ℕ, Bool, true, false, nat_lt, nat_le, ◌≤◌, ◌-◌, ◌^◌, List, [], ◌∷◌, ◌++◌, length, map, refl, sym, subst, arith, Option, Some, None, Result, Ok, Err, not, ◌||◌, ◌==◌, if◌then◌else◌}
+use Rattle.std.proofs.Common.{◌≡◌, ℕ, Bool, true, false, nat_lt, nat_le, ◌≤◌, ◌-◌, ◌^◌, List, [], ◌∷◌, ◌++◌, length, map, codes, refl, sym, ap, subst, arith, Option, Some, None, Result, Ok, Err, not, ◌||◌, ◌==◌, if◌then◌else◌}
 use Rattle.std.proofs.lemmas.Bool.{leb-true}
 use Rattle.std.specs.List.{AllByRecursion, list_any}
+use Rattle.std.specs.Str.{bytes_eq}
 use Rattle.cc_word.specs.declared.refusal.Refusal.{Refusal}
 use Rattle.cc_word.specs.declared.refusal.Refusal.TheVariants.{Syntax, TooLong, OutOfRange}
 use Rattle.cc_plan.specs.declared.align.Align.TheVariants.{One}
@@ -13,10 +14,8 @@ use Rattle.cc_machine.specs.State.{State}
 use Rattle.cc_machine.specs.Run.{IsReached, IsInAddressSpace}
 use Rattle.cc_machine.proofs.RunLemmas.{IsReached-step}
 use Rattle.cc_machine.proofs.TotalLemmas.{HasOutcome, Step-outcome}
-use Rattle.cc_script.specs.declared.keyword.Keyword.{Keyword}
-use Rattle.cc_script.specs.declared.keyword.Keyword.TheVariants as keyword
 use Rattle.cc_script.specs.Numbers.{number_of, within_limit}
-use Rattle.cc_script.specs.Commands.{words_of, index_in, address_in, length_in, flag_in, align_in, word_in, permissions_in, keyword_of, no_value, one, two, one_value, two_values, command_of, command_in, operation_of}
+use Rattle.cc_script.specs.Commands.{Command, words_of, index_in, address_in, length_in, flag_in, align_in, word_in, permissions_in, both, single, slot_and_perhaps, one, alone, of_value, of_slot, of_slot_perhaps, commands, operation_in, command_in, operation_of}
 use Rattle.cc_io.specs.Lines.{lines_of, rest_of}
 use Rattle.cc_script.specs.Replies.{is_error}
 use Rattle.cc_script.specs.Output.{commands_of, Takes, TakesAll, ScriptOutput, replies_text, rest_text}
@@ -35,57 +34,104 @@ within limit (Some number) value e = by (nat_le number limit) refl e where
   by true is e = let same : number ≡ value = cc in rw (sym same) (leb-true number limit is)
   by false is e = cc
 
-one-Fits : {A : Type 0} (make : A → Op) (value : Result A Refusal) → ((a : A) → IsInAddressSpace (make a)) → Fits (one make value)
-one-Fits make (Ok value) fits = fits value
+one-Fits : {A : Type 0} (make : A → Op) (value : Result A Refusal) → ((a : A) → value ≡ Ok a → IsInAddressSpace (make a)) → Fits (one make value)
+one-Fits make (Ok value) fits = fits value refl
 one-Fits make (Err fault) fits = tt
 
-two-Fits : {A B : Type 0} (make : A → B → Op) (first : Result A Refusal) (second : Result B Refusal)
-    → ((a : A) (b : B) → second ≡ Ok b → IsInAddressSpace (make a b)) → Fits (two make first second)
-two-Fits make (Ok first) (Ok second) fits = fits first second refl
-two-Fits make (Ok first) (Err fault) fits = tt
-two-Fits make (Err Syntax) second fits = tt
-two-Fits make (Err fault) (Ok second) fits = tt
-two-Fits make (Err fault) (Err other) fits = tt
+-- both values are those of the two
+both-second : {A B : Type 0} (first : Result A Refusal) (second : Result B Refusal) (values : A × B) → both first second ≡ Ok values → second ≡ Ok values.1
+both-second (Ok first) (Ok second) values e = let same : (first, second) ≡ values = cc in ap (λ v. Ok v.1) same
+both-second (Ok first) (Err fault) values e = cc
+both-second (Err Syntax) second values e = cc
+both-second (Err fault) (Ok second) values e = cc
+both-second (Err fault) (Err other) values e = cc
 
-no_value-Fits : (k : Keyword) → Fits (no_value k)
-no_value-Fits keyword.Sweep = tt
-no_value-Fits k = tt
+-- whatever the values, the operation of the command is in the address space
+RowFits : Command → Type 0
+RowFits row = (values : List (List ℕ)) → Fits (row.operation values)
 
-one_value-Fits : (k : Keyword) (value : List ℕ) → Fits (one_value k value)
-one_value-Fits keyword.Show value = one-Fits op.Show (index_in value) (λ a. tt)
-one_value-Fits keyword.Round value = one-Fits op.Round (length_in value) (λ a. tt)
-one_value-Fits keyword.Pool value = one-Fits (λ number. op.Pool number One) (index_in value) (λ a. tt)
-one_value-Fits keyword.Alloc value = one-Fits op.Alloc (length_in value) (λ a. tt)
-one_value-Fits keyword.Free value = one-Fits op.Free (index_in value) (λ a. tt)
-one_value-Fits k value = tt
+alone-Fits : (name : List ℕ) (op : Op) → IsInAddressSpace op → RowFits (alone name op)
+unfolding RowFits
+alone-Fits name op fits [] = fits
+alone-Fits name op fits (value ∷ values) = tt
 
-two_values-Fits : (k : Keyword) (slot : Result ℕ Refusal) (second : List ℕ) → Fits (two_values k slot second)
-two_values-Fits keyword.Bounds slot second = two-Fits op.Bounds slot (length_in second) (λ a b e. tt)
-two_values-Fits keyword.Exact slot second = two-Fits op.Exact slot (length_in second) (λ a b e. tt)
-two_values-Fits keyword.Addr slot second =
-    two-Fits op.Addr slot (address_in second)
-    (λ a b e. let small = within (2 ^ 64 - 1) (number_of second) b e in omega (arith, small))
-two_values-Fits keyword.Inc slot second = two-Fits op.Inc slot (address_in second) (λ a b e. tt)
-two_values-Fits keyword.Perms slot second = two-Fits op.Perms slot (permissions_in second) (λ a b e. tt)
-two_values-Fits keyword.Flag slot second = two-Fits op.Flag slot (flag_in second) (λ a b e. tt)
-two_values-Fits keyword.Seal slot second = two-Fits op.Seal slot (index_in second) (λ a b e. tt)
-two_values-Fits keyword.Unseal slot second = two-Fits op.Unseal slot (index_in second) (λ a b e. tt)
-two_values-Fits keyword.Rebuild slot second = two-Fits op.Rebuild slot (word_in second) (λ a b e. tt)
-two_values-Fits keyword.Pool slot second = two-Fits op.Pool slot (align_in second) (λ a b e. tt)
-two_values-Fits k slot second = tt
+value-Fits : {A : Type 0} (name : List ℕ) (make : A → Op) (value_in : List ℕ → Result A Refusal) → ((a : A) → IsInAddressSpace (make a))
+    → RowFits (of_value name make value_in)
+unfolding RowFits
+value-Fits name make value_in fits values = one-Fits make (single value_in values) (λ a e. fits a)
 
-command_of-Fits : (k : Keyword) (values : List (List ℕ)) → Fits (command_of k values)
-command_of-Fits k [] = no_value-Fits k
-command_of-Fits k (value ∷ []) = one_value-Fits k value
-command_of-Fits k (first ∷ second ∷ []) = two_values-Fits k (index_in first) second
-command_of-Fits k (first ∷ second ∷ third ∷ more) = tt
+slot-Fits : {A : Type 0} (name : List ℕ) (make : ℕ → A → Op) (value_in : List ℕ → Result A Refusal)
+    → ((slot : ℕ) (text : List ℕ) (a : A) → value_in text ≡ Ok a → IsInAddressSpace (make slot a)) → RowFits (of_slot name make value_in)
+unfolding RowFits
+slot-Fits name make value_in fits [] = tt
+slot-Fits name make value_in fits (slot ∷ []) = tt
+slot-Fits name make value_in fits (slot ∷ value ∷ []) =
+    one-Fits (λ parts. make parts.0 parts.1) (both (index_in slot) (value_in value))
+    (λ parts e. fits parts.0 value parts.1 (both-second (index_in slot) (value_in value) parts e))
+slot-Fits name make value_in fits (slot ∷ value ∷ other ∷ values) = tt
+
+perhaps-Fits : {A : Type 0} (name : List ℕ) (make : ℕ → A → Op) (usual : A) (value_in : List ℕ → Result A Refusal)
+    → ((slot : ℕ) (a : A) → IsInAddressSpace (make slot a)) → RowFits (of_slot_perhaps name make usual value_in)
+unfolding RowFits
+perhaps-Fits name make usual value_in fits values =
+    one-Fits (λ parts. make parts.0 parts.1) (slot_and_perhaps usual value_in values) (λ parts e. fits parts.0 parts.1)
+
+rows-Fit : AllByRecursion RowFits commands
+rows-Fit = (
+  value-Fits (codes "show") op.Show index_in (λ a. tt),
+  (
+    value-Fits (codes "round") op.Round length_in (λ a. tt),
+    (
+      value-Fits (codes "alloc") op.Alloc length_in (λ a. tt),
+      (
+        value-Fits (codes "free") op.Free index_in (λ a. tt),
+        (
+          slot-Fits (codes "inc") op.Inc address_in (λ slot text a e. tt),
+          (
+            slot-Fits (codes "addr") op.Addr address_in (λ slot text a e. let small = within (2 ^ 64 - 1) (number_of text) a e in omega (arith, small)),
+            (
+              slot-Fits (codes "bounds") op.Bounds length_in (λ slot text a e. tt),
+              (
+                slot-Fits (codes "exact") op.Exact length_in (λ slot text a e. tt),
+                (
+                  slot-Fits (codes "perms") op.Perms permissions_in (λ slot text a e. tt),
+                  (
+                    slot-Fits (codes "flag") op.Flag flag_in (λ slot text a e. tt),
+                    (
+                      slot-Fits (codes "seal") op.Seal index_in (λ slot text a e. tt),
+                      (
+                        slot-Fits (codes "unseal") op.Unseal index_in (λ slot text a e. tt),
+                        (
+                          slot-Fits (codes "rebuild") op.Rebuild word_in (λ slot text a e. tt),
+                          (
+                            perhaps-Fits (codes "pool") op.Pool One align_in (λ slot a. tt),
+                            (alone-Fits (codes "sweep") op.Sweep tt, tt),
+                          ),
+                        ),
+                      ),
+                    ),
+                  ),
+                ),
+              ),
+            ),
+          ),
+        ),
+      ),
+    ),
+  ),
+)
+
+operation_in-Fits : (rows : List Command) (name : List ℕ) (values : List (List ℕ)) → AllByRecursion RowFits rows → Fits (operation_in rows name values)
+unfolding RowFits
+operation_in-Fits [] name values fit = tt
+operation_in-Fits (row ∷ rows) name values fit = by (bytes_eq name row.name) (operation_in-Fits rows name values fit.1) where
+  by : (same : Bool) → Fits (operation_in rows name values) → Fits (if same then row.operation values else operation_in rows name values)
+  by true later = fit.0 values
+  by false later = later
 
 command_in-Fits : (words : List (List ℕ)) → Fits (command_in words)
 command_in-Fits [] = tt
-command_in-Fits (word ∷ values) = by (keyword_of word) refl where
-  by : (found : Option Keyword) → keyword_of word ≡ found → Fits (command_in (word ∷ values))
-  by None e = rw e tt
-  by (Some k) e = rw e (command_of-Fits k values)
+command_in-Fits (name ∷ values) = operation_in-Fits commands name values rows-Fit
 
 operation_of-Fits : (line : List ℕ) → Fits (operation_of line)
 unfolding operation_of

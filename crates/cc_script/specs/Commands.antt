@@ -1,5 +1,5 @@
 -- Which line spells which command, and the operation or the fault of every line.
-use Rattle.std.specs.Prelude.{◌≡◌, ◌≢◌, ◌<◌, ℕ, Bool, true, false, ◌&&◌, ◌-◌, ◌^◌, ◌==◌, List, [], ◌∷◌, length, codes, nat_lt, if◌then◌else◌, Option, Some, None, option_map, option_and_then, Result, Ok, Err}
+use Rattle.std.specs.Prelude.{◌≡◌, ◌≢◌, ◌<◌, ℕ, Bool, true, false, ◌&&◌, ◌-◌, ◌^◌, ◌==◌, List, [], ◌∷◌, length, codes, nat_lt, if◌then◌else◌, Option, Some, option_map, option_and_then, Result, Ok, Err}
 use Rattle.std.specs.Int.RustNames.{bit_or}
 use Rattle.std.specs.List.{AllByRecursion, join_with_byte, list_all, slice_split}
 use Rattle.std.specs.Option.{ok_or}
@@ -15,8 +15,6 @@ use Rattle.cc_plan.specs.declared.align.Align.{Align}
 use Rattle.cc_plan.specs.declared.align.Align.TheVariants.{One, Sixteen}
 use Rattle.cc_machine.specs.declared.op.Op.{Op}
 use Rattle.cc_machine.specs.declared.op.Op.TheVariants as op
-use Rattle.cc_script.specs.declared.keyword.Keyword.{Keyword}
-use Rattle.cc_script.specs.declared.keyword.Keyword.TheVariants as keyword
 use Rattle.cc_script.specs.Numbers.{number_of, within_limit}
 
 -- a text without a space
@@ -37,12 +35,6 @@ words_of line = slice_split (λ byte. byte == 32) line
 pub record OneJoin (line : List ℕ) : Type 0 where
   pub joined : IsJoined line (words_of line)
   pub only : (words : List (List ℕ)) → IsJoined line words → words ≡ words_of line
-
--- The text begins with a word that spells the number, and `rest` stands behind its space. No public clause cites it.
-pub record BeginsWithNumber (text : List ℕ) (number : ℕ) (rest : List ℕ) : Type 0 where
-  pub word : List ℕ
-  pub whole : words_of text ≡ word ∷ words_of rest
-  pub spelled : number_of word ≡ Some number
 
 -- the number of a slot or of an object that a text spells: at most 2^32 - 1
 abbrev pub index_in : (text : List ℕ) → Result ℕ Refusal
@@ -82,37 +74,20 @@ permissions_in text =
     if bytes_eq text (codes "-") then Ok (record { 0 = 0 })
     else ok_or (option_map (λ bits. record { 0 = bits }) (with_names 0 (slice_split (λ byte. byte == 43) text))) Syntax
 
--- the keyword of a command: its first word
-abbrev pub keyword_of : (word : List ℕ) → Option Keyword
-keyword_of word =
-    if bytes_eq word (codes "show") then Some keyword.Show
-    else if bytes_eq word (codes "bounds") then Some keyword.Bounds
-    else if bytes_eq word (codes "exact") then Some keyword.Exact
-    else if bytes_eq word (codes "addr") then Some keyword.Addr
-    else if bytes_eq word (codes "inc") then Some keyword.Inc
-    else if bytes_eq word (codes "perms") then Some keyword.Perms
-    else if bytes_eq word (codes "flag") then Some keyword.Flag
-    else if bytes_eq word (codes "seal") then Some keyword.Seal
-    else if bytes_eq word (codes "unseal") then Some keyword.Unseal
-    else if bytes_eq word (codes "rebuild") then Some keyword.Rebuild
-    else if bytes_eq word (codes "round") then Some keyword.Round
-    else if bytes_eq word (codes "pool") then Some keyword.Pool
-    else if bytes_eq word (codes "alloc") then Some keyword.Alloc
-    else if bytes_eq word (codes "free") then Some keyword.Free
-    else if bytes_eq word (codes "sweep") then Some keyword.Sweep
-    else None
+-- The text begins with a word, and `rest` comes after its space. `slot` is the number of the slot that the word spells, or
+-- its fault. No public clause cites it.
+pub record BeginsWithSlot (text : List ℕ) (slot : Result ℕ Refusal) (rest : List ℕ) : Type 0 where
+  pub word : List ℕ
+  pub whole : words_of text ≡ word ∷ words_of rest
+  pub slot_is : slot ≡ index_in word
 
--- the commands that are a keyword alone
-abbrev pub no_value : Keyword → Result Op Refusal
-no_value keyword.Sweep = Ok op.Sweep
-no_value keyword = Err Syntax
+-- The text begins with a word that spells the number, and `rest` comes after its space. No public clause cites it.
+pub record BeginsWithNumber (text : List ℕ) (number : ℕ) (rest : List ℕ) : Type 0 where
+  pub word : List ℕ
+  pub whole : words_of text ≡ word ∷ words_of rest
+  pub spelled : number_of word ≡ Some number
 
--- a command of one value, or its fault
-abbrev pub one : {A : Type 0} → (A → Op) → Result A Refusal → Result Op Refusal
-one make (Ok value) = Ok (make value)
-one make (Err fault) = Err fault
-
--- both values, or the fault: where each text has one, `Syntax` comes before `OutOfRange`
+-- both values, or the fault: if each text has one, `Syntax` comes before `OutOfRange`
 abbrev pub both : {A B : Type 0} → Result A Refusal → Result B Refusal → Result (A × B) Refusal
 both (Ok first) (Ok second) = Ok (first, second)
 both (Ok first) (Err fault) = Err fault
@@ -120,47 +95,89 @@ both (Err Syntax) second = Err Syntax
 both (Err fault) (Ok second) = Err fault
 both (Err fault) (Err other) = Err other
 
--- a command of two values, or its fault
-abbrev pub two : {A B : Type 0} → (A → B → Op) → Result A Refusal → Result B Refusal → Result Op Refusal
-two make first second = one (λ values. make values.0 values.1) (both first second)
+-- the one value after a name, or the fault
+abbrev pub single : {A : Type 0} → (value_in : List ℕ → Result A Refusal) → (values : List (List ℕ)) → Result A Refusal
+single value_in [] = Err Syntax
+single value_in (value ∷ []) = value_in value
+single value_in (value ∷ other ∷ values) = Err Syntax
 
--- the commands of one value after the keyword
-abbrev pub one_value : Keyword → (value : List ℕ) → Result Op Refusal
-one_value keyword.Show slot = one op.Show (index_in slot)
-one_value keyword.Round len = one op.Round (length_in len)
-one_value keyword.Pool slot = one (λ number. op.Pool number One) (index_in slot)
-one_value keyword.Alloc len = one op.Alloc (length_in len)
-one_value keyword.Free object = one op.Free (index_in object)
-one_value keyword value = Err Syntax
+-- the number of a slot and one value after a name, or the fault
+abbrev pub slot_and : {A : Type 0} → (value_in : List ℕ → Result A Refusal) → (values : List (List ℕ)) → Result (ℕ × A) Refusal
+slot_and value_in [] = Err Syntax
+slot_and value_in (slot ∷ []) = Err Syntax
+slot_and value_in (slot ∷ value ∷ []) = both (index_in slot) (value_in value)
+slot_and value_in (slot ∷ value ∷ other ∷ values) = Err Syntax
 
--- the commands of two values after the keyword: the number of a slot, or its fault, and a second value
-abbrev pub two_values : Keyword → (slot : Result ℕ Refusal) → (second : List ℕ) → Result Op Refusal
-two_values keyword.Bounds slot len = two op.Bounds slot (length_in len)
-two_values keyword.Exact slot len = two op.Exact slot (length_in len)
-two_values keyword.Addr slot address = two op.Addr slot (address_in address)
-two_values keyword.Inc slot amount = two op.Inc slot (address_in amount)
-two_values keyword.Perms slot names = two op.Perms slot (permissions_in names)
-two_values keyword.Flag slot flag = two op.Flag slot (flag_in flag)
-two_values keyword.Seal slot authority = two op.Seal slot (index_in authority)
-two_values keyword.Unseal slot authority = two op.Unseal slot (index_in authority)
-two_values keyword.Rebuild authority word = two op.Rebuild authority (word_in word)
-two_values keyword.Pool slot align = two op.Pool slot (align_in align)
-two_values keyword slot second = Err Syntax
+-- the number of a slot and one value after a name, which is `usual` if it is omitted, or the fault
+abbrev pub slot_and_perhaps : {A : Type 0} → (usual : A) → (value_in : List ℕ → Result A Refusal) → (values : List (List ℕ)) → Result (ℕ × A) Refusal
+slot_and_perhaps usual value_in [] = Err Syntax
+slot_and_perhaps usual value_in (slot ∷ []) = both (index_in slot) (Ok usual)
+slot_and_perhaps usual value_in (slot ∷ value ∷ values) = slot_and value_in (slot ∷ value ∷ values)
 
--- the commands by how many words follow the keyword
-abbrev pub command_of : Keyword → (values : List (List ℕ)) → Result Op Refusal
-command_of keyword [] = no_value keyword
-command_of keyword (value ∷ []) = one_value keyword value
-command_of keyword (first ∷ second ∷ []) = two_values keyword (index_in first) second
-command_of keyword (first ∷ second ∷ third ∷ more) = Err Syntax
+-- the operation made of a value, or the fault
+abbrev pub one : {A : Type 0} → (make : A → Op) → Result A Refusal → Result Op Refusal
+one make (Ok value) = Ok (make value)
+one make (Err fault) = Err fault
 
--- the command of these words, or its fault
+-- the operation made of two values, or the fault
+abbrev pub two : {A B : Type 0} → (make : A → B → Op) → Result (A × B) Refusal → Result Op Refusal
+two make values = one (λ parts. make parts.0 parts.1) values
+
+-- A command: its name, and the operation or the fault of each list of values after the name.
+pub record Command : Type 0 where
+  pub name : List ℕ
+  pub operation : (values : List (List ℕ)) → Result Op Refusal
+
+-- a command without values
+abbrev pub alone : (name : List ℕ) → (op : Op) → Command
+alone name op = record { name = name; operation = without op } where
+  without : Op → (values : List (List ℕ)) → Result Op Refusal
+  without op [] = Ok op
+  without op (value ∷ values) = Err Syntax
+
+-- a command of one value
+abbrev pub of_value : {A : Type 0} → (name : List ℕ) → (make : A → Op) → (value_in : List ℕ → Result A Refusal) → Command
+of_value name make value_in = record { name = name; operation = λ values. one make (single value_in values) }
+
+-- a command of a slot and a value
+abbrev pub of_slot : {A : Type 0} → (name : List ℕ) → (make : ℕ → A → Op) → (value_in : List ℕ → Result A Refusal) → Command
+of_slot name make value_in = record { name = name; operation = λ values. two make (slot_and value_in values) }
+
+-- a command of a slot and a value that may be omitted
+abbrev pub of_slot_perhaps : {A : Type 0} → (name : List ℕ) → (make : ℕ → A → Op) → (usual : A) → (value_in : List ℕ → Result A Refusal) → Command
+of_slot_perhaps name make usual value_in =
+    record { name = name; operation = λ values. two make (slot_and_perhaps usual value_in values) }
+
+-- the table of commands
+abbrev pub commands : List Command
+commands =
+    of_value (codes "show") op.Show index_in
+    ∷ of_value (codes "round") op.Round length_in
+    ∷ of_value (codes "alloc") op.Alloc length_in
+    ∷ of_value (codes "free") op.Free index_in
+    ∷ of_slot (codes "inc") op.Inc address_in
+    ∷ of_slot (codes "addr") op.Addr address_in
+    ∷ of_slot (codes "bounds") op.Bounds length_in
+    ∷ of_slot (codes "exact") op.Exact length_in
+    ∷ of_slot (codes "perms") op.Perms permissions_in
+    ∷ of_slot (codes "flag") op.Flag flag_in
+    ∷ of_slot (codes "seal") op.Seal index_in
+    ∷ of_slot (codes "unseal") op.Unseal index_in
+    ∷ of_slot (codes "rebuild") op.Rebuild word_in
+    ∷ of_slot_perhaps (codes "pool") op.Pool One align_in
+    ∷ alone (codes "sweep") op.Sweep
+    ∷ []
+
+-- the operation of the first command of this name, or `Syntax` if there is none
+abbrev pub operation_in : (rows : List Command) → (name : List ℕ) → (values : List (List ℕ)) → Result Op Refusal
+operation_in [] name values = Err Syntax
+operation_in (row ∷ rows) name values =
+    if bytes_eq name row.name then row.operation values else operation_in rows name values
+
+-- the operation of these words, of which the first is a command's name, or the fault
 abbrev pub command_in : (words : List (List ℕ)) → Result Op Refusal
 command_in [] = Err Syntax
-command_in (word ∷ values) = of_keyword (keyword_of word) where
-  of_keyword : Option Keyword → Result Op Refusal
-  of_keyword None = Err Syntax
-  of_keyword (Some keyword) = command_of keyword values
+command_in (name ∷ values) = operation_in commands name values
 
 -- The operation of a line, or its fault. A line of more than 128 bytes has the fault `TooLong`, whatever is in it.
 unfoldable pub operation_of : (line : List ℕ) → Result Op Refusal

@@ -2,8 +2,6 @@
 pub mod Numbers
 pub mod Digits
 pub mod Commands
-pub mod Keywords
-pub mod Looks
 pub mod Replies
 pub mod Output
 pub mod Laws

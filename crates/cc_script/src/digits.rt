@@ -1,10 +1,10 @@
-//! Digits, and the numbers that they parse as.
-ghost use Rattle.std.specs.Prelude.{◌≡◌, ◌⊎◌, ◌↔◌, ◌+◌, ◌*◌, ◌%◌, ◌<◌, ◌≤◌, ◌^◌, length, min, take, false, Some, SomeIff, IsSome, IsTrue};
+//! Digits, and the numbers that they spell.
+ghost use Rattle.std.specs.Prelude.{◌≡◌, ◌⊎◌, ◌↔◌, ◌+◌, ◌*◌, ◌%◌, ◌<◌, ◌≤◌, ◌^◌, length, min, take, false, ℕ, Option, Some, SomeIff, IsSome, IsTrue};
 ghost use Rattle.std.specs.Char.{digit_value};
 ghost use Rattle.cc_script.specs.Numbers.{numeral_of, capped};
-ghost use Rattle.cc_script.specs.Digits.{number_further};
-ghost use Rattle.cc_script.specs.Looks.{Tells};
+ghost use Rattle.cc_script.specs.Digits.{number_further, Spells};
 
+use cc_bounds::ADDRESS_SPACE;
 use cc_word::read_quarter;
 
 /// A number above every limit. Numbers of at least this value are read as this one.
@@ -31,55 +31,46 @@ const DIGIT_VALUES: [u8; 256] = [
     36, 36, 36, 36, 36, 36, 36, 36, 36, 36, 36, 36, 36, 36, 36, 36,
 ];
 
-/// The result of the fast path that reads a number.
+/// The number that a text spells, as far as the limits of values need it.
 #[derive(Clone, Copy)]
-pub enum Look {
-    /// The number that the string parses as.
+pub enum Spelled {
+    /// This number.
     Number(u64),
-    /// The string is not a number.
-    NoNumber,
-    /// No result, since the string is long.
-    Long,
+    /// The number 2^64.
+    Whole,
+    /// A number above 2^64.
+    Over,
+    /// There is none.
+    Nothing,
 }
 
-/// Returns the number that the digits parse as, on the fast path for few digits.
-///
-/// Requires: `radix` is 10 or 16.
+/// Returns the number that some digits spell.
 #[inline(always)]
-pub fn read_few(digits: &[u8], radix: u8) -> Look
+pub fn read_digits(digits: &[u8], radix: u8) -> Spelled
     requires radix { (radix ≡ 10) ⊎ (radix ≡ 16) }
-    ensures { Tells result (numeral_of radix digits.now) }
+    ensures { Spells result (numeral_of radix digits.now) }
 {
     if !are_few(digits, radix) {
-        return Look::Long;
+        return spelled_by(read_long(digits, radix));
     }
     if digits.is_empty() {
-        return Look::NoNumber;
+        return Spelled::Nothing;
     }
     match read_short(digits, radix) {
-        Some(number) => Look::Number(number),
-        None => Look::NoNumber,
+        Some(number) => Spelled::Number(number),
+        None => Spelled::Nothing,
     }
 }
 
-/// Returns the number that one or more digits parse as, or [`OVER_ALL_LIMITS`] if it is above that.
-/// Returns `None` if there is no byte, or one is not a digit.
-///
-/// Requires: `radix` is 10 or 16.
-#[inline(always)]
-pub fn read_digits(digits: &[u8], radix: u8) -> Option<u128>
-    requires radix { (radix ≡ 10) ⊎ (radix ≡ 16) }
-    ensures { result ≡ capped (2 ^ 65) (numeral_of radix digits.now) }
+/// Returns the number of a numeral that was read up to [`OVER_ALL_LIMITS`].
+fn spelled_by(number: Option<u128>) -> Spelled
+    ensures { (spelled : Option ℕ) → number ≡ capped (2 ^ 65) spelled → Spells result spelled }
 {
-    if digits.is_empty() {
-        return None;
-    }
-    if !are_few(digits, radix) {
-        return read_long(digits, radix);
-    }
-    match read_short(digits, radix) {
-        Some(number) => Some(u128::from(number)),
-        None => None,
+    match number {
+        Some(number) if number < ADDRESS_SPACE => Spelled::Number(number as u64),
+        Some(number) if number > ADDRESS_SPACE => Spelled::Over,
+        Some(_) => Spelled::Whole,
+        None => Spelled::Nothing,
     }
 }
 

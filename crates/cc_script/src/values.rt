@@ -1,16 +1,153 @@
-//! The values of commands that are no numbers.
-ghost use Rattle.std.specs.Prelude.{◌≡◌, ◌==◌, drop, option_map};
+//! The values of commands.
+ghost use Rattle.std.specs.Prelude.{◌≡◌, ◌==◌, ℕ, List, Result, drop, option_map};
 ghost use Rattle.std.specs.List.{slice_split};
 ghost use Rattle.bitflags.specs.Sets.{find_name, find_row};
 ghost use Rattle.cc_cap.specs.Permissions.{bits_of, permission_table};
-ghost use Rattle.cc_script.specs.Commands.{align_in, flag_in, word_in, permissions_in, with_names};
+ghost use Rattle.cc_word.specs.declared.refusal.Refusal.{Refusal as RefusalSpec};
+ghost use Rattle.cc_script.specs.Commands.{address_in, align_in, both, flag_in, index_in, length_in, permissions_in, single, slot_and, slot_and_perhaps, with_names, word_in, words_of};
 
+use crate::numbers::{read_address, read_index, read_length, split_number, split_slot};
 use crate::words::split_at_first;
 use cc_cap::Perms;
-use cc_machine::Align;
+use cc_machine::{Align, Len};
 use cc_word::Refusal;
 
+/// A kind of value: what a text spells, as the type says. Slots and objects are `u32`, addresses and increments `u64`,
+/// words `u128`, flags `bool`.
+pub(crate) trait Value: Copy {
+    // the value that a text spells, or its fault
+    ghost value_in: { List ℕ → Result Self RefusalSpec };
+
+    /// Returns the value that a text spells, if it is one word.
+    fn read(text: &[u8]) -> Result<Self, Refusal>
+        ensures { result ≡ single value_in (words_of text.now) };
+}
+
+impl Value for u32 {
+    ghost value_in = { index_in };
+
+    #[inline(always)]
+    #[tactic(auto, using(crate::proofs::SpaceLemmas::index_in_single))]
+    fn read(text: &[u8]) -> Result<u32, Refusal> {
+        read_index(text)
+    }
+}
+
+impl Value for u64 {
+    ghost value_in = { address_in };
+
+    #[inline(always)]
+    #[tactic(auto, using(crate::proofs::SpaceLemmas::address_in_single))]
+    fn read(text: &[u8]) -> Result<u64, Refusal> {
+        read_address(text)
+    }
+}
+
+impl Value for Len {
+    ghost value_in = { length_in };
+
+    #[inline(always)]
+    #[tactic(auto, using(crate::proofs::SpaceLemmas::length_in_single))]
+    fn read(text: &[u8]) -> Result<Len, Refusal> {
+        read_length(text)
+    }
+}
+
+impl Value for bool {
+    ghost value_in = { flag_in };
+
+    #[inline(always)]
+    #[tactic(auto, using(crate::proofs::SpaceLemmas::flag_in_single))]
+    fn read(text: &[u8]) -> Result<bool, Refusal> {
+        read_flag(text)
+    }
+}
+
+impl Value for Perms {
+    ghost value_in = { permissions_in };
+
+    #[inline(always)]
+    #[tactic(auto, using(crate::proofs::SpaceLemmas::permissions_in_single))]
+    fn read(text: &[u8]) -> Result<Perms, Refusal> {
+        read_permissions(text)
+    }
+}
+
+impl Value for u128 {
+    ghost value_in = { word_in };
+
+    #[inline(always)]
+    #[tactic(auto, using(crate::proofs::SpaceLemmas::word_in_single))]
+    fn read(text: &[u8]) -> Result<u128, Refusal> {
+        read_word_value(text)
+    }
+}
+
+impl Value for Align {
+    ghost value_in = { align_in };
+
+    #[inline(always)]
+    #[tactic(auto, using(crate::proofs::SpaceLemmas::align_in_single))]
+    fn read(text: &[u8]) -> Result<Align, Refusal> {
+        read_align(text)
+    }
+}
+
+/// Returns the number of a slot and a value, if a text has these two words.
+#[inline(always)]
+pub(crate) fn slot_and<V: Value>(text: &[u8]) -> Result<(u32, V), Refusal>
+    ensures { result ≡ slot_and V.value_in (words_of text.now) }
+{
+    match split_number(text) {
+        Some((number, rest)) if number <= u64::from(u32::MAX) => match V::read(rest) {
+            Ok(value) => Ok((number as u32, value)),
+            Err(refusal) => Err(refusal),
+        },
+        _ => slot_and_any(text),
+    }
+}
+
+/// Returns the number of a slot and a value, as [`slot_and`] does, however the number is written.
+#[inline(never)]
+fn slot_and_any<V: Value>(text: &[u8]) -> Result<(u32, V), Refusal>
+    ensures { result ≡ slot_and V.value_in (words_of text.now) }
+{
+    match split_slot(text) {
+        Some((slot, rest)) => both(slot, V::read(rest)),
+        None => Err(Refusal::Syntax),
+    }
+}
+
+/// Returns the number of a slot and a value, which is the usual one if the text has one word.
+#[inline(always)]
+pub(crate) fn slot_and_perhaps<V: Value>(usual: V, text: &[u8]) -> Result<(u32, V), Refusal>
+    ensures { result ≡ slot_and_perhaps usual V.value_in (words_of text.now) }
+{
+    match split_slot(text) {
+        Some((slot, rest)) => both(slot, V::read(rest)),
+        None => both(read_index(text), Ok(usual)),
+    }
+}
+
+/// Both values, or why they are refused: a text that spells no value comes before a number over its limit.
+pub fn both<A: Copy, B: Copy>(
+    first: Result<A, Refusal>,
+    second: Result<B, Refusal>,
+) -> Result<(A, B), Refusal>
+    ensures { result ≡ both first second }
+{
+    match first {
+        Ok(first) => second.map(|second| (first, second)),
+        Err(Refusal::Syntax) => Err(Refusal::Syntax),
+        Err(refusal) => match second {
+            Ok(_) => Err(refusal),
+            Err(other) => Err(other),
+        },
+    }
+}
+
 /// The flag that a text spells: `0` or `1`, and nothing else.
+#[inline(always)]
 pub fn read_flag(text: &[u8]) -> Result<bool, Refusal>
     ensures { result ≡ flag_in text.now }
 {
@@ -48,6 +185,7 @@ pub fn read_word_value(text: &[u8]) -> Result<u128, Refusal>
 
 /// The set of permissions that a text spells: names in upper case, joined by `+`, in any order and
 /// repeated or not, or `-` for none.
+#[inline(always)]
 pub fn read_permissions(text: &[u8]) -> Result<Perms, Refusal>
     ensures { result ≡ permissions_in text.now }
 {
