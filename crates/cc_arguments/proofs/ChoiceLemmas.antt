@@ -1,4 +1,4 @@
--- Which values of `explain` go together, and the faults of the program's words.
+-- The values of `explain` that are accepted together, and the errors of the program's arguments.
 use Rattle.std.proofs.Common.{◌≡◌, Bool, true, false, List, [], ◌∷◌, Option, Some, None, inl, inr, is_some, refl, subst, sym, option_map}
 use Rattle.std.specs.Prelude.{◌&&◌, Result, Ok, Err, not, unwrap_or}
 use Rattle.std.specs.Borrow.{Bor}
@@ -13,29 +13,29 @@ use Rattle.cc_arguments.specs.Invocation.{choice_fault, choice_fault_in, faults_
 
 -- ---- the values of `explain`
 
--- a word excludes the options
+-- WORD excludes the options.
 pub word_alone : (size base : Option Text) → choice_fault true (is_some size) (is_some base) ≡ None → (size ≡ None) × (base ≡ None)
 word_alone None None e = (refl, refl)
 word_alone None (Some text) e = cc e
 word_alone (Some text) base e = cc e
 
--- without a word a length is wanted
+-- Without WORD, `--length` is required.
 pub length_wanted : (size base : Option Text) → choice_fault false (is_some size) (is_some base) ≡ None → (text : Text) × (size ≡ Some text)
 length_wanted None base e = cc e
 length_wanted (Some text) base e = (text, refl)
 
--- the default of a text that is not given
+-- The default of a text that is not given.
 pub text_or : (given : Option (Bor Text)) (other : Bor Text)
     → (unwrap_or given other).now ≡ unwrap_or (option_map (λ text. text.now) given) other.now
 text_or None other = refl
 text_or (Some text) other = refl
 
--- a text is given exactly where it has a value
+-- A text is given if and only if it has a value.
 pub is_some-now : (found : Option (Bor Text)) → is_some found ≡ is_some (option_map (λ text. text.now) found)
 is_some-now None = refl
 is_some-now (Some text) = refl
 
--- ---- the program's words
+-- ---- the program's arguments
 
 both_true : (a b : Bool) → (a && b) ≡ true → (a ≡ true) × (b ≡ true)
 both_true true b e = (refl, e)
@@ -45,7 +45,7 @@ none_given : (choice : Option ErrorKind) → not (is_some choice) ≡ true → c
 none_given None e = refl
 none_given (Some kind) e = cc e
 
--- words that are taken are taken by clap, and their values go together
+-- Arguments that are accepted are accepted by clap, and their values have no error.
 pub taken_parts : (app : App) (words : List Text) → is_taken app words ≡ true
     → (takes app words ≡ true) × (choice_fault_in (subcommand_of app words) ≡ None)
 taken_parts app words taken =
@@ -57,17 +57,17 @@ first_kind [] second e (inl memory) = inl memory
 first_kind [] second e (inr among) = absurd among
 first_kind (k ∷ ks) second e has = has
 
--- an error of clap's is one of the program's
+-- An error of clap's is one of the program's.
 pub clap_fails : (app : App) (words : List Text) (e : Error) → HasKind (fault_of app words) e → HasKind (faults_of app words) e
 clap_fails app words e has = first_kind (fault_of app words) (kinds_in (choice_fault_in (subcommand_of app words))) e has
 
--- where clap has no error, the values of `explain` decide
+-- If clap has no error, the values of `explain` decide.
 pub choice_fails : {T : Type 0} (app : App) (words : List Text) (r : Result T Error) → fault_of app words ≡ []
     → FailsBy (kinds_in (choice_fault_in (subcommand_of app words))) r → FailsBy (faults_of app words) r
 choice_fails app words r faultless told =
     subst (λ (kinds : Kinds). FailsBy (or_else kinds (kinds_in (choice_fault_in (subcommand_of app words)))) r) (sym faultless) told
 
--- an error where the values of `explain` go together is want of memory
+-- If the values of `explain` have no error, an error means that memory ran out.
 pub choice_refuses : {T : Type 0} (choice : Option ErrorKind) (r : Result T Error) (Q : Error → Type 0) → FailsBy (kinds_in choice) r
     → ((e : Error) → (choice ≡ None → kind_of e ≡ OutOfMemory) → Q e) → IfErr r Q
 choice_refuses choice (Ok value) Q told make = tt

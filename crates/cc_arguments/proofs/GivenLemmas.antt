@@ -1,4 +1,4 @@
--- What words without a fault give a command: each argument found in them has values that pass, whatever
+-- The values that arguments without an error give a command: each argument found in them has values that pass, whatever
 -- the command's rules, as long as no rule has a default and no use of a rule leaves it without a value.
 use Rattle.std.proofs.Common.{◌≡◌, ◌||◌, ◌∙◌, ℕ, zero, suc, Bool, true, false, List, [], ◌∷◌, ◌++◌, Option, Some, None, ap, codes, is_some, length, option_map, refl, subst, sym, if◌then◌else◌}
 use Rattle.std.specs.Prelude.{⊤, ◌&&◌, not, drop, encode_utf8, slice_get, find, fold, option_and_then}
@@ -24,7 +24,7 @@ use Rattle.clap.specs.declared.parser.matches.ValueSource.{ValueSource}
 use Rattle.clap.specs.declared.parser.matches.ValueSource.TheVariants.{CommandLine, DefaultValue}
 use Rattle.cc_arguments.specs.Invocation.{HasText}
 
--- two steps have no fault where neither has one
+-- If two steps have no error together, neither has one.
 pub both_empty : (a b : Kinds) → or_else a b ≡ [] → (a ≡ []) × (b ≡ [])
 both_empty [] b e = (refl, e)
 both_empty (k ∷ ks) b e = cc e
@@ -35,15 +35,15 @@ abbrev HasValue : List Text → Type 0
 HasValue [] = ⊥
 HasValue (v ∷ vs) = ⊤
 
--- these values of an id are read as its rule among the command's says, and pass
+-- `Passes` holds if these values of an id are read as its rule among the command's says, and pass.
 abbrev pub Passes : List Rule → Text → Reading → List Text → Type 0
 Passes c id how values = (a : Rule) → arg_by_id c id ≡ Some a → (how ≡ reading_by a) × (values_fault a values ≡ [])
 
--- the row has a value, and all its values pass
+-- `IsGiven` holds if the row has a value, and all its values pass.
 abbrev IsGiven : List Rule → Row → Type 0
 IsGiven c r = HasValue r.values × Passes c r.id r.reading r.values
 
--- each row has a value, and all its values pass
+-- `AreGiven` holds if each row has a value, and all its values pass.
 abbrev pub AreGiven : List Rule → List Row → Type 0
 AreGiven c [] = ⊤
 AreGiven c (r ∷ rs) = IsGiven c r × AreGiven c rs
@@ -58,7 +58,7 @@ values_more a (x ∷ xs) ys h rest =
     let parts = both_empty (value_kinds a.ignore_case (parser_of_value a.parser) x) (values_fault a xs) h in
     rw parts.0 (values_more a xs ys parts.1 rest)
 
--- the change makes rows that are given of a row that is
+-- `Keeps` holds if the change of a row that is given returns rows that are.
 abbrev Keeps : List Rule → Text → (Row → List Row) → Type 0
 Keeps c id change = (r : Row) (rs : List Row) → r.id ≡ id → IsGiven c r → AreGiven c rs → AreGiven c (change r ++ rs)
 
@@ -88,12 +88,13 @@ with_values-given c id how source values rows some pass h =
     ))
     ((some, pass), tt) h
 
--- the default of the rule, if it has one, passes, and a use of it without a fault gives it values that pass
+-- `GivesValue` holds if the default of the rule, if it has one, passes, and a use of it without an error gives it values
+-- that pass.
 pub record GivesValue (c : List Rule) (a : Rule) : Type 0 where
   pub default : (rows : List Row) → AreGiven c rows → AreGiven c (with_default rows a)
   pub uses : (again : Bool) (values : List Text) (rows : List Row) → use_fault again a values rows ≡ [] → AreGiven c rows → AreGiven c (used a values rows)
 
--- and so do all of a command's
+-- `GiveValues` holds if `GivesValue` holds for all these rules of a command.
 abbrev pub GiveValues : List Rule → List Rule → Type 0
 GiveValues c [] = ⊤
 GiveValues c (a ∷ rest) = GivesValue c a × GiveValues c rest
@@ -117,11 +118,11 @@ no_default rows a none = go (has_row a.id rows) a.defaults none
     go true defaults e = refl
     go false defaults e = rw e refl
 
--- a rule without a default adds none
+-- A rule without a default adds none.
 pub no_default-given : (c : List Rule) (a : Rule) → a.defaults ≡ [] → (rows : List Row) → AreGiven c rows → AreGiven c (with_default rows a)
 no_default-given c a none rows given = rw (no_default rows a none) given
 
--- a rule without a default that is the first of its id, and whose uses set one value or more
+-- A rule without a default that is the first of its id, and whose uses set at least one value.
 pub set_gives : (c : List Rule) (a : Rule) → a.defaults ≡ [] → action_of a ≡ Set → (unwrap_or_range a.range).start_inclusive ≡ 1 → arg_by_id c a.id ≡ Some a → GivesValue c a
 set_gives c a none sets least own = record { default = no_default-given c a none; uses = uses }
   where
@@ -139,7 +140,7 @@ set_gives c a none sets least own = record { default = no_default-given c a none
         (λ b is. let same : a ≡ b = cc (sym own ∙ is) in (ap reading_by same, subst (λ (r : Rule). values_fault r (v ∷ vs) ≡ []) same pass.1))
         (without-given c a.id rows given))
 
--- a flag whose rule is the first of its id: it is `false`, and a use of it makes it `true`
+-- A flag whose rule is the first of its id: it is `false`, and a use of it makes it `true`.
 pub flag_gives : (c : List Rule) (a : Rule) → a.defaults ≡ codes "false" ∷ [] → a.missing ≡ codes "true" ∷ [] → action_of a ≡ SetTrue → values_fault a (codes "false" ∷ []) ≡ []
     → arg_by_id c a.id ≡ Some a → GivesValue c a
 flag_gives c a off on sets passes own = record { default = default; uses = uses }
@@ -169,7 +170,7 @@ flag_gives c a off on sets passes own = record { default = default; uses = uses 
         go true defaults e = given
         go false defaults e = rw e (with_values-given c a.id (reading_by a) DefaultValue (codes "false" ∷ []) rows tt (own_passes (codes "false" ∷ []) passes) given)
 
--- ---- the walk over the words of a command
+-- ---- the walk over the arguments of a command
 
 module _ (c : List Rule) (again : Bool) (all : GiveValues c c) where
   by_id : (o : Option Rule) (values : List Text) (rows : List Row) → FoundGives c o → option_map_or (λ a. use_fault again a values rows) o [] ≡ [] → AreGiven c rows
@@ -204,7 +205,7 @@ module _ (c : List Rule) (again : Bool) (all : GiveValues c c) where
       go false None e = reacted-given a [] h gives e given
       go false (Some x) e = given
 
-  -- the rest of a bundle of short flags keeps the rows given
+  -- `NextGives` holds if the remaining short flags of a bundle keep the rows given.
   abbrev NextGives : (Held → Kinds) → (Held → Held × Outcome) → Type 0
   NextGives fault met = (h : Held) → fault h ≡ [] → AreGiven c h.rows → AreGiven c (met h).0.rows
 
@@ -237,7 +238,7 @@ module _ (c : List Rule) (again : Bool) (all : GiveValues c c) where
           (found_gives c (λ a. not (is_some a.index) && has_short a x) c all) e given
       by_first (Some x) (suc skip) later e = later (drop (length (encode_utf8 x)) flags) skip so_far h e given
 
-  -- a word that is no flag uses nothing yet
+  -- An argument that is not a flag uses nothing yet.
   plain_rows : (waiting : Waiting) (word : Text) (h : Held) → (plain_word c waiting word h).0.rows ≡ h.rows
   plain_rows idle word h = refl
   plain_rows positional word h = refl
@@ -328,7 +329,7 @@ defaults-given : (c : List Rule) (rows : List Row) (rules : List Rule) → GiveV
 defaults-given c rows [] all given = given
 defaults-given c rows (a ∷ rest) all given = defaults-given c (with_default rows a) rest all.1 (all.0.default rows given)
 
--- no step of a level has a fault
+-- No step of a level without an error has one.
 pub level_parts : (s : Shape) (names : Names) (words : List Text) (has : Bool) (below : Kinds) → level_fault s names nothing_held words has below ≡ []
     → (walk_fault s names (walk_from nothing_held) words ≡ []) × (below ≡ [])
     × (settle_fault s.rules s.args_override_self (walk s.rules names nothing_held words).held ≡ []) × (check_fault s (rows_after s.rules names words) has ≡ [])
@@ -342,7 +343,7 @@ level_parts s names words has below e =
     let given = both_empty (settle_fault s.rules s.args_override_self end) defaults passed.1 in
     (walked.0, passed.0, given.0, (both_empty (defaults_fault (settled s.rules end).rows s.rules) check given.1).1)
 
--- each argument found has values that pass
+-- Each argument found has values that pass.
 pub level-given : (s : Shape) (names : Names) (words : List Text) (has : Bool) (below : Kinds) → GiveValues s.rules s.rules → level_fault s names nothing_held words has below ≡ []
     → AreGiven s.rules (rows_after s.rules names words)
 level-given s names words has below all e =
@@ -353,7 +354,7 @@ level-given s names words has below all e =
 
 -- ---- arguments that are found
 
--- a row that is found has a value, and its values pass
+-- `FoundPasses` holds if a row that is found has a value, and its values pass.
 abbrev FoundPasses : List Rule → Text → Option Row → Type 0
 FoundPasses c id None = ⊤
 FoundPasses c id (Some r) = HasValue r.values × Passes c id r.reading r.values
@@ -367,7 +368,7 @@ found_passes c id (r ∷ rs) given = go (bytes_eq r.id id) (λ e. (bytes_eq-Deci
     go true same later = (given.0.0, λ a is. given.0.1 a (ap (arg_by_id c) (same refl) ∙ is))
     go false same later = later
 
--- the value of a rule, where it has one, is read as the rule says, and passes
+-- `IsTaken` holds if the value of a rule, if it has one, is read as the rule says, and passes.
 abbrev pub IsTaken : Rule → (given read : Option Text) → Type 0
 IsTaken a None read = read ≡ None
 IsTaken a (Some text) read = (read ≡ Some (read_as (reading_by a) text)) × (accepts a.ignore_case (parser_of_value a.parser) text ≡ true)
@@ -390,7 +391,7 @@ taken c id a rows given own = go (find (λ r. bytes_eq r.id id) rows) (found_pas
     go None h = refl
     go (Some r) h = let pass = h.1 a own in first r.reading r.values h.0 pass.0 pass.1
 
--- ---- arguments that are wanted
+-- ---- arguments that are required
 
 text_given : (c : List Rule) (id : Text) (rows : List Row) → AreGiven c rows → is_given id rows ≡ true → HasText id rows
 text_given c id rows given e = go (find (λ r. bytes_eq r.id id) rows) (found_passes c id rows given) e
@@ -404,7 +405,7 @@ text_given c id rows given e = go (find (λ r. bytes_eq r.id id) rows) (found_pa
     go None h e = cc e
     go (Some r) h e = first r.values h.0
 
--- each required argument has a value
+-- `RequiredHaveText` holds if each required argument has a value.
 abbrev pub RequiredHaveText : List Rule → List Row → Type 0
 RequiredHaveText [] rows = ⊤
 RequiredHaveText (a ∷ rest) rows = (a.required ≡ true → HasText a.id rows) × RequiredHaveText rest rows
@@ -427,7 +428,7 @@ checked true command true e = cc e
 checked false true true e = cc e
 checked false false true e = cc e
 
--- a command without a fault has its required arguments' values
+-- A command without an error has its required arguments' values.
 pub required_given : (s : Shape) (words : List Text) → GiveValues s.rules s.rules → level_fault s [] nothing_held words false [] ≡ []
     → RequiredHaveText s.rules (rows_after s.rules [] words)
 required_given s words all e =

@@ -1,4 +1,4 @@
--- Words that clap takes name one of the program's commands, and give it the values that it wants.
+-- Arguments that clap accepts name one of the program's commands, and give it the values that it needs.
 use Rattle.std.proofs.Common.{◌≡◌, ◌==◌, ◌∙◌, ◌⊎◌, ℕ, Bool, true, false, List, [], ◌∷◌, Option, Some, None, arith, is_some, refl, subst, sym, ap, ap₂, inl, inr, codes, get_or, if◌then◌else◌, option_map}
 use Rattle.std.specs.Prelude.{cond, ⊤, ◌&&◌, ◌||◌, IfSome, IsSome, Result, Ok, Err, find, not, Box, pos, unwrap_or}
 use Rattle.std.specs.Borrow.{Bor}
@@ -45,7 +45,7 @@ without_minus-plain (x ∷ xs) e = go (x == 45) e
     go true e = cc e
     go false e = refl
 
--- a number from 1 up has no minus
+-- A number from 1 to 65,536 has no minus.
 signed_limit : (text : Text) → IsSignedIn (pos 1) (pos 65536) text → (without_minus text ≡ text) × IsLimitText text
 signed_limit text passed = go (starts_with_minus text) refl
   where
@@ -70,7 +70,7 @@ has_limit rows taken =
         let limit = signed_limit text (accepts-Accepts false (Signed (pos 1) (pos 65536)) text is.1) in
         (is.0 ∙ ap Some limit.0, limit.1)
 
--- what `get_one` reads of a limit
+-- The limit that `get_one` reads.
 pub limit_read : {E : Type 0} (gives : Text → Result ℕ E → Type 0) (given : Option Text) (read : Option ℕ) → IfSome given IsLimitText → (given ≡ None → read ≡ None)
     → ((text : Text) → given ≡ Some text → ReadsOne gives text read) → ((text : Text) (r : Result ℕ E) → gives text r → ParsesUnsigned 32 10 text r) → IsLimit given (unwrap_or read 4096)
 limit_read gives None read limit none some parses = rw (none refl) (record { value = refl; from_one = omega arith; at_most = omega arith })
@@ -84,13 +84,13 @@ limit_read gives (Some text) read limit none some parses = go read (some text re
 
 -- ---- choices
 
--- a text that is among names is among the texts that they stand for
+-- A text is among the names if and only if it is among their texts.
 among_texts : (names : List (Bor Text)) (text : Text)
     → list_any (λ name. same_text false name.now text) names ≡ list_any (λ name. bytes_eq name text) (texts names)
 among_texts [] text = refl
 among_texts (name ∷ names) text = ap (λ (rest : Bool). bytes_eq name.now text || rest) (among_texts names text)
 
--- a text that clap takes for a choice names one, where all its names do
+-- A text that clap accepts for a choice names one, if all the choice's names do.
 has_choice : {A : Type 0} (named : Text → Option A) (name : Text) (names : List Text) → ((text : Text) → list_any (λ n. bytes_eq n text) names ≡ true → IsSome (named text))
     → (choices : Bor (List (Bor Text))) → texts choices.now ≡ names → (rows : List Row)
     → IsTaken (filled (choice_option name choices)) (first_of name rows) (one_of name rows) → HasChoice named name rows
@@ -102,7 +102,7 @@ has_choice named name names each choices are rows taken = go (first_of name rows
         let among = sym (among_texts choices.now text) ∙ is.1 in
         each text (subst (λ (ns : List Text). list_any (λ n. bytes_eq n text) ns ≡ true) are among)
 
--- 1 and 16 are alignments
+-- 1 and 16 are alignments.
 align_read : (text : Text) → list_any (λ name. bytes_eq name text) (codes "1" ∷ codes "16" ∷ []) ≡ true → IsSome (align_named text)
 align_read text among = go (bytes_eq (codes "1") text) (bytes_eq (codes "16") text) refl refl among
   where
@@ -112,7 +112,7 @@ align_read text among = go (bytes_eq (codes "1") text) (bytes_eq (codes "16") te
     go false true other is e = subst (λ (t : Text). IsSome (align_named t)) ((bytes_eq-Decides (codes "16") text).0 is) refl
     go false false one sixteen e = cc e
 
--- an alignment that is not 16 is 1
+-- An alignment that is not 16 is 1.
 pub align_one : (given : Option Text) → IfSome given (λ text. IsSome (align_named text)) → (given ≡ Some (codes "16") → ⊥) → IsChosen align_named One given One
 align_one None read other = refl
 align_one (Some text) read other =
@@ -128,7 +128,7 @@ align_one (Some text) read other =
 
 -- ---- formats
 
--- each name of a format names one
+-- Each name of a format names one.
 format_read : (text : Text) → list_any (λ name. bytes_eq name text) format_names ≡ true → IsSome (format_named text)
 format_read text among = go (bytes_eq (codes "columns") text) (bytes_eq (codes "text") text) (bytes_eq (codes "csv") text) refl refl refl among
   where
@@ -139,7 +139,7 @@ format_read text among = go (bytes_eq (codes "columns") text) (bytes_eq (codes "
     go false false true one two is e = subst (λ (t : Text). IsSome (format_named t)) ((bytes_eq-Decides (codes "csv") text).0 is) refl
     go false false false one two three e = cc e
 
--- a format that is neither of the others is columns
+-- A format that is neither of the others is columns.
 pub format_columns : (given : Option Text) → IfSome given (λ text. IsSome (format_named text)) → (given ≡ Some (codes "text") → ⊥) → (given ≡ Some (codes "csv") → ⊥)
     → IsChosen format_named Columns given Columns
 format_columns None read not_line not_csv = refl
@@ -158,7 +158,7 @@ format_columns (Some text) read not_line not_csv =
 
 -- ---- orders of bytes
 
--- each name of an order names one
+-- Each name of an order names one.
 order_read : (text : Text) → list_any (λ name. bytes_eq name text) order_names ≡ true → IsSome (input_named text)
 order_read text among = go (bytes_eq (codes "little") text) (bytes_eq (codes "big") text) refl refl among
   where
@@ -168,7 +168,7 @@ order_read text among = go (bytes_eq (codes "little") text) (bytes_eq (codes "bi
     go false true other is e = subst (λ (t : Text). IsSome (input_named t)) ((bytes_eq-Decides (codes "big") text).0 is) refl
     go false false one two e = cc e
 
--- an order that is not big is little
+-- An order that is not big is little.
 pub order_little : (text : Text) → IsSome (input_named text) → (text ≡ codes "big" → ⊥) → IsChosen input_named Lines (Some text) (Bytes Little)
 order_little text read other =
     go (bytes_eq text (codes "little")) (bytes_eq text (codes "big")) (λ is. other ((bytes_eq-Decides text (codes "big")).0 is)) read
@@ -181,7 +181,7 @@ order_little text read other =
     go false true not_big read = absurd (not_big refl)
     go false false not_big read = cc read
 
--- two texts that the test tells apart
+-- Two texts that the test distinguishes are not equal.
 other : (a b : Text) → bytes_eq a b ≡ false → a ≡ b → ⊥
 other a b differ same =
     let equal : bytes_eq a b ≡ true = (bytes_eq-Decides a b).1 same in
@@ -207,7 +207,7 @@ has_flag name rows taken = let flag = go (first_of name rows) (one_of name rows)
           (λ e. (bytes_eq-Decides text (codes "false")).0 e) is.1,
     )
 
--- what `get_flag` reads of a flag
+-- The flag that `get_flag` reads.
 pub flag_read : (value : Option Text) (flag : Bool) → IfSome value (λ text. (text ≡ codes "true") ⊎ (text ≡ codes "false")) → (value ≡ None → flag ≡ false)
     → (value ≡ Some (codes "true") → flag ≡ true) → (value ≡ Some (codes "false") → flag ≡ false) → IsGiven value flag
 flag_read None flag either none on off = (λ is. let no : true ≡ false = sym is ∙ none refl in cc no, λ is. cc is)
@@ -244,7 +244,7 @@ module _ (aligns : Bor (List (Bor Text))) (are : texts aligns.now ≡ codes "1" 
   abbrev explain : Shape
   explain = get_or (built (program aligns formats orders)).subs 6 help_shape
 
-  -- a call for help is a fault, and no row's
+  -- A call for help is an error, and changes no row.
   help_gives : (c : List Rule) → GivesValue c (filled help_rule)
   help_gives c = record { default = no_default-given c (filled help_rule) refl; uses = λ again values rows e given. given }
 
@@ -308,12 +308,12 @@ module _ (aligns : Bor (List (Bor Text))) (are : texts aligns.now ≡ codes "1" 
     (set_gives decode.rules _ refl refl refl refl, (set_gives decode.rules _ refl refl refl refl, (help_gives decode.rules, tt))),
   )
 
-  -- a command whose words have no fault has what it wants
+  -- `Serves` holds if the command has the values that it needs whenever its arguments have no error.
   abbrev Serves : Shape → Type 0
   Serves s = (words : List Text) → level_fault s [] nothing_held words false [] ≡ [] → choice_fault_in (Some (rows_at s words)) ≡ None
       → HasItsTexts (Some (rows_at s words))
 
-  -- the value of an option that has none of its own
+  -- The value of an option without a value.
   flag_served : (s : Shape) (words : List Text) (name : Text) → GiveValues s.rules s.rules → arg_by_id s.rules name ≡ Some (filled (flag_option name))
       → level_fault s [] nothing_held words false [] ≡ [] → HasFlag name (rows_after s.rules [] words)
   flag_served s words name gives own e =
@@ -336,7 +336,7 @@ module _ (aligns : Bor (List (Bor Text))) (are : texts aligns.now ≡ codes "1" 
       let rows = rows_after explain.rules [] words in
       (codes "explain", rows, refl, choice)
 
-  -- the value of `--slots`
+  -- The value of `--slots`.
   limit_served : (s : Shape) (words : List Text) → GiveValues s.rules s.rules → arg_by_id s.rules (codes "slots") ≡ Some (filled slots_option)
       → level_fault s [] nothing_held words false [] ≡ [] → HasLimit (rows_after s.rules [] words)
   limit_served s words gives own e =
@@ -386,7 +386,7 @@ module _ (aligns : Bor (List (Bor Text))) (are : texts aligns.now ≡ codes "1" 
   wanted_by true b e = cc e
   wanted_by false b e = cc e
 
-  -- a command is wanted
+  -- A command is required.
   wanted : (rows : List Row) → check_fault (built (program aligns formats orders)).top rows false ≡ [] → ⊥
   wanted rows e =
       wanted_by (not (list_any (λ (r : Row). explicit_source r.source) rows))
@@ -417,7 +417,7 @@ module _ (aligns : Bor (List (Bor Text))) (are : texts aligns.now ≡ codes "1" 
   by_stop None rows below e choice = absurd (wanted rows e)
   by_stop (Some p) rows below e choice = by_name (λ s. answers_to p.0 (label_of s)) (built (program aligns formats orders)).subs p.1 rows all_serve below e choice
 
-  -- words without a fault name a command and give it its texts, where they are a choice
+  -- Arguments without an error name a command and give it its texts, if they are a choice.
   pub found : (words : List Text) → fault_of (program aligns formats orders) words ≡ [] → choice_fault_in (subcommand_of (program aligns formats orders) words) ≡ None
       → HasItsTexts (subcommand_of (program aligns formats orders) words)
   found words e choice =
@@ -427,7 +427,7 @@ module _ (aligns : Bor (List (Bor Text))) (are : texts aligns.now ≡ codes "1" 
       let parts = level_parts app.top (names_of app) rest (is_some (entered app end.stopped)) (entered_fault app end.stopped) e in
       by_stop end.stopped (rows_after app.top.rules (names_of app) rest) parts.1 parts.3 choice
 
--- ---- what was found
+-- ---- the command that was found
 
 named_rows : {Z : Type 0} (o : Option (Box SubCommand Z)) → option_map (λ b. (out-SubCommand (box_value b)).name.now) o ≡ option_map (λ p. p.0) (subcommand_rows o)
 named_rows None = refl
@@ -440,19 +440,19 @@ met_is (Some p) name rows named told =
     let same_rows : rows ≡ p.1 = cc told in
     ap₂ (λ (n : Text) (l : List Row). Some (n, l)) (sym same_name) (sym same_rows)
 
--- a command's name and its rows, as they are told apart
+-- A command's name and its rows, read separately, are those that were found.
 command_is : (m : ArgMatches) (name : Text) (rows : List Row) → Some name ≡ subcommand_name_of m → Some rows ≡ option_map (λ p. p.1) (subcommand_rows_of m)
     → subcommand_rows_of m ≡ Some (name, rows)
 command_is m name rows named told = met_is (subcommand_rows_of m) name rows (named ∙ named_rows (out-ArgMatches m).subcommand) told
 
--- what was found has what its command wants
+-- The rows that were found have the values that their command needs.
 wanted_of : (met : Option (Text × List Row)) (name : Text) (rows : List Row) → met ≡ Some (name, rows) → HasItsTexts met → HasWanted name rows
 wanted_of met name rows is (named, given, told, has) =
     let both : Some (named, given) ≡ Some (name, rows) = sym told ∙ is in
     let same : (named, given) ≡ (name, rows) = cc both in
     subst (λ (p : Text × List Row). HasWanted p.0 p.1) same has
 
--- the same of a command's name and its rows, as they are told apart
+-- A command's name and its rows, read separately, have the values that the command needs.
 pub command_wanted : (m : ArgMatches) (name : Text) (rows : List Row) → Some name ≡ subcommand_name_of m → Some rows ≡ option_map (λ p. p.1) (subcommand_rows_of m)
     → HasItsTexts (subcommand_rows_of m) → HasWanted name rows
 command_wanted m name rows named told has = wanted_of (subcommand_rows_of m) name rows (command_is m name rows named told) has
@@ -460,7 +460,7 @@ command_wanted m name rows named told has = wanted_of (subcommand_rows_of m) nam
 abbrev command_names : List Text
 command_names = codes "show" ∷ codes "round" ∷ codes "run" ∷ codes "plan" ∷ codes "map" ∷ codes "decode" ∷ codes "explain" ∷ []
 
--- the text is none of these
+-- `IsNone` holds if the text is not one of these names.
 abbrev pub IsNone : (names : List Text) (text : Text) → Type 0
 IsNone [] text = ⊤
 IsNone (name ∷ names) text = (text ≡ name → ⊥) × IsNone names text
@@ -469,7 +469,7 @@ not_this : (b : Bool) (P Q : Type 0) → (b ≡ true → ⊥) → (Q → ⊥) �
 not_this true P Q other rest has = other refl
 not_this false P Q other rest has = rest has
 
--- the program has no other commands
+-- The program has no other commands.
 none_wanted : (name : Text) (rows : List Row) → IsNone command_names name → HasWanted name rows → ⊥
 none_wanted name rows others =
     not_this _ _ _ (λ e. others.0 ((bytes_eq-Decides name (codes "show")).0 e))
@@ -480,20 +480,20 @@ none_wanted name rows others =
     (not_this _ _ _ (λ e. others.1.1.1.1.1.0 ((bytes_eq-Decides name (codes "decode")).0 e))
     (not_this _ _ _ (λ e. others.1.1.1.1.1.1.0 ((bytes_eq-Decides name (codes "explain")).0 e)) (λ none. none)))))))
 
--- what was found is one of the program's commands
+-- The command that was found is one of the program's.
 pub known : (met : Option (Text × List Row)) (name : Text) → HasItsTexts met → Some name ≡ option_map (λ p. p.0) met → IsNone command_names name → ⊥
 known met name (named, rows, is, has) told others =
     let same : Some name ≡ Some named = told ∙ ap (λ (o : Option (Text × List Row)). option_map (λ p. p.0) o) is in
     let name_is : name ≡ named = cc same in
     none_wanted named rows (subst (IsNone command_names) name_is others) has
 
--- what was read is what was found
+-- The invocation that was read is the one that was found.
 pub invocation_is : (m : ArgMatches) (name : Text) (rows : List Row) (invocation : Invocation)
     → Some name ≡ subcommand_name_of m → Some rows ≡ option_map (λ p. p.1) (subcommand_rows_of m)
     → command_of invocation ≡ name → HasValues rows invocation → IsInvocation (subcommand_rows_of m) invocation
 invocation_is m name rows invocation named told command values =
     (rows, command_is m name rows named told ∙ ap (λ (n : Text). Some (n, rows)) (sym command), values)
 
--- the name that was found, with its rows
+-- The name that was found, with its rows.
 pub found_name : (m : ArgMatches) (name : Text) → Some name ≡ subcommand_name_of m → Some name ≡ option_map (λ p. p.0) (subcommand_rows_of m)
 found_name m name named = named ∙ named_rows (out-ArgMatches m).subcommand

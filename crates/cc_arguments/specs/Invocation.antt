@@ -1,4 +1,4 @@
--- Which command lines are taken, and what each asks for.
+-- The command lines that are accepted, and the command that each asks for.
 use Rattle.std.specs.Prelude.{cond, ◌≡◌, ◌≤◌, ◌⊎◌, ◌↔◌, ◌&&◌, ◌||◌, ℕ, Bool, IsTrue, not, List, [], ◌∷◌, Option, Some, None, IfSome, IsSome, is_some, codes, option_map, unwrap_or, if◌then◌else◌}
 use Rattle.std.specs.Borrow.{Bor}
 use Rattle.std.specs.Option.{option_map_or}
@@ -23,28 +23,28 @@ use Rattle.cc_arguments.specs.declared.invocation.Invocation.TheVariants.{Ask, D
 use Rattle.cc_arguments.specs.declared.question.Question.{Question}
 use Rattle.cc_arguments.specs.declared.question.Question.TheVariants.{Explain, ExplainLength, Round, Show}
 
--- ---- what clap found, and what it asks for
+-- ---- the command and the values that clap found
 
--- the number that decimal digits spell, behind a plus or not
+-- The value of decimal digits, with or without a leading plus.
 abbrev pub decimal_value : Text → ℕ
 decimal_value text = digits_value 10 (without_leading_plus text)
 
--- the limit is the value of `--slots`, or 4,096 where it is not given, and a machine can have it
+-- `IsLimit` holds if the limit is the value of `--slots`, or 4,096 if it is not given, and is from 1 to 65,536.
 pub record IsLimit (given : Option Text) (limit : ℕ) : Type 0 where
   pub value : limit ≡ option_map_or decimal_value given 4096
   pub from_one : 1 ≤ limit
   pub at_most : limit ≤ 65536
 
--- the value is the one that the text names, or the default where no text is given
+-- `IsChosen` holds if the value is the one that the given text names, or the default if no text is given.
 abbrev pub IsChosen : {A : Type 0} → (named : Text → Option A) → (default : A) → (given : Option Text) → A → Type 0
 IsChosen named default None value = value ≡ default
 IsChosen named default (Some text) value = named text ≡ Some value
 
--- the alignment that a text names
+-- The alignment that a text names, if it names one.
 abbrev pub align_named : Text → Option Align
 align_named text = if bytes_eq text (codes "1") then Some One else if bytes_eq text (codes "16") then Some Sixteen else None
 
--- the format that a text names
+-- The format that a text names, if it names one.
 abbrev pub format_named : Text → Option Format
 format_named text =
     if bytes_eq text (codes "columns") then Some Columns
@@ -52,22 +52,22 @@ format_named text =
     else if bytes_eq text (codes "csv") then Some Csv
     else None
 
--- bytes, in the order that a text names
+-- The input form of raw bytes in the order that a text names, if it names one.
 abbrev pub input_named : Text → Option InputForm
 input_named text = if bytes_eq text (codes "little") then Some (Bytes Little) else if bytes_eq text (codes "big") then Some (Bytes Big) else None
 
--- whether an option without a value was given: clap has `true` for it then
+-- `IsGiven` holds if `given` says whether the value of an option is `true`, which clap has for an option that was given.
 abbrev pub IsGiven : (value : Option Text) → Bool → Type 0
 IsGiven value given = IsTrue given ↔ (value ≡ Some (codes "true"))
 
--- the command that asks the question
+-- The name of the command that asks the question.
 abbrev pub question_command : Question → Text
 question_command (Show word as_line) = codes "show"
 question_command (Explain word) = codes "explain"
 question_command (ExplainLength base size) = codes "explain"
 question_command (Round size) = codes "round"
 
--- the name of the command
+-- The name of the command.
 abbrev pub command_of : Invocation → Text
 command_of (Ask question) = question_command question
 command_of (Run limit stats file) = codes "run"
@@ -75,15 +75,16 @@ command_of (Plan limit pool align stats file) = codes "plan"
 command_of (Map limit pool align svg file) = codes "map"
 command_of (Decode options file) = codes "decode"
 
--- the texts of the pool are the values of BASE and LENGTH
+-- `HasPool` holds if the texts of the pool are the values of BASE and LENGTH.
 abbrev pub HasPool : List Row → PoolTexts → Type 0
 HasPool rows pool = (first_of (codes "base") rows ≡ Some pool.base.now) × (first_of (codes "length") rows ≡ Some pool.length.now)
 
--- the file is the value of FILE, and none where that is not given
+-- `HasFile` holds if the file is the value of FILE, or `None` if FILE is not given.
 abbrev pub HasFile : List Row → Option (Bor Text) → Type 0
 HasFile rows file = first_of (codes "file") rows ≡ option_map (λ text. text.now) file
 
--- the texts of the question are the values that clap found, and what it has no text for has no value
+-- `HasTexts` holds if the texts of the question are the values that clap found. The arguments of `explain` that the
+-- question has no text for have no value, and a missing `--base` is `0`.
 abbrev pub HasTexts : List Row → Question → Type 0
 HasTexts rows (Show word as_line) = (first_of (codes "word") rows ≡ Some word.now) × IsGiven (first_of (codes "line") rows) as_line
 HasTexts rows (Explain word) =
@@ -93,7 +94,7 @@ HasTexts rows (ExplainLength base size) =
     × (base.now ≡ unwrap_or (first_of (codes "base") rows) (codes "0"))
 HasTexts rows (Round size) = first_of (codes "length") rows ≡ Some size.now
 
--- the values of the command are those that clap found
+-- `HasValues` holds if the values of the command are those that clap found.
 abbrev pub HasValues : List Row → Invocation → Type 0
 HasValues rows (Ask question) = HasTexts rows question
 HasValues rows (Run limit stats file) =
@@ -108,73 +109,73 @@ HasValues rows (Decode options file) =
     IsChosen format_named Columns (first_of (codes "format") rows) options.format
     × IsChosen input_named Lines (first_of (codes "bytes") rows) options.input × HasFile rows file
 
--- clap found this command, with these values
+-- `IsInvocation` holds if clap found this command, with these values.
 abbrev pub IsInvocation : Option (Text × List Row) → Invocation → Type 0
 IsInvocation found invocation = (rows : List Row) × (found ≡ Some (command_of invocation, rows)) × HasValues rows invocation
 
--- ---- which values of `explain` go together, which clap is not told
+-- ---- the values of `explain` that are accepted together, which clap does not check
 
--- why the values that are given do not go together: WORD excludes `--length` and `--base`, and one of WORD and `--length`
--- is wanted
+-- The kind of error of the given values, if there is one: WORD excludes `--length` and `--base`, and one of WORD and
+-- `--length` is required.
 abbrev pub choice_fault : (has_word has_length has_base : Bool) → Option ErrorKind
 choice_fault has_word has_length has_base =
     if has_word then (if has_length || has_base then Some ArgumentConflict else None)
     else if has_length then None else Some MissingRequiredArgument
 
--- the same of the values of `explain`
+-- The kind of error of the values of `explain` in these rows, if there is one.
 abbrev pub choice_fault_of : List Row → Option ErrorKind
 choice_fault_of rows =
     choice_fault (is_some (first_of (codes "word") rows)) (is_some (first_of (codes "length") rows)) (is_some (first_of (codes "base") rows))
 
--- the same of what clap found: only values of `explain` may not go together
+-- The kind of error of the values of the command that clap found, if there is one: only `explain` has one.
 abbrev pub choice_fault_in : Option (Text × List Row) → Option ErrorKind
 choice_fault_in None = None
 choice_fault_in (Some found) = if bytes_eq found.0 (codes "explain") then choice_fault_of found.1 else None
 
--- the words are taken: clap takes them, and their values go together
+-- Whether the arguments are accepted: clap accepts them, and their values have no error.
 abbrev pub is_taken : App → List Text → Bool
 is_taken app words = takes app words && not (is_some (choice_fault_in (subcommand_of app words)))
 
--- the kind of a fault, if there is one
+-- The list of the kind of an error, if there is one.
 abbrev pub kinds_in : Option ErrorKind → Kinds
 kinds_in None = []
 kinds_in (Some kind) = kind ∷ []
 
--- the kinds of error that the words may give: those of clap, and where it has none, that of `explain`
+-- The kinds of error that the arguments can give: those of clap, or that of `explain` if clap has none.
 abbrev pub faults_of : App → List Text → Kinds
 faults_of app words = or_else (fault_of app words) (kinds_in (choice_fault_in (subcommand_of app words)))
 
--- ---- what only private contracts cite
+-- ---- definitions that only private contracts cite
 
--- the name has a value
+-- `HasText` holds if the name has a value.
 abbrev pub HasText : Text → List Row → Type 0
 HasText name rows = (text : Text) × (first_of name rows ≡ Some text)
 
--- BASE and LENGTH have values
+-- `HasPoolTexts` holds if BASE and LENGTH have values.
 abbrev pub HasPoolTexts : List Row → Type 0
 HasPoolTexts rows = HasText (codes "base") rows × HasText (codes "length") rows
 
--- a number from 1 to 65,536
+-- `IsLimitText` holds if the text is a decimal number from 1 to 65,536, with or without a leading plus.
 pub record IsLimitText (text : Text) : Type 0 where
   pub numeral : IsNumeral 10 (without_leading_plus text)
   pub from_one : 1 ≤ decimal_value text
   pub at_most : decimal_value text ≤ 65536
 
--- `--slots` has no value or a number from 1 to 65,536, which is read as it is written
+-- `HasLimit` holds if `--slots` has no value, or a number from 1 to 65,536, which is read as it is written.
 pub record HasLimit (rows : List Row) : Type 0 where
   pub read : one_of (codes "slots") rows ≡ first_of (codes "slots") rows
   pub limit : IfSome (first_of (codes "slots") rows) IsLimitText
 
--- clap has no value, `true` or `false` for an option without a value, and it is read as it is written
+-- `HasFlag` holds if clap has no value, `true` or `false` for this option, and it is read as it is written.
 pub record HasFlag (name : Text) (rows : List Row) : Type 0 where
   pub read : one_of name rows ≡ first_of name rows
   pub value : IfSome (first_of name rows) (λ text. (text ≡ codes "true") ⊎ (text ≡ codes "false"))
 
--- the option has no value, or one that names what it chooses
+-- `HasChoice` holds if the option has no value, or one that names a choice.
 abbrev pub HasChoice : {A : Type 0} → (named : Text → Option A) → (name : Text) → List Row → Type 0
 HasChoice named name rows = IfSome (first_of name rows) (λ text. IsSome (named text))
 
--- the command of this name is one of the program's, and has the values that it wants
+-- `HasWanted` holds if the command of this name is one of the program's, and has the values that it needs.
 abbrev pub HasWanted : Text → List Row → Type 0
 HasWanted name rows =
     cond (bytes_eq name (codes "show")) (HasText (codes "word") rows × HasFlag (codes "line") rows)
@@ -185,6 +186,6 @@ HasWanted name rows =
     (cond (bytes_eq name (codes "decode")) (HasChoice format_named (codes "format") rows × HasChoice input_named (codes "bytes") rows)
     (cond (bytes_eq name (codes "explain")) (choice_fault_of rows ≡ None) ⊥))))))
 
--- clap found a command, with the values that it wants
+-- `HasItsTexts` holds if clap found a command of the program, with the values that it needs.
 abbrev pub HasItsTexts : Option (Text × List Row) → Type 0
 HasItsTexts found = (name : Text) × (rows : List Row) × (found ≡ Some (name, rows)) × HasWanted name rows

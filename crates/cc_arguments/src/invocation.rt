@@ -1,4 +1,4 @@
-//! What the command line asks for.
+//! The command that a command line asks for.
 use crate::question::Question;
 use cc_decode::Options;
 use cc_plan::Align;
@@ -17,31 +17,31 @@ pub struct PoolTexts<'a> {
 pub enum Invocation<'a> {
     /// A question about one word or one length.
     Ask(Question<'a>),
-    /// `run [--slots N] [--stats] [FILE]`: answers a script on a new machine.
+    /// `run [--slots N] [--stats] [FILE]`: runs a script on a new machine.
     Run {
-        /// How many slots, and how many objects, the machine can have: from 1 to 65,536.
+        /// The maximum number of slots, and of objects, from 1 to 65,536.
         limit: u32,
-        /// Whether the run is summed up on standard error.
+        /// Whether a summary of the run is written on standard error.
         stats: bool,
         /// The script's file; `None` and `-` are standard input.
         file: Option<&'a str>,
     },
-    /// `plan [--slots N] [--align ALIGN] [--stats] BASE LENGTH [FILE]`: the same on a machine that has a pool.
+    /// `plan [--slots N] [--align ALIGN] [--stats] BASE LENGTH [FILE]`: runs a script on a new machine that has a pool.
     Plan {
-        /// How many slots, and how many objects, the machine can have: from 1 to 65,536.
+        /// The maximum number of slots, and of objects, from 1 to 65,536.
         limit: u32,
         /// The pool's bounds, as they were typed.
         pool: PoolTexts<'a>,
         /// The pool's alignment.
         align: Align,
-        /// Whether the run is summed up on standard error.
+        /// Whether a summary of the run is written on standard error.
         stats: bool,
         /// The script's file; `None` and `-` are standard input.
         file: Option<&'a str>,
     },
     /// `map [--slots N] [--align ALIGN] [--svg] BASE LENGTH [FILE]`: runs a script as `plan` does, and draws the pool.
     Map {
-        /// How many slots, and how many objects, the machine can have: from 1 to 65,536.
+        /// The maximum number of slots, and of objects, from 1 to 65,536.
         limit: u32,
         /// The pool's bounds, as they were typed.
         pool: PoolTexts<'a>,
@@ -52,9 +52,9 @@ pub enum Invocation<'a> {
         /// The script's file; `None` and `-` are standard input.
         file: Option<&'a str>,
     },
-    /// `decode [--format FORMAT] [--bytes ORDER] [FILE]`: tells what each word of a text, or of raw bytes, holds.
+    /// `decode [--format FORMAT] [--bytes ORDER] [FILE]`: lists the content of each word of a text, or of raw bytes.
     Decode {
-        /// How the input holds words, and how the answers are written.
+        /// The form of the words in the input, and the format of the output.
         options: Options,
         /// The words' file; `None` and `-` are standard input.
         file: Option<&'a str>,

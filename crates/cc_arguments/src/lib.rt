@@ -1,4 +1,4 @@
-//! The command line: reads the words of a command line as a command and its values.
+//! The command line: parses its arguments as a command and its values.
 #![tactic(auto)]
 
 mod invocation;

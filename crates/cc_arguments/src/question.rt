@@ -1,7 +1,7 @@
 //! A question about one word or one length.
 
-/// What `show`, `explain` and `round` ask for, with the texts as they were typed: any text may stand where a word or a
-/// number is wanted.
+/// A question of `show`, `explain` or `round`, with the texts as they were typed: any text is possible in place of a
+/// word or a number.
 #[derive(Clone, Copy)]
 pub enum Question<'a> {
     /// `show [--line] WORD`: the listing of a word, or its line.
@@ -16,11 +16,11 @@ pub enum Question<'a> {
         /// The word.
         word: &'a str,
     },
-    /// `explain --length N [--base B]`: what setting bounds grants.
+    /// `explain --length N [--base B]`: the bounds that setting bounds grants.
     ExplainLength {
-        /// The first of the bytes asked for; `0` where `--base` was not given.
+        /// The first of the requested bytes; `0` if `--base` was not given.
         base: &'a str,
-        /// How many bytes are asked for.
+        /// The number of requested bytes.
         length: &'a str,
     },
     /// `round N`: the length that bounds of `N` bytes take, and its alignment.

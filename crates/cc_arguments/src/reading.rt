@@ -1,4 +1,4 @@
-//! Reads the command line: from words to an `Invocation`, or an error of clap's.
+//! Parses the arguments of the command line as an `Invocation`, or returns an error of clap's.
 ghost use Rattle.std.specs.Prelude.{◌≡◌, ◌∷◌, [], IfErr, IfOk, None, codes, is_some, true};
 ghost use Rattle.clap.specs.Walk.{texts};
 ghost use Rattle.clap.specs.Words.{App, FailsBy, first_of, found_of, kind_of, rows_of, subcommand_of, subcommand_rows_of};
@@ -15,10 +15,10 @@ use clap::error::ErrorKind;
 use clap::{ArgMatches, Error};
 use std::alloc::{AllocError, Global};
 
-/// Reads the program's words, its own name first.
+/// Parses the program's arguments, its own name first.
 ///
-/// An error is a mistake in the words, a request for help or for the version, or want of memory; its kind says
-/// which.
+/// Errors: a mistake in the arguments, a request for help or for the version, or an allocation that fails. The kind of
+/// the error says which.
 pub fn read_words<'a>(alloc: Global, words: &'a [&'a str]) -> Result<Invocation<'a>, Error>
     ensures read { IfOk result (λ invocation.
         (app : App) × IsProgram app × IsInvocation (subcommand_of app (texts words.now)) invocation) }
@@ -33,28 +33,29 @@ pub fn read_words<'a>(alloc: Global, words: &'a [&'a str]) -> Result<Invocation<
     }
 }
 
-/// The values that `--align` takes.
+/// Returns the values that `--align` accepts.
 fn aligns<'a>() -> &'a [&'a str]
     ensures { texts result.now ≡ codes "1" ∷ codes "16" ∷ [] }
 {
     &["1", "16"]
 }
 
-/// The values that `--format` takes.
+/// Returns the values that `--format` accepts.
 fn formats<'a>() -> &'a [&'a str]
     ensures { texts result.now ≡ format_names }
 {
     &["columns", "text", "csv"]
 }
 
-/// The values that `--bytes` takes.
+/// Returns the values that `--bytes` accepts.
 fn orders<'a>() -> &'a [&'a str]
     ensures { texts result.now ≡ order_names }
 {
     &["little", "big"]
 }
 
-/// What the command that clap found asks for, or why the values of `explain` do not go together.
+/// Returns the invocation of the command that clap found, or the error of the values of `explain` that exclude each
+/// other or are missing.
 fn chosen<'a>(alloc: Global, matches: &ArgMatches<'a>) -> Result<Invocation<'a>, Error>
     requires { choice_fault_in (subcommand_rows_of matches.now) ≡ None → HasItsTexts (subcommand_rows_of matches.now) }
     ensures read { IfOk result (IsInvocation (subcommand_rows_of matches.now)) }
@@ -66,7 +67,8 @@ fn chosen<'a>(alloc: Global, matches: &ArgMatches<'a>) -> Result<Invocation<'a>,
     }
 }
 
-/// Why the values of `explain` do not go together: a word stands alone, and without one a length is wanted.
+/// Returns the kind of error of the values of `explain`, if there is one: WORD excludes `--length` and `--base`, and
+/// without WORD `--length` is required.
 fn choice_fault(matches: &ArgMatches<'_>) -> Option<ErrorKind>
     ensures { result ≡ choice_fault_in (subcommand_rows_of matches.now) }
 {
@@ -85,21 +87,21 @@ fn choice_fault(matches: &ArgMatches<'_>) -> Option<ErrorKind>
     }
 }
 
-/// The error that says which values `explain` takes together.
+/// Returns the error that says which values `explain` accepts together.
 fn choice_error(alloc: Global, kind: ErrorKind) -> Result<Error, AllocError>
     ensures { IfOk result (λ error. kind_of error ≡ kind) }
 {
     explain_command(alloc)?.error(kind, EXPLAIN_CHOICE)
 }
 
-/// Whether an argument has a value.
+/// Returns whether an argument has a value.
 fn has_value(matches: &ArgMatches<'_>, name: &str) -> bool
     ensures { result ≡ is_some (first_of name.now (rows_of (found_of matches.now))) }
 {
     value_of(matches, name).is_some()
 }
 
-/// What the command that clap found asks for, by its name.
+/// Returns the invocation of the command that clap found, by its name.
 fn invocation_of<'a>(matches: &ArgMatches<'a>) -> Invocation<'a>
     requires { HasItsTexts (subcommand_rows_of matches.now) }
     ensures { IsInvocation (subcommand_rows_of matches.now) result }

@@ -8,24 +8,24 @@ use cc_decode::{ByteOrder, Format, InputForm};
 use cc_plan::Align;
 use clap::ArgMatches;
 
-/// The value of `--slots` where it is not given.
+/// The value of `--slots` if it is not given.
 const DEFAULT_LIMIT: u32 = 4096;
 
-/// The value of an argument or of an option, if it has one.
+/// Returns the value of an argument or of an option, if it has one.
 pub(crate) fn value_of<'a>(matches: &ArgMatches<'a>, name: &str) -> Option<&'a str>
     ensures { first_of name.now (rows_of (found_of matches.now)) ≡ option_map (λ text. text.now) result }
 {
     matches.get_str(name)
 }
 
-/// The value of `--base`, or `0`.
+/// Returns the value of `--base`, or `0`.
 pub(crate) fn base_of<'a>(matches: &ArgMatches<'a>) -> &'a str
     ensures { result.now ≡ unwrap_or (first_of (codes "base") (rows_of (found_of matches.now))) (codes "0") }
 {
     value_of(matches, "base").unwrap_or("0")
 }
 
-/// The value of an argument that clap does not let be left out.
+/// Returns the value of an argument that has one.
 pub(crate) fn wanted_text<'a>(matches: &ArgMatches<'a>, name: &str) -> &'a str
     requires { HasText name.now (rows_of (found_of matches.now)) }
     ensures { first_of name.now (rows_of (found_of matches.now)) ≡ Some result.now }
@@ -36,7 +36,7 @@ pub(crate) fn wanted_text<'a>(matches: &ArgMatches<'a>, name: &str) -> &'a str
     }
 }
 
-/// The values of BASE and LENGTH.
+/// Returns the values of BASE and LENGTH.
 pub(crate) fn pool_texts<'a>(matches: &ArgMatches<'a>) -> PoolTexts<'a>
     requires { HasPoolTexts (rows_of (found_of matches.now)) }
     ensures { HasPool (rows_of (found_of matches.now)) result }
@@ -47,7 +47,7 @@ pub(crate) fn pool_texts<'a>(matches: &ArgMatches<'a>) -> PoolTexts<'a>
     }
 }
 
-/// Whether an option without a value was given.
+/// Returns whether an option without a value was given.
 pub(crate) fn is_given(matches: &ArgMatches<'_>, name: &str) -> bool
     requires { HasFlag name.now (rows_of (found_of matches.now)) }
     ensures { IsGiven (first_of name.now (rows_of (found_of matches.now))) result }
@@ -55,7 +55,7 @@ pub(crate) fn is_given(matches: &ArgMatches<'_>, name: &str) -> bool
     matches.get_flag(name)
 }
 
-/// The value of `--slots`, or 4,096.
+/// Returns the value of `--slots`, or 4,096.
 pub(crate) fn limit_of(matches: &ArgMatches<'_>) -> u32
     requires { HasLimit (rows_of (found_of matches.now)) }
     ensures { IsLimit (first_of (codes "slots") (rows_of (found_of matches.now))) result }
@@ -63,7 +63,7 @@ pub(crate) fn limit_of(matches: &ArgMatches<'_>) -> u32
     matches.get_one("slots").unwrap_or(DEFAULT_LIMIT)
 }
 
-/// The value of `--align`, or 1.
+/// Returns the value of `--align`, or 1.
 pub(crate) fn align_of(matches: &ArgMatches<'_>) -> Align
     requires { HasChoice align_named (codes "align") (rows_of (found_of matches.now)) }
     ensures { IsChosen align_named Align.One (first_of (codes "align") (rows_of (found_of matches.now))) result }
@@ -74,7 +74,7 @@ pub(crate) fn align_of(matches: &ArgMatches<'_>) -> Align
     }
 }
 
-/// The value of `--format`, or columns.
+/// Returns the value of `--format`, or columns.
 pub(crate) fn format_of(matches: &ArgMatches<'_>) -> Format
     requires { HasChoice format_named (codes "format") (rows_of (found_of matches.now)) }
     ensures { IsChosen format_named Format.Columns (first_of (codes "format") (rows_of (found_of matches.now))) result }
@@ -86,7 +86,7 @@ pub(crate) fn format_of(matches: &ArgMatches<'_>) -> Format
     }
 }
 
-/// Raw bytes in the order that `--bytes` names, or lines of digits where it is not given.
+/// Returns raw bytes in the order that `--bytes` names, or lines of digits if it is not given.
 pub(crate) fn input_of(matches: &ArgMatches<'_>) -> InputForm
     requires { HasChoice input_named (codes "bytes") (rows_of (found_of matches.now)) }
     ensures { IsChosen input_named InputForm.Lines (first_of (codes "bytes") (rows_of (found_of matches.now))) result }

@@ -54,7 +54,7 @@ on_devices-map Holds Also so (Err fault.Open) holds = tt
 
 -- ---- inputs
 
--- What is known of the bytes of a source, by a source with the same bytes.
+-- The known bytes of a source are those of a source with the same bytes.
 known_too : (known one other : Option (List ℕ)) → one ≡ other → IfSome known (λ bytes. other ≡ Some bytes) → IfSome known (λ bytes. one ≡ Some bytes)
 known_too None one other same told = tt
 known_too (Some bytes) one other same told = same ∙ told
@@ -83,7 +83,7 @@ pub draws_map : (svg : Bool) (session : SessionState) (output output_now : Optio
 draws_map true session output output_now is drawn = absurd (false≢true (sym is))
 draws_map false session output output_now is drawn = drawn
 
--- The end of a drawing, told of the traffic of the devices.
+-- The end of a drawing, for the traffic of the devices.
 pub draws_end : (svg : Bool) (opening : List Op) (start : State) (traffic : Traffic) (unread left output output_now : Option (List ℕ)) (summary : Summary)
     (session : SessionState) → traffic.unread ≡ unread → traffic.left ≡ left → traffic.output ≡ output → traffic.output_now ≡ output_now
     → AnswersSession 65536 start opening unread left (Appends None None) (Ok summary) session.tally session.machine → DrawsPool svg session output output_now
@@ -96,7 +96,7 @@ draws_end svg opening start traffic unread left output output_now summary sessio
       (subst (λ (b : Option (List ℕ)). DrawsPool svg session output b) (sym n) drawn);
 }
 
--- A drawing of what an input gave.
+-- A drawing after a run that read an input.
 pub draws_input : (svg : Bool) (opening : List Op) (start new : State) (input : InputName) (console : Console) (bytes_of : InputName → Option (List ℕ))
     (unread remaining left output output_now : Option (List ℕ)) (result : Result Summary Fault) → start ≡ new → console.input ≡ bytes_of → unread ≡ remaining
     → IfSome (bytes_of input) (λ bytes. remaining ≡ Some bytes) → console.output ≡ output → console.output_now ≡ output_now
@@ -131,7 +131,7 @@ map_executes limit pool align svg file terminals console numbers opening input r
     (subst (λ (ops : List Op). FromInput input console (DrawsRun svg ops (initial_state limit)) io) is_opening holds)))
     result draws
 
--- A run of what an input gave.
+-- A run that read an input.
 pub runs_input : (report : Report) (opening : List Op) (pool : Option ℕ) (start new : State) (input : InputName) (console : Console)
     (bytes_of : InputName → Option (List ℕ)) (unread remaining left : Option (List ℕ)) (result : Result Summary Fault) → start ≡ new → console.input ≡ bytes_of
     → unread ≡ remaining → IfSome (bytes_of input) (λ bytes. remaining ≡ Some bytes)

@@ -1,4 +1,4 @@
--- What is told of a run is its summary and its hints, written one after the other.
+-- The report of a run is its summary and its hints, written one after the other.
 use Rattle.std.proofs.Common.{◌≡◌, ◌↔◌, ℕ, Bool, true, false, List, [], Option, Result, Ok, Err, IsErr, OnOk, ◌++◌, refl, sym, subst, ◌∙◌, is_err}
 use Rattle.std.proofs.KnownBytes.{Appends-trans}
 use Rattle.std.specs.Io.KnownBytes.{Appends}
@@ -13,39 +13,39 @@ use Rattle.cc_draw.specs.declared.usage.Usage.{Usage}
 use Rattle.cc_program.specs.Report.{IsSummary, WritesReport, hints_given}
 use Rattle.cc_program.specs.declared.report.Report.{Report}
 
--- what holds of an answer holds where the device did not fail
+-- A claim on a successful result holds if the device did not fail.
 pub of_answer : {A E : Type 0} → (result : Result A E) (failed : Bool) (P : Type 0) → (IsErr result ↔ (failed ≡ true)) → failed ≡ false → OnOk result P → P
 of_answer (Ok value) failed P fails stays holds = holds
 of_answer (Err error) failed P fails stays holds = absurd (false≢true (sym stays ∙ fails.0 refl))
 
--- and where it is no error
+-- A claim on a successful result holds if the result is not an error.
 pub of_answered : {A E : Type 0} → (result : Result A E) (P : Type 0) → is_err result ≡ false → OnOk result P → P
 of_answered (Ok value) P answered holds = holds
 of_answered (Err error) P answered holds = absurd (false≢true (sym answered))
 
--- a summary that is asked for
+-- A summary that is requested.
 pub asked_summary : (asked : Bool) (session : SessionState) (usage : Usage) → asked ≡ true → IsUsage session.machine usage
     → IsSummary asked session (statistics_text usage session.tally)
 asked_summary false session usage is_asked is_usage = absurd (false≢true is_asked)
 asked_summary true session usage is_asked is_usage = (usage, is_usage, refl)
 
--- none that is not
+-- No summary if none is requested.
 pub no_summary : (asked : Bool) (session : SessionState) → asked ≡ false → IsSummary asked session []
 no_summary false session not_asked = refl
 no_summary true session not_asked = absurd (false≢true (sym not_asked))
 
--- hints that are given
+-- Hints that are given.
 pub given_hints : (given : Bool) (opening : List Reply) (exchanges : List Exchange) (pool : Option ℕ) → given ≡ true
     → hints_text (hints_of opening exchanges pool) ≡ hints_given given opening exchanges pool
 given_hints false opening exchanges pool is_given = absurd (false≢true is_given)
 given_hints true opening exchanges pool is_given = refl
 
--- none that are not
+-- No hints if none are given.
 pub no_hints : (given : Bool) (opening : List Reply) (exchanges : List Exchange) (pool : Option ℕ) → given ≡ false → [] ≡ hints_given given opening exchanges pool
 no_hints false opening exchanges pool not_given = refl
 no_hints true opening exchanges pool not_given = absurd (false≢true (sym not_given))
 
--- the summary is written, and then the hints
+-- The summary is written, and then the hints.
 pub tells : (report : Report) (session : SessionState) (opening : List Reply) (exchanges : List Exchange) (pool : Option ℕ) (t m u : Option (List ℕ)) (summary hints : List ℕ)
     → IsSummary report.stats session summary → hints ≡ hints_given report.hints opening exchanges pool → Appends t m summary → Appends m u hints
     → WritesReport report session opening exchanges pool t u

@@ -1,4 +1,4 @@
--- How a command line that is taken ends the program.
+-- The end of the program for a command line that is accepted.
 use Rattle.std.specs.Prelude.{◌≡◌, ◌⊎◌, List, Option, Result}
 use Rattle.clap.specs.Words.{Row, Text}
 use Rattle.cc_io.specs.declared.summary.Summary.{Summary}

@@ -1,4 +1,4 @@
--- What a command writes, by its input: the program's own theorem.
+-- The output of a command, by its input: the program's own theorem.
 use Rattle.std.specs.Prelude.{◌≡◌, ⊤, ℕ, Bool, true, false, List, [], ◌++◌, Option, Some, None, IfSome, Result, Ok, Err, IfOk, OnOk, IsTrue, ◌↔◌, MatchResult}
 use Rattle.std.specs.Io.KnownBytes.{Appends}
 use Rattle.cc_word.specs.declared.refusal.Refusal.{Refusal}
@@ -81,13 +81,13 @@ OnDevices Holds (Err fault.Read) = Holds (Err Read)
 OnDevices Holds (Err fault.Write) = Holds (Err Write)
 OnDevices Holds (Err _) = ⊤
 
--- AnswersQuestion holds if the answer to the question was written, or a prefix of it if the output failed. The summary says
+-- AnswersQuestion holds if the output for the question was written, or a prefix of it if a write failed. The summary says
 -- whether it is an error.
 pub record AnswersQuestion (question : Question) (output output_now : Option (List ℕ)) (result : Result Summary IoError) : Type 0 where
   pub written : WritesAnswer (IsAnswerTo question) output output_now result
   pub error_is : IfOk result (λ summary. IsTrue summary.any_error ↔ IsUnanswerable question)
 
--- Refuses holds if the line of the refusal was written, or a prefix of it if the output failed. The summary says that it is an
+-- Refuses holds if the line of the refusal was written, or a prefix of it if a write failed. The summary says that it is an
 -- error.
 pub record Refuses (output output_now : Option (List ℕ)) (refusal : Refusal) (result : Result Summary IoError) : Type 0 where
   pub written : WritesAnswer (IsRefusalLine refusal) output output_now result
@@ -116,7 +116,7 @@ pub record DrawsPage (session : SessionState) (output output_now : Option (List 
   pub is_drawing : IsDrawing (plan_of session.machine) page
   pub written : Appends output output_now page
 
--- The pool was drawn: as an SVG document, or as a map.
+-- DrawsPool holds if the pool was drawn: as an SVG document, or as a map.
 abbrev pub DrawsPool : (svg : Bool) → SessionState → (output output_now : Option (List ℕ)) → Type 0
 DrawsPool true session output output_now = DrawsPage session output output_now
 DrawsPool false session output output_now = DrawsMap session output output_now
@@ -128,7 +128,7 @@ pub record DrawsEnd (svg : Bool) (opening : List Op) (start : State) (traffic : 
   pub answers : AnswersSession 65536 start opening traffic.unread traffic.left (Appends None None) (Ok summary) session.tally session.machine
   pub drawn : DrawsPool svg session traffic.output traffic.output_now
 
--- The pool was drawn at the end of the run. Nothing was written if a read failed.
+-- DrawsRun holds if the pool was drawn at the end of the run. Nothing was written if a read failed.
 abbrev pub DrawsRun : (svg : Bool) (opening : List Op) (start : State) → Traffic → Result Summary IoError → Type 0
 DrawsRun svg opening start traffic (Ok summary) = DrawsEnd svg opening start traffic summary
 DrawsRun svg opening start traffic (Err Read) = traffic.output_now ≡ traffic.output
@@ -139,7 +139,7 @@ pub record ListsWords (options : Options) (traffic : Traffic) (result : Result S
   pub lists : Lists options traffic.unread traffic.left traffic.output traffic.output_now result
   pub whole : IfSome traffic.unread (λ text. ListsWhole options text traffic.left traffic.output traffic.output_now result)
 
--- What a command with a pool does if BASE and LENGTH are numbers that a pool can have; otherwise they are refused.
+-- WithPool holds if `Does` holds for BASE and LENGTH, or if they are not numbers that a pool can have and are refused.
 abbrev pub WithPool : (pool : PoolTexts) → Console → (Does : (base size : ℕ) → Result Summary IoError → Type 0) → Result Summary IoError → Type 0
 WithPool pool console Does result =
     MatchResult (pool_of pool.base.now pool.length.now) (λ numbers. Does numbers.0 numbers.1 result)

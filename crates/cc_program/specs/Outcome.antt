@@ -1,4 +1,4 @@
--- How the program ends.
+-- The end of the program, and its exit status.
 use Rattle.std.specs.Prelude.{ℕ, ◌≡◌, ◌≢◌, ◌⊎◌, false, [], Result, Ok, Err}
 use Rattle.clap.specs.Words.{IsAmong, Kinds}
 use Rattle.clap.specs.declared.error.kind.ErrorKind.{ErrorKind}
@@ -12,37 +12,37 @@ use Rattle.cc_program.specs.declared.outcome.Fault.TheVariants as fault
 use Rattle.cc_io.specs.declared.summary.IoError.TheVariants.{Read, Write}
 use Rattle.cc_io.specs.declared.summary.Summary.{Summary}
 
--- The fault of the program if a source or a sink failed.
+-- The error of the program if a source or a sink failed.
 abbrev pub fault_of : IoError → Fault
 fault_of Read = fault.Read
 fault_of Write = fault.Write
 
--- how the program ends that was asked for an answer
+-- The end of a program whose command had this result.
 abbrev pub ending_of : Result Summary Fault → Ending
 ending_of (Ok summary) = Answered summary
 ending_of (Err fault) = Stopped fault
 
--- the exit status: 0 where no reply was an error, 1 where one was, 2 where the command line was refused, 3 where
--- the program stopped before its end
+-- The exit status: 0 if no reply was an error, 1 if one was, 2 if the command line was refused, and 3 if the program
+-- stopped before its end.
 abbrev pub status_of : Ending → ℕ
 status_of (Answered summary) = bit_of summary.any_error
 status_of Refused = 2
 status_of (Stopped fault) = 3
 
--- how a request for help or for the version ends: with an answer that is no error, or because it could not be written
+-- EndsRequest holds if a request for help or for the version ends like this: without an error, or because a write failed.
 abbrev pub EndsRequest : Ending → Type 0
 EndsRequest ending = (ending ≡ Answered (record { any_error = false })) ⊎ (ending ≡ Stopped fault.Write)
 
--- how an error of this kind ends the program: want of memory stops it, help and the version are answered, and any
--- other refuses the command line
+-- EndsBy holds if an error of this kind ends the program like this: out of memory stops it, help and the version are
+-- requests, and any other error refuses the command line.
 abbrev pub EndsBy : ErrorKind → Ending → Type 0
 EndsBy OutOfMemory ending = ending ≡ Stopped fault.Memory
 EndsBy DisplayHelp ending = EndsRequest ending
 EndsBy DisplayVersion ending = EndsRequest ending
 EndsBy _ ending = ending ≡ Refused
 
--- How words end the program that may give these kinds of error: where there are none, the command line is not refused;
--- where there are some, one of them ends it; and want of memory may stop it in either case.
+-- EndsOn holds if arguments that can give these kinds of error end the program like this. If there are none, the
+-- command line is not refused. If there are some, one of them ends it. In either case, running out of memory can stop it.
 abbrev pub EndsOn : Kinds → Ending → Type 0
 EndsOn kinds ending =
     ((kinds ≡ []) × (ending ≢ Refused))

@@ -1,4 +1,4 @@
--- What `show`, `explain` and `round` answer, and where that is an error.
+-- The output of `show`, `explain` and `round`, and the questions for which it is an error.
 use Rattle.std.specs.Prelude.{ℕ, true, false, IsErr, List}
 use Rattle.cc_script.specs.Commands.{length_in}
 use Rattle.cc_explain.specs.Explanation.{IsExplanation}
@@ -9,7 +9,7 @@ use Rattle.cc_command.specs.Rounding.{IsRounding}
 use Rattle.cc_arguments.specs.declared.question.Question.{Question}
 use Rattle.cc_arguments.specs.declared.question.Question.TheVariants.{Explain, ExplainLength, Round, Show}
 
--- the bytes are the answer to the question
+-- IsAnswerTo holds if the bytes are the output for the question.
 abbrev pub IsAnswerTo : Question → (answer : List ℕ) → Type 0
 IsAnswerTo (Show word false) answer = IsListing word.now answer
 IsAnswerTo (Show word true) answer = IsLineAnswer word.now answer
@@ -17,7 +17,8 @@ IsAnswerTo (Explain word) answer = IsExplanation word.now answer
 IsAnswerTo (ExplainLength base size) answer = IsLengthExplanation base.now size.now answer
 IsAnswerTo (Round size) answer = IsRounding size.now answer
 
--- the answer is an error: the texts spell no word, no bounds that can be asked for, or no length
+-- IsUnanswerable holds if the output is an error: the texts are not those of a word, of bounds that can be requested, or
+-- of a length.
 abbrev pub IsUnanswerable : Question → Type 0
 IsUnanswerable (Show word as_line) = ¬ IsWordText word.now
 IsUnanswerable (Explain word) = ¬ IsWordText word.now

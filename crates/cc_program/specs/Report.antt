@@ -1,4 +1,4 @@
--- What is reported of a run on standard error.
+-- The report of a run on standard error.
 use Rattle.std.specs.Prelude.{ℕ, Bool, true, false, ◌≡◌, ◌||◌, List, [], ◌++◌, Option, codes, if◌then◌else◌}
 use Rattle.std.specs.Io.KnownBytes.{Appends}
 use Rattle.cc_machine.specs.declared.reply.Reply.{Reply}

@@ -2,10 +2,10 @@
 use std::io::{self, ErrorKind, Write};
 use std::str;
 
-/// A writer that prints on standard error. A piece that is not UTF-8 is refused.
+/// A writer that prints on standard error. A chunk that is not UTF-8 is refused.
 #[derive(Drop)]
 pub struct ErrorWriter<'a, R> {
-    /// What prints.
+    /// The process, which prints.
     pub to: &'a R,
 }
 

@@ -27,7 +27,7 @@ pub trait Inputs {
     /// The reader of an input.
     type Reader: Read + Drop;
 
-    // the bytes of an input, if they are known
+    // The bytes of an input, if they are known.
     ghost bytes_of: { Self → InputNameSpec → Option (List ℕ) };
 
     /// Opens an input.
@@ -53,14 +53,14 @@ pub fn file_input<'a>(file: Option<&'a str>) -> InputName<'a>
 pub struct ProcessInputs<'a, R> {
     /// The process.
     pub rt: &'a R,
-    /// Whether a user at the terminal types what is read from standard input.
+    /// Whether a user at the terminal types the standard input.
     pub is_typed: bool,
 }
 
 impl<R: Files + Input + Eprint> Inputs for ProcessInputs<'_, R> {
     type Reader = Either<R::File, R::Reader>;
 
-    // no contract of std says which bytes a file holds
+    // No contract of std says which bytes a file holds.
     ghost bytes_of = { λ _ _. None };
 
     fn open(&self, input: InputName<'_>) -> Result<Either<R::File, R::Reader>, Fault> {

@@ -1,4 +1,4 @@
-//! The program `cheri-cap` but for its entry: its command line, and what each of its commands does.
+//! The program `cheri-cap` except its entry: its command line and its commands.
 #![tactic(auto)]
 
 mod discard;

@@ -1,4 +1,4 @@
-//! How the program ends.
+//! The end of the program, and its exit status.
 ghost use Rattle.std.specs.Prelude.{◌≡◌};
 ghost use Rattle.cc_program.specs.declared.outcome.Fault.TheVariants as fault;
 ghost use Rattle.cc_program.specs.Outcome.{ending_of, fault_of, status_of};
@@ -7,10 +7,10 @@ use cc_io::{IoError, Summary};
 use std::alloc::AllocError;
 use thiserror::Error;
 
-/// Why the program stopped before its end. Its text is the line that stands on standard error then.
+/// The reason that the program stopped before its end. Its text is the line that is then on standard error.
 #[derive(Clone, Copy, Debug, Error)]
 pub enum Fault {
-    /// Memory was refused.
+    /// An allocation failed.
     #[error("cheri-cap: out of memory")]
     Memory,
     /// The file to be read could not be opened.
@@ -24,10 +24,10 @@ pub enum Fault {
     Write,
 }
 
-/// How the program ends.
+/// The end of the program.
 #[derive(Clone, Copy)]
 pub enum Ending {
-    /// The answer was written, or the help that was asked for.
+    /// The output was written, or the help or version that was requested.
     Answered(Summary),
     /// The command line was refused.
     Refused,
@@ -35,7 +35,7 @@ pub enum Ending {
     Stopped(Fault),
 }
 
-/// How the program ends that was asked for an answer.
+/// Returns the end of a program whose command had this result.
 pub fn ending_of(answer: Result<Summary, Fault>) -> Ending
     ensures { result ≡ ending_of answer }
 {
@@ -45,8 +45,8 @@ pub fn ending_of(answer: Result<Summary, Fault>) -> Ending
     }
 }
 
-/// The exit status of a program that was asked for an answer: 0 where no reply was an error, 1 where one was, and 3 for a
-/// fault.
+/// Returns the exit status of a program whose command had this result: 0 if no reply was an error, 1 if one was, and 3
+/// if the program stopped before its end.
 pub fn status(answer: &Result<Summary, Fault>) -> u8
     ensures { result ≡ status_of (ending_of answer.now) }
 {
@@ -56,8 +56,8 @@ pub fn status(answer: &Result<Summary, Fault>) -> u8
     }
 }
 
-/// The exit status: 0 where no reply was an error, 1 where one was, 2 for a command line that was refused, and 3
-/// for a fault.
+/// Returns the exit status: 0 if no reply was an error, 1 if one was, 2 if the command line was refused, and 3 if the
+/// program stopped before its end.
 pub fn ending_status(ending: Ending) -> u8
     ensures { result ≡ status_of ending }
 {

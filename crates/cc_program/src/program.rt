@@ -1,4 +1,4 @@
-//! What the program does with its arguments.
+//! The execution of the program's command line.
 ghost use Rattle.std.specs.Prelude.{◌≡◌, false, true, Err, List, Option};
 ghost use Rattle.clap.specs.Walk.{texts};
 ghost use Rattle.clap.specs.Words.{App, Row, Text, kind_of, subcommand_of};
@@ -23,7 +23,7 @@ use std::env::{self, Env};
 use std::io::{self, BufWriter};
 use std::rt::Files;
 
-/// Does what the program's arguments ask for; they have to be UTF-8.
+/// Executes the command line of the process, and returns the program's end. The arguments have to be UTF-8.
 pub fn answer_arguments<R: Env + AllocGlobal + Files + Input + Print + Eprint>(
     rt: &R,
     terminals: Terminals,
@@ -42,7 +42,7 @@ pub fn answer_arguments<R: Env + AllocGlobal + Files + Input + Print + Eprint>(
     }
 }
 
-/// Does what the arguments ask for; the first is the program's name.
+/// Executes a command line, and returns the program's end. The first argument is the program's name.
 fn answer_strings<R: AllocGlobal + Files + Input + Print + Eprint>(
     rt: &R,
     terminals: Terminals,
@@ -58,7 +58,7 @@ fn answer_strings<R: AllocGlobal + Files + Input + Print + Eprint>(
     }
 }
 
-/// Does what the words ask for; the first is the program's name.
+/// Executes the arguments of a command line, and returns the program's end. The first is the program's name.
 fn answer_words<R: AllocGlobal + Files + Input + Print + Eprint>(
     rt: &R,
     terminals: Terminals,
@@ -74,8 +74,8 @@ fn answer_words<R: AllocGlobal + Files + Input + Print + Eprint>(
     }
 }
 
-/// Tells why clap did not take the words: a request for help or for the version is answered on standard output,
-/// and a command line that is not understood on standard error.
+/// Prints the reason that clap did not accept the arguments: the requested help or version on standard output, and the
+/// error of a command line on standard error.
 fn tell<R: Print + Eprint>(rt: &R, error: &Error) -> Ending
     ensures { EndsBy (kind_of error.now) result }
 {
@@ -119,7 +119,7 @@ fn execute_in_process<R: AllocGlobal + Files + Input + Print + Eprint>(
     }
 }
 
-/// The exit status, after a fault is told on standard error.
+/// Returns the exit status. If the program stopped before its end, prints the reason on standard error first.
 pub fn finish<R: Eprint>(rt: &R, ending: Ending) -> u8
     ensures { result ≡ status_of ending }
 {

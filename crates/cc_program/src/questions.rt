@@ -1,4 +1,4 @@
-//! `show`, `explain` and `round`: which call answers each question.
+//! `show`, `explain` and `round`: the call for each question.
 ghost use Rattle.std.specs.Prelude.{◌≡◌, ◌↔◌, [], Err, false, true, IfOk, IsErr, IsTrue, OnErr, OnOk};
 ghost use Rattle.cc_explain.specs.Answer.{WritesAnswer};
 ghost use Rattle.cc_program.specs.Questions.{IsAnswerTo, IsUnanswerable};
@@ -7,8 +7,13 @@ use cc_arguments::Question;
 use cc_command::{explain_length, explain_word, show_line, show_round, show_word};
 use cc_io::{IoError, Sink, Summary};
 
-/// Writes the answer to a question. It is an error, and the summary says so, where a text spells no word, no number or
-/// one that is too large, and where the bytes asked for end past 2^64.
+/// Writes the listing, line, explanation or rounding that a question asks for.
+///
+/// The output is an error, and the summary says so, if a text is not that of a word or of a number, if a number is too
+/// large, or if the requested bytes end past 2^64.
+///
+/// Requires: the sink has not failed.
+/// Errors: `Write` if and only if the sink failed.
 pub fn answer_question<W: Sink>(question: Question<'_>, sink: &mut W) -> Result<Summary, IoError>
     requires { W.has_failed sink.old ≡ false }
     ensures answered { WritesAnswer (IsAnswerTo question.entry) (W.taken_bytes sink.old) (W.taken_bytes sink.new) result }

@@ -1,4 +1,4 @@
-//! What is reported on standard error: that a script is read from the terminal, and the summary of a run and hints.
+//! Reports on standard error: that a script is read from the terminal, and the summary of a run and hints.
 ghost use Rattle.std.specs.Prelude.{◌≡◌, List, ℕ, OnErr, OnOk, false};
 ghost use Rattle.std.specs.Io.KnownBytes.{Appends};
 ghost use Rattle.cc_machine.specs.declared.reply.Reply.{Reply};
@@ -19,7 +19,7 @@ pub struct Terminals {
     pub errors: bool,
 }
 
-/// What is reported of a run on standard error.
+/// The parts of the report of a run on standard error.
 #[derive(Clone, Copy)]
 pub struct Report {
     /// Whether the summary is written.

@@ -12,7 +12,7 @@ use Rattle.cc_arguments.proofs.ChoiceLemmas.{choice_fails, choice_refuses, clap_
 use Rattle.cc_arguments.proofs.InvocationLemmas.{found}
 use Rattle.cc_arguments.proofs.reading.read_words.Goals as goal
 
--- the program of these texts
+-- The program of these texts.
 is_program_of : (aligns formats orders : Bor (List (Bor Text))) → texts aligns.now ≡ codes "1" ∷ codes "16" ∷ [] → texts formats.now ≡ format_names
     → texts orders.now ≡ order_names → IsProgram (program aligns formats orders)
 is_program_of aligns formats orders are are_formats are_orders =

@@ -10,13 +10,13 @@ use Rattle.cc_arguments.specs.declared.question.Question.{Question}
 use Rattle.cc_program.specs.Questions.{IsAnswerTo, IsUnanswerable}
 use Rattle.cc_program.proofs.questions.answer_question.Goals as goal
 
--- what is told of the bytes of a word is told of the word
+-- A claim on the summary for the bytes of a word holds for the word.
 word_told : (result : Result Summary IoError) (bytes word : List ℕ) → bytes ≡ word
     → IfOk result (λ summary. IsTrue summary.any_error ↔ (¬ IsWordText bytes))
     → IfOk result (λ summary. IsTrue summary.any_error ↔ (¬ IsWordText word))
 word_told result bytes word same told = subst (λ (text : List ℕ). IfOk result (λ summary. IsTrue summary.any_error ↔ (¬ IsWordText text))) same told
 
--- what is told of a question is told of one that is the same
+-- A claim on the summary for a question holds for an equal question.
 question_told : (result : Result Summary IoError) (question other : Question) → question ≡ other
     → IfOk result (λ summary. IsTrue summary.any_error ↔ IsUnanswerable other)
     → IfOk result (λ summary. IsTrue summary.any_error ↔ IsUnanswerable question)
