@@ -103,7 +103,11 @@ pub(crate) fn slot_and<V: Value>(text: &[u8]) -> Result<(u32, V), Refusal>
             Ok(value) => Ok((number as u32, value)),
             Err(refusal) => Err(refusal),
         },
-        _ => slot_and_any(text),
+        // taken apart, so that the values of the arm above stay in registers
+        _ => match slot_and_any(text) {
+            Ok((slot, value)) => Ok((slot, value)),
+            Err(refusal) => Err(refusal),
+        },
     }
 }
 
