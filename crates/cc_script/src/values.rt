@@ -203,6 +203,7 @@ pub fn read_permissions(text: &[u8]) -> Result<Perms, Refusal>
 }
 
 /// The bits of the permissions whose names a text joins by `+`.
+#[inline(always)]
 fn read_names(text: &[u8]) -> Option<u16>
     ensures { result ≡ with_names 0 (slice_split (λ byte. byte == 43) text.now) }
 {
