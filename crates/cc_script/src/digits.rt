@@ -51,7 +51,7 @@ pub fn read_digits(digits: &[u8], radix: u8) -> Spelled
     ensures { Spells result (numeral_of radix digits.now) }
 {
     if !are_few(digits, radix) {
-        return spelled_by(read_long(digits, radix));
+        return read_many(digits, radix);
     }
     if digits.is_empty() {
         return Spelled::Nothing;
@@ -60,6 +60,17 @@ pub fn read_digits(digits: &[u8], radix: u8) -> Spelled
         Some(number) => Spelled::Number(number),
         None => Spelled::Nothing,
     }
+}
+
+/// Returns the number that many digits spell.
+#[cold]
+#[inline(never)]
+fn read_many(digits: &[u8], radix: u8) -> Spelled
+    requires radix { (radix ≡ 10) ⊎ (radix ≡ 16) }
+    requires many { 16 ≤ length digits.now }
+    ensures { Spells result (numeral_of radix digits.now) }
+{
+    spelled_by(read_long(digits, radix))
 }
 
 /// Returns the number of a numeral that was read up to [`OVER_ALL_LIMITS`].
@@ -106,8 +117,6 @@ fn read_short(digits: &[u8], radix: u8) -> Option<u64>
 }
 
 /// Returns the number of at least 16 digits, or [`OVER_ALL_LIMITS`] if it is above that.
-#[cold]
-#[inline(never)]
 fn read_long(digits: &[u8], radix: u8) -> Option<u128>
     requires radix { (radix ≡ 10) ⊎ (radix ≡ 16) }
     requires long { 16 ≤ length digits.now }

@@ -103,7 +103,11 @@ pub(crate) fn slot_and<V: Value>(text: &[u8]) -> Result<(u32, V), Refusal>
             Ok(value) => Ok((number as u32, value)),
             Err(refusal) => Err(refusal),
         },
-        _ => slot_and_any(text),
+        // taken apart, so that the values of the arm above stay in registers
+        _ => match slot_and_any(text) {
+            Ok((slot, value)) => Ok((slot, value)),
+            Err(refusal) => Err(refusal),
+        },
     }
 }
 
@@ -199,6 +203,7 @@ pub fn read_permissions(text: &[u8]) -> Result<Perms, Refusal>
 }
 
 /// The bits of the permissions whose names a text joins by `+`.
+#[inline(always)]
 fn read_names(text: &[u8]) -> Option<u16>
     ensures { result ≡ with_names 0 (slice_split (λ byte. byte == 43) text.now) }
 {
