@@ -1,4 +1,4 @@
--- The explanation of a word, and what `explain` writes for a text.
+-- The explanation of a word, and the output of `explain` for a string.
 use Rattle.std.specs.Prelude.{◌≡◌, ℕ, ◌+◌, ◌-◌, ◌*◌, ◌/◌, ◌%◌, ◌^◌, List, ◌++◌, codes, nat_le, if◌then◌else◌}
 use Rattle.cc_word.specs.Word.{word_of, bit_of}
 use Rattle.cc_word.specs.declared.fields.Fields.{Fields}
@@ -201,6 +201,7 @@ pub record IsWordExplanation (word : ℕ) (explanation : List ℕ) : Type 0 wher
   pub are_rows : AreRows fields steps rows
   pub lines : explanation ≡ explanation_of word fields steps bounds standing rows
 
--- the answer to a text: to a word its explanation
+-- `IsExplanation` holds if the output for a string is the explanation of the word that it is, or the
+-- line of the refusal.
 abbrev pub IsExplanation : (text explanation : List ℕ) → Type 0
 IsExplanation = AnswersText IsWordExplanation

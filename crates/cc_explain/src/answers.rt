@@ -35,9 +35,10 @@ pub fn push_refusal(text: &mut Text, refusal: Refusal)
     text.push(refusal_bytes(refusal));
 }
 
-/// Writes an answer, then flushes the sink.
+/// Writes an output, then flushes the sink.
 ///
-/// If the sink fails, a prefix of the answer was written.
+/// Requires: the sink has not failed.
+/// Errors: `Write` if and only if the sink fails. A prefix of the output is then written.
 pub fn write_answer<W: Sink>(answer: &Text, sink: &mut W) -> Result<(), IoError>
     requires { W.has_failed sink.old ≡ false }
     ensures ok { OnOk result (Appends (W.taken_bytes sink.old) (W.taken_bytes sink.new) answer.now) }

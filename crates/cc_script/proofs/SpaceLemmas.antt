@@ -1,4 +1,4 @@
--- A value with a space in it spells nothing.
+-- No value has a space.
 use Rattle.std.proofs.Common.{true≢false, ◌<◌, ◌++◌, take, drop, get_or, length-take, ◌≡◌, ℕ, ◌+◌, ◌≤◌, Bool, true, false, ◌&&◌, ◌==◌, not, List, [], ◌∷◌, ◌^◌, ◌-◌, length, nat_lt, Option, Some, None, Result, Ok, Err, refl, sym, ◌∙◌, ap, arith, if◌then◌else◌, codes}
 use Rattle.std.proofs.lemmas.Bool.{eqb-true, le-leb, lt-ltb}
 use Rattle.std.proofs.lemmas.List.{take-append-drop, drop_more, take_rest}
@@ -165,7 +165,8 @@ some_words text = omega (arith, length-slice_split (λ byte. byte == 32) text)
 
 -- ---- one value
 
--- if no value of a kind has a space, a text is one word that spells the value, or has the fault `Syntax`
+-- If no value of a kind has a space, a string is one token that parses as the value, or has the
+-- error `Syntax`.
 single_of : {A : Type 0} (value_in : List ℕ → Result A Refusal) (text : List ℕ) → (is_word text ≡ false → value_in text ≡ Err Syntax)
     → value_in text ≡ single value_in (words_of text)
 single_of value_in text spaced = by (is_word text) refl where
@@ -232,7 +233,7 @@ slot_then_perhaps usual value_in text slot rest begins =
     ∙ perhaps_more usual value_in begins.word (words_of rest) (some_words rest)
     ∙ ap (slot_and_perhaps usual value_in) (sym begins.whole)
 
--- ---- a number that stands first
+-- ---- a number that comes first
 
 digits_then : (word rest : List ℕ) → list_all (λ digit. is_digit digit 10) word ≡ true → words_of (word ++ 32 ∷ rest) ≡ word ∷ words_of rest
 digits_then [] rest is = refl
@@ -279,7 +280,7 @@ number_begins text at number within some space digits is =
       spelled = spelled (take at text) (omega (arith, sized)) digits ∙ ap Some (sym is);
     }
 
--- a number that stands first and is one of a slot
+-- A number that comes first and is one of a slot.
 pub number_then : {A : Type 0} (value_in : List ℕ → Result A Refusal) (text : List ℕ) (number : ℕ) (rest : List ℕ)
     → BeginsWithNumber text number rest → number ≤ 2 ^ 32 - 1 → both (Ok number) (single value_in (words_of rest)) ≡ slot_and value_in (words_of text)
 number_then value_in text number rest begins fits =

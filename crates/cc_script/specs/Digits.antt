@@ -1,4 +1,5 @@
--- Digits behind a number, and the number that a text spells, as it is read. No public clause cites this file.
+-- Digits after those of a number, and the result of reading a number. No public clause cites this
+-- file.
 use Rattle.std.specs.Prelude.{◌≡◌, ◌<◌, ◌^◌, ℕ, List, if◌then◌else◌, Option, Some, None}
 use Rattle.std.specs.List.{list_all}
 use Rattle.std.specs.Char.{is_digit}
@@ -6,12 +7,14 @@ use Rattle.std.specs.Str.Parse.{digits_value_after}
 use Rattle.cc_script.specs.declared.digits.Spelled.{Spelled}
 use Rattle.cc_script.specs.declared.digits.Spelled.TheVariants.{Number, Whole, Over, Nothing}
 
--- The number that digits spell behind those of a number, of which there may be none, or none where a byte is no digit.
+-- The number of the digits of `number` and then `digits`, or `None` if a byte is not a digit. The
+-- list `digits` may be empty.
 abbrev pub number_further : (radix number : ℕ) (digits : List ℕ) → Option ℕ
 number_further radix number digits =
     if list_all (λ digit. is_digit digit radix) digits then Some (digits_value_after radix number digits) else None
 
--- what is known of the number that a text spells, or of there being none
+-- `Spells` holds if the result says of the number what it can: its value, its being 2^64 or above
+-- that, or that there is no number.
 abbrev pub Spells : Spelled → (spelled : Option ℕ) → Type 0
 Spells (Number number) spelled = spelled ≡ Some number
 Spells Whole spelled = spelled ≡ Some (2 ^ 64)

@@ -1,4 +1,4 @@
-//! The reply to one line.
+//! Replies to one line.
 ghost use Rattle.std.specs.Prelude.{◌≡◌, ◌+◌, ◌≤◌, length, true, Result, Ok};
 ghost use Rattle.cc_word.specs.declared.refusal.Refusal.{Refusal as RefusalSpec};
 ghost use Rattle.cc_machine.specs.declared.op.Op.{Op as OpSpec};
@@ -15,7 +15,7 @@ use cc_machine::{Machine, Op, Reply};
 use cc_text::{Page, refusal_bytes};
 use cc_word::Refusal;
 
-/// Answers the lines of a script by a machine that is lent.
+/// Replies to the lines of a script by a borrowed machine.
 #[derive(Drop)]
 pub(crate) struct Script<'a> {
     /// The machine.
@@ -95,7 +95,9 @@ impl<const N: usize> Taker<N> for Machine {
     }
 }
 
-/// Does an operation, and appends its reply and a line feed. A refusal is the answer, and the text is as it was.
+/// Executes an operation, and appends its reply and a line feed.
+///
+/// Errors: the refusal of the operation; the text is unchanged then.
 #[inline(always)]
 fn answer_op<const N: usize>(
     machine: &mut Machine,
@@ -118,7 +120,7 @@ fn answer_op<const N: usize>(
     }
 }
 
-/// Does an operation that the compiler does not know, in one place.
+/// Executes an operation that the compiler does not know, in one place.
 #[inline(never)]
 pub(crate) fn step(machine: &mut Machine, op: &Op) -> Reply
     ensures step { Step machine.old op.now result machine.new }

@@ -1,4 +1,4 @@
-//! Digits, and the numbers that they spell.
+//! Digits, and the numbers that they parse as.
 ghost use Rattle.std.specs.Prelude.{◌≡◌, ◌⊎◌, ◌↔◌, ◌+◌, ◌*◌, ◌%◌, ◌<◌, ◌≤◌, ◌^◌, length, min, take, false, ℕ, Option, Some, SomeIff, IsSome, IsTrue};
 ghost use Rattle.std.specs.Char.{digit_value};
 ghost use Rattle.cc_script.specs.Numbers.{numeral_of, capped};
@@ -31,7 +31,7 @@ const DIGIT_VALUES: [u8; 256] = [
     36, 36, 36, 36, 36, 36, 36, 36, 36, 36, 36, 36, 36, 36, 36, 36,
 ];
 
-/// The number that a text spells, as far as the limits of values need it.
+/// The number that a string parses as, as far as the limits of values need it.
 #[derive(Clone, Copy)]
 pub enum Spelled {
     /// This number.
@@ -40,11 +40,13 @@ pub enum Spelled {
     Whole,
     /// A number above 2^64.
     Over,
-    /// There is none.
+    /// The string is not a number.
     Nothing,
 }
 
-/// Returns the number that some digits spell.
+/// Returns the number that digits parse as.
+///
+/// Requires: `radix` is 10 or 16.
 #[inline(always)]
 pub fn read_digits(digits: &[u8], radix: u8) -> Spelled
     requires radix { (radix ≡ 10) ⊎ (radix ≡ 16) }
@@ -62,7 +64,7 @@ pub fn read_digits(digits: &[u8], radix: u8) -> Spelled
     }
 }
 
-/// Returns the number that many digits spell.
+/// Returns the number that at least 16 digits parse as.
 #[cold]
 #[inline(never)]
 fn read_many(digits: &[u8], radix: u8) -> Spelled

@@ -12,13 +12,13 @@ use cc_cap::Perms;
 use cc_machine::{Align, Len};
 use cc_word::Refusal;
 
-/// A kind of value: what a text spells, as the type says. Slots and objects are `u32`, addresses and increments `u64`,
-/// words `u128`, flags `bool`.
+/// A kind of value. Slots and objects are `u32`, addresses and increments `u64`, words `u128`, flags
+/// `bool`.
 pub(crate) trait Value: Copy {
-    // the value that a text spells, or its fault
+    // the value that a string parses as, or its error
     ghost value_in: { List ℕ → Result Self RefusalSpec };
 
-    /// Returns the value that a text spells, if it is one word.
+    /// Parses a value: the string is one token.
     fn read(text: &[u8]) -> Result<Self, Refusal>
         ensures { result ≡ single value_in (words_of text.now) };
 }
@@ -93,7 +93,7 @@ impl Value for Align {
     }
 }
 
-/// Returns the number of a slot and a value, if a text has these two words.
+/// Parses two tokens: the number of a slot, and a value.
 #[inline(always)]
 pub(crate) fn slot_and<V: Value>(text: &[u8]) -> Result<(u32, V), Refusal>
     ensures { result ≡ slot_and V.value_in (words_of text.now) }
@@ -111,7 +111,7 @@ pub(crate) fn slot_and<V: Value>(text: &[u8]) -> Result<(u32, V), Refusal>
     }
 }
 
-/// Returns the number of a slot and a value, as [`slot_and`] does, however the number is written.
+/// Parses the number of a slot, of any length, and a value.
 #[inline(never)]
 fn slot_and_any<V: Value>(text: &[u8]) -> Result<(u32, V), Refusal>
     ensures { result ≡ slot_and V.value_in (words_of text.now) }
@@ -122,7 +122,7 @@ fn slot_and_any<V: Value>(text: &[u8]) -> Result<(u32, V), Refusal>
     }
 }
 
-/// Returns the number of a slot and a value, which is the usual one if the text has one word.
+/// Parses the number of a slot and a value, which is `usual` if there is one token.
 #[inline(always)]
 pub(crate) fn slot_and_perhaps<V: Value>(usual: V, text: &[u8]) -> Result<(u32, V), Refusal>
     ensures { result ≡ slot_and_perhaps usual V.value_in (words_of text.now) }
@@ -133,7 +133,7 @@ pub(crate) fn slot_and_perhaps<V: Value>(usual: V, text: &[u8]) -> Result<(u32, 
     }
 }
 
-/// Both values, or why they are refused: a text that spells no value comes before a number over its limit.
+/// Returns both values, or the first error: `Syntax` comes before `OutOfRange`.
 pub fn both<A: Copy, B: Copy>(
     first: Result<A, Refusal>,
     second: Result<B, Refusal>,
@@ -150,7 +150,7 @@ pub fn both<A: Copy, B: Copy>(
     }
 }
 
-/// The flag that a text spells: `0` or `1`, and nothing else.
+/// Parses a flag: `0` or `1`, and nothing else.
 #[inline(always)]
 pub fn read_flag(text: &[u8]) -> Result<bool, Refusal>
     ensures { result ≡ flag_in text.now }
@@ -164,7 +164,7 @@ pub fn read_flag(text: &[u8]) -> Result<bool, Refusal>
     }
 }
 
-/// The alignment that a text spells: `1` or `16`, and nothing else.
+/// Parses an alignment: `1` or `16`, and nothing else.
 pub fn read_align(text: &[u8]) -> Result<Align, Refusal>
     ensures { result ≡ align_in text.now }
 {
@@ -177,7 +177,7 @@ pub fn read_align(text: &[u8]) -> Result<Align, Refusal>
     }
 }
 
-/// The capability word that a text spells: 32 hexadecimal digits of either case.
+/// Parses a capability word: 32 hexadecimal digits of either case.
 pub fn read_word_value(text: &[u8]) -> Result<u128, Refusal>
     ensures { result ≡ word_in text.now }
 {
@@ -187,8 +187,8 @@ pub fn read_word_value(text: &[u8]) -> Result<u128, Refusal>
     }
 }
 
-/// The set of permissions that a text spells: names in upper case, joined by `+`, in any order and
-/// repeated or not, or `-` for none.
+/// Parses a set of permissions: names in upper case, joined by `+`, in any order and repeated or
+/// not, or `-` for none.
 #[inline(always)]
 pub fn read_permissions(text: &[u8]) -> Result<Perms, Refusal>
     ensures { result ≡ permissions_in text.now }
@@ -202,7 +202,7 @@ pub fn read_permissions(text: &[u8]) -> Result<Perms, Refusal>
     }
 }
 
-/// The bits of the permissions whose names a text joins by `+`.
+/// Returns the bits of the permissions whose names are joined by `+`.
 #[inline(always)]
 fn read_names(text: &[u8]) -> Option<u16>
     ensures { result ≡ with_names 0 (slice_split (λ byte. byte == 43) text.now) }
@@ -216,14 +216,15 @@ fn read_names(text: &[u8]) -> Option<u16>
     Some(bits | read_name(rest)?)
 }
 
-/// The bit of the permission of this name.
+/// Returns the bit of the permission of this name.
 fn read_name(name: &[u8]) -> Option<u16>
     ensures { result ≡ find_name permission_table name.now }
 {
     permission_named(name).map(Perms::bits)
 }
 
-/// The permission of this name. The names stand here once more, so that one is told by its bytes alone.
+/// Returns the permission of this name.
+// The names appear here once more, so that one is recognized by its bytes alone.
 #[tactic(auto, unfolding(bitflags::specs::Sets::find_row))]
 fn permission_named(name: &[u8]) -> Option<Perms>
     ensures { option_map bits_of result ≡ find_name permission_table name.now }
@@ -251,7 +252,7 @@ fn permission_named(name: &[u8]) -> Option<Perms>
     Some(perms)
 }
 
-/// The permission of this name, where it is none of those of memory.
+/// Returns the permission of this name, if it is not one of memory.
 #[tactic(auto, unfolding(bitflags::specs::Sets::find_row))]
 fn unusual_permission_named(name: &[u8]) -> Option<Perms>
     ensures { option_map bits_of result ≡ find_row (drop 7 permission_table) name.now }
@@ -272,7 +273,7 @@ fn unusual_permission_named(name: &[u8]) -> Option<Perms>
     Some(perms)
 }
 
-/// The user permission of this name.
+/// Returns the user permission of this name.
 #[tactic(auto, unfolding(bitflags::specs::Sets::find_row))]
 fn user_permission_named(name: &[u8]) -> Option<Perms>
     ensures { option_map bits_of result ≡ find_row (drop 12 permission_table) name.now }
