@@ -1,5 +1,5 @@
 -- The output of a command, by its input: the program's own theorem.
-use Rattle.std.specs.Prelude.{◌≡◌, ⊤, ℕ, Bool, true, false, List, [], ◌++◌, Option, Some, None, IfSome, Result, Ok, Err, IfOk, OnOk, IsTrue, ◌↔◌, MatchResult}
+use Rattle.std.specs.Prelude.{◌≡◌, ⊤, ℕ, Bool, true, false, List, [], ◌++◌, Option, Some, None, IfSome, Result, Ok, Err, IfOk, OnOk, IsTrue, ◌↔◌, MatchResult, OnErr}
 use Rattle.std.specs.Io.KnownBytes.{Appends}
 use Rattle.cc_word.specs.declared.refusal.Refusal.{Refusal}
 use Rattle.cc_io.specs.declared.summary.IoError.{IoError}
@@ -86,12 +86,14 @@ OnDevices Holds (Err _) = ⊤
 pub record AnswersQuestion (question : Question) (output output_now : Option (List ℕ)) (result : Result Summary IoError) : Type 0 where
   pub written : WritesAnswer (IsAnswerTo question) output output_now result
   pub error_is : IfOk result (λ summary. IsTrue summary.any_error ↔ IsUnanswerable question)
+  pub fails : OnErr result (result ≡ Err Write)
 
 -- Refuses holds if the line of the refusal was written, or a prefix of it if a write failed. The summary says that it is an
 -- error.
 pub record Refuses (output output_now : Option (List ℕ)) (refusal : Refusal) (result : Result Summary IoError) : Type 0 where
   pub written : WritesAnswer (IsRefusalLine refusal) output output_now result
   pub error_is : IfOk result (λ summary. summary.any_error ≡ true)
+  pub fails : OnErr result (result ≡ Err Write)
 
 -- ReportsRun holds if a machine in the state `start` took the operations of `opening` and then the script, the bytes written are
 -- its replies, up to a failure, and a run that came to its end was reported.

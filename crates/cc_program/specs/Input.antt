@@ -26,6 +26,12 @@ ReadsFile (Plan limit pool align stats file) = IsFile (file_input file)
 ReadsFile (Map limit pool align svg file) = IsFile (file_input file)
 ReadsFile (Decode options file) = IsFile (file_input file)
 
+-- RunsMachine holds of a command that creates a machine.
+abbrev pub RunsMachine : Invocation → Type 0
+RunsMachine (Ask question) = ⊥
+RunsMachine (Decode options file) = ⊥
+RunsMachine _ = ⊤
+
 -- WritesReplies holds of `run` and `plan`, which write the replies to a script.
 abbrev pub WritesReplies : Invocation → Type 0
 WritesReplies (Run limit stats file) = ⊤

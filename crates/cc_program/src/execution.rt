@@ -5,7 +5,7 @@ ghost use Rattle.cc_machine.specs.State.{initial_state};
 ghost use Rattle.cc_command.specs.Tally.{IsTally};
 ghost use Rattle.cc_arguments.specs.Invocation.{IsInvocation};
 ghost use Rattle.cc_program.specs.Execution.{DrawsRun, Executes, FromInput, ListsWords, OnDevices, ReportsRun, Traffic};
-ghost use Rattle.cc_program.specs.Input.{IsFile, ReadsFile};
+ghost use Rattle.cc_program.specs.Input.{IsFile, ReadsFile, RunsMachine};
 
 use crate::discard::Discard;
 use crate::input::{InputName, Inputs, file_input};
@@ -32,7 +32,7 @@ const MOST_DECODED: usize = 1 << 62;
 /// The machine is created next, and then the input is opened.
 ///
 /// Requires: no device has failed.
-/// Errors: `Memory` if an allocation fails; `Open` if the input cannot be opened; `Read` if a read fails; `Write` if and
+/// Errors: `Memory` if an allocation fails, in a command that creates a machine; `Open` if the input cannot be opened; `Read` if a read fails; `Write` if and
 /// only if the sink failed. Nothing is reported then.
 pub fn execute<R: AllocGlobal, I: Inputs, W: Sink, E: Sink>(
     rt: &R,
@@ -53,6 +53,7 @@ pub fn execute<R: AllocGlobal, I: Inputs, W: Sink, E: Sink>(
       errors_now = E.taken_bytes errors.new;
       errors_failed = E.has_failed errors.new;
     })) result }
+    ensures memory { result ≡ Err Fault.Memory → RunsMachine invocation.entry }
     ensures open { result ≡ Err Fault.Open → ReadsFile invocation.entry }
     ensures write { (result ≡ Err Fault.Write) ↔ (W.has_failed sink.new ≡ true) }
     ensures flushed { OnOk result (W.is_flushed sink.new ≡ true) }

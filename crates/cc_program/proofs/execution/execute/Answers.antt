@@ -9,7 +9,7 @@ pub returns-in_ok-answer_question-in-Ask-clause-executes :
     goal.returns-in_ok-answer_question-in-Ask-clause-executes
 returns-in_ok-answer_question-in-Ask-clause-executes g c =
     by_invocation _ _ c.in-Ask.is _ _ (Ok c.in_ok-answer_question-in-Ask.field-0)
-    (record { written = c.in_ok-answer_question-in-Ask.ensures.answered; error_is = c.in_ok-answer_question-in-Ask.ensures.any_error })
+    (record { written = c.in_ok-answer_question-in-Ask.ensures.answered; error_is = c.in_ok-answer_question-in-Ask.ensures.any_error; fails = tt })
 
 pub returns-in-Ok-plan_numbers-clause-executes : goal.returns-in-Ok-plan_numbers-clause-executes
 returns-in-Ok-plan_numbers-clause-executes g c =
