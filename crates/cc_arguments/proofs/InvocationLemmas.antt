@@ -23,8 +23,8 @@ use Rattle.clap.specs.declared.parser.matches.ArgMatches.{ArgMatches}
 use Rattle.clap.specs.declared.parser.matches.ArgMatches.TheViews.{out-ArgMatches, out-SubCommand}
 use Rattle.clap.specs.declared.parser.matches.SubCommand.{SubCommand}
 use Rattle.clap.proofs.ValueTestLemmas.{accepts-Accepts}
-use Rattle.cc_plan.specs.declared.align.Align.{Align}
-use Rattle.cc_plan.specs.declared.align.Align.TheVariants.{One, Sixteen}
+use Rattle.cc_bounds.specs.declared.align.Align.{Align}
+use Rattle.cc_bounds.specs.declared.align.Align.TheVariants.{One, Sixteen}
 use Rattle.cc_decode.specs.declared.input.InputForm.{InputForm}
 use Rattle.cc_decode.specs.declared.input.ByteOrder.TheVariants.{Little, Big}
 use Rattle.cc_decode.specs.declared.input.InputForm.TheVariants.{Bytes, Lines}

@@ -5,3 +5,4 @@ pub mod Window
 pub mod Encoding
 pub mod Decoding
 pub mod Tightest
+pub mod Align

@@ -1,7 +1,7 @@
 -- The pool that the strings of `plan` parse as, and the operations that make it.
 use Rattle.std.specs.Prelude.{ℕ, List, [], ◌∷◌, Result}
 use Rattle.cc_word.specs.declared.refusal.Refusal.{Refusal}
-use Rattle.cc_plan.specs.declared.align.Align.{Align}
+use Rattle.cc_bounds.specs.declared.align.Align.{Align}
 use Rattle.cc_machine.specs.declared.op.Op.{Op}
 use Rattle.cc_machine.specs.declared.op.Op.TheVariants.{Addr, Exact, Pool}
 use Rattle.cc_script.specs.Commands.{address_in, both, length_in}

@@ -4,7 +4,7 @@ use Rattle.cc_word.specs.Refusal.{RefusedUnless}
 use Rattle.cc_word.specs.declared.refusal.Refusal.{Refusal}
 use Rattle.cc_cap.specs.Capability.{Capability, IsCapability, IsUnsealed, root_capability}
 use Rattle.cc_cap.proofs.BoundsLemmas.{root-IsCapability}
-use Rattle.cc_plan.specs.declared.align.Align.{Align}
+use Rattle.cc_bounds.specs.declared.align.Align.{Align}
 use Rattle.cc_plan.specs.Plan.{capability_over, span_at}
 use Rattle.cc_machine.specs.declared.op.Op.{Op}
 use Rattle.cc_machine.specs.declared.op.Op.TheVariants.{Show, Bounds, Exact, Addr, Inc, Perms, Flag}

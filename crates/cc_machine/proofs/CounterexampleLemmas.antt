@@ -16,7 +16,7 @@ use Rattle.cc_cap.specs.Capability.{Capability, root_capability, at_address, sea
 use Rattle.cc_cap.specs.Derivation.{SetsAddress}
 use Rattle.cc_cap.proofs.BoundsLemmas.{root-IsCapability}
 use Rattle.cc_plan.specs.Align.{unit_of}
-use Rattle.cc_plan.specs.declared.align.Align.TheVariants.{Sixteen}
+use Rattle.cc_bounds.specs.declared.align.Align.TheVariants.{Sixteen}
 use Rattle.cc_plan.specs.declared.object.ObjectState.TheVariants.{Live, Swept}
 use Rattle.cc_machine.specs.declared.object.Object.{Object}
 use Rattle.cc_machine.specs.State.{State, SlotState, tagged_slot, initial_state, IsSlot, IsParent, IsAncestor}

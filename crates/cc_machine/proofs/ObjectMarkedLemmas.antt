@@ -2,7 +2,7 @@
 use Rattle.std.proofs.Common.{ℕ, ◌≡◌, ◌≢◌, ◌<◌, ◌∙◌, IsTrue, sym, subst, inl, inr, arith}
 use Rattle.cc_bounds.specs.Span.{SharesByte}
 use Rattle.cc_cap.specs.Capability.{Capability}
-use Rattle.cc_plan.specs.declared.align.Align.{Align}
+use Rattle.cc_bounds.specs.declared.align.Align.{Align}
 use Rattle.cc_plan.specs.Plan.{HasExactBounds, is_held}
 use Rattle.cc_machine.specs.declared.object.Object.{Object}
 use Rattle.cc_machine.specs.State.{State, SlotState, IsSlot, IsParent}

@@ -14,7 +14,7 @@ use Rattle.cc_cap.specs.ObjType.{unsealed_type}
 use Rattle.cc_cap.specs.Capability.{Capability, IsCapability, IsUnsealed}
 use Rattle.cc_cap.specs.Derivation.{SetsAddress, Increments, SetsBounds, SetsExactBounds, MasksPermissions, SetsFlag, Seals, Unseals, Rebuilds}
 use Rattle.cc_cap.proofs.ResultLemmas.{HasResult, has_word, SetsAddress-result, Increments-result, SetsBounds-result, SetsExactBounds-result, MasksPermissions-result, SetsFlag-result, Seals-result, Unseals-result, Rebuilds-result}
-use Rattle.cc_plan.specs.declared.align.Align.{Align}
+use Rattle.cc_bounds.specs.declared.align.Align.{Align}
 use Rattle.cc_plan.specs.declared.object.ObjectState.{ObjectState}
 use Rattle.cc_plan.specs.declared.object.ObjectState.TheVariants.{Live, Freed, Swept}
 use Rattle.cc_plan.specs.Align.{padded_size_for, unit_of}

@@ -5,7 +5,6 @@
 mod counterexamples;
 mod derivations;
 mod laws;
-mod len;
 mod machine;
 mod object;
 mod op;
@@ -13,14 +12,14 @@ mod owners;
 mod reply;
 mod slot;
 
-pub use cc_plan::{Align, ObjectState, PlannedObject};
+pub use cc_bounds::{Align, Len};
+pub use cc_plan::{ObjectState, PlannedObject};
 pub use laws::{
     confinement, disjoint_objects, every_run_has_an_outcome, every_step_has_an_outcome,
     exact_objects, exact_revocation, monotonic_tree, objects_from_pool, one_outcome,
     operations_are_in_address_space, reachability, runs_join, sealing_authority,
     slots_hold_capabilities,
 };
-pub use len::Len;
 pub use machine::Machine;
 pub use object::Object;
 pub use op::Op;

@@ -3,14 +3,14 @@ use crate::derivations::{
     rebuilt, sealed, unsealed, with_address, with_bounds, with_exact_bounds, with_flag,
     with_increment, with_perms,
 };
-use crate::len::Len;
 use crate::object::Object;
 use crate::op::Op;
 use crate::owners::{is_freed, is_swept};
 use crate::reply::Reply;
 use crate::slot::Slot;
 use cc_cap::Cap;
-use cc_plan::{Align, BlockPlacer, ObjectId, Planner};
+use cc_bounds::{Align, Len};
+use cc_plan::{BlockPlacer, ObjectId, Planner};
 use cc_word::Refusal;
 use std::alloc::{AllocError, Global};
 use std::marker::Model;

@@ -4,13 +4,8 @@ use Rattle.std.specs.Prelude.{ℕ, ◌*◌, max}
 use Rattle.std.specs.Int.{div_ceil}
 use Rattle.cc_bounds.specs.Span.{from_zero}
 use Rattle.cc_bounds.specs.Granule.{granule_of}
-use Rattle.cc_plan.specs.declared.align.Align.{Align}
-use Rattle.cc_plan.specs.declared.align.Align.TheVariants.{One, Sixteen}
-
--- The number of bytes of an alignment.
-abbrev pub align_bytes : Align → ℕ
-align_bytes One = 1
-align_bytes Sixteen = 16
+use Rattle.cc_bounds.specs.Align.{align_bytes}
+use Rattle.cc_bounds.specs.declared.align.Align.{Align}
 
 -- The unit of an object of `size` bytes: the larger of the granule of its size and the alignment.
 abbrev pub unit_of : Align → (size : ℕ) → ℕ

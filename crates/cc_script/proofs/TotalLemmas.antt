@@ -5,7 +5,7 @@ use Rattle.std.specs.List.{AllByRecursion, list_any}
 use Rattle.std.specs.Str.{bytes_eq}
 use Rattle.cc_word.specs.declared.refusal.Refusal.{Refusal}
 use Rattle.cc_word.specs.declared.refusal.Refusal.TheVariants.{Syntax, TooLong, OutOfRange}
-use Rattle.cc_plan.specs.declared.align.Align.TheVariants.{One}
+use Rattle.cc_bounds.specs.declared.align.Align.TheVariants.{One}
 use Rattle.cc_machine.specs.declared.op.Op.{Op}
 use Rattle.cc_machine.specs.declared.op.Op.TheVariants as op
 use Rattle.cc_machine.specs.declared.reply.Reply.{Reply}

@@ -11,8 +11,8 @@ use Rattle.cc_word.specs.declared.refusal.Refusal.{Refusal}
 use Rattle.cc_word.specs.declared.refusal.Refusal.TheVariants.{Syntax, TooLong}
 use Rattle.cc_cap.specs.Permissions.{permission_table}
 use Rattle.cc_cap.specs.declared.perms.Perms.{Perms}
-use Rattle.cc_plan.specs.declared.align.Align.{Align}
-use Rattle.cc_plan.specs.declared.align.Align.TheVariants.{One, Sixteen}
+use Rattle.cc_bounds.specs.declared.align.Align.{Align}
+use Rattle.cc_bounds.specs.declared.align.Align.TheVariants.{One, Sixteen}
 use Rattle.cc_machine.specs.declared.op.Op.{Op}
 use Rattle.cc_machine.specs.declared.op.Op.TheVariants as op
 use Rattle.cc_script.specs.Numbers.{number_of, within_limit}

@@ -6,8 +6,8 @@ pub use Rattle.cc_word.specs.WordText.{hexadecimal}
 pub use Rattle.cc_text.specs.Text.{refusal_text}
 use Rattle.cc_bounds.specs.declared.span.Span.{Span}
 use Rattle.cc_cap.specs.Permissions.{bits_of}
-use Rattle.cc_plan.specs.declared.align.Align.{Align}
-use Rattle.cc_plan.specs.declared.align.Align.TheVariants.{One, Sixteen}
+use Rattle.cc_bounds.specs.declared.align.Align.{Align}
+use Rattle.cc_bounds.specs.declared.align.Align.TheVariants.{One, Sixteen}
 use Rattle.cc_machine.specs.declared.reply.Reply.{Reply}
 use Rattle.cc_machine.specs.declared.reply.Reply.TheVariants.{Made, Shown, Rounded, PoolSet, Allocated, Freed, Swept, Refused}
 

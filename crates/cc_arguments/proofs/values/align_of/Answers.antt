@@ -1,7 +1,7 @@
 use Rattle.std.proofs.Common.{◌∙◌, ◌≡◌, ap, codes, option_map, refl, subst, sym, Option, Some}
 use Rattle.clap.specs.Walk.{Text}
 use Rattle.clap.specs.Words.{first_of, found_of, rows_of}
-use Rattle.cc_plan.specs.declared.align.Align.TheVariants.{One, Sixteen}
+use Rattle.cc_bounds.specs.declared.align.Align.TheVariants.{One, Sixteen}
 use Rattle.cc_arguments.specs.Invocation.{IsChosen, align_named}
 use Rattle.cc_arguments.proofs.InvocationLemmas.{align_one}
 use Rattle.cc_arguments.proofs.values.align_of.Goals as goal

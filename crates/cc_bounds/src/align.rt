@@ -1,6 +1,6 @@
 //! The alignment of a pool.
 ghost use Rattle.std.specs.Prelude.{◌≡◌};
-ghost use Rattle.cc_plan.specs.Align.{align_bytes};
+ghost use Rattle.cc_bounds.specs.Align.{align_bytes};
 
 /// The alignment of a pool. The bounds of each object begin and end at multiples of it.
 #[derive(Clone, Copy, PartialEq, Eq, Debug)]
@@ -13,7 +13,7 @@ pub enum Align {
 
 impl Align {
     /// Returns the alignment in bytes: 1 or 16.
-    pub(crate) fn bytes(self) -> u64
+    pub fn bytes(self) -> u64
         ensures { result ≡ align_bytes self }
     {
         match self {
