@@ -5,7 +5,7 @@ ghost use Rattle.cc_arguments.specs.Invocation.{HasChoice, HasFlag, HasLimit, Ha
 
 use crate::invocation::PoolTexts;
 use cc_decode::{ByteOrder, Format, InputForm};
-use cc_plan::Align;
+use cc_bounds::Align;
 use clap::ArgMatches;
 
 /// The value of `--slots` if it is not given.

@@ -4,8 +4,8 @@ use Rattle.std.proofs.lemmas.List.{map-append, take_all, take_more}
 use Rattle.std.proofs.lemmas.List.Folds.{list_any-append}
 use Rattle.std.specs.Io.KnownBytes.{Appends}
 use Rattle.cc_word.specs.declared.refusal.Refusal.{Refusal}
-use Rattle.cc_machine.specs.declared.op.Op.{Op}
-use Rattle.cc_machine.specs.declared.reply.Reply.{Reply}
+use Rattle.cc_ops.specs.declared.op.Op.{Op}
+use Rattle.cc_ops.specs.declared.reply.Reply.{Reply}
 use Rattle.cc_machine.specs.State.{State}
 use Rattle.cc_io.specs.Answers.{Answer, AnswersAll, EndsWith, seen}
 use Rattle.cc_io.specs.Correct.{Pumps}
@@ -14,9 +14,9 @@ use Rattle.cc_io.specs.Lines.{lines_of, rest_of}
 use Rattle.cc_io.specs.declared.summary.IoError.{IoError}
 use Rattle.cc_io.specs.declared.summary.Summary.{Summary}
 use Rattle.cc_io.proofs.DeviceLemmas.{appends_none}
-use Rattle.cc_script.specs.Commands.{operation_of}
+use Rattle.cc_syntax.specs.Commands.{operation_of}
 use Rattle.cc_script.specs.Output.{Takes, TakesAll, with_line_feed, replies_text}
-use Rattle.cc_script.specs.Replies.{reply_text, is_error}
+use Rattle.cc_syntax.specs.Replies.{reply_text, is_error}
 use Rattle.cc_script.specs.Answering.{AnswersLine, Replies as GetsReply}
 use Rattle.cc_script.proofs.ReplyLemmas.{takes_further, replies_text-append}
 use Rattle.cc_script.proofs.RunningLemmas.{AnswersAs, Opened, answers_script_on_page, joined, start_enough}

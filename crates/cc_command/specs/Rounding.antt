@@ -1,10 +1,10 @@
 -- The output of `round` for a string.
 use Rattle.std.specs.Prelude.{◌≡◌, ℕ, List}
-use Rattle.cc_machine.specs.declared.reply.Reply.{Reply}
-use Rattle.cc_machine.specs.Step.{RoundsLength}
-use Rattle.cc_script.specs.Commands.{length_in}
+use Rattle.cc_ops.specs.declared.reply.Reply.{Reply}
+use Rattle.cc_ops.specs.RoundedLength.{RoundsLength}
+use Rattle.cc_syntax.specs.Commands.{length_in}
 use Rattle.cc_script.specs.Output.{with_line_feed}
-use Rattle.cc_script.specs.Replies.{reply_text}
+use Rattle.cc_syntax.specs.Replies.{reply_text}
 use Rattle.cc_explain.specs.Answer.{AnswersResult}
 
 -- IsRoundingOf holds if `answer` is the line of a machine's reply to `round` of a length.

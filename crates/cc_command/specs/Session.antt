@@ -5,16 +5,16 @@ use Rattle.cc_word.specs.declared.refusal.Refusal.TheVariants.{Unfinished}
 use Rattle.cc_io.specs.Lines.{lines_of, rest_of}
 use Rattle.cc_io.specs.declared.summary.IoError.{IoError}
 use Rattle.cc_io.specs.declared.summary.Summary.{Summary}
-use Rattle.cc_machine.specs.declared.op.Op.{Op}
-use Rattle.cc_machine.specs.declared.reply.Reply.{Reply}
-use Rattle.cc_machine.specs.declared.reply.Reply.TheVariants.{Refused}
+use Rattle.cc_ops.specs.declared.op.Op.{Op}
+use Rattle.cc_ops.specs.declared.reply.Reply.{Reply}
+use Rattle.cc_ops.specs.declared.reply.Reply.TheVariants.{Refused}
 use Rattle.cc_machine.specs.State.{State}
 use Rattle.cc_machine.specs.Step.{Step}
 use Rattle.cc_script.specs.Answering.{AnswersLine, RefusesRest}
-use Rattle.cc_script.specs.Commands.{operation_of}
+use Rattle.cc_syntax.specs.Commands.{operation_of}
 use Rattle.cc_script.specs.Correct.{AnswersScript, RunsScript, IoState, StopsInReplies}
 use Rattle.cc_script.specs.Output.{TakesAll, with_line_feed, replies_text}
-use Rattle.cc_script.specs.Replies.{reply_text, is_error}
+use Rattle.cc_syntax.specs.Replies.{reply_text, is_error}
 use Rattle.cc_command.specs.Tally.{Exchange, IsTally}
 use Rattle.cc_command.specs.declared.tally.Tally.{Tally}
 

@@ -2,7 +2,7 @@
 ghost use Rattle.std.specs.Prelude.{◌≡◌, ◌+◌, ◌≤◌, ◌++◌, ◌↔◌, [], Err, IsErr, List, OnErr, OnOk, codes, false, length, option_map, true};
 ghost use Rattle.std.specs.Io.KnownBytes.{Appends};
 ghost use Rattle.cc_io.specs.Devices.{TakesBeginning};
-ghost use Rattle.cc_machine.specs.declared.reply.Reply.{Reply};
+ghost use Rattle.cc_ops.specs.declared.reply.Reply.{Reply};
 ghost use Rattle.std.specs.List.{list_any};
 ghost use Rattle.cc_word.specs.declared.refusal.Refusal.TheVariants.{Inexact};
 ghost use Rattle.cc_command.specs.Hints.{hints_of, hints_text, is_in_opening, line_hint, pool_hint};

@@ -1,6 +1,6 @@
 //! The output of `round`: how setting bounds rounds a length.
 ghost use Rattle.std.specs.Prelude.{◌≡◌, ◌↔◌, [], false, true, IfOk, IsErr, IsTrue, OnErr, OnOk};
-ghost use Rattle.cc_script.specs.Commands.{length_in};
+ghost use Rattle.cc_syntax.specs.Commands.{length_in};
 ghost use Rattle.cc_explain.specs.Answer.{WritesAnswer};
 ghost use Rattle.cc_command.specs.Rounding.{IsRounding};
 

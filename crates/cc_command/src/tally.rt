@@ -1,10 +1,10 @@
 //! The counts of the replies to a script.
 ghost use Rattle.std.specs.Prelude.{◌≡◌, ◌-◌, ◌<◌, ℕ, List, [], ◌∷◌, ◌++◌, Bool, false, length, take};
-ghost use Rattle.cc_machine.specs.declared.reply.Reply.{Reply as ReplySpec};
-ghost use Rattle.cc_machine.specs.declared.reply.Reply.TheVariants.{Refused};
+ghost use Rattle.cc_ops.specs.declared.reply.Reply.{Reply as ReplySpec};
+ghost use Rattle.cc_ops.specs.declared.reply.Reply.TheVariants.{Refused};
 ghost use Rattle.cc_word.specs.Refusal.{code_of};
 ghost use Rattle.cc_word.specs.declared.refusal.Refusal.TheVariants.{Full};
-ghost use Rattle.cc_script.specs.Replies.{is_error};
+ghost use Rattle.cc_syntax.specs.Replies.{is_error};
 ghost use Rattle.cc_command.specs.Tally.{Exchange, HasOneMore, IsTally, count_more, first_after, is_refusal};
 
 use crate::line_hints::{ends_in_return, has_marked_word};

@@ -7,12 +7,11 @@ mod derivations;
 mod laws;
 mod machine;
 mod object;
-mod op;
 mod owners;
-mod reply;
 mod slot;
 
 pub use cc_bounds::{Align, Len};
+pub use cc_ops::{Op, Reply};
 pub use cc_plan::{ObjectState, PlannedObject};
 pub use laws::{
     confinement, disjoint_objects, every_run_has_an_outcome, every_step_has_an_outcome,
@@ -22,5 +21,3 @@ pub use laws::{
 };
 pub use machine::Machine;
 pub use object::Object;
-pub use op::Op;
-pub use reply::Reply;

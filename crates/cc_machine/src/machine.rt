@@ -4,12 +4,11 @@ use crate::derivations::{
     with_increment, with_perms,
 };
 use crate::object::Object;
-use crate::op::Op;
 use crate::owners::{is_freed, is_swept};
-use crate::reply::Reply;
 use crate::slot::Slot;
-use cc_cap::Cap;
 use cc_bounds::{Align, Len};
+use cc_cap::Cap;
+use cc_ops::{Op, Reply};
 use cc_plan::{BlockPlacer, ObjectId, Planner};
 use cc_word::Refusal;
 use std::alloc::{AllocError, Global};
@@ -54,11 +53,11 @@ impl Model for Machine {
 
 impl Machine {
     ghost use Rattle.std.specs.Prelude.{ℕ, Bool, ◌≡◌, ◌≤◌, IfOk, length};
-    ghost use Rattle.cc_plan.specs.Placement.{HaveSameSpans};
+    ghost use Rattle.cc_placer.specs.Placement.{HaveSameSpans};
     ghost use Rattle.cc_plan.specs.Plan.{held_spans as planned_spans};
     ghost use Rattle.std.specs.Result.{result_map_both};
-    ghost use Rattle.cc_machine.specs.declared.op.Op.{Op};
-    ghost use Rattle.cc_machine.specs.declared.op.Op.TheVariants.{Pool, Alloc, Free, Sweep};
+    ghost use Rattle.cc_ops.specs.declared.op.Op.{Op};
+    ghost use Rattle.cc_ops.specs.declared.op.Op.TheVariants.{Pool, Alloc, Free, Sweep};
     ghost use Rattle.cc_machine.specs.State.{initial_state, tagged_slot};
     ghost use Rattle.cc_machine.specs.Objects.{object_at, held_bytes_of, held_spans};
     ghost use Rattle.cc_machine.specs.Planned.{plan_of};

@@ -10,7 +10,7 @@ use Rattle.cc_io.specs.declared.summary.IoError.{IoError}
 use Rattle.cc_io.specs.declared.summary.IoError.TheVariants.{Read, Write}
 use Rattle.cc_io.specs.declared.summary.Summary.{Summary}
 use Rattle.cc_bounds.specs.declared.align.Align.{Align}
-use Rattle.cc_machine.specs.declared.op.Op.{Op}
+use Rattle.cc_ops.specs.declared.op.Op.{Op}
 use Rattle.cc_machine.specs.State.{State, initial_state}
 use Rattle.cc_command.specs.Planning.{plan_opening, pool_of}
 use Rattle.cc_command.specs.Session.{AnswersSession, SessionState}

@@ -1,6 +1,6 @@
 -- The output of `show`, `explain` and `round`, and the questions for which it is an error.
 use Rattle.std.specs.Prelude.{ℕ, true, false, IsErr, List}
-use Rattle.cc_script.specs.Commands.{length_in}
+use Rattle.cc_syntax.specs.Commands.{length_in}
 use Rattle.cc_explain.specs.Explanation.{IsExplanation}
 use Rattle.cc_explain.specs.LineAnswer.{IsLineAnswer}
 use Rattle.cc_explain.specs.Listing.{IsListing, IsWordText}

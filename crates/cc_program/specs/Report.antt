@@ -1,7 +1,7 @@
 -- The report of a run on standard error.
 use Rattle.std.specs.Prelude.{ℕ, Bool, true, false, ◌≡◌, ◌||◌, List, [], ◌++◌, Option, codes, if◌then◌else◌}
 use Rattle.std.specs.Io.KnownBytes.{Appends}
-use Rattle.cc_machine.specs.declared.reply.Reply.{Reply}
+use Rattle.cc_ops.specs.declared.reply.Reply.{Reply}
 use Rattle.cc_command.specs.Hints.{hints_of, hints_text}
 use Rattle.cc_command.specs.Session.{SessionState}
 use Rattle.cc_command.specs.Statistics.{statistics_text}

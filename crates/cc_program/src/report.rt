@@ -1,7 +1,7 @@
 //! Reports on standard error: that a script is read from the terminal, and the summary of a run and hints.
 ghost use Rattle.std.specs.Prelude.{◌≡◌, List, ℕ, OnErr, OnOk, false};
 ghost use Rattle.std.specs.Io.KnownBytes.{Appends};
-ghost use Rattle.cc_machine.specs.declared.reply.Reply.{Reply};
+ghost use Rattle.cc_ops.specs.declared.reply.Reply.{Reply};
 ghost use Rattle.cc_command.specs.Tally.{Exchange, IsTally};
 ghost use Rattle.cc_program.specs.Report.{WritesReport, report_of, waiting_text};
 

@@ -4,13 +4,13 @@ use Rattle.std.proofs.lemmas.List.{map-append, take_all, take_more, take-append-
 use Rattle.std.proofs.lemmas.List.Folds.{list_any-append}
 use Rattle.std.specs.Io.KnownBytes.{Appends}
 use Rattle.cc_word.specs.declared.refusal.Refusal.{Refusal}
-use Rattle.cc_machine.specs.declared.op.Op.{Op}
-use Rattle.cc_machine.specs.declared.reply.Reply.{Reply}
+use Rattle.cc_ops.specs.declared.op.Op.{Op}
+use Rattle.cc_ops.specs.declared.reply.Reply.{Reply}
 use Rattle.cc_machine.specs.State.{State}
 use Rattle.cc_machine.specs.Step.{Step}
 use Rattle.cc_io.specs.Devices.{TakesBeginning}
 use Rattle.cc_io.proofs.DeviceLemmas.{appends_none, appends_twice}
-use Rattle.cc_script.specs.Replies.{reply_text, is_error}
+use Rattle.cc_syntax.specs.Replies.{reply_text, is_error}
 use Rattle.cc_script.specs.Output.{with_line_feed, replies_text}
 use Rattle.cc_script.specs.Correct.{StopsInReply}
 use Rattle.cc_script.specs.Answering.{AnswersOpening}

@@ -5,12 +5,12 @@ use Rattle.std.proofs.Math.Seq.{take-append-add}
 use Rattle.std.specs.Io.KnownBytes.{Appends}
 use Rattle.std.specs.List.{list_any}
 use Rattle.cc_word.specs.declared.refusal.Refusal.{Refusal}
-use Rattle.cc_machine.specs.declared.op.Op.{Op}
-use Rattle.cc_machine.specs.declared.reply.Reply.{Reply}
+use Rattle.cc_ops.specs.declared.op.Op.{Op}
+use Rattle.cc_ops.specs.declared.reply.Reply.{Reply}
 use Rattle.cc_machine.specs.State.{State}
 use Rattle.cc_machine.proofs.OutcomeLemmas.{Step-one, IsSameOutcome, IsSameRun}
 use Rattle.cc_io.specs.Lines.{rest_of}
-use Rattle.cc_script.specs.Replies.{reply_text, is_error}
+use Rattle.cc_syntax.specs.Replies.{reply_text, is_error}
 use Rattle.cc_script.specs.Output.{commands_of, Takes, TakesAll, ScriptOutput, with_line_feed, replies_text, rest_text}
 use Rattle.cc_script.specs.Correct.{StopsInReply, StopsInReplies, StopsAfterLines, BeginsOutput}
 use Rattle.cc_script.proofs.ReplyLemmas.{takes_further, replies_text-append}

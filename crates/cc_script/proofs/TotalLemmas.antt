@@ -6,18 +6,18 @@ use Rattle.std.specs.Str.{bytes_eq}
 use Rattle.cc_word.specs.declared.refusal.Refusal.{Refusal}
 use Rattle.cc_word.specs.declared.refusal.Refusal.TheVariants.{Syntax, TooLong, OutOfRange}
 use Rattle.cc_bounds.specs.declared.align.Align.TheVariants.{One}
-use Rattle.cc_machine.specs.declared.op.Op.{Op}
-use Rattle.cc_machine.specs.declared.op.Op.TheVariants as op
-use Rattle.cc_machine.specs.declared.reply.Reply.{Reply}
-use Rattle.cc_machine.specs.declared.reply.Reply.TheVariants.{Refused}
+use Rattle.cc_ops.specs.declared.op.Op.{Op}
+use Rattle.cc_ops.specs.declared.op.Op.TheVariants as op
+use Rattle.cc_ops.specs.declared.reply.Reply.{Reply}
+use Rattle.cc_ops.specs.declared.reply.Reply.TheVariants.{Refused}
 use Rattle.cc_machine.specs.State.{State}
 use Rattle.cc_machine.specs.Run.{IsReached, IsInAddressSpace}
 use Rattle.cc_machine.proofs.RunLemmas.{IsReached-step}
 use Rattle.cc_machine.proofs.TotalLemmas.{HasOutcome, Step-outcome}
-use Rattle.cc_script.specs.Numbers.{number_of, within_limit}
-use Rattle.cc_script.specs.Commands.{Command, words_of, index_in, address_in, length_in, flag_in, align_in, word_in, permissions_in, both, single, slot_and_perhaps, one, alone, of_value, of_slot, of_slot_perhaps, commands, operation_in, command_in, operation_of}
+use Rattle.cc_syntax.specs.Numbers.{number_of, within_limit}
+use Rattle.cc_syntax.specs.Commands.{Command, words_of, index_in, address_in, length_in, flag_in, align_in, word_in, permissions_in, both, single, slot_and_perhaps, one, alone, of_value, of_slot, of_slot_perhaps, commands, operation_in, command_in, operation_of}
 use Rattle.cc_io.specs.Lines.{lines_of, rest_of}
-use Rattle.cc_script.specs.Replies.{is_error}
+use Rattle.cc_syntax.specs.Replies.{is_error}
 use Rattle.cc_script.specs.Output.{commands_of, Takes, TakesAll, ScriptOutput, replies_text, rest_text}
 
 -- ---- the operation of a line

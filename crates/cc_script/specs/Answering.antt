@@ -4,12 +4,12 @@ use Rattle.std.specs.Io.KnownBytes.{Appends}
 use Rattle.std.specs.List.{list_any}
 use Rattle.cc_word.specs.declared.refusal.Refusal.{Refusal}
 use Rattle.cc_word.specs.declared.refusal.Refusal.TheVariants.{Unfinished}
-use Rattle.cc_machine.specs.declared.op.Op.{Op}
-use Rattle.cc_machine.specs.declared.reply.Reply.{Reply}
-use Rattle.cc_machine.specs.declared.reply.Reply.TheVariants.{Refused}
+use Rattle.cc_ops.specs.declared.op.Op.{Op}
+use Rattle.cc_ops.specs.declared.reply.Reply.{Reply}
+use Rattle.cc_ops.specs.declared.reply.Reply.TheVariants.{Refused}
 use Rattle.cc_machine.specs.State.{State}
-use Rattle.cc_script.specs.Commands.{operation_of}
-use Rattle.cc_script.specs.Replies.{reply_text, refusal_text, is_error}
+use Rattle.cc_syntax.specs.Commands.{operation_of}
+use Rattle.cc_syntax.specs.Replies.{reply_text, refusal_text, is_error}
 use Rattle.cc_script.specs.Output.{Takes, TakesAll, with_line_feed, replies_text}
 
 -- Replies holds if the command got a reply that is not an error, and the reply with a line feed was

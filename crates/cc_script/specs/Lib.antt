@@ -1,8 +1,4 @@
 -- In reading order.
-pub mod Numbers
-pub mod Digits
-pub mod Commands
-pub mod Replies
 pub mod Output
 pub mod Laws
 pub mod Correct

@@ -2,15 +2,15 @@
 use Rattle.std.specs.Prelude.{◌≡◌, ℕ, Bool, not, ◌||◌, ◌==◌, List, [], ◌∷◌, ◌++◌, length, map, Result, Ok, Err}
 use Rattle.std.specs.List.{list_any}
 use Rattle.cc_word.specs.declared.refusal.Refusal.{Refusal}
-use Rattle.cc_machine.specs.declared.op.Op.{Op}
-use Rattle.cc_machine.specs.declared.reply.Reply.{Reply}
-use Rattle.cc_machine.specs.declared.reply.Reply.TheVariants.{Refused}
+use Rattle.cc_ops.specs.declared.op.Op.{Op}
+use Rattle.cc_ops.specs.declared.reply.Reply.{Reply}
+use Rattle.cc_ops.specs.declared.reply.Reply.TheVariants.{Refused}
 use Rattle.cc_machine.specs.State.{State}
 use Rattle.cc_machine.specs.Step.{Step}
 pub use Rattle.cc_text.specs.Text.{with_line_feed, rest_text}
 use Rattle.cc_io.specs.Lines.{lines_of, rest_of}
-use Rattle.cc_script.specs.Commands.{operation_of}
-use Rattle.cc_script.specs.Replies.{reply_text, is_error}
+use Rattle.cc_syntax.specs.Commands.{operation_of}
+use Rattle.cc_syntax.specs.Replies.{reply_text, is_error}
 
 -- The commands for a machine: the setup operations, and then for each line of the text its
 -- operation or its error.

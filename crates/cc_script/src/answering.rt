@@ -1,17 +1,16 @@
 //! Replies to one line.
 ghost use Rattle.std.specs.Prelude.{◌≡◌, ◌+◌, ◌≤◌, length, true, Result, Ok};
 ghost use Rattle.cc_word.specs.declared.refusal.Refusal.{Refusal as RefusalSpec};
-ghost use Rattle.cc_machine.specs.declared.op.Op.{Op as OpSpec};
+ghost use Rattle.cc_ops.specs.declared.op.Op.{Op as OpSpec};
 ghost use Rattle.cc_machine.specs.Step.{Step};
-ghost use Rattle.cc_script.specs.Commands.{operation_of};
+ghost use Rattle.cc_syntax.specs.Commands.{operation_of};
 ghost use Rattle.cc_script.specs.Answering.{IsAnswered};
 ghost use Rattle.cc_io.specs.Answers.{AnswersInto};
-ghost use Rattle.cc_script.specs.Lent.{ByLent, ByLentAtEnd};
+ghost use Rattle.cc_script.specs.Lent.{ByLent, ByLentAtEnd, TakenByLent};
 
-use crate::parsing::{MOST_BYTES, Taker, take_command};
-use crate::printing::push_reply;
 use cc_io::Answerer;
 use cc_machine::{Machine, Op, Reply};
+use cc_syntax::{MOST_BYTES, Taker, push_reply, take_command};
 use cc_text::{Page, refusal_bytes};
 use cc_word::Refusal;
 
@@ -64,7 +63,7 @@ impl<const N: usize> Answerer<N> for Script<'_> {
 /// Requires: 193 bytes fit the page.
 /// Errors: the refusal of the line or of its operation; the text is unchanged then.
 #[inline(never)]
-#[tactic(auto, unfolding(crate::specs::Commands::operation_of))]
+#[tactic(auto, unfolding(cc_syntax::specs::Commands::operation_of))]
 pub fn answer_line<const N: usize>(
     machine: &mut Machine,
     text: &mut Page<N>,
@@ -77,19 +76,18 @@ pub fn answer_line<const N: usize>(
     if line.len() > MOST_BYTES {
         return Err(Refusal::TooLong);
     }
-    take_command(machine, text, line)
+    take_command(&mut Script { machine }, text, line)
 }
 
-impl<const N: usize> Taker<N> for Machine {
+impl<const N: usize> Taker<N> for Script<'_> {
     type Out = Result<(), Refusal>;
 
-    ghost Taken = { λ old command result text text_now new.
-        IsAnswered old command result text text_now new × (length text_now ≤ length text + 193) };
+    ghost Taken = { TakenByLent };
 
     #[inline(always)]
     fn take(&mut self, text: &mut Page<N>, parsed: Result<Op, Refusal>) -> Result<(), Refusal> {
         match parsed {
-            Ok(op) => answer_op(self, text, &op),
+            Ok(op) => answer_op(self.machine, text, &op),
             Err(refusal) => Err(refusal),
         }
     }

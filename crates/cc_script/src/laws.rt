@@ -4,11 +4,11 @@ ghost use Rattle.std.specs.Prelude.{◌≡◌, ◌⊎◌, ℕ, Bool, List, Optio
 ghost use Rattle.std.specs.Io.KnownBytes.{Appends};
 ghost use Rattle.std.specs.List.{AllByRecursion};
 ghost use Rattle.cc_word.specs.declared.refusal.Refusal.{Refusal};
-ghost use Rattle.cc_machine.specs.declared.op.Op.{Op};
-ghost use Rattle.cc_machine.specs.declared.reply.Reply.{Reply};
+ghost use Rattle.cc_ops.specs.declared.op.Op.{Op};
+ghost use Rattle.cc_ops.specs.declared.reply.Reply.{Reply};
 ghost use Rattle.cc_machine.specs.State.{State};
 ghost use Rattle.cc_machine.specs.Run.{Run, IsReached, IsInAddressSpace};
-ghost use Rattle.cc_script.specs.Commands.{OneJoin};
+ghost use Rattle.cc_syntax.specs.Commands.{OneJoin};
 ghost use Rattle.cc_script.specs.Output.{commands_of, TakesAll, ScriptOutput, operations_of, operation_replies};
 ghost use Rattle.cc_script.specs.Correct.{StopsInReply, StopsAfterLines, BeginsOutput};
 

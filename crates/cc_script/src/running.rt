@@ -3,16 +3,16 @@ ghost use Rattle.std.specs.Prelude.{◌≡◌, [], Ok, Err, IfOk, OnErr, OnOk, I
 ghost use Rattle.std.specs.Io.KnownBytes.{Appends};
 ghost use Rattle.cc_io.specs.Devices.{TakesBeginning};
 ghost use Rattle.cc_machine.specs.Run.{IsReached};
-ghost use Rattle.cc_script.specs.Replies.{reply_text, is_error};
+ghost use Rattle.cc_syntax.specs.Replies.{reply_text, is_error};
 ghost use Rattle.cc_script.specs.Output.{with_line_feed};
 ghost use Rattle.cc_script.specs.Correct.{AnswersScript, RunsScript, StopsInReply};
 ghost use Rattle.cc_script.specs.Laws.{KeepsLaws};
 ghost use Rattle.cc_script.specs.Answering.{AnswersOpening};
 
 use crate::answering::{Script, step};
-use crate::printing::push_any_reply;
 use cc_io::{Failed, IoError, Lines, Sink, Source, Summary, pump, write_all};
 use cc_machine::{Machine, Op, Reply};
+use cc_syntax::push_any_reply;
 use cc_text::WholeLine;
 
 /// Runs the script that the source gives: steps the machine by each line, and writes its reply

@@ -1,6 +1,6 @@
 //! A placer without a planner: if no spare block is left, two blocks of one span are joined.
 ghost use Rattle.std.specs.Prelude.{◌≡◌, ◌<◌, IsSome};
-ghost use Rattle.cc_plan.specs.Placement.{AddsSpan};
+ghost use Rattle.cc_placer.specs.Placement.{AddsSpan};
 
 use cc_bounds::Span;
 use cc_plan::{BlockPlacer, Placer};

@@ -1,5 +1,5 @@
 use Rattle.std.proofs.Common.{refl}
-use Rattle.cc_script.specs.Commands.{words_of, command_in}
+use Rattle.cc_syntax.specs.Commands.{words_of, command_in}
 use Rattle.cc_script.proofs.answering.answer_line.Goals as goal
 
 pub returns-clause-fits : goal.returns-clause-fits

@@ -2,7 +2,7 @@ use Rattle.std.proofs.Common.{◌∷◌, List, Contains, IsPermutation, arith}
 use Rattle.std.proofs.lemmas.List.Sorted.{Contains-permutation, sum_by_pushed}
 use Rattle.std.proofs.lemmas.List.Sums.{sum_by-cons}
 use Rattle.cc_bounds.specs.declared.span.Span.{Span}
-use Rattle.cc_plan.proofs.ChainLemmas.{contains_head, contains_tail}
+use Rattle.cc_placer.proofs.ChainLemmas.{contains_head, contains_tail}
 use Rattle.cc_plan.proofs.HeldSpanLemmas.{permutation_from_sums}
 use Rattle.machine_tests.proofs.planner.joining.+keep_last.Goals as goal
 

@@ -2,7 +2,7 @@ use Rattle.std.proofs.Common.{ℕ, ◌≡◌, List, Option, None, Some, IfSome, 
 use Rattle.std.proofs.lemmas.Bool.{false≢true}
 use Rattle.cc_bounds.specs.declared.span.Span.{Span}
 use Rattle.cc_bounds.specs.Span.{span_from}
-use Rattle.cc_plan.specs.Placement.{IsApartFrom, IsRoom}
+use Rattle.cc_placer.specs.Placement.{IsApartFrom, IsRoom}
 use Rattle.machine_tests.proofs.planner.joining.hold_least.Goals as goal
 
 room_apart : (pool : Option Span) (held : List Span) (size align : ℕ) (place : Option ℕ) (start : ℕ) → IsSome pool

@@ -1,0 +1,10 @@
+pub mod PlacementLemmas
+pub mod SortedLemmas
+pub mod RoomLemmas
+pub mod ChainLemmas
+pub mod BlockLemmas
+pub mod BlockRowLemmas
+pub mod RowLemmas
+pub mod GapLemmas
+pub mod GroupLemmas
+pub mod SearchLemmas

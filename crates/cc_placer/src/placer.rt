@@ -1,0 +1,86 @@
+//! The interface between a planner and its placer.
+ghost use Rattle.std.specs.Prelude.{◌≡◌, ℕ, ◌^◌, ◌<◌, ◌≤◌, List, [], length, Option, Some, None, IfOk, IfSome, IsSome, IsSomeAnd, Contains};
+ghost use Rattle.cc_bounds.specs.declared.span.Span.{Span as SpanSpec};
+ghost use Rattle.cc_bounds.specs.Span.{IsWithin};
+ghost use Rattle.cc_placer.specs.Placement.{AddsSpan, RemovesSpan, IsApartFrom, IsRoom};
+
+use cc_bounds::Span;
+use std::alloc::{AllocError, Global};
+
+/// A free-space index: holds spans of a pool, and finds free space next to them.
+///
+/// Three values describe a placer to its caller: the maximum number of spans that it holds, its
+/// pool or none, and the spans that it holds. It may hold them in any order.
+pub trait Placer: Drop {
+    /// The maximum number of spans that it holds.
+    ghost limit: { Self → ℕ };
+
+    /// The span in which it finds free space, or none before a pool is set.
+    ghost pool: { Self → Option SpanSpec };
+
+    /// The spans that it holds. Their order has no meaning.
+    ghost held: { Self → List SpanSpec };
+
+    /// Creates a placer for at most `n` spans, with no pool and no span.
+    ///
+    /// Allocates all the memory that the placer needs.
+    ///
+    /// Requires: `1 <= n <= 65536`.
+    /// Errors: `AllocError` if an allocation fails.
+    fn with_limit(alloc: Global, n: u32) -> Result<Self, AllocError>
+        requires some { 1 ≤ n }
+        requires few { n ≤ 65536 }
+        ensures limit { IfOk result (λ placer. limit placer ≡ n) }
+        ensures no_pool { IfOk result (λ placer. pool placer ≡ None) }
+        ensures nothing_held { IfOk result (λ placer. held placer ≡ []) };
+
+    /// Makes the span the pool.
+    ///
+    /// Requires: no pool is set yet; `span.base <= span.top <= 2^64`, so the span may be empty.
+    fn set_pool(&mut self, span: Span)
+        requires no_pool { pool self.old ≡ None }
+        requires in_order { span.base ≤ span.top }
+        requires fits { span.top ≤ 2 ^ 64 }
+        ensures limit { limit self.new ≡ limit self.old }
+        ensures pool { pool self.new ≡ Some span }
+        ensures held { held self.new ≡ held self.old };
+
+    /// Returns the lowest place for `len` bytes at a multiple of `align`, or `None` if there is
+    /// none.
+    ///
+    /// A place is a start from which on the bytes lie in the pool and share no byte with a held
+    /// span. `align` need not be a power of two, and `len` may exceed the length of the pool.
+    ///
+    /// Requires: a pool is set; `len > 0`; `align > 0`.
+    fn room(&self, len: u128, align: u64) -> Option<u64>
+        requires pool { IsSome (pool self.now) }
+        requires some { 0 < len }
+        requires aligned { 0 < align }
+        ensures { IfSome (pool self.now) (λ pool. IsRoom pool (held self.now) len align result) };
+
+    /// Adds a span to the held ones.
+    ///
+    /// Requires: the span has at least one byte, lies in the pool, and shares no byte with a held
+    /// span; fewer spans than the limit are held.
+    fn hold(&mut self, span: Span)
+        requires not_empty { span.base < span.top }
+        requires in_pool { IsSomeAnd (pool self.old) (IsWithin span) }
+        requires apart { IsApartFrom (held self.old) span }
+        requires below_limit { length (held self.old) < limit self.old }
+        ensures limit { limit self.new ≡ limit self.old }
+        ensures pool { pool self.new ≡ pool self.old }
+        ensures held { AddsSpan (held self.old) span (held self.new) };
+
+    /// Removes a span from the held ones.
+    ///
+    /// Requires: the span is held.
+    fn give_back(&mut self, span: Span)
+        requires is_held { Contains (held self.old) span }
+        ensures limit { limit self.new ≡ limit self.old }
+        ensures pool { pool self.new ≡ pool self.old }
+        ensures held { RemovesSpan (held self.old) span (held self.new) };
+
+    /// Returns the number of held spans.
+    fn count(&self) -> u32
+        ensures { result ≡ length (held self.now) };
+}

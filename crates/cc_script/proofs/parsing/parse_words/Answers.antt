@@ -1,6 +1,0 @@
-use Rattle.std.proofs.Common.{refl}
-use Rattle.cc_script.specs.Commands.{words_of, command_in}
-use Rattle.cc_script.proofs.parsing.parse_words.Goals as goal
-
-pub returns : goal.returns
-returns c = c.take_command.ensures (command_in (words_of c.args.line.now)) refl

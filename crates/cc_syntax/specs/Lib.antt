@@ -1,0 +1,5 @@
+-- In reading order.
+pub mod Numbers
+pub mod Digits
+pub mod Commands
+pub mod Replies
