@@ -12,8 +12,8 @@ use Rattle.cc_io.specs.declared.summary.Summary.{Summary}
 use Rattle.cc_bounds.specs.declared.align.Align.{Align}
 use Rattle.cc_ops.specs.declared.op.Op.{Op}
 use Rattle.cc_machine.specs.State.{State, initial_state}
-use Rattle.cc_command.specs.Planning.{plan_opening, pool_of}
-use Rattle.cc_command.specs.Session.{AnswersSession, SessionState}
+use Rattle.cc_syntax.specs.Planning.{plan_opening, pool_of}
+use Rattle.cc_script.specs.Session.{AnswersSession, SessionState}
 use Rattle.cc_arguments.specs.declared.invocation.Invocation.{Invocation}
 use Rattle.cc_arguments.specs.declared.invocation.Invocation.TheVariants.{Map}
 use Rattle.cc_arguments.specs.declared.invocation.PoolTexts.{PoolTexts}

@@ -12,12 +12,12 @@ use Rattle.cc_machine.specs.Planned.{plan_of}
 use Rattle.cc_explain.specs.Answer.{IsRefusalLine, WritesAnswer}
 use Rattle.cc_draw.specs.Drawing.{IsDrawing}
 use Rattle.cc_draw.specs.Map.{IsMap}
-use Rattle.cc_command.specs.Planning.{plan_opening, pool_of}
-use Rattle.cc_command.specs.Session.{AnswersSession, SessionState}
+use Rattle.cc_syntax.specs.Planning.{plan_opening, pool_of}
+use Rattle.cc_script.specs.Session.{AnswersSession, SessionState}
 use Rattle.cc_command.specs.Statistics.{statistics_text}
-use Rattle.cc_command.specs.Tally.{Exchange, IsTally}
+use Rattle.cc_syntax.specs.Tally.{Exchange, IsTally}
 use Rattle.cc_draw.specs.Usage.{IsUsage}
-use Rattle.cc_draw.specs.declared.usage.Usage.{Usage}
+use Rattle.cc_ops.specs.declared.usage.Usage.{Usage}
 use Rattle.cc_arguments.specs.declared.invocation.PoolTexts.{PoolTexts}
 use Rattle.cc_decode.specs.declared.options.Options.{Options}
 use Rattle.cc_decode.specs.Correct.{Lists, ListsWhole}
