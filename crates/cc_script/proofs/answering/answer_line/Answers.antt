@@ -3,4 +3,4 @@ use Rattle.cc_syntax.specs.Commands.{words_of, command_in}
 use Rattle.cc_script.proofs.answering.answer_line.Goals as goal
 
 pub returns-clause-fits : goal.returns-clause-fits
-returns-clause-fits g c = (c.take_command.ensures (command_in (words_of c.args.line.now)) refl).1
+returns-clause-fits g c = (c.take_command.ensures (command_in (words_of c.args.line.now)) refl).fits
