@@ -4,8 +4,8 @@ ghost use Rattle.clap.specs.Words.{first_of, found_of, rows_of};
 ghost use Rattle.cc_arguments.specs.Invocation.{HasChoice, HasFlag, HasLimit, HasPool, HasPoolTexts, HasText, IsChosen, IsGiven, IsLimit, align_named, format_named, input_named};
 
 use crate::invocation::PoolTexts;
-use cc_decode::{ByteOrder, Format, InputForm};
 use cc_bounds::Align;
+use cc_decode::{ByteOrder, Format, InputForm};
 use clap::ArgMatches;
 
 /// The value of `--slots` if it is not given.

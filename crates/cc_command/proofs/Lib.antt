@@ -1,2 +1,1 @@
-mod TallyLemmas
-mod SessionLemmas
+mod HintLemmas

@@ -7,10 +7,10 @@ use Rattle.cc_syntax.specs.Replies.{is_error}
 use Rattle.cc_bounds.specs.Granule.{granule_of, padded_size}
 use Rattle.cc_bounds.specs.Span.{from_zero}
 use Rattle.cc_text.specs.Numbered.{line_with_decimal, line_with_hexadecimal, with_hexadecimal}
-use Rattle.cc_command.specs.LineHints.{ends_in_return, has_marked_word}
-use Rattle.cc_command.specs.Tally.{Exchange, counted, first_from, is_refusal}
+use Rattle.cc_syntax.specs.LineHints.{ends_in_return, has_marked_word}
+use Rattle.cc_syntax.specs.Tally.{Exchange, counted, first_from, is_refusal}
 use Rattle.cc_command.specs.declared.hints.Hints.{Hints}
-use Rattle.cc_command.specs.declared.tally.Count.{Count}
+use Rattle.cc_syntax.specs.declared.tally.Count.{Count}
 
 -- The hints after a run with these replies to its setup operations, and these lines with their
 -- replies. `inexact` is `pool` if a reply to the setup operations is `Inexact`. The others are the

@@ -6,7 +6,7 @@ use Rattle.cc_bounds.specs.declared.span.Span.{Span}
 use Rattle.cc_bounds.specs.Span.{span_from}
 use Rattle.cc_explain.specs.Answer.{AnswersResult}
 use Rattle.cc_explain.specs.Request.{IsRequestExplanation}
-use Rattle.cc_command.specs.Planning.{pool_of}
+use Rattle.cc_syntax.specs.Planning.{pool_of}
 
 -- The request for a base and a length, or `OutOfBounds` if it ends past 2^64. An earlier error
 -- stays.

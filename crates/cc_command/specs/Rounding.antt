@@ -3,7 +3,7 @@ use Rattle.std.specs.Prelude.{◌≡◌, ℕ, List}
 use Rattle.cc_ops.specs.declared.reply.Reply.{Reply}
 use Rattle.cc_ops.specs.RoundedLength.{RoundsLength}
 use Rattle.cc_syntax.specs.Commands.{length_in}
-use Rattle.cc_script.specs.Output.{with_line_feed}
+use Rattle.cc_text.specs.Text.{with_line_feed}
 use Rattle.cc_syntax.specs.Replies.{reply_text}
 use Rattle.cc_explain.specs.Answer.{AnswersResult}
 

@@ -3,8 +3,8 @@ ghost use Rattle.std.specs.Prelude.{◌≡◌, ◌≤◌, ◌^◌, IfOk, Ok};
 ghost use Rattle.cc_bounds.specs.Span.{IsSpan};
 ghost use Rattle.cc_command.specs.Request.{request_from, request_in};
 
-use crate::planning::plan_numbers;
 use cc_bounds::Span;
+use cc_syntax::plan_numbers;
 use cc_word::Refusal;
 
 /// Returns the request whose base and length two strings parse as.

@@ -6,8 +6,8 @@ ghost use Rattle.cc_command.specs.Rounding.{IsRounding};
 
 use cc_explain::{push_refusal, write_answer};
 use cc_io::{IoError, Sink, Summary};
-use cc_machine::Reply;
-use cc_script::{read_length, reply_line};
+use cc_ops::Reply;
+use cc_syntax::{read_length, reply_line};
 use cc_text::Text;
 
 /// Writes the line `round LENGTH GRANULE MASK` for a length, and flushes the sink once after it.

@@ -5,12 +5,11 @@ ghost use Rattle.cc_io.specs.Devices.{TakesBeginning};
 ghost use Rattle.cc_text.specs.Numbered.{line_with_decimal};
 ghost use Rattle.cc_command.specs.Statistics.{bytes_text, count_lines, counts_text, end_text, holes_text, hundredths_of, objects_text, percent_text, statistics_text};
 
-use crate::tally::{Count, Tally};
-use cc_draw::Usage;
 use cc_explain::write_answer;
 use cc_io::{IoError, Sink};
-use cc_script::Line;
-use cc_text::{ROOM, Text, end_with_decimal, end_with_hexadecimal};
+use cc_ops::Usage;
+use cc_syntax::{Count, Tally};
+use cc_text::{Line, ROOM, Text, end_with_decimal, end_with_hexadecimal};
 
 /// Writes the summary of a run, a line for each number, and flushes the sink once after the last.
 ///
@@ -20,7 +19,7 @@ use cc_text::{ROOM, Text, end_with_decimal, end_with_hexadecimal};
 /// has the line 0.
 ///
 /// Requires: the sink has not failed; at most 2^80 bytes are held, which
-/// [`usage_of`](crate::usage_of) ensures.
+/// [`usage_of`](cc_draw::usage_of) ensures.
 /// Errors: `Write` if the sink fails. A prefix of the summary is then written.
 pub fn show_statistics<W: Sink>(usage: &Usage, tally: &Tally, sink: &mut W) -> Result<(), IoError>
     requires sink { W.has_failed sink.old ≡ false }

@@ -9,7 +9,7 @@ use Rattle.cc_bounds.proofs.GranuleLemmas.{div_ceil-le, div_ceil-lt, le-div_ceil
 use Rattle.cc_plan.specs.declared.object.ObjectState.{ObjectState}
 use Rattle.cc_plan.specs.declared.object.ObjectState.TheVariants.{Live, Freed}
 use Rattle.cc_plan.specs.declared.object.PlannedObject.{PlannedObject}
-use Rattle.cc_draw.specs.Drawing.{AreCellsOf, end_cell, end_text, first_cell, is_in, layer_text, live_text, object_text, parts_text, quarantined_text, rectangle_text, scale_text}
+use Rattle.cc_draw.specs.Drawing.{AreCellsOf, end_cell, closing_text, first_cell, is_in, layer_text, live_text, object_text, parts_text, quarantined_text, rectangle_text, scale_text}
 use Rattle.cc_explain.specs.Picture.{cell_of}
 use Rattle.cc_draw.specs.declared.layout.Layout.{Layout}
 
@@ -130,7 +130,7 @@ parts_none width first end number span (suc rows) row none = absurd (omega (arit
 
 -- The bytes from the quarantined objects on.
 abbrev pub from_quarantined : Layout → List PlannedObject → List ℕ
-from_quarantined layout objects = layer_text layout Freed 1 objects ++ end_text
+from_quarantined layout objects = layer_text layout Freed 1 objects ++ closing_text
 
 -- The bytes after the live objects.
 abbrev pub behind_live : Layout → List PlannedObject → List ℕ

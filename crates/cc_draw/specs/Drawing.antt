@@ -23,8 +23,8 @@ abbrev pub cell_width : (cells : ℕ) → ℕ
 cell_width cells = max (1024 / max cells 1) 1
 
 -- The layout of a pool, in at most 16,384 cells.
-abbrev pub layout_of : Span → Layout
-layout_of pool = record {
+abbrev pub layout_for : Span → Layout
+layout_for pool = record {
   start = pool.base;
   size = cell_bytes 16384 (length_of pool);
   cells = cell_count 16384 (length_of pool);
@@ -150,8 +150,8 @@ marks_text layout (suc mark) = marks_text layout mark ++ mark_text layout (min l
 
 -- The ground of a row of `cells` cells: a rectangle under them at the height `y`, next to the
 -- address of the first.
-unfoldable pub row_text : (width y cells address : ℕ) → List ℕ
-row_text width y cells address =
+unfoldable pub ground_text : (width y cells address : ℕ) → List ℕ
+ground_text width y cells address =
     with_line_feed
     (codes "<rect y='" ++ decimal y ++ codes "' width='" ++ decimal (cells * width)
     ++ codes "' height='24' fill='#fff' stroke='#000'/><text x='-8' y='" ++ decimal (y + 16) ++ codes "' text-anchor='end'>"
@@ -163,7 +163,7 @@ abbrev pub rows_text : Layout → (rows : ℕ) → List ℕ
 rows_text layout zero = []
 rows_text layout (suc row) =
     rows_text layout row
-    ++ row_text layout.width (32 * row) (min (layout.cells - 1024 * row) 1024) (layout.start + 1024 * row * layout.size)
+    ++ ground_text layout.width (32 * row) (min (layout.cells - 1024 * row) 1024) (layout.start + 1024 * row * layout.size)
 
 -- The scale: the marks, and the rows.
 abbrev pub scale_text : Layout → List ℕ
@@ -179,8 +179,8 @@ unfoldable pub quarantined_text : List ℕ
 quarantined_text = codes "</g>\n<g fill='url(#stripes)' stroke='#e69f00' stroke-width='.4'>\n"
 
 -- The end of the document.
-unfoldable pub end_text : List ℕ
-end_text = codes "</g>\n</g>\n</svg>\n"
+unfoldable pub closing_text : List ℕ
+closing_text = codes "</g>\n</g>\n</svg>\n"
 
 -- ---- the document
 
@@ -189,11 +189,11 @@ end_text = codes "</g>\n</g>\n</svg>\n"
 abbrev pub laid_out_text : Layout → List PlannedObject → (pool : Span) → List ℕ
 laid_out_text layout objects pool =
     head_text layout pool ++ (scale_text layout ++ (live_text ++ (layer_text layout Live 1 objects
-    ++ (quarantined_text ++ (layer_text layout Freed 1 objects ++ end_text)))))
+    ++ (quarantined_text ++ (layer_text layout Freed 1 objects ++ closing_text)))))
 
 -- The drawing of these objects in this pool, by the pool's own layout.
 abbrev pub drawing_text : List PlannedObject → (pool : Span) → List ℕ
-drawing_text objects pool = laid_out_text (layout_of pool) objects pool
+drawing_text objects pool = laid_out_text (layout_for pool) objects pool
 
 -- IsDrawing holds if `text` is the drawing of a plan's pool.
 abbrev pub IsDrawing : Plan → (text : List ℕ) → Type 0

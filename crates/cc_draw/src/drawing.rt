@@ -4,7 +4,7 @@ ghost use Rattle.std.specs.Io.KnownBytes.{Appends};
 ghost use Rattle.cc_machine.specs.Planned.{plan_of};
 ghost use Rattle.cc_io.specs.Devices.{TakesBeginning};
 ghost use Rattle.cc_explain.specs.Answer.{WritesAnswer};
-ghost use Rattle.cc_draw.specs.Drawing.{IsDrawing, bounds_line, drawing_text, end_text, fills_text, head_text, is_in, key_text, laid_out_text, layer_text, layout_of, live_text, mark_count, mark_text, marks_text, moved_text, names_text, object_text, part_text, parts_text, quarantined_text, rectangle_text, row_count, row_text, rows_text, scale_text, stripes_text};
+ghost use Rattle.cc_draw.specs.Drawing.{IsDrawing, bounds_line, drawing_text, closing_text, fills_text, head_text, is_in, key_text, laid_out_text, layer_text, layout_for, live_text, mark_count, mark_text, marks_text, moved_text, names_text, object_text, part_text, parts_text, quarantined_text, rectangle_text, row_count, ground_text, rows_text, scale_text, stripes_text};
 
 use crate::layout::{Layout, ROW, cells_of};
 use crate::usage::pool_span;
@@ -264,13 +264,13 @@ fn push_rows(text: &mut Text, layout: &Layout)
 
 /// Appends the ground of one row. `y` is its height on the page, and `address` that of its first
 /// cell.
-#[tactic(auto, unfolding(crate::specs::Drawing::row_text))]
+#[tactic(auto, unfolding(crate::specs::Drawing::ground_text))]
 fn push_row(text: &mut Text, width: u32, y: u32, cells: u32, address: u128)
     requires room { length text.old + 193 ≤ ROOM }
     requires y { y ≤ 512 }
     requires cells { cells ≤ 1024 }
     requires width { width ≤ 1024 }
-    ensures value { text.new ≡ text.old ++ row_text width y cells address }
+    ensures value { text.new ≡ text.old ++ ground_text width y cells address }
     ensures fits { length text.new ≤ length text.old + 193 }
 {
     let mut line = Line::new();
@@ -314,11 +314,11 @@ fn write_quarantined<W: Sink>(sink: &mut W) -> Result<(), Failed>
     )
 }
 
-#[tactic(auto, unfolding(crate::specs::Drawing::end_text))]
+#[tactic(auto, unfolding(crate::specs::Drawing::closing_text))]
 fn write_end<W: Sink>(sink: &mut W) -> Result<(), Failed>
     requires { W.has_failed sink.old ≡ false }
-    ensures ok { OnOk result (Appends (W.taken_bytes sink.old) (W.taken_bytes sink.new) end_text) }
-    ensures err { OnErr result (TakesBeginning (W.taken_bytes sink.old) (W.taken_bytes sink.new) end_text) }
+    ensures ok { OnOk result (Appends (W.taken_bytes sink.old) (W.taken_bytes sink.new) closing_text) }
+    ensures err { OnErr result (TakesBeginning (W.taken_bytes sink.old) (W.taken_bytes sink.new) closing_text) }
     ensures fails { IsErr result ↔ (W.has_failed sink.new ≡ true) }
 {
     write_all(sink, b"</g>\n</g>\n</svg>\n")

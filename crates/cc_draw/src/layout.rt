@@ -2,7 +2,7 @@
 ghost use Rattle.std.specs.Prelude.{◌≡◌, ◌<◌, ◌≤◌, ◌+◌, ◌^◌};
 ghost use Rattle.std.specs.Int.{div_ceil};
 ghost use Rattle.cc_bounds.specs.Span.{length_of};
-ghost use Rattle.cc_draw.specs.Drawing.{AreCellsOf, cell_width, end_cell, first_cell, layout_of, row_count};
+ghost use Rattle.cc_draw.specs.Drawing.{AreCellsOf, cell_width, end_cell, first_cell, layout_for, row_count};
 ghost use Rattle.cc_explain.specs.Picture.{cell_bytes, cell_count};
 
 use cc_bounds::Span;
@@ -31,7 +31,7 @@ impl Layout {
     pub(crate) fn new(pool: &Span) -> Layout
         requires in_order { pool.now.base ≤ pool.now.top }
         requires fits { pool.now.top ≤ 2 ^ 64 }
-        ensures layout { result ≡ layout_of pool.now }
+        ensures layout { result ≡ layout_for pool.now }
         ensures start { result.start < 2 ^ 64 }
         ensures some { 0 < result.size }
         ensures size { result.size ≤ 2 ^ 50 }

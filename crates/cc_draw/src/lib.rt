@@ -7,7 +7,8 @@ mod layout;
 mod map;
 mod usage;
 
+pub use cc_ops::Usage;
 pub use drawing::show_drawing;
 pub use layout::cells_of;
 pub use map::{map_row, show_map};
-pub use usage::{Usage, usage_of};
+pub use usage::usage_of;

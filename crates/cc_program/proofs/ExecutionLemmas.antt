@@ -12,12 +12,12 @@ use Rattle.cc_io.specs.declared.summary.Summary.{Summary}
 use Rattle.cc_bounds.specs.declared.align.Align.{Align}
 use Rattle.cc_ops.specs.declared.op.Op.{Op}
 use Rattle.cc_machine.specs.State.{State, initial_state}
-use Rattle.cc_command.specs.Planning.{plan_opening, pool_of}
-use Rattle.cc_command.specs.Session.{AnswersSession, SessionState}
+use Rattle.cc_syntax.specs.Planning.{plan_opening, pool_of}
+use Rattle.cc_script.specs.Session.{AnswersSession, SessionState}
 use Rattle.cc_arguments.specs.declared.invocation.Invocation.{Invocation}
 use Rattle.cc_arguments.specs.declared.invocation.Invocation.TheVariants.{Map}
 use Rattle.cc_arguments.specs.declared.invocation.PoolTexts.{PoolTexts}
-use Rattle.cc_program.specs.Execution.{Console, DrawsEnd, DrawsMap, DrawsPage, DrawsPool, DrawsRun, Executes, FromInput, OnDevices, Refuses, ReportsRun, Traffic, traffic_of}
+use Rattle.cc_program.specs.Execution.{Console, DrawsEnd, DrawsMap, DrawsPage, DrawsPool, DrawsRun, Executes, FromInput, OnDevices, WritesRefusal, ReportsRun, Traffic, traffic_of}
 use Rattle.cc_program.specs.Input.{file_input}
 use Rattle.cc_program.specs.Outcome.{fault_of}
 use Rattle.cc_program.specs.declared.input.InputName.{InputName}
@@ -126,7 +126,7 @@ map_executes limit pool align svg file terminals console numbers opening input r
     (λ io holds.
     subst (λ (found : Result (ℕ × ℕ) Refusal). MatchResult found
     (λ pair. FromInput (file_input file) console (DrawsRun svg (plan_opening pair.0 pair.1 align) (initial_state limit)) io)
-    (λ refusal. Refuses console.output console.output_now refusal io)) (sym is_pool)
+    (λ refusal. WritesRefusal console.output console.output_now refusal io)) (sym is_pool)
     (subst (λ (name : InputName). FromInput name console (DrawsRun svg (plan_opening numbers.0 numbers.1 align) (initial_state limit)) io) is_input
     (subst (λ (ops : List Op). FromInput input console (DrawsRun svg ops (initial_state limit)) io) is_opening holds)))
     result draws

@@ -12,12 +12,12 @@ use Rattle.cc_machine.specs.Planned.{plan_of}
 use Rattle.cc_explain.specs.Answer.{IsRefusalLine, WritesAnswer}
 use Rattle.cc_draw.specs.Drawing.{IsDrawing}
 use Rattle.cc_draw.specs.Map.{IsMap}
-use Rattle.cc_command.specs.Planning.{plan_opening, pool_of}
-use Rattle.cc_command.specs.Session.{AnswersSession, SessionState}
+use Rattle.cc_syntax.specs.Planning.{plan_opening, pool_of}
+use Rattle.cc_script.specs.Session.{AnswersSession, SessionState}
 use Rattle.cc_command.specs.Statistics.{statistics_text}
-use Rattle.cc_command.specs.Tally.{Exchange, IsTally}
+use Rattle.cc_syntax.specs.Tally.{Exchange, IsTally}
 use Rattle.cc_draw.specs.Usage.{IsUsage}
-use Rattle.cc_draw.specs.declared.usage.Usage.{Usage}
+use Rattle.cc_ops.specs.declared.usage.Usage.{Usage}
 use Rattle.cc_arguments.specs.declared.invocation.PoolTexts.{PoolTexts}
 use Rattle.cc_decode.specs.declared.options.Options.{Options}
 use Rattle.cc_decode.specs.Correct.{Lists, ListsWhole}
@@ -88,9 +88,9 @@ pub record AnswersQuestion (question : Question) (output output_now : Option (Li
   pub error_is : IfOk result (λ summary. IsTrue summary.any_error ↔ IsUnanswerable question)
   pub fails : OnErr result (result ≡ Err Write)
 
--- Refuses holds if the line of the refusal was written, or a prefix of it if a write failed. The summary says that it is an
+-- WritesRefusal holds if the line of the refusal was written, or a prefix of it if a write failed. The summary says that it is an
 -- error.
-pub record Refuses (output output_now : Option (List ℕ)) (refusal : Refusal) (result : Result Summary IoError) : Type 0 where
+pub record WritesRefusal (output output_now : Option (List ℕ)) (refusal : Refusal) (result : Result Summary IoError) : Type 0 where
   pub written : WritesAnswer (IsRefusalLine refusal) output output_now result
   pub error_is : IfOk result (λ summary. summary.any_error ≡ true)
   pub fails : OnErr result (result ≡ Err Write)
@@ -145,7 +145,7 @@ pub record ListsWords (options : Options) (traffic : Traffic) (result : Result S
 abbrev pub WithPool : (pool : PoolTexts) → Console → (Does : (base size : ℕ) → Result Summary IoError → Type 0) → Result Summary IoError → Type 0
 WithPool pool console Does result =
     MatchResult (pool_of pool.base.now pool.length.now) (λ numbers. Does numbers.0 numbers.1 result)
-    (λ refusal. Refuses console.output console.output_now refusal result)
+    (λ refusal. WritesRefusal console.output console.output_now refusal result)
 
 -- Executes holds if the bytes written and the summary are those of the command for its input, up to a failure.
 abbrev pub Executes : Invocation → Terminals → Console → Result Summary IoError → Type 0

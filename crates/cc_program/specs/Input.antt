@@ -32,8 +32,8 @@ RunsMachine (Ask question) = ⊥
 RunsMachine (Decode options file) = ⊥
 RunsMachine _ = ⊤
 
--- WritesReplies holds of `run` and `plan`, which write the replies to a script.
-abbrev pub WritesReplies : Invocation → Type 0
-WritesReplies (Run limit stats file) = ⊤
-WritesReplies (Plan limit pool align stats file) = ⊤
-WritesReplies _ = ⊥
+-- IsRunOrPlan holds of `run` and `plan`, which write the replies to a script.
+abbrev pub IsRunOrPlan : Invocation → Type 0
+IsRunOrPlan (Run limit stats file) = ⊤
+IsRunOrPlan (Plan limit pool align stats file) = ⊤
+IsRunOrPlan _ = ⊥

@@ -3,11 +3,11 @@ use Rattle.std.specs.Prelude.{ℕ, Bool, true, false, ◌≡◌, ◌||◌, List,
 use Rattle.std.specs.Io.KnownBytes.{Appends}
 use Rattle.cc_ops.specs.declared.reply.Reply.{Reply}
 use Rattle.cc_command.specs.Hints.{hints_of, hints_text}
-use Rattle.cc_command.specs.Session.{SessionState}
+use Rattle.cc_script.specs.Session.{SessionState}
 use Rattle.cc_command.specs.Statistics.{statistics_text}
-use Rattle.cc_command.specs.Tally.{Exchange}
+use Rattle.cc_syntax.specs.Tally.{Exchange}
 use Rattle.cc_draw.specs.Usage.{IsUsage}
-use Rattle.cc_draw.specs.declared.usage.Usage.{Usage}
+use Rattle.cc_ops.specs.declared.usage.Usage.{Usage}
 use Rattle.cc_program.specs.declared.report.Report.{Report}
 use Rattle.cc_program.specs.declared.report.Terminals.{Terminals}
 

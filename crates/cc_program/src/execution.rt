@@ -2,7 +2,7 @@
 ghost use Rattle.std.specs.Prelude.{◌≡◌, ◌≢◌, ◌≤◌, ◌*◌, ◌↔◌, ℕ, Bool, [], false, length, true, Err, IfOk, Option, List, OnErr, OnOk};
 ghost use Rattle.clap.specs.Words.{Row, Text};
 ghost use Rattle.cc_machine.specs.State.{initial_state};
-ghost use Rattle.cc_command.specs.Tally.{IsTally};
+ghost use Rattle.cc_syntax.specs.Tally.{IsTally};
 ghost use Rattle.cc_arguments.specs.Invocation.{IsInvocation};
 ghost use Rattle.cc_program.specs.Execution.{DrawsRun, Executes, FromInput, ListsWords, OnDevices, ReportsRun, Traffic};
 ghost use Rattle.cc_program.specs.Input.{IsFile, ReadsFile, RunsMachine};
@@ -13,13 +13,13 @@ use crate::outcome::Fault;
 use crate::questions::answer_question;
 use crate::report::{Report, Terminals, write_report};
 use cc_arguments::Invocation;
-use cc_command::{
-    Session, plan_numbers, plan_opening, run_session, show_drawing, show_map, show_statistics,
-    usage_of, write_refusal,
-};
+use cc_command::{show_statistics, write_refusal};
 use cc_decode::{Options, decode_words};
+use cc_draw::{show_drawing, show_map, usage_of};
 use cc_io::{FromReader, Sink, Source, Summary};
 use cc_machine::{Len, Machine, Op};
+use cc_script::{Session, run_session};
+use cc_syntax::{plan_numbers, plan_opening};
 use cc_text::Waiting;
 use std::alloc::{AllocError, Global};
 

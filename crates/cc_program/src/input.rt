@@ -1,7 +1,7 @@
 //! The inputs that commands read.
 ghost use Rattle.std.specs.Prelude.{◌≡◌, ℕ, List, None, Option, Some, IfErr, IfOk, IfSome, IsTrue, ◌↔◌};
 ghost use Rattle.cc_program.specs.declared.input.InputName.{InputName as InputNameSpec};
-ghost use Rattle.cc_program.specs.Input.{IsFile, WritesReplies, file_input};
+ghost use Rattle.cc_program.specs.Input.{IsFile, IsRunOrPlan, file_input};
 
 use crate::error_writer::ErrorWriter;
 use crate::outcome::Fault;
@@ -81,7 +81,7 @@ impl<R: Files + Input + Eprint> Inputs for ProcessInputs<'_, R> {
 
 /// Returns whether a command writes the replies to a script: `run` and `plan` do.
 pub fn writes_replies(invocation: Invocation<'_>) -> bool
-    ensures { IsTrue result ↔ WritesReplies invocation.entry }
+    ensures { IsTrue result ↔ IsRunOrPlan invocation.entry }
 {
     matches!(invocation, Invocation::Run { .. } | Invocation::Plan { .. })
 }

@@ -2,12 +2,14 @@
 ghost use Rattle.std.specs.Prelude.{◌≡◌, List, ℕ, OnErr, OnOk, false};
 ghost use Rattle.std.specs.Io.KnownBytes.{Appends};
 ghost use Rattle.cc_ops.specs.declared.reply.Reply.{Reply};
-ghost use Rattle.cc_command.specs.Tally.{Exchange, IsTally};
+ghost use Rattle.cc_syntax.specs.Tally.{Exchange, IsTally};
 ghost use Rattle.cc_program.specs.Report.{WritesReport, report_of, waiting_text};
 
-use cc_command::{Hints, Session, show_hints, show_statistics, usage_of};
+use cc_command::{Hints, show_hints, show_statistics};
+use cc_draw::usage_of;
 use cc_io::{Sink, write_all};
 use cc_machine::Len;
+use cc_script::Session;
 use std::alloc::AllocError;
 
 /// Which standard streams are terminals.

@@ -26,7 +26,7 @@ use Rattle.cc_syntax.specs.Replies.{reply_text, refusal_text, is_error}
 use Rattle.cc_script.specs.declared.answering.Script.{Script}
 use Rattle.cc_script.specs.Lent.{ByLent, ByLentAtEnd}
 use Rattle.cc_script.specs.Output.{commands_of, Takes, TakesAll, with_line_feed, replies_text, rest_text}
-use Rattle.cc_script.specs.Correct.{WritesOutput, WritesReplies, StopsInReply, StopsInReplies, StopsAfterLines, BeginsOutput, WritesScript, AnswersScript}
+use Rattle.cc_script.specs.Correct.{WritesWholeOutput, WritesReplies, StopsInReply, StopsInReplies, StopsAfterLines, BeginsOutput, WritesScript, AnswersScript}
 use Rattle.cc_script.specs.Answering.{AnswersLine, AnswersOpening, RefusesRest}
 use Rattle.cc_script.proofs.OutputLemmas.{stopped_begins, begins_in_replies}
 use Rattle.cc_script.proofs.ReplyLemmas.{takes_further, replies_text-append, or_assoc}
@@ -178,7 +178,7 @@ module _ {S : Type 0} (machine : S → State) (Answered Ended : Relation S) (lik
 
   ok_part : (start : State) (opening : List Op) (a b : S) (pending text : List ℕ) (s t u : Option (List ℕ)) (e error : Bool)
       → Opened start opening pending s t e (machine a) → PumpsOutput Answered Ended lines a pending text t u error b
-      → WritesOutput start opening text (Appends s u) (e || error) (machine b)
+      → WritesWholeOutput start opening text (Appends s u) (e || error) (machine b)
   ok_part start opening a b pending text s t u e error o w =
       let out = w.of_text in
       let p = lines_all a out.mid text out.answers out.takes in

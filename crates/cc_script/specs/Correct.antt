@@ -15,8 +15,8 @@ use Rattle.cc_io.specs.declared.summary.Summary.{Summary}
 
 -- ---- The bytes written for a script. `Wrote bytes` says that the sink took these bytes.
 
--- WritesOutput holds if the whole output was written.
-pub record WritesOutput (old : State) (opening : List Op) (text : List ℕ) (Wrote : List ℕ → Type 0) (any_error : Bool) (new : State) : Type 0 where
+-- WritesWholeOutput holds if the whole output was written.
+pub record WritesWholeOutput (old : State) (opening : List Op) (text : List ℕ) (Wrote : List ℕ → Type 0) (any_error : Bool) (new : State) : Type 0 where
   pub output : List ℕ
   pub of_text : ScriptOutput old opening text output any_error new
   pub written : Wrote output
@@ -89,7 +89,7 @@ StopsAt = (old : State) → (commands : List (Result Op Refusal)) → (Wrote : L
 -- has `rest` unread.
 abbrev pub WritesScript : (Stops : StopsAt) → (old : State) (opening : List Op) (given rest : List ℕ) (Wrote : List ℕ → Type 0) → Result Summary IoError → (new : State) → Type 0
 WritesScript Stops old opening given rest Wrote (Ok summary) new =
-    (rest ≡ []) × WritesOutput old opening given Wrote summary.any_error new
+    (rest ≡ []) × WritesWholeOutput old opening given Wrote summary.any_error new
 WritesScript Stops old opening given rest Wrote (Err Read) new = WritesReplies old opening given Wrote new
 WritesScript Stops old opening given rest Wrote (Err Write) new =
     (Stops old (commands_of opening given) Wrote new ⊎ ((rest ≡ []) × StopsAfterLines old opening given Wrote new))

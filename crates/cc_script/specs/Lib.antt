@@ -4,3 +4,4 @@ pub mod Laws
 pub mod Correct
 pub mod Answering
 pub mod Lent
+pub mod Session

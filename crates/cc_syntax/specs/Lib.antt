@@ -3,3 +3,6 @@ pub mod Numbers
 pub mod Digits
 pub mod Commands
 pub mod Replies
+pub mod Planning
+pub mod LineHints
+pub mod Tally

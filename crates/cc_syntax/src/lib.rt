@@ -1,14 +1,19 @@
-//! The text of scripts: the commands, and the replies to them.
+//! The text of scripts: the commands, the replies to them, and the counts of these.
 #![tactic(auto)]
 
 mod digits;
+mod line_hints;
 mod numbers;
 mod parsing;
+mod planning;
 mod printing;
+mod tally;
 mod values;
 mod words;
 
 pub use numbers::{read_address, read_length};
 pub use parsing::{MOST_BYTES, Taker, parse_line, take_command};
+pub use planning::{plan_numbers, plan_opening};
 pub use printing::{push_any_reply, push_reply, reply_line};
+pub use tally::{Count, Tally};
 pub use values::both;

@@ -1,7 +1,6 @@
 //! A plan whose source or sink fails: its pool is made before the first read.
-use cc_command::plan_script;
 use cc_machine::{Align, Len, Machine};
-use cc_script::{ScriptFault, SliceSink, SliceSource};
+use cc_script::{ScriptFault, SliceSink, SliceSource, plan_script};
 use std::alloc::{AllocError, Global};
 
 #[rattlefmt::skip]

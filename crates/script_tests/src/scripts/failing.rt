@@ -3,10 +3,10 @@
 ghost use Rattle.std.specs.Prelude.{None, ◌≡◌, false};
 
 use super::End;
-use cc_command::{Session, run_session};
 use cc_machine::Machine;
 use cc_script::{
-    Failed, Page, ScriptFault, Sink, SliceSink, SliceSource, Waiting, WholeLine, run_script,
+    Failed, Page, ScriptFault, Session, Sink, SliceSink, SliceSource, Waiting, WholeLine,
+    run_script, run_session,
 };
 use std::alloc::{AllocError, Global};
 

@@ -1,13 +1,14 @@
 //! Sessions: when the page is written, the distance of the machine ahead of a sink that fails, and
 //! the counts.
 ghost use Rattle.std.specs.Prelude.{[], ◌≤◌, ◌*◌, length};
-ghost use Rattle.cc_command.specs.Tally.{IsTally};
+ghost use Rattle.cc_syntax.specs.Tally.{IsTally};
 
 use super::End;
-use cc_command::{Count, Hints, Session, run_session};
+use cc_command::Hints;
 use cc_io::{FromReader, FromWriter, IoError, Page, SliceSink, SliceSource, Summary};
 use cc_machine::{Len, Machine, Op};
-use cc_script::{Waiting, run_script};
+use cc_script::{Session, Waiting, run_script, run_session};
+use cc_syntax::Count;
 use std::alloc::{AllocError, Global};
 use std::cell::Cell;
 use std::io::{self, Read, Write};

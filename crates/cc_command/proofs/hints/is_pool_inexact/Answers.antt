@@ -1,6 +1,6 @@
 use Rattle.std.proofs.Common.{◌∙◌}
 use Rattle.cc_word.specs.declared.refusal.Refusal.TheVariants.{Inexact}
-use Rattle.cc_command.proofs.TallyLemmas.{any_in_opening}
+use Rattle.cc_command.proofs.HintLemmas.{any_in_opening}
 use Rattle.cc_command.proofs.hints.is_pool_inexact.Goals as goal
 
 pub returns : goal.returns

@@ -7,7 +7,7 @@ use Rattle.cc_draw.specs.Drawing.{IsDrawing}
 use Rattle.cc_draw.specs.Map.{IsMap}
 use Rattle.cc_draw.specs.Usage.{IsUsage}
 use Rattle.cc_command.specs.Statistics.{statistics_text}
-use Rattle.cc_command.specs.declared.tally.Tally.{Tally}
+use Rattle.cc_syntax.specs.declared.tally.Tally.{Tally}
 use Rattle.cc_program.proofs.ExecutionLemmas.{draws_end, draws_map, draws_page}
 use Rattle.cc_program.proofs.execution.draw_end.Goals as goal
 

@@ -1,5 +1,5 @@
 use Rattle.std.proofs.Common.{◌≡◌, ◌∙◌, Ok, rules, subst}
-use Rattle.cc_command.specs.Planning.{plan_opening, pool_of}
+use Rattle.cc_syntax.specs.Planning.{plan_opening, pool_of}
 use Rattle.cc_program.specs.Execution.{Console, FromInput, ListsWords, OnDevices}
 use Rattle.cc_program.specs.declared.input.InputName.{InputName}
 use Rattle.cc_program.proofs.ExecutionLemmas.{by_invocation, map_executes}

@@ -4,9 +4,9 @@ use Rattle.std.specs.Io.KnownBytes.{Appends}
 use Rattle.cc_machine.specs.State.{State}
 use Rattle.cc_command.specs.Hints.{hints_text}
 use Rattle.cc_command.specs.Statistics.{statistics_text}
-use Rattle.cc_command.specs.Tally.{IsTally}
+use Rattle.cc_syntax.specs.Tally.{IsTally}
 use Rattle.cc_draw.specs.Usage.{IsUsage}
-use Rattle.cc_command.specs.declared.tally.Tally.{Tally}
+use Rattle.cc_syntax.specs.declared.tally.Tally.{Tally}
 use Rattle.cc_program.proofs.ReportLemmas.{asked_summary, given_hints, no_hints, no_summary, of_answer, of_answered, tells}
 use Rattle.cc_program.proofs.report.write_report.Goals as goal
 use Rattle.cc_program.proofs.report.write_report.Goals.{then-report+in_ok-usage+else-is_err, else-report}

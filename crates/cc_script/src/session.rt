@@ -3,13 +3,14 @@ ghost use Rattle.std.specs.Prelude.{◌≡◌, ◌+◌, ◌*◌, ◌≤◌, ◌�
 ghost use Rattle.std.specs.Io.KnownBytes.{Appends};
 ghost use Rattle.cc_machine.specs.Run.{IsReached};
 ghost use Rattle.cc_script.specs.Laws.{KeepsLaws};
-ghost use Rattle.cc_command.specs.Session.{AnswersSession, OpensSession, RunsSession, SessionAnswers, SessionRefuses, TakesOperation};
-ghost use Rattle.cc_command.specs.Tally.{IsTally};
+ghost use Rattle.cc_script.specs.Session.{AnswersSession, OpensSession, RunsSession, SessionAnswers, SessionRefuses, TakesOperation};
+ghost use Rattle.cc_syntax.specs.Tally.{IsTally};
 
-use crate::tally::Tally;
+use crate::answering::answer_line;
+use crate::running::is_refusal;
 use cc_io::{Answerer, IoError, Lines, Sink, Source, Summary, pump};
 use cc_machine::{Machine, Op};
-use cc_script::{answer_line, is_refusal, reply_line};
+use cc_syntax::{Tally, reply_line};
 use cc_text::{Page, refusal_bytes};
 use cc_word::Refusal;
 use std::marker::Model;
@@ -22,7 +23,7 @@ pub struct Session {
 }
 
 impl Model for Session {
-    ghost use Rattle.cc_command.specs.Session.{SessionState};
+    ghost use Rattle.cc_script.specs.Session.{SessionState};
 
     ghost Value = { SessionState };
 

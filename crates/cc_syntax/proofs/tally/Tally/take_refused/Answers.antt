@@ -1,6 +1,6 @@
 use Rattle.std.proofs.Common.{rules}
-use Rattle.cc_command.proofs.TallyLemmas.{line_refused}
-use Rattle.cc_command.proofs.tally.Tally.take_refused.Goals as goal
+use Rattle.cc_syntax.proofs.TallyLemmas.{line_refused}
+use Rattle.cc_syntax.proofs.tally.Tally.take_refused.Goals as goal
 
 pub returns : goal.returns
 returns c opening exchanges line start was =

@@ -15,8 +15,8 @@ use Rattle.cc_syntax.specs.Commands.{operation_of}
 use Rattle.cc_script.specs.Correct.{AnswersScript, RunsScript, IoState, StopsInReplies}
 use Rattle.cc_script.specs.Output.{TakesAll, with_line_feed, replies_text}
 use Rattle.cc_syntax.specs.Replies.{reply_text, is_error}
-use Rattle.cc_command.specs.Tally.{Exchange, IsTally}
-use Rattle.cc_command.specs.declared.tally.Tally.{Tally}
+use Rattle.cc_syntax.specs.Tally.{Exchange, IsTally}
+use Rattle.cc_syntax.specs.declared.tally.Tally.{Tally}
 
 -- The state of a session.
 pub record SessionState : Type 0 where

@@ -1,12 +1,11 @@
 //! Possible mistakes in a refused line.
 ghost use Rattle.std.specs.Prelude.{◌≡◌};
-ghost use Rattle.cc_command.specs.LineHints.{ends_in_return, has_marked_word};
+ghost use Rattle.cc_syntax.specs.LineHints.{ends_in_return, has_marked_word};
+
+use crate::parsing::MOST_BYTES;
 
 /// The length of a word that is written with `0x`: the prefix and 32 digits.
 const MARKED: usize = 34;
-
-/// The maximum length of a command in bytes.
-const MOST_BYTES: usize = 128;
 
 /// Returns whether a line of at most 128 bytes ends in a carriage return.
 pub(crate) fn ends_in_return(line: &[u8]) -> bool

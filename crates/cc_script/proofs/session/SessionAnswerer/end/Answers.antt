@@ -1,7 +1,7 @@
 use Rattle.std.proofs.Common.{[], true, refl, subst}
 use Rattle.cc_io.specs.Answers.{AnswersInto}
-use Rattle.cc_command.specs.Session.{SessionRefuses, SessionState}
-use Rattle.cc_command.proofs.session.SessionAnswerer.end.Goals as goal
+use Rattle.cc_script.specs.Session.{SessionRefuses, SessionState}
+use Rattle.cc_script.proofs.session.SessionAnswerer.end.Goals as goal
 
 pub returns : goal.returns
 returns g c =

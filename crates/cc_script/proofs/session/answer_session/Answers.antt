@@ -1,5 +1,5 @@
-use Rattle.cc_command.proofs.SessionLemmas.{answers_session}
-use Rattle.cc_command.proofs.session.answer_session.Goals as goal
+use Rattle.cc_script.proofs.SessionLemmas.{answers_session}
+use Rattle.cc_script.proofs.session.answer_session.Goals as goal
 
 pub returns-in-Ok-clause-answers : goal.returns-in-Ok-clause-answers
 returns-in-Ok-clause-answers g c =

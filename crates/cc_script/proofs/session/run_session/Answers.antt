@@ -1,5 +1,5 @@
 use Rattle.cc_script.proofs.RunLemmas.{laws_kept}
-use Rattle.cc_command.proofs.session.run_session.Goals as goal
+use Rattle.cc_script.proofs.session.run_session.Goals as goal
 
 pub returns-clause-runs : goal.returns-clause-runs
 returns-clause-runs g c =

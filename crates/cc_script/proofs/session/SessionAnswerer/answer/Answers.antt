@@ -3,9 +3,9 @@ use Rattle.cc_io.specs.Answers.{AnswersInto}
 use Rattle.cc_script.proofs.RunningLemmas.{refused_line}
 use Rattle.cc_script.specs.Output.{with_line_feed}
 use Rattle.cc_syntax.specs.Replies.{reply_text}
-use Rattle.cc_command.proofs.SessionLemmas.{line_answered}
-use Rattle.cc_command.specs.Session.{SessionAnswers, SessionState}
-use Rattle.cc_command.proofs.session.SessionAnswerer.answer.Goals as goal
+use Rattle.cc_script.proofs.SessionLemmas.{line_answered}
+use Rattle.cc_script.specs.Session.{SessionAnswers, SessionState}
+use Rattle.cc_script.proofs.session.SessionAnswerer.answer.Goals as goal
 
 pub returns-in-Ok : goal.returns-in-Ok
 unfolding line_answered

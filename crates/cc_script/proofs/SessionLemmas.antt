@@ -20,8 +20,8 @@ use Rattle.cc_syntax.specs.Replies.{reply_text, is_error}
 use Rattle.cc_script.specs.Answering.{AnswersLine, Replies as GetsReply}
 use Rattle.cc_script.proofs.ReplyLemmas.{takes_further, replies_text-append}
 use Rattle.cc_script.proofs.RunningLemmas.{AnswersAs, Opened, answers_script_on_page, joined, start_enough}
-use Rattle.cc_command.specs.Session.{AnswersSession, CountsRun, OpensSession, SessionAnswers, SessionRefuses, SessionState, TakesOperation, exchanges_of, rest_exchange}
-use Rattle.cc_command.specs.Tally.{Exchange, IsTally}
+use Rattle.cc_script.specs.Session.{AnswersSession, CountsRun, OpensSession, SessionAnswers, SessionRefuses, SessionState, TakesOperation, exchanges_of, rest_exchange}
+use Rattle.cc_syntax.specs.Tally.{Exchange, IsTally}
 
 -- ---- one line
 

@@ -5,10 +5,10 @@ ghost use Rattle.cc_ops.specs.declared.reply.Reply.TheVariants.{Refused};
 ghost use Rattle.cc_word.specs.Refusal.{code_of};
 ghost use Rattle.cc_word.specs.declared.refusal.Refusal.TheVariants.{Full};
 ghost use Rattle.cc_syntax.specs.Replies.{is_error};
-ghost use Rattle.cc_command.specs.Tally.{Exchange, HasOneMore, IsTally, count_more, first_after, is_refusal};
+ghost use Rattle.cc_syntax.specs.Tally.{Exchange, HasOneMore, IsTally, count_more, first_after, is_refusal};
 
 use crate::line_hints::{ends_in_return, has_marked_word};
-use cc_machine::Reply;
+use cc_ops::Reply;
 use cc_word::Refusal;
 
 /// The number of replies that are one refusal, and the line that got the first of them.

@@ -1,6 +1,6 @@
 use Rattle.std.proofs.Common.{◌≤◌, ◌*◌, length, take}
-use Rattle.cc_command.specs.Session.{OpensSession}
-use Rattle.cc_command.proofs.session.Session.take_opening.Given as goal
+use Rattle.cc_script.specs.Session.{OpensSession}
+use Rattle.cc_script.proofs.session.Session.take_opening.Given as goal
 
 abbrev pub invariant-loop-op : goal.invariant-loop-op
 invariant-loop-op g l = record {

@@ -1,6 +1,6 @@
 use Rattle.std.proofs.Common.{ℕ, List, ap, arith, length}
-use Rattle.cc_command.proofs.SessionLemmas.{opens_none, opens_more, opens_whole}
-use Rattle.cc_command.proofs.session.Session.take_opening.Goals as goal
+use Rattle.cc_script.proofs.SessionLemmas.{opens_none, opens_more, opens_whole}
+use Rattle.cc_script.proofs.session.Session.take_opening.Goals as goal
 
 pub loop-op-init : goal.loop-op-init
 loop-op-init g c = record { opens = opens_none _ _ c.requires.empty; fits = omega (arith, ap (λ (l : List ℕ). length l) c.requires.empty) }

@@ -7,9 +7,9 @@ use Rattle.cc_word.specs.declared.refusal.Refusal.TheVariants.{Full}
 use Rattle.cc_ops.specs.declared.reply.Reply.{Reply}
 use Rattle.cc_ops.specs.declared.reply.Reply.TheVariants.{Refused}
 use Rattle.cc_syntax.specs.Replies.{is_error}
-use Rattle.cc_command.specs.LineHints.{ends_in_return, has_marked_word}
-use Rattle.cc_command.specs.declared.tally.Count.{Count}
-use Rattle.cc_command.specs.declared.tally.Tally.{Tally}
+use Rattle.cc_syntax.specs.LineHints.{ends_in_return, has_marked_word}
+use Rattle.cc_syntax.specs.declared.tally.Count.{Count}
+use Rattle.cc_syntax.specs.declared.tally.Tally.{Tally}
 
 -- A line of a script and the reply to it. `line` is [] for trailing bytes without a line feed.
 pub record Exchange : Type 0 where

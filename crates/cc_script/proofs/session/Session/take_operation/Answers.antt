@@ -1,6 +1,6 @@
 use Rattle.std.proofs.Common.{◌∙◌, ◌++◌, ℕ, List, [], ◌∷◌, ap, append_assoc, subst}
-use Rattle.cc_command.specs.Session.{SessionState, TakesOperation}
-use Rattle.cc_command.proofs.session.Session.take_operation.Goals as goal
+use Rattle.cc_script.specs.Session.{SessionState, TakesOperation}
+use Rattle.cc_script.proofs.session.Session.take_operation.Goals as goal
 
 pub returns-clause-takes : goal.returns-clause-takes
 returns-clause-takes g c =

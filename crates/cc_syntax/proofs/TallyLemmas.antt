@@ -10,12 +10,11 @@ use Rattle.cc_word.specs.declared.refusal.Refusal.{Refusal}
 use Rattle.cc_word.specs.declared.refusal.Refusal.TheVariants.{Syntax, Unfinished, TooLong, OutOfRange, NoSlot, Revoked, Sealed, Unsealed, OutOfBounds, Inexact, Unrepresentable, MissingPermission, ReservedType, TypeMismatch, NotCanonical, ExceedsAuthority, NoPool, PoolAlreadySet, ZeroSize, NoRoom, NoObject, Full}
 use Rattle.cc_ops.specs.declared.reply.Reply.{Reply}
 use Rattle.cc_ops.specs.declared.reply.Reply.TheVariants.{Made, Shown, Rounded, PoolSet, Allocated, Freed, Swept, Refused}
-use Rattle.cc_command.specs.Hints.{is_in_opening}
-use Rattle.cc_command.specs.LineHints.{ends_in_return, has_marked_word}
+use Rattle.cc_syntax.specs.LineHints.{ends_in_return, has_marked_word}
 use Rattle.cc_syntax.specs.Replies.{is_error}
-use Rattle.cc_command.specs.Tally.{Exchange, HasOneMore, IsTally, count_in, count_more, counted, first_after, first_from, is_refusal}
-use Rattle.cc_command.specs.declared.tally.Count.{Count}
-use Rattle.cc_command.specs.declared.tally.Tally.{Tally}
+use Rattle.cc_syntax.specs.Tally.{Exchange, HasOneMore, IsTally, count_in, count_more, counted, first_after, first_from, is_refusal}
+use Rattle.cc_syntax.specs.declared.tally.Count.{Count}
+use Rattle.cc_syntax.specs.declared.tally.Tally.{Tally}
 
 -- ---- the refusals
 
@@ -288,11 +287,11 @@ line_refused opening exchanges line refusal old new lines_are one full_is return
 
 -- A reply to a setup operation is the refusal if and only if the refusal was counted, and the
 -- number of its first line is 0.
-record IsInOpening (some : Bool) (times first : ℕ) : Type 0 where
-  counted_so : some ≡ true → (0 < times) × (first ≡ 0)
-  not_so : some ≡ false → first ≡ 0 → times ≡ 0
+pub record IsInOpening (some : Bool) (times first : ℕ) : Type 0 where
+  pub counted_so : some ≡ true → (0 < times) × (first ≡ 0)
+  pub not_so : some ≡ false → first ≡ 0 → times ≡ 0
 
-in_opening : (opening : List Reply) (exchanges : List Exchange) (refusal : Refusal)
+pub in_opening : (opening : List Reply) (exchanges : List Exchange) (refusal : Refusal)
     → IsInOpening (list_any (is_refusal refusal) opening) (count_in opening exchanges refusal).times (count_in opening exchanges refusal).first
 in_opening opening exchanges refusal =
     by_some (list_any (is_refusal refusal) opening) (count_by (is_refusal refusal) opening) (count_by passes exchanges) (first_from passes 1 exchanges)
@@ -314,16 +313,3 @@ in_opening opening exchanges refusal =
             | inr less ↦ omega (arith, none, less)
           ];
         }
-
-pub any_in_opening : (opening : List Reply) (exchanges : List Exchange) (refusal : Refusal) (count : Count) → count ≡ count_in opening exchanges refusal
-    → is_in_opening count ≡ list_any (is_refusal refusal) opening
-any_in_opening opening exchanges refusal count is =
-    by_some (list_any (is_refusal refusal) opening) count.times count.first
-    (subst (λ (c : Count). IsInOpening (list_any (is_refusal refusal) opening) c.times c.first) (sym is) (in_opening opening exchanges refusal))
-  where
-    by_some : (b : Bool) (times first : ℕ) → IsInOpening b times first → (nat_lt 0 times && (first == 0)) ≡ b
-    by_some true times first so =
-        let both = so.counted_so refl in rw (both.1, lt-ltb 0 times both.0) refl
-    by_some false zero first so = refl
-    by_some false (suc times) zero so = absurd (omega (arith, so.not_so refl refl))
-    by_some false (suc times) (suc first) so = rw (eqb-suc-zero first, lt-ltb 0 (suc times) (omega arith)) refl
