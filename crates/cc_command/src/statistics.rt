@@ -19,7 +19,7 @@ use cc_text::{Line, ROOM, Text, end_with_decimal, end_with_hexadecimal};
 /// has the line 0.
 ///
 /// Requires: the sink has not failed; at most 2^80 bytes are held, which
-/// [`usage_of`](cc_draw::usage_of) ensures.
+/// `usage_of` of cc_draw ensures.
 /// Errors: `Write` if the sink fails. A prefix of the summary is then written.
 pub fn show_statistics<W: Sink>(usage: &Usage, tally: &Tally, sink: &mut W) -> Result<(), IoError>
     requires sink { W.has_failed sink.old ≡ false }
