@@ -1,8 +1,9 @@
 -- The input that a command reads.
-use Rattle.std.specs.Prelude.{Option, Some, None, codes, if◌then◌else◌, ⊤}
+use Rattle.std.specs.Prelude.{IsOk, Option, Some, None, codes, if◌then◌else◌, ⊤}
 use Rattle.std.specs.Borrow.{Bor}
 use Rattle.std.specs.Str.{bytes_eq}
 use Rattle.clap.specs.Words.{Text}
+use Rattle.cc_syntax.specs.Planning.{pool_of}
 use Rattle.cc_arguments.specs.declared.invocation.Invocation.{Invocation}
 use Rattle.cc_arguments.specs.declared.invocation.Invocation.TheVariants.{Ask, Decode, Map, Plan, Run}
 use Rattle.cc_program.specs.declared.input.InputName.{InputName}
@@ -26,11 +27,13 @@ ReadsFile (Plan limit pool align stats file) = IsFile (file_input file)
 ReadsFile (Map limit pool align svg file) = IsFile (file_input file)
 ReadsFile (Decode options file) = IsFile (file_input file)
 
--- RunsMachine holds of a command that creates a machine.
+-- RunsMachine holds if the command creates a machine: `run`, and `plan` and `map` if BASE and LENGTH are those of a pool.
 abbrev pub RunsMachine : Invocation → Type 0
 RunsMachine (Ask question) = ⊥
+RunsMachine (Run limit stats file) = ⊤
+RunsMachine (Plan limit pool align stats file) = IsOk (pool_of pool.base.now pool.length.now)
+RunsMachine (Map limit pool align svg file) = IsOk (pool_of pool.base.now pool.length.now)
 RunsMachine (Decode options file) = ⊥
-RunsMachine _ = ⊤
 
 -- IsRunOrPlan holds of `run` and `plan`, which write the replies to a script.
 abbrev pub IsRunOrPlan : Invocation → Type 0

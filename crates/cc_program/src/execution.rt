@@ -32,8 +32,8 @@ const MOST_DECODED: usize = 1 << 62;
 /// The machine is created next, and then the input is opened.
 ///
 /// Requires: no device has failed.
-/// Errors: `Memory` if an allocation fails, in a command that creates a machine; `Open` if the input cannot be opened; `Read` if a read fails; `Write` if and
-/// only if the sink failed. Nothing is reported then.
+/// Errors: `Memory` if an allocation fails, in a command that creates a machine; `Open` if the input cannot be opened;
+/// `Read` if a read fails; `Write` if and only if the sink failed. Nothing is reported then.
 pub fn execute<R: AllocGlobal, I: Inputs, W: Sink, E: Sink>(
     rt: &R,
     invocation: Invocation<'_>,
