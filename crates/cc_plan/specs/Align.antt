@@ -1,4 +1,5 @@
--- The unit of which the ends of an object are multiples, by the alignment of the pool.
+-- The unit of which the ends of an object are multiples, and the padded size of an object, by the
+-- alignment of the pool.
 use Rattle.std.specs.Prelude.{ℕ, ◌≡◌, ◌*◌, max}
 use Rattle.std.specs.Int.{div_ceil}
 use Rattle.cc_bounds.specs.Span.{from_zero}
