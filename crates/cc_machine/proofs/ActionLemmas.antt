@@ -12,7 +12,7 @@ use Rattle.cc_plan.specs.declared.object.ObjectId.{ObjectId}
 use Rattle.cc_plan.specs.declared.object.ObjectState.TheVariants.{Live}
 use Rattle.cc_plan.specs.declared.object.PlannedObject.{PlannedObject}
 use Rattle.cc_bounds.specs.declared.align.Align.{Align}
-use Rattle.cc_plan.specs.Align.{padded_size_for, unit_of}
+use Rattle.cc_plan.specs.Align.{rounded_up}
 use Rattle.cc_placer.specs.Placement.{IsPlacement, HasNoPlace}
 use Rattle.cc_plan.specs.Plan.{Plan, GivesPool, PlanAllocates, RefusesCall, PlanMakesObject, PlanHasNoRoom, held_spans as planned_spans, held_bytes_of as planned_bytes, capability_over, span_at}
 use Rattle.cc_ops.specs.declared.reply.Reply.{Reply}
@@ -162,7 +162,7 @@ module _ (limit : ℕ) (slots : List SlotState) (pool : Option ℕ) (plan : Plan
         → new_slots ≡ slots ++ tagged_slot made.1 (Some number) ∷ [] → new_own ≡ own ++ length slots ∷ []
         → AllocatesTo size (Allocated made.0.0 (length slots) word span held) new_slots new_plan new_own
     alloc-makes made new_plan word held span new_slots new_own m is_word is_span is_held slots_are own_is =
-        let bytes : Span = span_at plan.align m.start size in
+        let bytes : Span = span_at m.unit m.start size in
         let cap : Capability = capability_over bytes slot.capability in
         let answer = m.answer in
         let is_made : made ≡ (record { 0 = length plan.objects + 1 }, cap) = cc in
@@ -199,9 +199,11 @@ module _ (limit : ℕ) (slots : List SlotState) (pool : Option ℕ) (plan : Plan
                   slot = slot;
                   is_pool = record { is_pool = is_pool; is_slot = at };
                   placed = inl (record {
+                    unit = m.unit;
+                    is_unit = m.is_unit;
                     start = m.start;
                     placement =
-                        subst (λ (h : List Span). IsPlacement slot.capability.span h (padded_size_for plan.align size) (unit_of plan.align size) m.start) spans m.placement;
+                        subst (λ (h : List Span). IsPlacement slot.capability.span h (rounded_up size m.unit) m.unit m.start) spans m.placement;
                     word = word;
                     is_word = subst (λ (c : Capability). IsWordOf c word) is_cap is_word;
                     made = same;
@@ -244,10 +246,10 @@ module _ (limit : ℕ) (slots : List SlotState) (pool : Option ℕ) (plan : Plan
     alloc-plans made new_plan allocates = elim (decides (Ok made) new_plan allocates) [
       | inl m ↦
           let answer = m.answer in
-          let is_made : made ≡ (record { 0 = length plan.objects + 1 }, capability_over (span_at plan.align m.start size) slot.capability) = cc in
+          let is_made : made ≡ (record { 0 = length plan.objects + 1 }, capability_over (span_at m.unit m.start size) slot.capability) = cc in
           record {
             is_number = ap (λ (p : ObjectId × Capability). p.0.0) is_made;
-            more = record { size = size; span = span_at plan.align m.start size; state = Live };
+            more = record { size = size; span = span_at m.unit m.start size; state = Live };
             live = refl;
             objects_are = ap (λ (p : Plan). p.objects) m.made;
           }
@@ -282,8 +284,10 @@ module _ (limit : ℕ) (slots : List SlotState) (pool : Option ℕ) (plan : Plan
                   slot = slot;
                   is_pool = record { is_pool = is_pool; is_slot = at };
                   placed = inr (record {
+                    unit = none.unit;
+                    is_unit = none.is_unit;
                     none =
-                        subst (λ (h : List Span). HasNoPlace slot.capability.span h (padded_size_for plan.align size) (unit_of plan.align size))
+                        subst (λ (h : List Span). HasNoPlace slot.capability.span h (rounded_up size none.unit) none.unit)
                         (held-planned plan state planned) none.none;
                     refused = (is_refusal, ap (λ (p : Plan). state_with limit slots pool p own) none.stays);
                   });

@@ -15,7 +15,8 @@ use Rattle.cc_cap.specs.Permissions.{unseal_permission}
 use Rattle.cc_cap.specs.Capability.{Capability, root_capability, at_address, sealed_with}
 use Rattle.cc_cap.specs.Derivation.{SetsAddress}
 use Rattle.cc_cap.proofs.BoundsLemmas.{root-IsCapability}
-use Rattle.cc_plan.specs.Align.{unit_of}
+use Rattle.cc_plan.specs.PlannerState.{unit_of}
+use Rattle.cc_plan.proofs.UnitLemmas.{IsUnit-one}
 use Rattle.cc_bounds.specs.declared.align.Align.TheVariants.{Sixteen}
 use Rattle.cc_plan.specs.declared.object.ObjectState.TheVariants.{Live, Swept}
 use Rattle.cc_machine.specs.declared.object.Object.{Object}
@@ -133,11 +134,12 @@ object_without_bytes-breaks exact =
 
 pub object_off_alignment-breaks : ¬ HasExactObjects object_off_alignment
 object_off_alignment-breaks exact =
-    let aligned : 1 % unit_of Sixteen 1 ≡ 0 =
-    (exact.exact 1 _ _ (record { found = refl }) (record { found = refl })).aligned in
+    let law = exact.exact 1 _ _ (record { found = refl }) (record { found = refl }) in
+    let aligned : 1 % law.unit ≡ 0 = law.aligned in
+    let computed : law.unit ≡ unit_of Sixteen 1 = IsUnit-one Sixteen 1 law.unit (omega arith) law.is_unit in
     let one = granule_of-short (from_zero 1) (omega arith) in
-    let unit : unit_of Sixteen 1 ≡ 16 = omega (arith, one) in
-    let none : 1 % 16 ≡ 0 = rw unit at aligned in
+    let unit : law.unit ≡ 16 = omega (arith, one, computed) in
+    let none : 1 % 16 ≡ 0 = subst (λ (u : ℕ). 1 % u ≡ 0) unit aligned in
     absurd (omega (arith, none))
 
 pub live_in_freed-breaks : ¬ HasDisjointObjects live_in_freed

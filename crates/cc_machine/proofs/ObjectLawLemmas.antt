@@ -43,7 +43,7 @@ KeepsObjects-effect old new op reply keeps objects (grows grown) =
 KeepsObjects-effect old new op reply keeps objects (gives given) =
     subst (λ (s : State). KeepsObjects s) (sym given.is_new) (KeepsObjects-given old given.number given.align given.no_pool objects)
 KeepsObjects-effect old new op reply keeps objects (makes made) =
-    let cap : Capability = capability_over (span_at old.align made.start made.size) made.above.capability in
+    let cap : Capability = capability_over (span_at made.unit made.start made.size) made.above.capability in
     let tagged = objects.revoked.pool_stays made.pool made.above made.is_pool in
     let mid =
     KeepsObjects-with_slot old cap made.pool made.above made.is_pool.is_slot tagged keeps.parent_first objects (pool-within old keeps) in

@@ -62,6 +62,8 @@ module _ (old new : State) (kept : HaveSameSlots old new) (pool_stays : new.pool
       let law = keeps.exact.exact n it.before like.other it.is_object old_slot in
       let one : HasExactBounds old.align (record { size = it.before.size; span = like.other.capability.span; state = object.state }) = record {
         some = law.some;
+        unit = law.unit;
+        is_unit = law.is_unit;
         aligned = law.aligned;
         ends = law.ends;
         is_span = law.is_span;

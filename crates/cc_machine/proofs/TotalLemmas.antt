@@ -17,7 +17,8 @@ use Rattle.cc_cap.proofs.ResultLemmas.{HasResult, has_word, SetsAddress-result, 
 use Rattle.cc_bounds.specs.declared.align.Align.{Align}
 use Rattle.cc_plan.specs.declared.object.ObjectState.{ObjectState}
 use Rattle.cc_plan.specs.declared.object.ObjectState.TheVariants.{Live, Freed, Swept}
-use Rattle.cc_plan.specs.Align.{padded_size_for, unit_of}
+use Rattle.cc_plan.specs.Align.{IsUnit, rounded_up}
+use Rattle.cc_plan.proofs.UnitLemmas.{size-HasUnit}
 use Rattle.cc_placer.specs.Placement.{HasNoPlace}
 use Rattle.cc_plan.specs.Plan.{span_at, capability_over}
 use Rattle.cc_placer.proofs.SearchLemmas.{HasPlacement, placement_or_none}
@@ -154,12 +155,13 @@ sets_pool old number align = by_found (usable_slot old.slots number)
         }))
 
 module _ (old : State) (holds : HoldsCapabilities old) (keeps : Keeps old) where
-  places_in : (size pool : ℕ) (slot : SlotState) → 0 < size → IsPool old pool slot → HasOutcome (PlacesObject old size)
-  places_in size pool slot some is_pool =
-      by_place (placement_or_none slot.capability.span (held_spans old) (padded_size_for old.align size) (unit_of old.align size))
+  places_in : (size unit pool : ℕ) (slot : SlotState) → IsUnit old.align size unit → 0 < size → IsPool old pool slot
+      → HasOutcome (PlacesObject old size)
+  places_in size unit pool slot is_unit some is_pool =
+      by_place (placement_or_none slot.capability.span (held_spans old) (rounded_up size unit) unit)
     where
-      by_place : HasPlacement slot.capability.span (held_spans old) (padded_size_for old.align size) (unit_of old.align size)
-          ⊎ HasNoPlace slot.capability.span (held_spans old) (padded_size_for old.align size) (unit_of old.align size)
+      by_place : HasPlacement slot.capability.span (held_spans old) (rounded_up size unit) unit
+          ⊎ HasNoPlace slot.capability.span (held_spans old) (rounded_up size unit) unit
           → HasOutcome (PlacesObject old size)
       by_place (inr none) = record {
         reply = Refused NoRoom;
@@ -168,14 +170,14 @@ module _ (old : State) (holds : HoldsCapabilities old) (keeps : Keeps old) where
           pool = pool;
           slot = slot;
           is_pool = is_pool;
-          placed = inr (record { none = none; refused = (refl, refl) });
+          placed = inr (record { unit = unit; is_unit = is_unit; none = none; refused = (refl, refl) });
         };
       }
       by_place (inl place) =
           let kept = keeps.spans pool slot is_pool.is_slot in
           let is_cap = holds pool slot is_pool.is_slot in
-          let exact = placed-exact old.align slot.capability.span (held_spans old) size place.start kept some place.is in
-          let span : Span = span_at old.align place.start size in
+          let exact = placed-exact old.align slot.capability.span (held_spans old) size unit place.start is_unit kept some place.is in
+          let span : Span = span_at unit place.start size in
           let cap : Capability = capability_over span slot.capability in
           let word = has_word cap (record {
             is_span = exact.is_span;
@@ -194,6 +196,8 @@ module _ (old : State) (holds : HoldsCapabilities old) (keeps : Keeps old) where
               slot = slot;
               is_pool = is_pool;
               placed = inl (record {
+                unit = unit;
+                is_unit = is_unit;
                 start = place.start;
                 placement = place.is;
                 word = word.word;
@@ -211,7 +215,8 @@ module _ (old : State) (holds : HoldsCapabilities old) (keeps : Keeps old) where
       by_pool None none = let e = none in let f = is_some in cc
       by_pool (Some pool) is =
           let has = keeps.pool pool is in
-          places_in size pool has.slot some (record { is_pool = is; is_slot = has.is_slot })
+          let unit = size-HasUnit old.align size in
+          places_in size unit.unit pool has.slot unit.is some (record { is_pool = is; is_slot = has.is_slot })
 
   allocates : (size : ℕ) → HasOutcome (Allocates old size)
   allocates size =

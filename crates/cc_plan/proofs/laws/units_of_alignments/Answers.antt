@@ -1,5 +1,10 @@
-use Rattle.cc_plan.proofs.AlignLemmas.{multiple_of_sixteen, padded-one, unit-one}
+use Rattle.cc_plan.proofs.UnitLemmas.{one-granule, one-padded, one_unit, sixteen-multiple}
 use Rattle.cc_plan.proofs.laws.units_of_alignments.Goals as goal
 
 pub returns : goal.returns
-returns c = record { unit_of_one = unit-one; padded_for_one = padded-one; multiple_of_sixteen = multiple_of_sixteen }
+returns c = record {
+  exactly_one = one_unit;
+  unit_of_one = one-granule;
+  padded_for_one = one-padded;
+  multiple_of_sixteen = sixteen-multiple;
+}
