@@ -8,7 +8,7 @@ use Rattle.cc_bounds.specs.Encoding.{StoresSpan, ie_of, t_of, b_of}
 use Rattle.cc_bounds.proofs.DecodingLemmas.{DecodesTo-same}
 use Rattle.cc_bounds.proofs.SoundDecodingLemmas.{sound-decodes}
 use Rattle.cc_bounds.proofs.ComputingLemmas.{bounds_fields-are}
-use Rattle.cc_cap.specs.ObjType.{IsObjType}
+use Rattle.cc_word.specs.ObjType.{IsObjType}
 use Rattle.cc_cap.specs.Capability.{Capability, IsCapability}
 use Rattle.cc_cap.specs.Canonical.{IsFieldsOf, IsWordOf, word_of_capability}
 

@@ -21,9 +21,9 @@ use Rattle.cc_bounds.proofs.SoundLemmas.{granted-sound}
 use Rattle.cc_bounds.proofs.SoundDecodingLemmas.{inside-Represents}
 use Rattle.cc_bounds.proofs.TightestLemmas.{granted-tight}
 use Rattle.cc_bounds.proofs.DecisionLemmas.{dec_both, dec-HasByte, dec-IsWithin, dec-IsGranted, dec-Represents, StoreSome, dec-StoreSome}
-use Rattle.cc_cap.specs.ObjType.{IsObjType, last_sealing_type, unsealed_type}
-use Rattle.cc_cap.specs.Permissions.{HasAll, global_permission, seal_permission, unseal_permission, unsealed_permissions}
-use Rattle.cc_cap.specs.Capability.{Capability, IsCapability, IsUnsealed, GrantsNoMore, at_address, with_span, with_permissions, with_flag, sealed_with, unsealed_by}
+use Rattle.cc_word.specs.ObjType.{IsObjType, last_sealing_type, unsealed_type}
+use Rattle.cc_word.specs.Permissions.{HasAll, global_permission, seal_permission, unseal_permission}
+use Rattle.cc_cap.specs.Capability.{Capability, IsCapability, IsUnsealed, GrantsNoMore, at_address, with_span, with_permissions, with_flag, sealed_with, unsealed_by, unsealed_permissions}
 use Rattle.cc_cap.specs.Canonical.{IsWordOf, IsCanonical}
 use Rattle.cc_cap.specs.Derivation.{request_of, SetsAddress, Increments, SetsBounds, SetsExactBounds, MasksPermissions, SetsFlag, Seals, Unseals, Rebuilds}
 use Rattle.cc_cap.proofs.CanonicalLemmas.{IsWordOf-read}

@@ -12,7 +12,7 @@ use Rattle.cc_bounds.specs.Decoding.{DecodesTo}
 use Rattle.cc_bounds.specs.Window.{Represents}
 use Rattle.cc_bounds.proofs.DecodingLemmas.{DecodesTo-same}
 use Rattle.cc_bounds.proofs.SoundDecodingLemmas.{sound-decodes}
-use Rattle.cc_cap.specs.Permissions.{HasAll}
+use Rattle.cc_word.specs.Permissions.{HasAll}
 use Rattle.cc_cap.specs.Capability.{Capability, IsCapability, GrantsNoMore}
 use Rattle.cc_cap.specs.Canonical.{IsFieldsOf, IsWordOf, IsCanonical}
 use Rattle.cc_cap.specs.Cap.{IsRefusedBounds}

@@ -10,7 +10,7 @@ use Rattle.cc_bounds.specs.Window.{Represents}
 use Rattle.cc_bounds.specs.Encoding.{Encoding}
 use Rattle.cc_cap.specs.declared.cap.Cap.TheInside.{Inside}
 use Rattle.cc_cap.specs.Bounds.{encoding_of}
-use Rattle.cc_cap.specs.Permissions.{bits_of, HasAll}
+use Rattle.cc_word.specs.Permissions.{bits_of, HasAll}
 use Rattle.cc_cap.specs.Capability.{Capability, IsCapability, IsUnsealed, Grants}
 use Rattle.cc_cap.specs.Canonical.{IsWordOf, IsCanonical}
 use Rattle.cc_cap.specs.Derivation.{request_of}

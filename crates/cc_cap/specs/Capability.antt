@@ -1,12 +1,14 @@
 -- Capabilities, the bytes and permissions that they grant, and capabilities that differ in one
 -- part.
-use Rattle.std.specs.Prelude.{ℕ, Bool, false, ◌≡◌, ◌≤◌, ◌<◌, ◌^◌}
+use Rattle.std.specs.Prelude.{ℕ, Bool, false, ◌≡◌, ◌==◌, ◌≤◌, ◌<◌, ◌^◌, if◌then◌else◌}
+use Rattle.std.specs.Int.RustNames.{bit_and}
+use Rattle.bitflags.specs.Sets.{without}
 use Rattle.cc_bounds.specs.declared.span.Span.{Span}
 use Rattle.cc_bounds.specs.Span.{IsSpan, HasByte, IsWithin, from_zero}
 use Rattle.cc_bounds.specs.Granule.{IsSound}
 use Rattle.cc_bounds.specs.Window.{Represents}
-use Rattle.cc_cap.specs.Permissions.{HasAll, unsealed_permissions}
-use Rattle.cc_cap.specs.ObjType.{IsObjType, last_sealing_type, unsealed_type}
+use Rattle.cc_word.specs.Permissions.{HasAll, global_permission}
+use Rattle.cc_word.specs.ObjType.{IsObjType, last_sealing_type, unsealed_type}
 
 -- A capability: the span that it grants, its own address, its permissions as bits, its flag and its
 -- type.
@@ -75,6 +77,13 @@ with_flag cap flag = record cap { flag = flag }
 -- The capability, sealed with this type.
 abbrev pub sealed_with : Capability → ℕ → Capability
 sealed_with cap otype = record cap { otype = otype }
+
+-- The permissions that unsealing leaves of a capability's permissions: GLOBAL stays only if the
+-- authority has it too.
+abbrev pub unsealed_permissions : (permissions authority : ℕ) → ℕ
+unsealed_permissions permissions authority =
+    if bit_and authority global_permission == global_permission then permissions
+    else without 16 permissions global_permission
 
 -- The capability, unsealed by an authority.
 abbrev pub unsealed_by : Capability → Capability → Capability

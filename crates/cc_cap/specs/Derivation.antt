@@ -9,8 +9,8 @@ use Rattle.cc_bounds.specs.declared.span.Span.{Span}
 use Rattle.cc_bounds.specs.Span.{IsWithin, span_from}
 use Rattle.cc_bounds.specs.Granule.{IsGranted, IsExact}
 use Rattle.cc_bounds.specs.Window.{Represents}
-use Rattle.cc_cap.specs.ObjType.{last_sealing_type}
-use Rattle.cc_cap.specs.Permissions.{HasAll, seal_permission, unseal_permission}
+use Rattle.cc_word.specs.ObjType.{last_sealing_type}
+use Rattle.cc_word.specs.Permissions.{HasAll, seal_permission, unseal_permission}
 use Rattle.cc_cap.specs.Capability.{Capability, IsUnsealed, IsSealed, Grants, GrantsNoMore, at_address, with_span, with_permissions, with_flag, sealed_with, unsealed_by}
 use Rattle.cc_cap.specs.Canonical.{IsWordOf, IsCanonical}
 

@@ -1,6 +1,4 @@
 -- In reading order.
-pub mod Permissions
-pub mod ObjType
 pub mod Capability
 pub mod Canonical
 pub mod Derivation

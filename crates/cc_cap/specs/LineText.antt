@@ -6,7 +6,7 @@ use Rattle.cc_word.specs.Word.{word_of}
 use Rattle.cc_word.specs.WordText.{hexadecimal}
 use Rattle.cc_bounds.specs.declared.span.Span.{Span}
 use Rattle.cc_bounds.specs.Decoding.{DecodesTo}
-use Rattle.cc_cap.specs.ObjType.{sentry_type, unsealed_type}
+use Rattle.cc_word.specs.ObjType.{sentry_type, unsealed_type}
 
 -- The letter of a permission if the set has it, otherwise nothing.
 abbrev pub letter_of : (letter : List ℕ) (permissions permission : ℕ) → List ℕ

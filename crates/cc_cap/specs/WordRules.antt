@@ -7,7 +7,7 @@ use Rattle.cc_word.specs.declared.refusal.Refusal.TheVariants.{NotCanonical}
 use Rattle.cc_bounds.specs.declared.span.Span.{Span}
 use Rattle.cc_bounds.specs.Span.{IsWithin}
 use Rattle.cc_bounds.specs.Decoding.{DecodesTo}
-use Rattle.cc_cap.specs.Permissions.{HasAll}
+use Rattle.cc_word.specs.Permissions.{HasAll}
 use Rattle.cc_cap.specs.Capability.{Capability}
 use Rattle.cc_cap.specs.Canonical.{IsWordOf, IsCanonical}
 

@@ -1,9 +1,11 @@
 //! Capabilities, and the functions that derive them.
-use crate::obj_type::ObjType;
-use crate::perms::Perms;
+ghost use Rattle.std.specs.Prelude.{◌≡◌};
+ghost use Rattle.cc_word.specs.Permissions.{bits_of};
+ghost use Rattle.cc_cap.specs.Capability.{unsealed_permissions};
+
 use bitflags::Flags;
 use cc_bounds::{ADDRESS_SPACE, Set, Span, represents};
-use cc_word::{Fields, Refusal, pack, unpack};
+use cc_word::{Fields, ObjType, Perms, Refusal, pack, unpack};
 use std::marker::Model;
 
 /// A capability: bounds, an address, permissions, a flag and an object type.
@@ -64,7 +66,6 @@ impl Cap {
     ghost use Rattle.std.specs.Prelude.{ℕ, false, ◌≡◌, ◌↔◌, ◌≤◌, ◌^◌, IsTrue, IfOk, MatchOption, MatchResult};
     ghost use Rattle.cc_bounds.specs.Encoding.{ie_of, t_of, b_of};
     ghost use Rattle.cc_cap.specs.Cap.{IsEncodingFor, IsRefusedBounds, ChecksAuthority};
-    ghost use Rattle.cc_cap.specs.Permissions.{bits_of};
     ghost use Rattle.cc_cap.specs.Capability.{Capability, IsCapability, IsSealed, IsUnsealed, GrantsNoMore, root_capability};
     ghost use Rattle.cc_cap.specs.Canonical.{IsWordOf, IsCanonical, word_of_capability};
     ghost use Rattle.cc_cap.specs.Reach.{IsReachable};
@@ -232,7 +233,7 @@ impl Cap {
         if authority.address != u64::from(self.otype.bits()) {
             return Err(Refusal::TypeMismatch);
         }
-        let perms = self.perms.unsealed_by(authority.perms);
+        let perms = unsealed_perms(self.perms, authority.perms);
         Ok(Cap {
             perms,
             otype: ObjType::UNSEALED,
@@ -418,4 +419,17 @@ impl Cap {
             otype,
         })
     }
+}
+
+/// Returns the permissions that unsealing by an authority leaves: GLOBAL stays only if the
+/// authority has it too.
+fn unsealed_perms(perms: Perms, authority: Perms) -> Perms
+    ensures { bits_of result ≡ unsealed_permissions (bits_of perms) (bits_of authority) }
+{
+    let kept = if authority.contains(Perms::GLOBAL) {
+        Perms::all()
+    } else {
+        Perms::all().difference(Perms::GLOBAL)
+    };
+    perms.intersection(kept)
 }

@@ -5,8 +5,6 @@ mod canonical;
 mod cap;
 mod laws;
 pub mod many;
-mod obj_type;
-mod perms;
 mod word_line;
 pub mod words;
 
@@ -17,6 +15,5 @@ pub use laws::{
     all_that_grants_no_more_is_reached, granting_no_more_is_an_order,
     rules_on_words_are_those_of_capabilities,
 };
-pub use obj_type::ObjType;
-pub use perms::Perms;
+pub use cc_word::{ObjType, Perms};
 pub use word_line::WordLine;

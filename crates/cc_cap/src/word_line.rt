@@ -2,21 +2,16 @@
 ghost use Rattle.std.specs.Prelude.{◌≡◌, ◌+◌, ◌-◌, ◌^◌, ◌<◌, ◌≤◌, ◌++◌, [], length};
 ghost use Rattle.cc_word.specs.WordText.{hexadecimal};
 ghost use Rattle.cc_word.specs.declared.fields.Fields.{Fields as FieldsSpec};
-ghost use Rattle.cc_cap.specs.Permissions.{bits_of};
+ghost use Rattle.cc_word.specs.Permissions.{bits_of};
 ghost use Rattle.cc_cap.specs.LineText.{HasDigits, IsLine, letter_of, letters_of, line_of, marks_of};
 
-use crate::obj_type::UNSEALED_TYPE;
-use crate::perms::Perms;
 use bitflags::Flags;
 use cc_bounds::{Span, decode};
-use cc_word::{Fields, unpack, write_word_fast};
+use cc_word::{Fields, Perms, SENTRY_TYPE, UNSEALED_TYPE, unpack, write_word_fast};
 use std::marker::Model;
 
 /// The size of the buffer in bytes, which is more than any line has.
 const ROOM: usize = 96;
-
-/// The type of a sealed entry.
-const SENTRY_TYPE: u32 = 0x3fffe;
 
 /// The one-line form of a word: at most 95 bytes, which are stored in the value itself.
 #[derive(Drop)]

@@ -9,7 +9,7 @@
 ghost use Rattle.std.specs.Prelude.{◌≡◌, ◌↔◌, ◌<◌, ◌^◌, IsTrue, IfOk};
 ghost use Rattle.cc_word.specs.Word.{word_of};
 ghost use Rattle.cc_word.specs.declared.fields.Fields.{Fields as FieldsSpec};
-ghost use Rattle.cc_cap.specs.Permissions.{bits_of};
+ghost use Rattle.cc_word.specs.Permissions.{bits_of};
 ghost use Rattle.cc_cap.specs.Capability.{Capability, IsCapability, GrantsNoMore};
 ghost use Rattle.cc_cap.specs.Canonical.{IsWordOf, IsCanonical};
 ghost use Rattle.cc_cap.specs.Cap.{IsReadFrom, IsRefusedBounds};

@@ -3,7 +3,7 @@ ghost use Rattle.std.specs.Prelude.{◌≡◌, ◌≤◌, ◌<◌, ◌+◌, ◌^
 ghost use Rattle.cc_word.specs.Word.{bit_of};
 ghost use Rattle.cc_word.specs.WordText.{digits_of, hexadecimal};
 ghost use Rattle.cc_cap.specs.LineText.{letter_of, letters_of, line_of, marks_of};
-ghost use Rattle.cc_cap.specs.Permissions.{bits_of};
+ghost use Rattle.cc_word.specs.Permissions.{bits_of};
 ghost use Rattle.cc_explain.specs.Permissions.{permissions_text};
 ghost use Rattle.cc_decode.specs.Decoder.{AppendsRow};
 ghost use Rattle.cc_decode.specs.Row.{columns_text, csv_text, values_text};
@@ -12,16 +12,10 @@ use crate::format::Format;
 use crate::writers::{Batch, push_byte, push_byte_if, push_decimal, push_digits, push_hexadecimal};
 use bitflags::Flags;
 use cc_bounds::{Span, decode, exponent};
-use cc_cap::{Perms, is_canonical};
+use cc_cap::is_canonical;
 use cc_explain::push_permissions;
 use cc_text::Line;
-use cc_word::{Fields, unpack};
-
-/// The type of an unsealed capability, which a line does not mention.
-const UNSEALED_TYPE: u32 = 0x3ffff;
-
-/// The type of a sealed entry, which a line calls `sentry`.
-const SENTRY_TYPE: u32 = 0x3fffe;
+use cc_word::{Fields, Perms, SENTRY_TYPE, UNSEALED_TYPE, unpack};
 
 /// Appends the reply to a word in this format, without a line feed: at most 500 bytes.
 pub(crate) fn push_row(batch: &mut Batch, format: Format, word: u128)

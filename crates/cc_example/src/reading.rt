@@ -5,7 +5,7 @@ ghost use Rattle.cc_bounds.specs.Granule.{IsGranted};
 ghost use Rattle.cc_bounds.specs.Span.{span_from};
 ghost use Rattle.cc_cap.specs.Capability.{GrantsNoMore};
 ghost use Rattle.cc_cap.specs.Many.{IsSpanOf};
-ghost use Rattle.cc_cap.specs.Permissions.{HasAll};
+ghost use Rattle.cc_word.specs.Permissions.{HasAll};
 
 use cc_bounds::{Span, decode};
 use cc_cap::{Cap, Perms};

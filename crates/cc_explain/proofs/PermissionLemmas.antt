@@ -6,8 +6,8 @@ use Rattle.std.specs.Int.RustNames.{bit_and}
 use Rattle.std.specs.List.{join_with_byte}
 use Rattle.bitflags.specs.Sets.{Row}
 use Rattle.bitflags.specs.declared.traits.Flag.{Flag}
-use Rattle.cc_cap.specs.Permissions.{bits_of}
-use Rattle.cc_cap.specs.declared.perms.Perms.{Perms}
+use Rattle.cc_word.specs.Permissions.{bits_of}
+use Rattle.cc_word.specs.declared.perms.Perms.{Perms}
 use Rattle.cc_explain.specs.Permissions.{names_of_set, room_of, rows_of}
 
 -- the names one after another: the first after this separator, and each other after a `+`

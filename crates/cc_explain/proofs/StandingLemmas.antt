@@ -15,7 +15,7 @@ use Rattle.cc_bounds.proofs.SoundDecodingLemmas.{decodes-representable}
 use Rattle.cc_bounds.proofs.TightestLemmas.{decoded-sound}
 use Rattle.cc_cap.specs.Canonical.{IsCanonical}
 use Rattle.cc_cap.specs.Capability.{Capability}
-use Rattle.cc_cap.specs.ObjType.{IsObjType}
+use Rattle.cc_word.specs.ObjType.{IsObjType}
 use Rattle.cc_cap.proofs.CanonicalLemmas.{IsWordOf-read}
 use Rattle.cc_explain.specs.Standing.{Have}
 

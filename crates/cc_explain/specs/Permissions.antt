@@ -4,8 +4,8 @@ use Rattle.std.specs.Int.RustNames.{bit_and}
 use Rattle.std.specs.List.{join_with_byte}
 use Rattle.bitflags.specs.Sets.{Row}
 use Rattle.bitflags.specs.declared.traits.Flag.{Flag}
-use Rattle.cc_cap.specs.Permissions.{bits_of, permission_table}
-use Rattle.cc_cap.specs.declared.perms.Perms.{Perms}
+use Rattle.cc_word.specs.Permissions.{bits_of, permission_table}
+use Rattle.cc_word.specs.declared.perms.Perms.{Perms}
 
 -- The names in those rows of a table of permissions whose bits are all set.
 abbrev pub names_of_set : (bits : ℕ) (table : List Row) → List (List ℕ)

@@ -5,7 +5,7 @@ use Rattle.cc_bounds.specs.declared.span.Span.{Span}
 use Rattle.cc_bounds.specs.Encoding.{HasBoundsFields}
 use Rattle.cc_bounds.specs.Span.{IsSpan}
 use Rattle.cc_cap.specs.Canonical.{IsCanonical}
-use Rattle.cc_cap.specs.ObjType.{IsObjType}
+use Rattle.cc_word.specs.ObjType.{IsObjType}
 use Rattle.cc_explain.specs.declared.standing.Standing.{Standing}
 use Rattle.cc_explain.specs.declared.standing.Standing.TheVariants.{Canonical, ReservedBits, ReservedType, TopBelowBase, TopPastEnd, StoredAs}
 

@@ -1,7 +1,7 @@
 //! The permissions of a word by name.
 ghost use Rattle.std.specs.Prelude.{◌≡◌, ◌+◌, ◌≤◌, ◌++◌, length};
 ghost use Rattle.std.specs.List.{join_with_byte};
-ghost use Rattle.cc_cap.specs.Permissions.{bits_of};
+ghost use Rattle.cc_word.specs.Permissions.{bits_of};
 ghost use Rattle.cc_explain.specs.Permissions.{names_of_set, permissions_text, room_of, rows_of};
 
 use bitflags::{Flag, Flags};

@@ -5,7 +5,7 @@ ghost use Rattle.cc_bounds.specs.Decoding.{DecodesTo};
 ghost use Rattle.cc_bounds.specs.Encoding.{b_of, ie_of, t_of};
 ghost use Rattle.cc_bounds.specs.Span.{IsSpan};
 ghost use Rattle.cc_bounds.specs.Tightest.{IsDecoded};
-ghost use Rattle.cc_cap.specs.ObjType.{IsObjType};
+ghost use Rattle.cc_word.specs.ObjType.{IsObjType};
 ghost use Rattle.cc_explain.specs.Standing.{IsStanding};
 ghost use Rattle.cc_explain.specs.declared.standing.Standing.TheVariants.{StoredAs};
 

@@ -10,8 +10,8 @@ use Rattle.cc_bounds.proofs.ComputingLemmas.{exponent_of-long, granule_of-short}
 use Rattle.cc_bounds.proofs.GranuleLemmas.{least-fits}
 use Rattle.cc_bounds.proofs.SoundDecodingLemmas.{represents-computed}
 use Rattle.cc_word.specs.declared.refusal.Refusal.{Refusal}
-use Rattle.cc_cap.specs.ObjType.{unsealed_type}
-use Rattle.cc_cap.specs.Permissions.{unseal_permission}
+use Rattle.cc_word.specs.ObjType.{unsealed_type}
+use Rattle.cc_word.specs.Permissions.{unseal_permission}
 use Rattle.cc_cap.specs.Capability.{Capability, root_capability, at_address, sealed_with}
 use Rattle.cc_cap.specs.Derivation.{SetsAddress}
 use Rattle.cc_cap.proofs.BoundsLemmas.{root-IsCapability}

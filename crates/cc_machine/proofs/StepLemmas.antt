@@ -4,9 +4,9 @@ use Rattle.std.specs.Result.{result_map_both}
 use Rattle.std.specs.Prelude.{⊤}
 use Rattle.std.proofs.Common.{ℕ, Bool, true, false, ap, ◌≡◌, ◌∙◌, List, Option, Some, None, Result, Ok, Err, MatchResult, sym, subst}
 use Rattle.cc_word.specs.declared.refusal.Refusal.{Refusal}
-use Rattle.cc_cap.specs.Permissions.{bits_of}
+use Rattle.cc_word.specs.Permissions.{bits_of}
 use Rattle.cc_cap.specs.Capability.{Capability}
-use Rattle.cc_cap.specs.declared.perms.Perms.{Perms}
+use Rattle.cc_word.specs.declared.perms.Perms.{Perms}
 use Rattle.cc_cap.specs.Derivation.{SetsAddress, Increments, SetsBounds, SetsExactBounds, MasksPermissions, SetsFlag, Seals, Unseals, Rebuilds}
 use Rattle.cc_ops.specs.declared.op.Op.{Op}
 use Rattle.cc_ops.specs.declared.op.Op.TheVariants.{Bounds, Exact, Addr, Inc, Flag, Seal, Unseal, Rebuild}

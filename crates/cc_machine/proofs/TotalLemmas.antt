@@ -9,8 +9,8 @@ use Rattle.cc_word.specs.declared.refusal.Refusal.TheVariants.{Sealed, PoolAlrea
 use Rattle.cc_bounds.specs.declared.span.Span.{Span}
 use Rattle.cc_bounds.proofs.SoundDecodingLemmas.{inside-Represents}
 use Rattle.cc_bounds.proofs.DecisionLemmas.{length-HasGranule}
-use Rattle.cc_cap.specs.Permissions.{bits_of}
-use Rattle.cc_cap.specs.ObjType.{unsealed_type}
+use Rattle.cc_word.specs.Permissions.{bits_of}
+use Rattle.cc_word.specs.ObjType.{unsealed_type}
 use Rattle.cc_cap.specs.Capability.{Capability, IsCapability, IsUnsealed}
 use Rattle.cc_cap.specs.Derivation.{SetsAddress, Increments, SetsBounds, SetsExactBounds, MasksPermissions, SetsFlag, Seals, Unseals, Rebuilds}
 use Rattle.cc_cap.proofs.ResultLemmas.{HasResult, has_word, SetsAddress-result, Increments-result, SetsBounds-result, SetsExactBounds-result, MasksPermissions-result, SetsFlag-result, Seals-result, Unseals-result, Rebuilds-result}

@@ -2,8 +2,7 @@
 ghost use Rattle.cc_ops.specs.RoundedLength.{RoundsLength};
 
 use cc_bounds::{Align, Len, Span, alignment_mask, granule, round_length};
-use cc_cap::{ObjType, Perms};
-use cc_word::Refusal;
+use cc_word::{ObjType, Perms, Refusal};
 
 /// The reply of a machine to an operation.
 #[derive(Clone, Copy, PartialEq, Eq)]

@@ -13,7 +13,7 @@ use Rattle.bitflags.specs.Sets.{Row, find_row, find_name}
 use Rattle.hex.specs.Hex.{is_hex_digit}
 use Rattle.cc_word.specs.declared.refusal.Refusal.{Refusal}
 use Rattle.cc_word.specs.declared.refusal.Refusal.TheVariants.{Syntax}
-use Rattle.cc_cap.specs.Permissions.{permission_table}
+use Rattle.cc_word.specs.Permissions.{permission_table}
 use Rattle.cc_bounds.specs.declared.align.Align.TheVariants.{One, Sixteen}
 use Rattle.cc_syntax.specs.Numbers.{numeral_of, number_of, within_limit}
 use Rattle.cc_syntax.specs.Commands.{words_of, permissions_in, with_names, align_in, flag_in, word_in, index_in, address_in, length_in, both, single, slot_and, slot_and_perhaps, BeginsWithNumber, BeginsWithSlot}

@@ -9,8 +9,8 @@ use Rattle.hex.specs.Hex.{is_hex_digit}
 use Rattle.std.specs.Str.Parse.{digits_value}
 use Rattle.cc_word.specs.declared.refusal.Refusal.{Refusal}
 use Rattle.cc_word.specs.declared.refusal.Refusal.TheVariants.{Syntax, TooLong}
-use Rattle.cc_cap.specs.Permissions.{permission_table}
-use Rattle.cc_cap.specs.declared.perms.Perms.{Perms}
+use Rattle.cc_word.specs.Permissions.{permission_table}
+use Rattle.cc_word.specs.declared.perms.Perms.{Perms}
 use Rattle.cc_bounds.specs.declared.align.Align.{Align}
 use Rattle.cc_bounds.specs.declared.align.Align.TheVariants.{One, Sixteen}
 use Rattle.cc_ops.specs.declared.op.Op.{Op}

@@ -5,7 +5,7 @@ use Rattle.cc_word.specs.WordText.{digits_of}
 pub use Rattle.cc_word.specs.WordText.{hexadecimal}
 pub use Rattle.cc_text.specs.Text.{refusal_text}
 use Rattle.cc_bounds.specs.declared.span.Span.{Span}
-use Rattle.cc_cap.specs.Permissions.{bits_of}
+use Rattle.cc_word.specs.Permissions.{bits_of}
 use Rattle.cc_bounds.specs.declared.align.Align.{Align}
 use Rattle.cc_bounds.specs.declared.align.Align.TheVariants.{One, Sixteen}
 use Rattle.cc_ops.specs.declared.reply.Reply.{Reply}

@@ -2,14 +2,13 @@
 ghost use Rattle.std.specs.Prelude.{◌≡◌, ◌+◌, ◌≤◌, ◌++◌, length, take, drop, codes, decimal};
 ghost use Rattle.cc_word.specs.Word.{bit_of};
 ghost use Rattle.cc_word.specs.WordText.{digits_of};
-ghost use Rattle.cc_cap.specs.Permissions.{bits_of};
+ghost use Rattle.cc_word.specs.Permissions.{bits_of};
 ghost use Rattle.cc_syntax.specs.Replies.{align_text, bounds_text, hexadecimal, made_text, parent_text, refusal_text, reply_text, revoked_text};
 
 use cc_bounds::{Align, Span};
-use cc_cap::{ObjType, Perms};
 use cc_ops::Reply;
 use cc_text::{Line, Page};
-use cc_word::{Refusal, write_half};
+use cc_word::{ObjType, Perms, Refusal, write_half};
 
 /// Returns the line of a reply, without its line feed: at most 192 bytes.
 pub fn reply_line(reply: &Reply) -> Line

@@ -2,15 +2,14 @@
 ghost use Rattle.std.specs.Prelude.{◌≡◌, ◌==◌, ℕ, List, Result, drop, option_map};
 ghost use Rattle.std.specs.List.{slice_split};
 ghost use Rattle.bitflags.specs.Sets.{find_name, find_row};
-ghost use Rattle.cc_cap.specs.Permissions.{bits_of, permission_table};
+ghost use Rattle.cc_word.specs.Permissions.{bits_of, permission_table};
 ghost use Rattle.cc_word.specs.declared.refusal.Refusal.{Refusal as RefusalSpec};
 ghost use Rattle.cc_syntax.specs.Commands.{address_in, align_in, both, flag_in, index_in, length_in, permissions_in, single, slot_and, slot_and_perhaps, with_names, word_in, words_of};
 
 use crate::numbers::{read_address, read_index, read_length, split_number, split_slot};
 use crate::words::split_at_first;
 use cc_bounds::{Align, Len};
-use cc_cap::Perms;
-use cc_word::Refusal;
+use cc_word::{Perms, Refusal};
 
 /// A kind of value. Slots and objects are `u32`, addresses and increments `u64`, words `u128`, flags
 /// `bool`.

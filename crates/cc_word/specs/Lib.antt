@@ -3,3 +3,5 @@ pub mod Refusal
 pub mod Word
 pub mod WordText
 pub mod Layout
+pub mod Permissions
+pub mod ObjType

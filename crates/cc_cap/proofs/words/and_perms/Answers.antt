@@ -1,4 +1,4 @@
-use Rattle.cc_cap.specs.Permissions.{bits_of}
+use Rattle.cc_word.specs.Permissions.{bits_of}
 use Rattle.cc_cap.specs.Derivation.{MasksPermissions}
 use Rattle.cc_cap.proofs.WordRuleLemmas.{word_made}
 use Rattle.cc_cap.proofs.words.and_perms.Goals as goal

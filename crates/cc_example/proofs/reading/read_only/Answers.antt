@@ -9,7 +9,7 @@ use Rattle.cc_bounds.specs.Granule.{IsGranted}
 use Rattle.cc_bounds.specs.Span.{span_from}
 use Rattle.cc_cap.specs.Capability.{Capability, GrantsNoMore, at_address, with_span}
 use Rattle.cc_cap.specs.Derivation.{MasksPermissions, SetsAddress, SetsBounds}
-use Rattle.cc_cap.specs.Permissions.{HasAll}
+use Rattle.cc_word.specs.Permissions.{HasAll}
 use Rattle.cc_cap.proofs.DerivationLemmas.{GrantsNoMore-chain}
 use Rattle.cc_example.proofs.reading.read_only.Goals as goal
 

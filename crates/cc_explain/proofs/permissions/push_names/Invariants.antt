@@ -1,6 +1,6 @@
 use Rattle.std.proofs.Common.{◌≡◌, ◌+◌, ◌≤◌, ◌++◌, drop, length}
 use Rattle.std.specs.List.{join_with_byte}
-use Rattle.cc_cap.specs.Permissions.{bits_of}
+use Rattle.cc_word.specs.Permissions.{bits_of}
 use Rattle.cc_explain.specs.Permissions.{names_of_set, room_of, rows_of}
 use Rattle.cc_explain.proofs.PermissionLemmas.{separated}
 use Rattle.cc_explain.proofs.permissions.push_names.Given as goal

@@ -2,7 +2,7 @@ use Rattle.std.proofs.Common.{rules, ◌≡◌, ◌++◌, ◌∙◌, ap, List}
 use Rattle.std.proofs.lemmas.Bool.{ne_eqb}
 use Rattle.std.specs.List.{join_with_byte}
 use Rattle.bitflags.specs.Sets.{Row}
-use Rattle.cc_cap.specs.Permissions.{bits_of, permission_table}
+use Rattle.cc_word.specs.Permissions.{bits_of, permission_table}
 use Rattle.cc_explain.specs.Permissions.{names_of_set, permissions_text, rows_of}
 use Rattle.cc_explain.proofs.permissions.push_permissions.Goals as goal
 

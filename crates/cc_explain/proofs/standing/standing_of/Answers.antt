@@ -1,7 +1,7 @@
 use Rattle.std.proofs.Common.{◌≡◌, ◌≤◌, ◌<◌, ◌^◌, rules, subst, sym}
 use Rattle.cc_bounds.specs.Span.{IsSpan}
 use Rattle.cc_bounds.proofs.ComputingLemmas.{bounds_fields-is}
-use Rattle.cc_cap.specs.ObjType.{IsObjType}
+use Rattle.cc_word.specs.ObjType.{IsObjType}
 use Rattle.cc_explain.specs.Standing.{IsStanding}
 use Rattle.cc_explain.proofs.StandingLemmas.{fails, stored-otherwise}
 use Rattle.cc_explain.proofs.standing.standing_of.Goals as goal

@@ -1,7 +1,7 @@
 use Rattle.std.proofs.Common.{◌≡◌, refl, sym, ap, subst}
 use Rattle.cc_bounds.specs.Encoding.{Encoding}
 use Rattle.cc_cap.specs.Bounds.{encoding_of}
-use Rattle.cc_cap.specs.ObjType.{IsObjType}
+use Rattle.cc_word.specs.ObjType.{IsObjType}
 use Rattle.cc_cap.specs.Cap.{value_of}
 use Rattle.cc_cap.specs.Canonical.{IsWordOf}
 use Rattle.cc_cap.proofs.CanonicalLemmas.{IsWordOf-read}

@@ -1,8 +1,7 @@
 -- Sets of permissions, as 16-bit numbers.
-use Rattle.std.specs.Prelude.{ℕ, ◌≡◌, ◌==◌, ◌^◌, List, [], ◌∷◌, codes, if◌then◌else◌}
+use Rattle.std.specs.Prelude.{ℕ, ◌≡◌, ◌^◌, List, [], ◌∷◌, codes}
 use Rattle.std.specs.Int.RustNames.{bit_and}
-use Rattle.bitflags.specs.Sets.{without}
-use Rattle.cc_cap.specs.declared.perms.Perms.{Perms}
+use Rattle.cc_word.specs.declared.perms.Perms.{Perms}
 
 -- The bits of a set.
 abbrev pub bits_of : Perms → ℕ
@@ -44,10 +43,3 @@ permission_table =
 -- `HasAll` holds if each permission of `others` is in `permissions`.
 abbrev pub HasAll : (permissions others : ℕ) → Type 0
 HasAll permissions others = bit_and permissions others ≡ others
-
--- The permissions that unsealing leaves of a capability's permissions: GLOBAL stays only if the
--- authority has it too.
-abbrev pub unsealed_permissions : (permissions authority : ℕ) → ℕ
-unsealed_permissions permissions authority =
-    if bit_and authority global_permission == global_permission then permissions
-    else without 16 permissions global_permission

@@ -1,15 +1,18 @@
 //! The object types that a capability may have.
 ghost use Rattle.std.specs.Prelude.{ℕ, ◌≡◌, ◌↔◌, ◌≤◌, IsTrue, IsSome, IfSome};
-ghost use Rattle.cc_cap.specs.ObjType.{IsObjType, last_sealing_type};
+ghost use Rattle.cc_word.specs.ObjType.{IsObjType, last_sealing_type};
 
 use std::marker::Model;
 
 /// The last type that sealing gives. Of the 16 types above it, the last is unsealed and the others
 /// are reserved.
-pub(crate) const LAST_SEALING_TYPE: u32 = 0x3ffef;
+const LAST_SEALING_TYPE: u32 = 0x3ffef;
+
+/// The reserved type of a sealed entry, which only the hardware of the ISA creates.
+pub const SENTRY_TYPE: u32 = 0x3fffe;
 
 /// The type of an unsealed capability.
-pub(crate) const UNSEALED_TYPE: u32 = 0x3ffff;
+pub const UNSEALED_TYPE: u32 = 0x3ffff;
 
 /// The object type of a capability: unsealed, or one of the types from 0 to 0x3ffef that sealing
 /// gives.

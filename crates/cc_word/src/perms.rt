@@ -2,7 +2,7 @@
 ghost use Rattle.std.specs.Prelude.{⊤, ◌≡◌, ◌↔◌, Some, IsTrue, option_map};
 ghost use Rattle.std.specs.Int.RustNames.{bit_and};
 ghost use Rattle.bitflags.specs.Sets.{find_name};
-ghost use Rattle.cc_cap.specs.Permissions.{permission_table, bits_of, HasAll, unsealed_permissions};
+ghost use Rattle.cc_word.specs.Permissions.{permission_table, bits_of, HasAll};
 
 use bitflags::{Flag, Flags, bitflag_items};
 
@@ -116,18 +116,5 @@ impl Perms {
         ensures { bits_of result ≡ bit_and (bits_of self) (bits_of other) }
     {
         Perms(self.0 & other.0)
-    }
-
-    /// Returns the permissions that unsealing by an authority with these permissions leaves of this
-    /// set: GLOBAL stays only if the authority has it too.
-    pub(crate) fn unsealed_by(self, authority: Perms) -> Perms
-        ensures { bits_of result ≡ unsealed_permissions (bits_of self) (bits_of authority) }
-    {
-        let kept = if authority.contains(Perms::GLOBAL) {
-            Perms::all()
-        } else {
-            Perms::all().difference(Perms::GLOBAL)
-        };
-        self.intersection(kept)
     }
 }
