@@ -42,14 +42,10 @@ pub record IsGranted (request granted : Span) : Type 0 where
   pub is_granule : IsGranule request granule
   pub is_rounded : granted ≡ rounded_to granule request
 
--- `IsSound` holds if the span is sound: setting bounds to it grants the span itself. It applies to
--- spans of the address space (`IsSpan`).
+-- `IsSound` holds if the span is sound: a request for it is exact, that is, granted unchanged. It
+-- applies to spans of the address space (`IsSpan`).
 abbrev pub IsSound : Span → Type 0
 IsSound span = IsGranted span span
-
--- `IsExact` holds if the request is exact: it is granted as it is.
-abbrev pub IsExact : Span → Type 0
-IsExact request = IsGranted request request
 
 -- ---- Executable definitions, for definitions that use granules. By the law
 -- `every_request_is_encoded_once`, each is the one number, or the one span, that satisfies its

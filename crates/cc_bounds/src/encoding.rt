@@ -1,7 +1,7 @@
 //! The encoding of a sound span, and setting bounds.
 ghost use Rattle.std.specs.Prelude.{◌≡◌, ◌+◌, ◌/◌, ◌%◌, ◌^◌, ◌<◌, ◌≤◌, ◌↔◌, IsTrue, true, IfSome};
 ghost use Rattle.cc_bounds.specs.Span.{IsSpan, span_from, length_of};
-ghost use Rattle.cc_bounds.specs.Granule.{IsExponent, IsGranted, IsSound, IsExact, exponent_of};
+ghost use Rattle.cc_bounds.specs.Granule.{IsExponent, IsGranted, IsSound, exponent_of};
 ghost use Rattle.cc_bounds.specs.Encoding.{HasBoundsFields, StoresSpan, ie_of, t_of, b_of};
 ghost use Rattle.cc_bounds.specs.Decoding.{DecodesTo};
 ghost use Rattle.cc_bounds.specs.declared.span.Span.{Span as SpanSpec};
@@ -222,7 +222,7 @@ fn b_field(granted: &Span, exponent: u32) -> u16
 fn encode(request: &Span) -> Set
     requires { IsSpan request.now }
     ensures granted { IsGranted request.now result.granted }
-    ensures exact { IsTrue result.exact ↔ IsExact request.now }
+    ensures exact { IsTrue result.exact ↔ IsSound request.now }
 {
     let power = granule_power(request);
     let exponent = power.saturating_sub(3);
@@ -250,7 +250,7 @@ fn encode(request: &Span) -> Set
 pub fn set_bounds(base: u64, len: u128) -> Set
     requires { base + len ≤ 2 ^ 64 }
     ensures granted { IsGranted (span_from base len) result.granted }
-    ensures exact { IsTrue result.exact ↔ IsExact (span_from base len) }
+    ensures exact { IsTrue result.exact ↔ IsSound (span_from base len) }
     ensures fields { HasBoundsFields result.granted (ie_of result.granted) (t_of result.granted) (b_of result.granted) }
     ensures decodes { DecodesBack result.granted }
     ensures tight { IsTight (span_from base len) result.granted }

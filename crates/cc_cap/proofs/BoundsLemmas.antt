@@ -2,7 +2,7 @@
 use Rattle.std.proofs.Common.{ℕ, ◌≡◌, ◌+◌, ◌^◌, ◌≤◌, ◌↔◌, IsTrue, refl, inr, subst, arith}
 use Rattle.cc_bounds.specs.declared.span.Span.{Span}
 use Rattle.cc_bounds.specs.Span.{IsSpan, IsWithin, from_zero}
-use Rattle.cc_bounds.specs.Granule.{IsGranted, IsExact, IsSound, granted_span}
+use Rattle.cc_bounds.specs.Granule.{IsGranted, IsSound, granted_span}
 use Rattle.cc_bounds.specs.Encoding.{Encoding}
 use Rattle.cc_bounds.proofs.GranuleLemmas.{granted_same}
 use Rattle.cc_bounds.proofs.SoundLemmas.{same_span, granted-sound}
@@ -17,7 +17,7 @@ use Rattle.cc_cap.proofs.DerivationLemmas.{IsGranted-within}
 -- what the encoding of a request within the bounds of a capability is
 pub IsEncodingFor-made : (cap : Capability) (length : ℕ) (set : Encoding) → IsCapability cap → IsUnsealed cap
     → cap.span.base ≤ cap.address → cap.address + length ≤ cap.span.top
-    → IsGranted (request_of cap length) set.granted → (IsTrue set.exact ↔ IsExact (request_of cap length))
+    → IsGranted (request_of cap length) set.granted → (IsTrue set.exact ↔ IsSound (request_of cap length))
     → IsEncodingFor cap length set
 IsEncodingFor-made cap length set is_cap unsealed base top granted exact =
     let request : Span = request_of cap length in

@@ -2,7 +2,7 @@
 use Rattle.std.proofs.Common.{◌≡◌, ◌+◌, ◌-◌, ◌∙◌, inl, refl, sym, ap, subst, Ok, arith}
 use Rattle.cc_bounds.specs.declared.span.Span.{Span}
 use Rattle.cc_bounds.specs.Span.{IsWithin, length_of, span_from}
-use Rattle.cc_bounds.specs.Granule.{IsExact}
+use Rattle.cc_bounds.specs.Granule.{IsSound}
 use Rattle.cc_bounds.specs.Window.{Represents}
 use Rattle.cc_bounds.proofs.SoundDecodingLemmas.{inside-Represents}
 use Rattle.cc_cap.specs.Capability.{Capability, IsCapability, IsUnsealed, GrantsNoMore, at_address, with_span, with_permissions, with_flag}
@@ -16,7 +16,7 @@ GrantsNoMore-IsReachable from to is_from is_to from_unsealed to_unsealed no_more
     let top : to.span.base + (to.span.top - to.span.base) ≡ to.span.top = omega (arith, is_to.is_span.in_order) in
     let whole : request ≡ to.span = λ i. record { base = to.span.base; top = top i } in
     let inside : IsWithin request from.span = subst (λ (span : Span). IsWithin span from.span) (sym whole) no_more.bytes in
-    let exact : IsExact request = subst (λ (span : Span). IsExact span) (sym whole) is_to.sound in
+    let exact : IsSound request = subst (λ (span : Span). IsSound span) (sym whole) is_to.sound in
     let at_base = inside-Represents from.span to.span.base is_from.is_span is_from.sound no_more.bytes.from_base
     (omega (arith, is_to.is_span.in_order, no_more.bytes.to_top)) in
     let at_end : Represents request to.address = subst (λ (span : Span). Represents span to.address) (sym whole) is_to.representable in

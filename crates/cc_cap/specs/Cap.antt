@@ -5,7 +5,7 @@ use Rattle.cc_word.specs.Refusal.{RefusedUnless}
 use Rattle.cc_word.specs.declared.refusal.Refusal.{Refusal}
 use Rattle.cc_word.specs.declared.refusal.Refusal.TheVariants.{Sealed, OutOfBounds, MissingPermission, NotCanonical}
 use Rattle.cc_bounds.specs.Span.{IsSpan, IsWithin}
-use Rattle.cc_bounds.specs.Granule.{IsGranted, IsExact, IsSound}
+use Rattle.cc_bounds.specs.Granule.{IsGranted, IsSound}
 use Rattle.cc_bounds.specs.Window.{Represents}
 use Rattle.cc_bounds.specs.Encoding.{Encoding}
 use Rattle.cc_cap.specs.declared.cap.Cap.TheInside.{Inside}
@@ -52,7 +52,7 @@ pub record IsEncodingFor (cap : Capability) (length : ℕ) (set : Encoding) : Ty
   pub unsealed : IsUnsealed cap
   pub inside : IsWithin (request_of cap length) cap.span
   pub granted : IsGranted (request_of cap length) set.granted
-  pub exact : IsTrue set.exact ↔ IsExact (request_of cap length)
+  pub exact : IsTrue set.exact ↔ IsSound (request_of cap length)
   pub same : IsTrue set.exact → set.granted ≡ request_of cap length
   pub is_span : IsSpan set.granted
   pub sound : IsSound set.granted

@@ -7,7 +7,7 @@ use Rattle.cc_word.specs.declared.refusal.Refusal.{Refusal}
 use Rattle.cc_word.specs.declared.refusal.Refusal.TheVariants.{Sealed, Unsealed, OutOfBounds, Inexact, Unrepresentable, MissingPermission, ReservedType, TypeMismatch, NotCanonical, ExceedsAuthority}
 use Rattle.cc_bounds.specs.declared.span.Span.{Span}
 use Rattle.cc_bounds.specs.Span.{IsWithin, span_from}
-use Rattle.cc_bounds.specs.Granule.{IsGranted, IsExact}
+use Rattle.cc_bounds.specs.Granule.{IsGranted, IsSound}
 use Rattle.cc_bounds.specs.Window.{Represents}
 use Rattle.cc_word.specs.ObjType.{last_sealing_type}
 use Rattle.cc_word.specs.Permissions.{HasAll, seal_permission, unseal_permission}
@@ -41,7 +41,7 @@ abbrev pub SetsExactBounds : Capability → ℕ → Result Capability Refusal �
 SetsExactBounds cap length result =
     RefusedUnless (IsUnsealed cap) (result ≡ Err Sealed) (
     RefusedUnless (IsWithin (request_of cap length) cap.span) (result ≡ Err OutOfBounds) (
-    RefusedUnless (IsExact (request_of cap length)) (result ≡ Err Inexact) (
+    RefusedUnless (IsSound (request_of cap length)) (result ≡ Err Inexact) (
     result ≡ Ok (with_span cap (request_of cap length)))))
 
 -- `MasksPermissions` holds if `result` is that of keeping the permissions that are also in the

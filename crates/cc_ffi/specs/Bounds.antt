@@ -2,7 +2,7 @@
 use Rattle.std.specs.Prelude.{ℕ, ◌≡◌, ◌↔◌, IsTrue, true, false}
 use Rattle.cc_word.specs.declared.fields.Fields.{Fields}
 use Rattle.cc_bounds.specs.declared.span.Span.{Span}
-use Rattle.cc_bounds.specs.Granule.{IsExponent, IsGranted, IsExact}
+use Rattle.cc_bounds.specs.Granule.{IsExponent, IsGranted, IsSound}
 use Rattle.cc_bounds.specs.Encoding.{Encoding, StoresSpan, ie_of, t_of, b_of}
 use Rattle.cc_bounds.specs.Decoding.{stored_exponent, DecodesTo}
 use Rattle.cc_bounds.specs.Tightest.{DecodesBack, IsTight, IsTightest}
@@ -41,7 +41,7 @@ pub record IsRequestGranted (request : Span) (told : GrantedBounds) : Type 0 whe
   pub set : Encoding
   pub is_told : IsToldOf set told
   pub granted : IsGranted request set.granted
-  pub exact : IsTrue set.exact ↔ IsExact request
+  pub exact : IsTrue set.exact ↔ IsSound request
   pub decodes : DecodesBack set.granted
   pub tight : IsTight request set.granted
   pub tightest : IsTightest request set.granted

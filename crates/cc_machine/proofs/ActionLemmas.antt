@@ -198,9 +198,9 @@ module _ (limit : ℕ) (slots : List SlotState) (pool : Option ℕ) (plan : Plan
                   pool = number;
                   slot = slot;
                   is_pool = record { is_pool = is_pool; is_slot = at };
+                  unit = m.unit;
+                  is_unit = m.is_unit;
                   placed = inl (record {
-                    unit = m.unit;
-                    is_unit = m.is_unit;
                     start = m.start;
                     placement =
                         subst (λ (h : List Span). IsPlacement slot.capability.span h (rounded_up size m.unit) m.unit m.start) spans m.placement;
@@ -283,9 +283,9 @@ module _ (limit : ℕ) (slots : List SlotState) (pool : Option ℕ) (plan : Plan
                   pool = number;
                   slot = slot;
                   is_pool = record { is_pool = is_pool; is_slot = at };
+                  unit = none.unit;
+                  is_unit = none.is_unit;
                   placed = inr (record {
-                    unit = none.unit;
-                    is_unit = none.is_unit;
                     none =
                         subst (λ (h : List Span). HasNoPlace slot.capability.span h (rounded_up size none.unit) none.unit)
                         (held-planned plan state planned) none.none;

@@ -61,7 +61,7 @@ HoldsCapabilities-alloc old new size reply holds (inl (_, inr refused)) = HoldsC
 HoldsCapabilities-alloc old new size reply holds (inl (_, inl (_, inr refused))) = HoldsCapabilities-stays old new holds refused.1.1
 HoldsCapabilities-alloc old new size reply holds (inl (_, inl (_, inl (_, places)))) = elim places.placed [
   | inl made ↦
-      let cap : Capability = capability_over (span_at made.unit made.start size) places.slot.capability in
+      let cap : Capability = capability_over (span_at places.unit made.start size) places.slot.capability in
       let mid : State = with_slot old cap places.pool in
       let next : State = with_object old cap places.pool size in
       let held = HoldsCapabilities-with_slot old cap places.pool holds made.is_word.is_capability in

@@ -170,7 +170,9 @@ module _ (old : State) (holds : HoldsCapabilities old) (keeps : Keeps old) where
           pool = pool;
           slot = slot;
           is_pool = is_pool;
-          placed = inr (record { unit = unit; is_unit = is_unit; none = none; refused = (refl, refl) });
+          unit = unit;
+          is_unit = is_unit;
+          placed = inr (record { none = none; refused = (refl, refl) });
         };
       }
       by_place (inl place) =
@@ -195,9 +197,9 @@ module _ (old : State) (holds : HoldsCapabilities old) (keeps : Keeps old) where
               pool = pool;
               slot = slot;
               is_pool = is_pool;
+              unit = unit;
+              is_unit = is_unit;
               placed = inl (record {
-                unit = unit;
-                is_unit = is_unit;
                 start = place.start;
                 placement = place.is;
                 word = word.word;

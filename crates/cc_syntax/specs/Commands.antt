@@ -99,16 +99,13 @@ both (Err fault) (Err other) = Err other
 
 -- The one value after a name, or the error.
 abbrev pub single : {A : Type 0} → (value_in : List ℕ → Result A Refusal) → (values : List (List ℕ)) → Result A Refusal
-single value_in [] = Err Syntax
 single value_in (value ∷ []) = value_in value
-single value_in (value ∷ other ∷ values) = Err Syntax
+single value_in _ = Err Syntax
 
 -- The number of a slot and one value after a name, or the error.
 abbrev pub slot_and : {A : Type 0} → (value_in : List ℕ → Result A Refusal) → (values : List (List ℕ)) → Result (ℕ × A) Refusal
-slot_and value_in [] = Err Syntax
-slot_and value_in (slot ∷ []) = Err Syntax
 slot_and value_in (slot ∷ value ∷ []) = both (index_in slot) (value_in value)
-slot_and value_in (slot ∷ value ∷ other ∷ values) = Err Syntax
+slot_and value_in _ = Err Syntax
 
 -- The number of a slot and one value after a name, which is `usual` if it is omitted, or the error.
 abbrev pub slot_and_perhaps : {A : Type 0} → (usual : A) → (value_in : List ℕ → Result A Refusal) → (values : List (List ℕ)) → Result (ℕ × A) Refusal
