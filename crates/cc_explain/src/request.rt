@@ -56,7 +56,7 @@ pub(crate) fn granule_count(request: &Span, granule: u64) -> u128
     request.top.div_ceil(granule) - u128::from(request.base) / granule
 }
 
-/// The granule of a request, in bytes; `set` is what setting its bounds made.
+/// Returns the granule of a request, in bytes; `set` is the encoding that setting its bounds made.
 fn granule_of(request: &Span, set: &Set) -> u64
     requires is_span { IsSpan request.now }
     requires granted { IsGranted request.now set.now.granted }
@@ -69,7 +69,7 @@ fn granule_of(request: &Span, set: &Set) -> u64
     }
 }
 
-/// The word of the root capability with the bounds of a request, at the request's base.
+/// Returns the word of the root capability with the bounds of a request, at the request's base.
 fn word_of(request: &Span, granted: &Span) -> u128
     requires is_span { IsSpan request.now }
     requires granted { IsGranted request.now granted.now }
@@ -81,7 +81,8 @@ fn word_of(request: &Span, granted: &Span) -> u128
     }
 }
 
-/// The root capability with the bounds of a request, at the request's base. It is never refused.
+/// Returns the root capability with the bounds of a request, at the request's base. It is never
+/// refused.
 fn derived(request: &Span) -> Result<Cap, Refusal>
     requires { IsSpan request.now }
     ensures { (granted : SpanSpec) × IsGranted request.now granted × (result ≡ Ok (granted_capability request.now granted)) }

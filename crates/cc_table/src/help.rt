@@ -187,7 +187,7 @@ pub(crate) const WORDS_FILE_HELP: &str = "File of words; standard input if `-` o
 
 pub(crate) const DECODE_AFTER_HELP: &str = "\
 Each line is a word: 32 hexadecimal digits of either case, as a trace or a dump has them. With
---bytes each 16 bytes are a word, as memory holds them: `little` for the order of RISC-V and Morello.
+--bytes each 16 bytes are a word, as memory holds them: `little` for the order of CHERI-RISC-V.
 The output has a line for each word, in their order:
   columns   WORD BASE TOP PERMS FLAG TYPE EXPONENT CANONICAL, as `cheri-cap show` prints them
   text      ADDRESS [LETTERS,BASE-TOP], and `(sealed)` or `(sentry)`
