@@ -31,7 +31,7 @@ use Rattle.cc_decode.specs.declared.input.InputForm.TheVariants.{Bytes, Lines}
 use Rattle.cc_decode.specs.declared.format.Format.{Format}
 use Rattle.cc_decode.specs.declared.format.Format.TheVariants.{Columns}
 use Rattle.cc_decode.specs.declared.format.Format.TheVariants as format
-use Rattle.cc_arguments.specs.Invocation.{HasChoice, HasItsTexts, HasLimit, HasValues, HasWanted, IsChosen, IsGiven, IsLimit, IsInvocation, IsLimitText, choice_fault_in, align_named, decimal_value, format_named, format_names, program, slots_option, choice_option, command_of, input_named, order_names, HasFlag, flag_option}
+use Rattle.cc_arguments.specs.Invocation.{HasChoice, HasItsTexts, HasLimit, HasValues, HasWanted, IsChosen, IsGiven, IsLimit, IsInvocation, IsLimitText, choice_fault_in, align_named, decimal_value, format_named, format_names, program, slots_option, choice_option, command_name_of, input_named, order_names, HasFlag, flag_option}
 use Rattle.cc_arguments.specs.declared.invocation.Invocation.{Invocation}
 use Rattle.cc_arguments.proofs.GivenLemmas.{GiveValues, GivesValue, IsTaken, flag_gives, level-given, level_parts, no_default-given, required_given, set_gives, taken}
 
@@ -490,7 +490,7 @@ known met name (named, rows, is, has) told others =
 -- The invocation that was read is the one that was found.
 pub invocation_is : (m : ArgMatches) (name : Text) (rows : List Row) (invocation : Invocation)
     → Some name ≡ subcommand_name_of m → Some rows ≡ option_map (λ p. p.1) (subcommand_rows_of m)
-    → command_of invocation ≡ name → HasValues rows invocation → IsInvocation (subcommand_rows_of m) invocation
+    → command_name_of invocation ≡ name → HasValues rows invocation → IsInvocation (subcommand_rows_of m) invocation
 invocation_is m name rows invocation named told command values =
     (rows, command_is m name rows named told ∙ ap (λ (n : Text). Some (n, rows)) (sym command), values)
 

@@ -68,12 +68,12 @@ question_command (ExplainLength base size) = codes "explain"
 question_command (Round size) = codes "round"
 
 -- The name of the command.
-abbrev pub command_of : Invocation → Text
-command_of (Ask question) = question_command question
-command_of (Run limit stats file) = codes "run"
-command_of (Plan limit pool align stats file) = codes "plan"
-command_of (Map limit pool align svg file) = codes "map"
-command_of (Decode options file) = codes "decode"
+abbrev pub command_name_of : Invocation → Text
+command_name_of (Ask question) = question_command question
+command_name_of (Run limit stats file) = codes "run"
+command_name_of (Plan limit pool align stats file) = codes "plan"
+command_name_of (Map limit pool align svg file) = codes "map"
+command_name_of (Decode options file) = codes "decode"
 
 -- `HasPool` holds if the texts of the pool are the values of BASE and LENGTH.
 abbrev pub HasPool : List Row → PoolTexts → Type 0
@@ -111,7 +111,7 @@ HasValues rows (Decode options file) =
 
 -- `IsInvocation` holds if clap found this command, with these values.
 abbrev pub IsInvocation : Option (Text × List Row) → Invocation → Type 0
-IsInvocation found invocation = (rows : List Row) × (found ≡ Some (command_of invocation, rows)) × HasValues rows invocation
+IsInvocation found invocation = (rows : List Row) × (found ≡ Some (command_name_of invocation, rows)) × HasValues rows invocation
 
 -- ---- the values of `explain` that are accepted together, which clap does not check
 

@@ -2,7 +2,7 @@
 ghost use Rattle.std.specs.Prelude.{◌≡◌, ◌∷◌, [], IfErr, IfOk, None, codes, is_some, true};
 ghost use Rattle.clap.specs.Walk.{texts};
 ghost use Rattle.clap.specs.Words.{App, FailsBy, first_of, found_of, kind_of, rows_of, subcommand_of, subcommand_rows_of};
-ghost use Rattle.cc_arguments.specs.Invocation.{HasChoice, HasFlag, HasItsTexts, HasLimit, HasPoolTexts, HasText, HasValues, IsInvocation, IsProgram, align_named, choice_fault_in, choice_fault_of, command_of, faults_of, format_named, format_names, input_named, is_taken, kinds_in, order_names};
+ghost use Rattle.cc_arguments.specs.Invocation.{HasChoice, HasFlag, HasItsTexts, HasLimit, HasPoolTexts, HasText, HasValues, IsInvocation, IsProgram, align_named, choice_fault_in, choice_fault_of, command_name_of, faults_of, format_named, format_names, input_named, is_taken, kinds_in, order_names};
 
 use crate::invocation::Invocation;
 use crate::question::Question;
@@ -121,7 +121,7 @@ fn invocation_of<'a>(matches: &ArgMatches<'a>) -> Invocation<'a>
 fn read_show<'a>(matches: &ArgMatches<'a>) -> Invocation<'a>
     requires word { HasText (codes "word") (rows_of (found_of matches.now)) }
     requires line { HasFlag (codes "line") (rows_of (found_of matches.now)) }
-    ensures command { command_of result ≡ codes "show" }
+    ensures command { command_name_of result ≡ codes "show" }
     ensures values { HasValues (rows_of (found_of matches.now)) result }
 {
     Invocation::Ask(Question::Show {
@@ -132,7 +132,7 @@ fn read_show<'a>(matches: &ArgMatches<'a>) -> Invocation<'a>
 
 fn read_round<'a>(matches: &ArgMatches<'a>) -> Invocation<'a>
     requires { HasText (codes "length") (rows_of (found_of matches.now)) }
-    ensures command { command_of result ≡ codes "round" }
+    ensures command { command_name_of result ≡ codes "round" }
     ensures values { HasValues (rows_of (found_of matches.now)) result }
 {
     Invocation::Ask(Question::Round {
@@ -143,7 +143,7 @@ fn read_round<'a>(matches: &ArgMatches<'a>) -> Invocation<'a>
 fn read_run<'a>(matches: &ArgMatches<'a>) -> Invocation<'a>
     requires limit { HasLimit (rows_of (found_of matches.now)) }
     requires stats { HasFlag (codes "stats") (rows_of (found_of matches.now)) }
-    ensures command { command_of result ≡ codes "run" }
+    ensures command { command_name_of result ≡ codes "run" }
     ensures values { HasValues (rows_of (found_of matches.now)) result }
 {
     Invocation::Run {
@@ -158,7 +158,7 @@ fn read_plan<'a>(matches: &ArgMatches<'a>) -> Invocation<'a>
     requires limit { HasLimit (rows_of (found_of matches.now)) }
     requires align { HasChoice align_named (codes "align") (rows_of (found_of matches.now)) }
     requires stats { HasFlag (codes "stats") (rows_of (found_of matches.now)) }
-    ensures command { command_of result ≡ codes "plan" }
+    ensures command { command_name_of result ≡ codes "plan" }
     ensures values { HasValues (rows_of (found_of matches.now)) result }
 {
     Invocation::Plan {
@@ -175,7 +175,7 @@ fn read_map<'a>(matches: &ArgMatches<'a>) -> Invocation<'a>
     requires limit { HasLimit (rows_of (found_of matches.now)) }
     requires align { HasChoice align_named (codes "align") (rows_of (found_of matches.now)) }
     requires svg { HasFlag (codes "svg") (rows_of (found_of matches.now)) }
-    ensures command { command_of result ≡ codes "map" }
+    ensures command { command_name_of result ≡ codes "map" }
     ensures values { HasValues (rows_of (found_of matches.now)) result }
 {
     Invocation::Map {
@@ -190,7 +190,7 @@ fn read_map<'a>(matches: &ArgMatches<'a>) -> Invocation<'a>
 fn read_decode<'a>(matches: &ArgMatches<'a>) -> Invocation<'a>
     requires format { HasChoice format_named (codes "format") (rows_of (found_of matches.now)) }
     requires order { HasChoice input_named (codes "bytes") (rows_of (found_of matches.now)) }
-    ensures command { command_of result ≡ codes "decode" }
+    ensures command { command_name_of result ≡ codes "decode" }
     ensures values { HasValues (rows_of (found_of matches.now)) result }
 {
     Invocation::Decode {
@@ -204,7 +204,7 @@ fn read_decode<'a>(matches: &ArgMatches<'a>) -> Invocation<'a>
 
 fn read_explain<'a>(matches: &ArgMatches<'a>) -> Invocation<'a>
     requires { choice_fault_of (rows_of (found_of matches.now)) ≡ None }
-    ensures command { command_of result ≡ codes "explain" }
+    ensures command { command_name_of result ≡ codes "explain" }
     ensures values { HasValues (rows_of (found_of matches.now)) result }
 {
     match value_of(matches, "word") {

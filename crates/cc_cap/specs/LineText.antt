@@ -28,19 +28,19 @@ marks_of otype tagged =
     else (if tagged then codes " (sealed)" else codes " (invalid,sealed)")
 
 -- The address, then in brackets the letters, the base and the top, and then the mark.
-abbrev pub line_of : (fields : Fields) (bounds : Span) (tagged : Bool) → List ℕ
-line_of fields bounds tagged =
+abbrev pub word_line_of : (fields : Fields) (bounds : Span) (tagged : Bool) → List ℕ
+word_line_of fields bounds tagged =
     hexadecimal fields.address ++ codes " [" ++ letters_of fields.perms ++ codes ","
     ++ hexadecimal bounds.base ++ codes "-" ++ hexadecimal bounds.top ++ codes "]" ++ marks_of fields.otype tagged
 
--- `IsLine` holds if `line` is the one-line form of the word: that of its fields and of the bounds
+-- `IsWordLine` holds if `line` is the one-line form of the word: that of its fields and of the bounds
 -- that they decode to. No other fields and no other bounds are such.
-pub record IsLine (word : ℕ) (tagged : Bool) (line : List ℕ) : Type 0 where
+pub record IsWordLine (word : ℕ) (tagged : Bool) (line : List ℕ) : Type 0 where
   pub fields : Fields
   pub bounds : Span
   pub of_word : word_of fields ≡ word
   pub decoded : DecodesTo fields bounds
-  pub text : line ≡ line_of fields bounds tagged
+  pub text : line ≡ word_line_of fields bounds tagged
 
 -- ---- For the body alone.
 

@@ -3,7 +3,7 @@ ghost use Rattle.std.specs.Prelude.{◌≡◌, ◌+◌, ◌-◌, ◌^◌, ◌<�
 ghost use Rattle.cc_word.specs.WordText.{hexadecimal};
 ghost use Rattle.cc_word.specs.declared.fields.Fields.{Fields as FieldsSpec};
 ghost use Rattle.cc_word.specs.Permissions.{bits_of};
-ghost use Rattle.cc_cap.specs.LineText.{HasDigits, IsLine, letter_of, letters_of, line_of, marks_of};
+ghost use Rattle.cc_cap.specs.LineText.{HasDigits, IsWordLine, letter_of, letters_of, word_line_of, marks_of};
 
 use bitflags::Flags;
 use cc_bounds::{Span, decode};
@@ -42,7 +42,7 @@ impl WordLine {
     /// LOAD is `r`, STORE `w`, EXECUTE `x`, LOAD_CAP `R`, and STORE_CAP `W`. The other permissions
     /// have no letter. A type other than unsealed and sentry is sealed, including reserved types.
     pub fn of_word(word: u128, tagged: bool) -> WordLine
-        ensures { IsLine word tagged result }
+        ensures { IsWordLine word tagged result }
     {
         let fields = unpack(word);
         let bounds = decode(&fields);
@@ -72,7 +72,7 @@ impl WordLine {
     fn push_line(&mut self, fields: &Fields, bounds: &Span, tagged: bool)
         requires empty { self.old ≡ [] }
         requires top { bounds.now.top < 2 ^ 65 }
-        ensures { self.new ≡ line_of fields.now bounds.now tagged }
+        ensures { self.new ≡ word_line_of fields.now bounds.now tagged }
     {
         self.push_number(u128::from(fields.address));
         self.push(b" [");

@@ -7,12 +7,12 @@ use Rattle.cc_word.specs.declared.fields.Fields.{Fields}
 use Rattle.cc_bounds.specs.declared.span.Span.{Span}
 use Rattle.cc_bounds.specs.Decoding.{DecodesTo}
 use Rattle.cc_bounds.proofs.DecodingLemmas.{DecodesTo-same}
-use Rattle.cc_cap.specs.LineText.{IsLine, line_of}
+use Rattle.cc_cap.specs.LineText.{IsWordLine, word_line_of}
 use Rattle.cc_text.specs.Text.{rest_text, with_line_feed}
 use Rattle.cc_io.specs.Answers.{Answer, answers_text}
 use Rattle.cc_explain.specs.WordTelling.{TellsWord}
 use Rattle.cc_decode.specs.Correct.{WritesListing}
-use Rattle.cc_decode.specs.Input.{entries_of, left_of, word_in}
+use Rattle.cc_decode.specs.Input.{entries_of, left_of, word_of_entry}
 use Rattle.cc_decode.specs.Output.{IsAnswer, IsRowLine, AreAnswers}
 use Rattle.cc_decode.specs.Row.{IsWordRow, columns_text, csv_text, header_text}
 use Rattle.cc_decode.specs.declared.format.Format.{Format}
@@ -36,12 +36,12 @@ one_row text_of word one other p q =
     ∙ sym (q.is_text ∙ ap (λ (f : Fields). text_of word f q.bounds q.canonical) fields ∙ ap (λ (s : Span). text_of word p.fields s q.canonical) bounds
     ∙ ap (λ (b : Bool). text_of word p.fields p.bounds b) canonical)
 
-one_line : (word : ℕ) (one other : List ℕ) → IsLine word true one → IsLine word true other → one ≡ other
+one_line : (word : ℕ) (one other : List ℕ) → IsWordLine word true one → IsWordLine word true other → one ≡ other
 one_line word one other p q =
     let fields : q.fields ≡ p.fields = word_of-same q.fields p.fields word q.of_word p.of_word in
     let bounds : q.bounds ≡ p.bounds =
     DecodesTo-same p.fields q.bounds p.bounds (subst (λ (f : Fields). DecodesTo f q.bounds) fields q.decoded) p.decoded in
-    p.text ∙ sym (q.text ∙ ap (λ (f : Fields). line_of f q.bounds true) fields ∙ ap (λ (s : Span). line_of p.fields s true) bounds)
+    p.text ∙ sym (q.text ∙ ap (λ (f : Fields). word_line_of f q.bounds true) fields ∙ ap (λ (s : Span). word_line_of p.fields s true) bounds)
 
 one_word_row : (format : Format) (word : ℕ) (one other : List ℕ) → IsWordRow format word one → IsWordRow format word other → one ≡ other
 one_word_row Columns word one other p q = one_row columns_text word one other p q
@@ -56,7 +56,7 @@ same_answer one other p q = ap₂ (λ (t : List ℕ) (b : Bool). record { text =
 
 one_answer : (options : Options) (entry : List ℕ) (one other : Answer) → IsAnswer options entry one → IsAnswer options entry other → one ≡ other
 one_answer options entry one other (inl p) (inl q) =
-    same_answer one other (one_row_line options.format (word_in options.input entry) one.text other.text p.1 q.1) (p.2 ∙ sym q.2)
+    same_answer one other (one_row_line options.format (word_of_entry options.input entry) one.text other.text p.1 q.1) (p.2 ∙ sym q.2)
 one_answer options entry one other (inl p) (inr q) = absurd (q.0 p.0)
 one_answer options entry one other (inr p) (inl q) = absurd (p.0 q.0)
 one_answer options entry one other (inr p) (inr q) = same_answer one other (p.1 ∙ sym q.1) (p.2 ∙ sym q.2)

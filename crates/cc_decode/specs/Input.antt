@@ -34,6 +34,6 @@ block_value Little block = from_le_bytes w128 block
 block_value Big block = from_be_bytes w128 block
 
 -- The word of an entry that is one.
-abbrev pub word_in : InputForm → (entry : List ℕ) → ℕ
-word_in Lines line = digits_value 16 line
-word_in (Bytes order) block = block_value order block
+abbrev pub word_of_entry : InputForm → (entry : List ℕ) → ℕ
+word_of_entry Lines line = digits_value 16 line
+word_of_entry (Bytes order) block = block_value order block

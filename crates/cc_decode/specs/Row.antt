@@ -5,7 +5,7 @@ use Rattle.cc_word.specs.WordText.{digits_of, hexadecimal}
 use Rattle.cc_word.specs.declared.fields.Fields.{Fields}
 use Rattle.cc_bounds.specs.declared.span.Span.{Span}
 use Rattle.cc_bounds.specs.Decoding.{stored_exponent}
-use Rattle.cc_cap.specs.LineText.{IsLine}
+use Rattle.cc_cap.specs.LineText.{IsWordLine}
 use Rattle.cc_text.specs.Text.{with_line_feed}
 use Rattle.cc_explain.specs.WordTelling.{TellsWord}
 use Rattle.cc_explain.specs.Permissions.{permissions_text}
@@ -34,7 +34,7 @@ csv_text word fields bounds canonical =
 -- comma-separated values.
 abbrev pub IsWordRow : Format → (word : ℕ) (row : List ℕ) → Type 0
 IsWordRow Columns word row = TellsWord columns_text word row
-IsWordRow Text word row = IsLine word true row
+IsWordRow Text word row = IsWordLine word true row
 IsWordRow Csv word row = TellsWord csv_text word row
 
 -- The header of a format: the names of the columns for comma-separated values, and otherwise

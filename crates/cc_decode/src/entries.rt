@@ -1,6 +1,6 @@
 //! The word of an entry.
 ghost use Rattle.std.specs.Prelude.{◌≡◌, ◌↔◌, length, IfSome, IsSome};
-ghost use Rattle.cc_decode.specs.Input.{IsWordEntry, block_value, word_in};
+ghost use Rattle.cc_decode.specs.Input.{IsWordEntry, block_value, word_of_entry};
 
 use crate::input::{ByteOrder, InputForm};
 use cc_word::read_word_fast;
@@ -11,7 +11,7 @@ const BLOCK: usize = 16;
 /// Returns the word of an entry, or `None` for a line that is not 32 hexadecimal digits.
 pub(crate) fn read_entry(input: InputForm, entry: &[u8]) -> Option<u128>
     ensures found { IsSome result ↔ IsWordEntry input entry.now }
-    ensures value { IfSome result (λ word. word ≡ word_in input entry.now) }
+    ensures value { IfSome result (λ word. word ≡ word_of_entry input entry.now) }
 {
     match input {
         InputForm::Lines => read_word_fast(entry),

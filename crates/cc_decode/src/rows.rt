@@ -2,7 +2,7 @@
 ghost use Rattle.std.specs.Prelude.{◌≡◌, ◌≤◌, ◌<◌, ◌+◌, ◌^◌, ◌∷◌, ◌++◌, [], codes, decimal, length, true, if◌then◌else◌};
 ghost use Rattle.cc_word.specs.Word.{bit_of};
 ghost use Rattle.cc_word.specs.WordText.{digits_of, hexadecimal};
-ghost use Rattle.cc_cap.specs.LineText.{letter_of, letters_of, line_of, marks_of};
+ghost use Rattle.cc_cap.specs.LineText.{letter_of, letters_of, word_line_of, marks_of};
 ghost use Rattle.cc_word.specs.Permissions.{bits_of};
 ghost use Rattle.cc_explain.specs.Permissions.{permissions_text};
 ghost use Rattle.cc_decode.specs.Decoder.{AppendsRow};
@@ -56,7 +56,7 @@ fn push_line(batch: &mut Batch, word: u128)
 /// Appends the line of a tagged word with these fields and bounds.
 fn push_line_of(batch: &mut Batch, fields: &Fields, bounds: &Span)
     requires { length batch.old + 500 ≤ 32768 }
-    ensures value { batch.new ≡ batch.old ++ line_of fields.now bounds.now true }
+    ensures value { batch.new ≡ batch.old ++ word_line_of fields.now bounds.now true }
     ensures fits { length batch.new ≤ length batch.old + 500 }
 {
     push_address_and_letters(batch, fields);

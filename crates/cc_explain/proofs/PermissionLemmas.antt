@@ -8,7 +8,7 @@ use Rattle.bitflags.specs.Sets.{Row}
 use Rattle.bitflags.specs.declared.traits.Flag.{Flag}
 use Rattle.cc_word.specs.Permissions.{bits_of}
 use Rattle.cc_word.specs.declared.perms.Perms.{Perms}
-use Rattle.cc_explain.specs.Permissions.{names_of_set, room_of, rows_of}
+use Rattle.cc_explain.specs.Permissions.{names_of_set, names_length, rows_of}
 
 -- the names one after another: the first after this separator, and each other after a `+`
 abbrev pub separated : List ℕ → List (List ℕ) → List ℕ
@@ -40,9 +40,9 @@ next_row flags i h =
 
 -- and so is the space that their names take
 pub next_room : (flags : List (Flag Perms)) (i : ℕ) → i < length flags
-    → room_of (drop i (rows_of flags)) ≡ length (get_or flags i nothing).name.now + 1 + room_of (drop (i + 1) (rows_of flags))
+    → names_length (drop i (rows_of flags)) ≡ length (get_or flags i nothing).name.now + 1 + names_length (drop (i + 1) (rows_of flags))
 next_room flags i h =
-    ap room_of (next_row flags i h) ∙ sum_by-cons (λ (row : Row). length row.0 + 1) (row_of (get_or flags i nothing)) (drop (i + 1) (rows_of flags))
+    ap names_length (next_row flags i h) ∙ sum_by-cons (λ (row : Row). length row.0 + 1) (row_of (get_or flags i nothing)) (drop (i + 1) (rows_of flags))
 
 pub name_taken : (text separator before after whole : List ℕ) (bits : ℕ) (row : Row) (rows later : List Row)
     → rows ≡ row ∷ later → (bit_and bits row.1 == row.1) ≡ true → before ≡ text ++ separator → after ≡ before ++ row.0

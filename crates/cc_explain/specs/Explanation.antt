@@ -9,7 +9,7 @@ use Rattle.cc_bounds.specs.Window.{section_of}
 use Rattle.cc_text.specs.Text.{with_line_feed}
 use Rattle.cc_text.specs.Numbered.{line_feed, line_with_decimal, line_with_hexadecimal, with_decimal, with_digits, with_hexadecimal}
 use Rattle.cc_explain.specs.Answer.{AnswersText}
-use Rattle.cc_explain.specs.Picture.{IsRow}
+use Rattle.cc_explain.specs.Picture.{IsPictureRow}
 use Rattle.cc_explain.specs.Standing.{IsStanding}
 use Rattle.cc_explain.specs.Steps.{AreSteps}
 use Rattle.cc_explain.specs.declared.picture.Rows.{Rows}
@@ -117,8 +117,8 @@ window_text steps =
     ++ line_with_decimal (codes ": eight sections from ") steps.first_section (codes " on, one below that of B")
 
 -- The lines of the base and of the top.
-abbrev pub bounds_text : Span → List ℕ
-bounds_text bounds =
+abbrev pub bounds_lines : Span → List ℕ
+bounds_lines bounds =
     line_with_hexadecimal (codes "base      ") bounds.base (codes ", where B * 2^E stands in the window")
     ++ line_with_hexadecimal (codes "top       ") bounds.top (codes ", where T * 2^E stands in the window")
 
@@ -135,7 +135,7 @@ standing_text (StoredAs ie t b) =
 -- The lines of the window, of the bounds and of whether the word is canonical.
 abbrev pub window_lines_text : Fields → Steps → Span → Standing → List ℕ
 window_lines_text fields steps bounds standing =
-    section_text steps ++ sections_text fields steps ++ window_text steps ++ bounds_text bounds ++ standing_text standing
+    section_text steps ++ sections_text fields steps ++ window_text steps ++ bounds_lines bounds ++ standing_text standing
 
 -- ---- the picture
 
@@ -146,10 +146,10 @@ cell_size steps = section_of steps.exponent / 8
 -- AreRows holds if the rows show `#` for the bytes of the bounds, and `B`, `T` and `A` for the byte
 -- at the base, top and address.
 pub record AreRows (fields : Fields) (steps : Steps) (rows : Rows) : Type 0 where
-  pub bytes : IsRow steps.start (cell_size steps) (record { base = steps.base; top = steps.top }) 35 rows.bytes
-  pub base : IsRow steps.start (cell_size steps) (span_from steps.base 1) 66 rows.base
-  pub top : IsRow steps.start (cell_size steps) (span_from steps.top 1) 84 rows.top
-  pub address : IsRow steps.start (cell_size steps) (span_from (raised fields.address) 1) 65 rows.address
+  pub bytes : IsPictureRow steps.start (cell_size steps) (record { base = steps.base; top = steps.top }) 35 rows.bytes
+  pub base : IsPictureRow steps.start (cell_size steps) (span_from steps.base 1) 66 rows.base
+  pub top : IsPictureRow steps.start (cell_size steps) (span_from steps.top 1) 84 rows.top
+  pub address : IsPictureRow steps.start (cell_size steps) (span_from (raised fields.address) 1) 65 rows.address
 
 -- The line of the numbers of the eight sections of a window, from the given one on, each above its
 -- eight cells.

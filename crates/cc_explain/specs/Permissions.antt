@@ -22,5 +22,5 @@ abbrev pub rows_of : List (Flag Perms) → List Row
 rows_of flags = map (λ flag. (flag.name.now, bits_of flag.value)) flags
 
 -- The number of bytes that the names in the rows take, each with one separator.
-abbrev pub room_of : List Row → ℕ
-room_of table = sum_by (λ row. length row.0 + 1) table
+abbrev pub names_length : List Row → ℕ
+names_length table = sum_by (λ row. length row.0 + 1) table

@@ -1,7 +1,7 @@
 //! The lines of an explanation: the fields of a word, and the steps of decoding them.
 ghost use Rattle.std.specs.Prelude.{◌≡◌, ◌+◌, ◌≤◌, ◌<◌, ◌^◌, ◌++◌, [], codes, length};
 ghost use Rattle.cc_word.specs.Word.{bit_of};
-ghost use Rattle.cc_explain.specs.Explanation.{base_mantissa_text, bounds_fields_text, bounds_line_text, bounds_text, exponent_text, fields_text, granule_text, length_text, mantissas_text, rights_text, section_text, sections_text, standing_text, stored_text, top_mantissa_text, window_addresses_text, window_lines_text, window_text, word_text};
+ghost use Rattle.cc_explain.specs.Explanation.{base_mantissa_text, bounds_fields_text, bounds_line_text, bounds_lines, exponent_text, fields_text, granule_text, length_text, mantissas_text, rights_text, section_text, sections_text, standing_text, stored_text, top_mantissa_text, window_addresses_text, window_lines_text, window_text, word_text};
 
 use crate::standing::Standing;
 use crate::steps::{Steps, section, unit};
@@ -286,7 +286,7 @@ fn push_window_addresses(text: &mut Text, steps: &Steps)
 /// Appends the lines of the base and of the top.
 fn push_bounds(text: &mut Text, bounds: &Span)
     requires room { length text.old + 180 ≤ ROOM }
-    ensures value { text.new ≡ text.old ++ bounds_text bounds.now }
+    ensures value { text.new ≡ text.old ++ bounds_lines bounds.now }
     ensures fits { length text.new ≤ length text.old + 180 }
 {
     let base = u128::from(bounds.base);

@@ -2,7 +2,7 @@
 ghost use Rattle.std.specs.Prelude.{◌≡◌, ◌+◌, ◌≤◌, ◌++◌, length};
 ghost use Rattle.std.specs.List.{join_with_byte};
 ghost use Rattle.cc_word.specs.Permissions.{bits_of};
-ghost use Rattle.cc_explain.specs.Permissions.{names_of_set, permissions_text, room_of, rows_of};
+ghost use Rattle.cc_explain.specs.Permissions.{names_of_set, permissions_text, names_length, rows_of};
 
 use bitflags::{Flag, Flags};
 use cc_cap::Perms;
@@ -27,9 +27,9 @@ pub fn push_permissions(line: &mut Line, perms: Perms)
 
 /// Appends the names of those of the flags that the set has, joined by `+`.
 fn push_names(line: &mut Line, perms: Perms, flags: &[Flag<Perms>])
-    requires { length line.old + room_of (rows_of flags.now) ≤ 192 }
+    requires { length line.old + names_length (rows_of flags.now) ≤ 192 }
     ensures value { line.new ≡ line.old ++ join_with_byte 43 (names_of_set (bits_of perms) (rows_of flags.now)) }
-    ensures fits { length line.new ≤ length line.old + room_of (rows_of flags.now) }
+    ensures fits { length line.new ≤ length line.old + names_length (rows_of flags.now) }
 {
     let mut separator: &[u8] = b"";
     for flag in flags {

@@ -2,7 +2,7 @@
 ghost use Rattle.std.specs.Prelude.{◌≡◌, ◌*◌, ◌+◌, ◌<◌, ◌≤◌, ◌^◌, ◌++◌, ◌↔◌, IsTrue, codes, length};
 ghost use Rattle.cc_bounds.specs.Span.{SharesByte};
 ghost use Rattle.cc_explain.specs.Explanation.{AreRows, cell_size, picture_text, row_text, ruler_text};
-ghost use Rattle.cc_explain.specs.Picture.{IsRow};
+ghost use Rattle.cc_explain.specs.Picture.{IsPictureRow};
 
 use crate::steps::{LAPS, Steps, section};
 use cc_text::{ROOM, Text, end_with_hexadecimal, push_decimal};
@@ -84,7 +84,7 @@ fn byte_at(address: u128) -> Stretch
 fn row_of(steps: &Steps, stretch: &Stretch, mark: u8) -> [u8; CELLS]
     requires exponent { steps.now.exponent ≤ 52 }
     requires start { steps.now.start < 2 ^ 67 }
-    ensures { IsRow steps.now.start (cell_size steps.now) (record { base = stretch.now.first; top = stretch.now.end }) mark result }
+    ensures { IsPictureRow steps.now.start (cell_size steps.now) (record { base = stretch.now.first; top = stretch.now.end }) mark result }
 {
     let start = steps.start;
     let size = cell_size(steps);

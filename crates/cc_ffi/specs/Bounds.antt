@@ -8,15 +8,15 @@ use Rattle.cc_bounds.specs.Decoding.{stored_exponent, DecodesTo}
 use Rattle.cc_bounds.specs.Tightest.{DecodesBack, IsTight, IsTightest}
 use Rattle.cc_ffi.specs.declared.structs.Bounds.{Bounds}
 use Rattle.cc_ffi.specs.declared.structs.GrantedBounds.{GrantedBounds}
-use Rattle.cc_ffi.specs.Numbers.{number_of}
+use Rattle.cc_ffi.specs.Numbers.{number_of_halves}
 
 -- The span of a base and a top in halves.
 abbrev pub span_of : (base top_high top_low : ℕ) → Span
-span_of base top_high top_low = record { base = base; top = number_of top_high top_low }
+span_of base top_high top_low = record { base = base; top = number_of_halves top_high top_low }
 
--- IsDecoded holds if the bounds are those that a word with these fields decodes to, with its
+-- AreDecoded holds if the bounds are those that a word with these fields decodes to, with its
 -- exponent.
-pub record IsDecoded (fields : Fields) (bounds : Bounds) : Type 0 where
+pub record AreDecoded (fields : Fields) (bounds : Bounds) : Type 0 where
   pub decodes : DecodesTo fields (span_of bounds.base bounds.top_high bounds.top_low)
   pub exponent : bounds.exponent ≡ stored_exponent fields
 
@@ -51,7 +51,7 @@ pub record IsRequestGranted (request : Span) (told : GrantedBounds) : Type 0 whe
 pub record IsNothing (set : GrantedBounds) : Type 0 where
   pub in_range : set.in_range ≡ false
   pub base : set.base ≡ 0
-  pub top : number_of set.top_high set.top_low ≡ 0
+  pub top : number_of_halves set.top_high set.top_low ≡ 0
   pub t : set.t ≡ 0
   pub b : set.b ≡ 0
   pub exponent : set.exponent ≡ 0

@@ -3,16 +3,16 @@ use Rattle.std.specs.Prelude.{ℕ, ◌≡◌, Result, Ok, Err}
 use Rattle.cc_word.specs.declared.refusal.Refusal.{Refusal}
 use Rattle.cc_word.specs.Refusal.{code_of}
 use Rattle.cc_ffi.specs.declared.structs.MadeWord.{MadeWord}
-use Rattle.cc_ffi.specs.Numbers.{number_of}
+use Rattle.cc_ffi.specs.Numbers.{number_of_halves}
 
 -- IsTold holds if C's struct has the word with refusal 0, or zero halves with the code of the
 -- refusal.
 abbrev pub IsTold : (answer : Result ℕ Refusal) (told : MadeWord) → Type 0
-IsTold (Ok word) told = (number_of told.high told.low ≡ word) × (told.refusal ≡ 0)
-IsTold (Err refusal) told = (number_of told.high told.low ≡ 0) × (told.refusal ≡ code_of refusal)
+IsTold (Ok word) told = (number_of_halves told.high told.low ≡ word) × (told.refusal ≡ 0)
+IsTold (Err refusal) told = (number_of_halves told.high told.low ≡ 0) × (told.refusal ≡ code_of refusal)
 
--- IsAnswer holds if the rule has a result, and C's struct has that result.
-pub record IsAnswer (rule : Result ℕ Refusal → Type 0) (told : MadeWord) : Type 0 where
+-- GivesResult holds if the rule has a result, and C's struct has that result.
+pub record GivesResult (rule : Result ℕ Refusal → Type 0) (told : MadeWord) : Type 0 where
   pub answer : Result ℕ Refusal
   pub is_answer : rule answer
   pub is_told : IsTold answer told

@@ -1,9 +1,9 @@
 //! Bounds: those that a word decodes to, those that a request is granted, and the addresses that
 //! they allow.
 ghost use Rattle.std.specs.Prelude.{false, ◌≡◌, ◌+◌, ◌^◌, ◌≤◌, ◌↔◌, IsTrue};
-ghost use Rattle.cc_ffi.specs.Numbers.{number_of};
+ghost use Rattle.cc_ffi.specs.Numbers.{number_of_halves};
 ghost use Rattle.cc_ffi.specs.Words.{OfFields};
-ghost use Rattle.cc_ffi.specs.Bounds.{IsDecoded, IsRequestGranted, IsNothing, IsToldOf, StoresNone};
+ghost use Rattle.cc_ffi.specs.Bounds.{AreDecoded, IsRequestGranted, IsNothing, IsToldOf, StoresNone};
 ghost use Rattle.cc_bounds.specs.Span.{span_from};
 ghost use Rattle.cc_bounds.specs.Decoding.{stored_exponent};
 ghost use Rattle.cc_bounds.specs.Window.{Represents};
@@ -18,7 +18,7 @@ use cc_word::unpack;
 /// Returns the base, the top and the exponent of a word, for every word.
 #[unsafe(no_mangle)]
 pub extern "C" fn cheri_cap_decode(high: u64, low: u64) -> Bounds
-    ensures { OfFields (number_of high low) (λ fields. IsDecoded fields result) }
+    ensures { OfFields (number_of_halves high low) (λ fields. AreDecoded fields result) }
 {
     let fields = unpack(number(high, low));
     let span = decode(&fields);
@@ -34,7 +34,7 @@ pub extern "C" fn cheri_cap_decode(high: u64, low: u64) -> Bounds
 /// Returns the exponent of a word, from 0 to 52, for every word.
 #[unsafe(no_mangle)]
 pub extern "C" fn cheri_cap_exponent(high: u64, low: u64) -> u8
-    ensures { OfFields (number_of high low) (λ fields. result ≡ stored_exponent fields) }
+    ensures { OfFields (number_of_halves high low) (λ fields. result ≡ stored_exponent fields) }
 {
     exponent(&unpack(number(high, low)))
 }
@@ -67,9 +67,9 @@ pub extern "C" fn cheri_cap_set_bounds(
     length_high: u64,
     length_low: u64,
 ) -> GrantedBounds
-    ensures granted { base + number_of length_high length_low ≤ 2 ^ 64
-        → IsRequestGranted (span_from base (number_of length_high length_low)) result }
-    ensures refused { (¬ base + number_of length_high length_low ≤ 2 ^ 64) → IsNothing result }
+    ensures granted { base + number_of_halves length_high length_low ≤ 2 ^ 64
+        → IsRequestGranted (span_from base (number_of_halves length_high length_low)) result }
+    ensures refused { (¬ base + number_of_halves length_high length_low ≤ 2 ^ 64) → IsNothing result }
 {
     let length = number(length_high, length_low);
     if length > ADDRESS_SPACE - u128::from(base) {
@@ -95,9 +95,9 @@ pub extern "C" fn cheri_cap_set_bounds(
 #[inline(always)]
 #[unsafe(no_mangle)]
 pub extern "C" fn cheri_cap_represents(high: u64, low: u64, address: u64) -> bool
-    ensures stored { OfFields (number_of high low) (λ fields.
+    ensures stored { OfFields (number_of_halves high low) (λ fields.
         (span : SpanSpec) → StoresSpan fields span → (IsTrue result ↔ Represents span address)) }
-    ensures none { OfFields (number_of high low) (λ fields. StoresNone fields → result ≡ false) }
+    ensures none { OfFields (number_of_halves high low) (λ fields. StoresNone fields → result ≡ false) }
 {
     match Set::of_fields(&unpack(number(high, low))) {
         Some(set) => represents(&set, address),

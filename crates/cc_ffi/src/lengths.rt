@@ -1,6 +1,6 @@
 //! Lengths: the granule, the representable length and the alignment mask.
 ghost use Rattle.std.specs.Prelude.{◌≡◌, ◌-◌, ◌^◌, ◌<◌, ◌≤◌};
-ghost use Rattle.cc_ffi.specs.Numbers.{number_of, value_of};
+ghost use Rattle.cc_ffi.specs.Numbers.{number_of_halves, number_in};
 ghost use Rattle.cc_bounds.specs.Span.{from_zero};
 ghost use Rattle.cc_bounds.specs.Granule.{IsGranule, granule_of, padded_size};
 
@@ -12,8 +12,8 @@ use cc_bounds::ADDRESS_SPACE;
 /// from 8 to 2^55. Returns 0 for a length above 2^64.
 #[unsafe(no_mangle)]
 pub extern "C" fn cheri_cap_granule(length_high: u64, length_low: u64) -> u64
-    ensures granule { number_of length_high length_low ≤ 2 ^ 64 → IsGranule (from_zero (number_of length_high length_low)) result }
-    ensures too_long { 2 ^ 64 < number_of length_high length_low → result ≡ 0 }
+    ensures granule { number_of_halves length_high length_low ≤ 2 ^ 64 → IsGranule (from_zero (number_of_halves length_high length_low)) result }
+    ensures too_long { 2 ^ 64 < number_of_halves length_high length_low → result ≡ 0 }
 {
     let length = number(length_high, length_low);
     if length > ADDRESS_SPACE {
@@ -28,8 +28,8 @@ pub extern "C" fn cheri_cap_granule(length_high: u64, length_low: u64) -> u64
 /// Instruction: CRRL.
 #[unsafe(no_mangle)]
 pub extern "C" fn cheri_cap_round_length(length_high: u64, length_low: u64) -> Halves
-    ensures rounded { number_of length_high length_low ≤ 2 ^ 64 → value_of result ≡ padded_size (number_of length_high length_low) }
-    ensures too_long { 2 ^ 64 < number_of length_high length_low → value_of result ≡ 2 ^ 128 - 1 }
+    ensures rounded { number_of_halves length_high length_low ≤ 2 ^ 64 → number_in result ≡ padded_size (number_of_halves length_high length_low) }
+    ensures too_long { 2 ^ 64 < number_of_halves length_high length_low → number_in result ≡ 2 ^ 128 - 1 }
 {
     let length = number(length_high, length_low);
     if length > ADDRESS_SPACE {
@@ -44,8 +44,8 @@ pub extern "C" fn cheri_cap_round_length(length_high: u64, length_low: u64) -> H
 /// Instruction: CRAM.
 #[unsafe(no_mangle)]
 pub extern "C" fn cheri_cap_alignment_mask(length_high: u64, length_low: u64) -> u64
-    ensures mask { number_of length_high length_low ≤ 2 ^ 64 → result ≡ 2 ^ 64 - granule_of (from_zero (number_of length_high length_low)) }
-    ensures too_long { 2 ^ 64 < number_of length_high length_low → result ≡ 0 }
+    ensures mask { number_of_halves length_high length_low ≤ 2 ^ 64 → result ≡ 2 ^ 64 - granule_of (from_zero (number_of_halves length_high length_low)) }
+    ensures too_long { 2 ^ 64 < number_of_halves length_high length_low → result ≡ 0 }
 {
     let length = number(length_high, length_low);
     if length > ADDRESS_SPACE {

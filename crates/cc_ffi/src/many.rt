@@ -6,9 +6,9 @@ ghost use Rattle.std.specs.Prelude.{◌≡◌, length, min, slice_index};
 ghost use Rattle.std.specs.List.{SameFrom};
 ghost use Rattle.cc_cap.specs.Canonical.{IsCanonical};
 ghost use Rattle.cc_cap.specs.Many.{AnswersEach};
-ghost use Rattle.cc_ffi.specs.Numbers.{value_of};
+ghost use Rattle.cc_ffi.specs.Numbers.{number_in};
 ghost use Rattle.cc_ffi.specs.Words.{OfFields};
-ghost use Rattle.cc_ffi.specs.Bounds.{IsDecoded};
+ghost use Rattle.cc_ffi.specs.Bounds.{AreDecoded};
 ghost use Rattle.cc_ffi.specs.Many.{IsOneIf, IsOneIfRepresentable, word_at};
 
 use crate::bounds::{cheri_cap_decode, cheri_cap_represents};
@@ -20,7 +20,7 @@ use crate::words::cheri_cap_is_canonical;
 #[unsafe(no_mangle)]
 pub extern "C" fn cheri_cap_decode_many(words: &[Halves], bounds: &mut [Bounds]) -> usize
     ensures count { result ≡ min (length words.now) (length bounds.old) }
-    ensures decoded { AnswersEach (λ i told. OfFields (word_at words.now i) (λ fields. IsDecoded fields told)) bounds.new result }
+    ensures decoded { AnswersEach (λ i told. OfFields (word_at words.now i) (λ fields. AreDecoded fields told)) bounds.new result }
     ensures rest { SameFrom bounds.old bounds.new result }
 {
     let count = words.len().min(bounds.len());
@@ -67,14 +67,14 @@ pub extern "C" fn cheri_cap_represents_many(
 
 /// Returns the base, the top and the exponent of a word.
 fn decoded(word: Halves) -> Bounds
-    ensures { OfFields (value_of word) (λ fields. IsDecoded fields result) }
+    ensures { OfFields (number_in word) (λ fields. AreDecoded fields result) }
 {
     cheri_cap_decode(word.high, word.low)
 }
 
 /// Returns 1 for a canonical word, and 0 for any other.
 fn canonical(word: Halves) -> u8
-    ensures { IsOneIf (IsCanonical (value_of word)) result }
+    ensures { IsOneIf (IsCanonical (number_in word)) result }
 {
     if cheri_cap_is_canonical(word.high, word.low) {
         1
@@ -86,7 +86,7 @@ fn canonical(word: Halves) -> u8
 /// Returns 1 for a word that stores a sound span for which the address is representable, and 0 for
 /// any other.
 fn represented(word: Halves, address: u64) -> u8
-    ensures { IsOneIfRepresentable (value_of word) address result }
+    ensures { IsOneIfRepresentable (number_in word) address result }
 {
     if cheri_cap_represents(word.high, word.low, address) {
         1

@@ -6,9 +6,9 @@ ghost use Rattle.cc_cap.specs.Capability.{Capability, GrantsNoMore};
 ghost use Rattle.cc_cap.specs.Canonical.{IsWordOf};
 ghost use Rattle.cc_cap.specs.Derivation.{SetsAddress, Increments, SetsBounds, SetsExactBounds, MasksPermissions, SetsFlag, Seals, Unseals, Rebuilds};
 ghost use Rattle.cc_cap.specs.WordRules.{OnWord, OnWords, IsSubset};
-ghost use Rattle.cc_ffi.specs.Numbers.{number_of};
+ghost use Rattle.cc_ffi.specs.Numbers.{number_of_halves};
 ghost use Rattle.cc_ffi.specs.Words.{OfFields};
-ghost use Rattle.cc_ffi.specs.Rules.{IsTold, IsAnswer};
+ghost use Rattle.cc_ffi.specs.Rules.{IsTold, GivesResult};
 
 use crate::halves::{halves, number};
 use crate::structs::MadeWord;
@@ -42,7 +42,7 @@ fn told(answer: Result<u128, Refusal>) -> MadeWord
 /// Instruction: CSetAddr.
 #[unsafe(no_mangle)]
 pub extern "C" fn cheri_cap_set_address(high: u64, low: u64, address: u64) -> MadeWord
-    ensures { IsAnswer (OnWord (λ cap. SetsAddress cap address) (number_of high low)) result }
+    ensures { GivesResult (OnWord (λ cap. SetsAddress cap address) (number_of_halves high low)) result }
 {
     told(words::set_address(number(high, low), address))
 }
@@ -53,7 +53,7 @@ pub extern "C" fn cheri_cap_set_address(high: u64, low: u64, address: u64) -> Ma
 /// Instruction: CIncOffset.
 #[unsafe(no_mangle)]
 pub extern "C" fn cheri_cap_increment(high: u64, low: u64, amount: u64) -> MadeWord
-    ensures { IsAnswer (OnWord (λ cap. Increments cap amount) (number_of high low)) result }
+    ensures { GivesResult (OnWord (λ cap. Increments cap amount) (number_of_halves high low)) result }
 {
     told(words::increment(number(high, low), amount))
 }
@@ -70,7 +70,7 @@ pub extern "C" fn cheri_cap_set_bounds_on(
     length_high: u64,
     length_low: u64,
 ) -> MadeWord
-    ensures { IsAnswer (OnWord (λ cap. SetsBounds cap (number_of length_high length_low)) (number_of high low)) result }
+    ensures { GivesResult (OnWord (λ cap. SetsBounds cap (number_of_halves length_high length_low)) (number_of_halves high low)) result }
 {
     told(words::set_bounds(number(high, low), number(length_high, length_low)))
 }
@@ -86,7 +86,7 @@ pub extern "C" fn cheri_cap_set_bounds_exact_on(
     length_high: u64,
     length_low: u64,
 ) -> MadeWord
-    ensures { IsAnswer (OnWord (λ cap. SetsExactBounds cap (number_of length_high length_low)) (number_of high low)) result }
+    ensures { GivesResult (OnWord (λ cap. SetsExactBounds cap (number_of_halves length_high length_low)) (number_of_halves high low)) result }
 {
     told(words::set_bounds_exact(number(high, low), number(length_high, length_low)))
 }
@@ -97,7 +97,7 @@ pub extern "C" fn cheri_cap_set_bounds_exact_on(
 /// Instruction: CAndPerm.
 #[unsafe(no_mangle)]
 pub extern "C" fn cheri_cap_and_perms(high: u64, low: u64, mask: u16) -> MadeWord
-    ensures { IsAnswer (OnWord (λ cap. MasksPermissions cap mask) (number_of high low)) result }
+    ensures { GivesResult (OnWord (λ cap. MasksPermissions cap mask) (number_of_halves high low)) result }
 {
     told(words::and_perms(number(high, low), Perms::from_bits_retain(mask)))
 }
@@ -108,7 +108,7 @@ pub extern "C" fn cheri_cap_and_perms(high: u64, low: u64, mask: u16) -> MadeWor
 /// Instruction: CSetFlags.
 #[unsafe(no_mangle)]
 pub extern "C" fn cheri_cap_set_flag(high: u64, low: u64, flag: bool) -> MadeWord
-    ensures { IsAnswer (OnWord (λ cap. SetsFlag cap flag) (number_of high low)) result }
+    ensures { GivesResult (OnWord (λ cap. SetsFlag cap flag) (number_of_halves high low)) result }
 {
     told(words::set_flag(number(high, low), flag))
 }
@@ -125,7 +125,7 @@ pub extern "C" fn cheri_cap_seal(
     authority_high: u64,
     authority_low: u64,
 ) -> MadeWord
-    ensures { IsAnswer (OnWords Seals (number_of high low) (number_of authority_high authority_low)) result }
+    ensures { GivesResult (OnWords Seals (number_of_halves high low) (number_of_halves authority_high authority_low)) result }
 {
     told(words::seal(number(high, low), number(authority_high, authority_low)))
 }
@@ -142,7 +142,7 @@ pub extern "C" fn cheri_cap_unseal(
     authority_high: u64,
     authority_low: u64,
 ) -> MadeWord
-    ensures { IsAnswer (OnWords Unseals (number_of high low) (number_of authority_high authority_low)) result }
+    ensures { GivesResult (OnWords Unseals (number_of_halves high low) (number_of_halves authority_high authority_low)) result }
 {
     told(words::unseal(number(high, low), number(authority_high, authority_low)))
 }
@@ -159,7 +159,7 @@ pub extern "C" fn cheri_cap_rebuild(
     high: u64,
     low: u64,
 ) -> MadeWord
-    ensures { IsAnswer (OnWord (λ cap. Rebuilds cap (number_of high low)) (number_of authority_high authority_low)) result }
+    ensures { GivesResult (OnWord (λ cap. Rebuilds cap (number_of_halves high low)) (number_of_halves authority_high authority_low)) result }
 {
     told(words::rebuild(number(authority_high, authority_low), number(high, low)))
 }
@@ -170,9 +170,9 @@ pub extern "C" fn cheri_cap_rebuild(
 /// Instruction: CTestSubset.
 #[unsafe(no_mangle)]
 pub extern "C" fn cheri_cap_is_subset(high: u64, low: u64, outer_high: u64, outer_low: u64) -> bool
-    ensures words { OfFields (number_of high low) (λ inner. OfFields (number_of outer_high outer_low) (λ outer.
+    ensures words { OfFields (number_of_halves high low) (λ inner. OfFields (number_of_halves outer_high outer_low) (λ outer.
         IsTrue result ↔ IsSubset inner outer)) }
-    ensures capabilities { (one other : Capability) → IsWordOf one (number_of high low) → IsWordOf other (number_of outer_high outer_low)
+    ensures capabilities { (one other : Capability) → IsWordOf one (number_of_halves high low) → IsWordOf other (number_of_halves outer_high outer_low)
         → (IsTrue result ↔ GrantsNoMore one other) }
 {
     words::is_subset(number(high, low), number(outer_high, outer_low))

@@ -2,8 +2,8 @@
 ghost use Rattle.std.specs.Prelude.{◌≡◌, ◌-◌, ◌<◌, ◌↔◌, Some, drop, length, replicate, slice_get, take, IsTrue};
 ghost use Rattle.std.specs.Str.Parse.{digits_value};
 ghost use Rattle.cc_word.specs.WordText.{IsWordText, digits_of};
-ghost use Rattle.cc_cap.specs.LineText.{IsLine};
-ghost use Rattle.cc_ffi.specs.Numbers.{number_of};
+ghost use Rattle.cc_cap.specs.LineText.{IsWordLine};
+ghost use Rattle.cc_ffi.specs.Numbers.{number_of_halves};
 
 use crate::halves::{halves, number};
 use crate::structs::ReadWord;
@@ -14,8 +14,8 @@ use cc_cap::WordLine;
 #[unsafe(no_mangle)]
 pub extern "C" fn cheri_cap_read_word(text: &[u8]) -> ReadWord
     ensures found { IsTrue result.found ↔ IsWordText text.now }
-    ensures value { IsTrue result.found → number_of result.high result.low ≡ digits_value 16 text.now }
-    ensures none { (¬ IsTrue result.found) → number_of result.high result.low ≡ 0 }
+    ensures value { IsTrue result.found → number_of_halves result.high result.low ≡ digits_value 16 text.now }
+    ensures none { (¬ IsTrue result.found) → number_of_halves result.high result.low ≡ 0 }
 {
     match cc_word::read_word_fast(text) {
         Some(word) => {
@@ -37,7 +37,7 @@ pub extern "C" fn cheri_cap_read_word(text: &[u8]) -> ReadWord
 /// Writes the 32 hexadecimal digits of a word, in lower case, and no zero byte after them.
 #[unsafe(no_mangle)]
 pub extern "C" fn cheri_cap_write_word(high: u64, low: u64, text: &mut [u8; 32])
-    ensures { text.new ≡ digits_of 32 (number_of high low) }
+    ensures { text.new ≡ digits_of 32 (number_of_halves high low) }
 {
     cc_word::write_word_fast_to(number(high, low), text);
 }
@@ -46,7 +46,7 @@ pub extern "C" fn cheri_cap_write_word(high: u64, low: u64, text: &mut [u8; 32])
 /// byte.
 #[unsafe(no_mangle)]
 pub extern "C" fn cheri_cap_format(high: u64, low: u64, tagged: bool, text: &mut [u8; 96]) -> usize
-    ensures line { IsLine (number_of high low) tagged (take result text.new) }
+    ensures line { IsWordLine (number_of_halves high low) tagged (take result text.new) }
     ensures fits { result < 96 }
     ensures ended { slice_get text.new result ≡ Some 0 }
     ensures rest { drop result text.new ≡ replicate (96 - result) 0 }

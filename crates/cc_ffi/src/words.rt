@@ -1,6 +1,6 @@
 //! Words: their fields, and whether a capability has them.
 ghost use Rattle.std.specs.Prelude.{◌≡◌, ◌↔◌, IsTrue};
-ghost use Rattle.cc_ffi.specs.Numbers.{number_of, value_of};
+ghost use Rattle.cc_ffi.specs.Numbers.{number_of_halves, number_in};
 ghost use Rattle.cc_ffi.specs.Words.{OfFields, IsSame, IsCut};
 ghost use Rattle.cc_word.specs.Word.{word_of};
 ghost use Rattle.cc_word.specs.declared.fields.Fields.{Fields as FieldsSpec};
@@ -13,7 +13,7 @@ use cc_word::{Fields, pack, unpack};
 /// Returns the fields of a word, for every word.
 #[unsafe(no_mangle)]
 pub extern "C" fn cheri_cap_unpack(high: u64, low: u64) -> WordFields
-    ensures { OfFields (number_of high low) (λ fields. IsSame result fields) }
+    ensures { OfFields (number_of_halves high low) (λ fields. IsSame result fields) }
 {
     let fields = unpack(number(high, low));
     WordFields {
@@ -31,7 +31,7 @@ pub extern "C" fn cheri_cap_unpack(high: u64, low: u64) -> WordFields
 /// Returns the permissions of a word, with GLOBAL as the lowest bit.
 #[unsafe(no_mangle)]
 pub extern "C" fn cheri_cap_perms(high: u64, low: u64) -> u16
-    ensures { OfFields (number_of high low) (λ fields. result ≡ fields.perms) }
+    ensures { OfFields (number_of_halves high low) (λ fields. result ≡ fields.perms) }
 {
     unpack(number(high, low)).perms
 }
@@ -39,7 +39,7 @@ pub extern "C" fn cheri_cap_perms(high: u64, low: u64) -> u16
 /// Returns the object type of a word, 18 bits.
 #[unsafe(no_mangle)]
 pub extern "C" fn cheri_cap_otype(high: u64, low: u64) -> u32
-    ensures { OfFields (number_of high low) (λ fields. result ≡ fields.otype) }
+    ensures { OfFields (number_of_halves high low) (λ fields. result ≡ fields.otype) }
 {
     unpack(number(high, low)).otype
 }
@@ -47,7 +47,7 @@ pub extern "C" fn cheri_cap_otype(high: u64, low: u64) -> u32
 /// Returns the flag of a word: whether code runs in capability mode.
 #[unsafe(no_mangle)]
 pub extern "C" fn cheri_cap_flag(high: u64, low: u64) -> bool
-    ensures { OfFields (number_of high low) (λ fields. result ≡ fields.flag) }
+    ensures { OfFields (number_of_halves high low) (λ fields. result ≡ fields.flag) }
 {
     unpack(number(high, low)).flag
 }
@@ -71,7 +71,7 @@ fn cut(given: WordFields) -> Fields
 /// Returns the word of fields. If a number is wider than its field, its lowest bits count.
 #[unsafe(no_mangle)]
 pub extern "C" fn cheri_cap_pack(given: WordFields) -> Halves
-    ensures { (fields : FieldsSpec) → IsCut given fields → word_of fields ≡ value_of result }
+    ensures { (fields : FieldsSpec) → IsCut given fields → word_of fields ≡ number_in result }
 {
     halves(pack(&cut(given)))
 }
@@ -80,7 +80,7 @@ pub extern "C" fn cheri_cap_pack(given: WordFields) -> Halves
 #[inline(always)]
 #[unsafe(no_mangle)]
 pub extern "C" fn cheri_cap_is_canonical(high: u64, low: u64) -> bool
-    ensures { IsTrue result ↔ IsCanonical (number_of high low) }
+    ensures { IsTrue result ↔ IsCanonical (number_of_halves high low) }
 {
     cc_cap::is_canonical(number(high, low))
 }

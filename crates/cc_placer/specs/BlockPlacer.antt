@@ -4,7 +4,7 @@ use Rattle.cc_bounds.specs.declared.span.Span.{Span}
 use Rattle.cc_placer.specs.BlockState.{BlockState}
 use Rattle.cc_placer.specs.Blocks.{AreBlocks, blocks_end, spans_in}
 use Rattle.cc_placer.specs.Groups.{AreCovered}
-use Rattle.cc_placer.specs.PlacerState.{IsPool}
+use Rattle.cc_placer.specs.PlacerState.{IsPoolSpan}
 use Rattle.cc_placer.specs.RowState.{RowState}
 
 -- The number of blocks that a placer of `limit` spans reserves.
@@ -24,6 +24,6 @@ pub record IsBlockPlacer (limit count : ℕ) (pool : Option Span) (row : RowStat
   pub few : limit ≤ 65536
   pub room : row.room ≡ block_count limit
   pub fits : length row.blocks ≤ row.room
-  pub is_pool : IfSome pool IsPool
+  pub is_pool : IfSome pool IsPoolSpan
   pub are_blocks : AreBlocksIn pool row.blocks
   pub covered : AreCovered row.blocks groups
