@@ -5,3 +5,4 @@ pub mod PairLemmas
 pub mod ReadingLemmas
 pub mod WritingLemmas
 pub mod DigitLemmas
+pub mod ReadBackLemmas
