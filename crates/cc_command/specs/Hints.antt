@@ -42,7 +42,7 @@ hints_text hints =
     pool_hint hints.inexact
     ++ (line_hint hints.carriage_return (codes " ends in CR: end lines in LF alone, as dos2unix does")
     ++ (line_hint hints.marked_word (codes " has a word with 0x or a colon: a word is 32 digits alone")
-    ++ line_hint hints.full (codes " is refused as full: --slots N gives more, up to 65536")))
+    ++ line_hint hints.full (codes " is refused as full: --slots N sets the limit, at most 65536")))
 
 -- `is_in_opening` holds if the count shows that a reply to the setup operations is its refusal. No
 -- public clause cites it.

@@ -100,7 +100,7 @@ fn push_hints(text: &mut Text, hints: &Hints)
     push_line_hint(
         text,
         hints.full,
-        b" is refused as full: --slots N gives more, up to 65536",
+        b" is refused as full: --slots N sets the limit, at most 65536",
     );
 }
 

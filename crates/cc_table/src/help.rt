@@ -46,7 +46,8 @@ cheri-cap explain <WORD>
 pub const EXPLAIN_CHOICE: &str = "give either WORD, or `--length N` and optionally `--base B`";
 
 pub(crate) const REQUEST_LENGTH_HELP: &str = "\
-Explain bounds of N bytes, at most 2^64: decimal digits, or 0x and hexadecimal digits of either case";
+Explain bounds of N bytes, at most 2^64: decimal digits, or 0x and hexadecimal digits of either case.
+Put 0x before a hexadecimal size that has none, as `nm -S` prints it";
 
 pub(crate) const REQUEST_BASE_HELP: &str =
     "The first address of the N bytes, in the form of N [default: 0]";
@@ -79,7 +80,8 @@ pub(crate) const ROUND_ABOUT: &str =
     "Shows the size and alignment to reserve for an allocation of N bytes";
 
 pub(crate) const LENGTH_HELP: &str = "\
-The length in bytes, at most 2^64: decimal digits, or 0x and hexadecimal digits of either case";
+The length in bytes, at most 2^64: decimal digits, or 0x and hexadecimal digits of either case. Put
+0x before a hexadecimal size that has none, as `nm -S` prints it";
 
 pub(crate) const ROUND_AFTER_HELP: &str = "\
 The output is one line, `round LENGTH GRANULE MASK`, with each number in hexadecimal:
