@@ -244,7 +244,7 @@ uint64_t cheri_cap_granule(uint64_t length_high, uint64_t length_low);
 
 /*
  * CRRL: returns the representable length, which is the length rounded up to a multiple of its
- * granule, at most 2^64.
+ * granule, at most 2^64. No exact bounds of at least `length` bytes are shorter.
  *
  * Both halves are all ones for a length above 2^64.
  */

@@ -3,7 +3,7 @@
 ghost use Rattle.std.specs.Prelude.{ℕ, Bool, ◌≡◌, ◌+◌, ◌%◌, ◌/◌, ◌^◌, ◌<◌, ◌≤◌, ◌↔◌};
 ghost use Rattle.cc_word.specs.declared.fields.Fields.{Fields as FieldsSpec};
 ghost use Rattle.cc_bounds.specs.declared.span.Span.{Span as SpanSpec};
-ghost use Rattle.cc_bounds.specs.Span.{IsSpan, span_from, from_zero};
+ghost use Rattle.cc_bounds.specs.Span.{IsSpan, length_of, span_from, from_zero};
 ghost use Rattle.cc_bounds.specs.Granule.{IsGranule, IsExponent, IsGranted, IsSound, granule_of, exponent_of, granted_span, padded_size};
 ghost use Rattle.cc_bounds.specs.Encoding.{HasBoundsFields, StoresSpan, ie_of, t_of, b_of};
 ghost use Rattle.cc_bounds.specs.Decoding.{IsTopMantissa, IsWindow, IsPlaced, IsTopBeside, DecodesTo, EveryBitCounts, ExactlyOne};
@@ -64,4 +64,16 @@ pub fn padded_spans_are_sound()
     ensures enough { (size : ℕ) → size ≤ 2 ^ 64 → size ≤ padded_size size }
     ensures little { (size : ℕ) → size ≤ 2 ^ 64 → padded_size size ≤ size + size / 512 }
     ensures fits { (size : ℕ) → size ≤ 2 ^ 64 → padded_size size ≤ 2 ^ 64 }
+{}
+
+/// Proves that a sound span of at least `size` bytes begins at a multiple of the granule of `size`,
+/// and is at least as long as the representable length of `size`.
+///
+/// With [`padded_spans_are_sound`], these are the least alignment and the least length of exact
+/// bounds that can hold `size` bytes.
+pub fn padded_sizes_are_least()
+    ensures aligned { (span : SpanSpec) (size : ℕ) → IsSpan span → IsSound span → size ≤ length_of span
+        → span.base % granule_of (from_zero size) ≡ 0 }
+    ensures enough { (span : SpanSpec) (size : ℕ) → IsSpan span → IsSound span → size ≤ length_of span
+        → padded_size size ≤ length_of span }
 {}

@@ -133,7 +133,8 @@ pub fn granule(len: u128) -> u64
 /// Returns the representable length: the length rounded up to a multiple of its granule, in bytes.
 ///
 /// That of the whole address space is 2^64, and not 0. A request for this many bytes, from a
-/// multiple of the granule up, has exact bounds.
+/// multiple of the granule up, has exact bounds. No exact bounds of at least `len` bytes are
+/// shorter.
 ///
 /// Requires: `len <= 2^64`.
 /// Instruction: CRRL (CRepresentableLength), which returns 0 if the length rounds to 2^64.
