@@ -1,3 +1,4 @@
 //! Setting bounds.
 mod plain_search;
 mod values;
+mod windows;

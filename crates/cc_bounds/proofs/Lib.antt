@@ -18,3 +18,4 @@ pub mod StoredLemmas
 pub mod FieldsLemmas
 pub mod DecisionLemmas
 pub mod PaddedLemmas
+pub mod KeptBoundsLemmas

@@ -56,7 +56,7 @@ raise_52 n a fits a_fits = record {
 }
 
 -- below exponent 51 whole windows make up 2 ^ 64
-windows-lap : (e : ℕ) → e ≤ 50 → 2 ^ (50 - e) * (8 * 2 ^ (e + 11)) ≡ 2 ^ 64
+pub windows-lap : (e : ℕ) → e ≤ 50 → 2 ^ (50 - e) * (8 * 2 ^ (e + 11)) ≡ 2 ^ 64
 windows-lap e small =
     let s : 50 - e + (e + 14) ≡ 64 = omega arith in
     let p : 2 ^ 64 ≡ 2 ^ (50 - e) * 2 ^ (e + 14) = ap (λ (n : ℕ). 2 ^ n) (sym s) ∙ pow-add 2 (50 - e) (e + 14) in

@@ -91,6 +91,12 @@ pub record DecodesTo (fields : Fields) (span : Span) : Type 0 where
   pub is_base : IsDecodedBase fields span.base
   pub is_top : IsDecodedTop fields span.base span.top
 
+-- `SharesBoundsFields` holds if `other` has the same bounds fields as `fields`: IE, T and B.
+pub record SharesBoundsFields (fields other : Fields) : Type 0 where
+  pub ie : other.ie ≡ fields.ie
+  pub t : other.t ≡ fields.t
+  pub b : other.b ≡ fields.b
+
 -- `EveryBitCounts` holds if every bit of the bounds fields counts in the bounds that they decode
 -- to. With IE, the exponent's digits are at most 52, and no bit of B is above bit 63, since the
 -- base keeps none there. Up to exponent 50, no bit of B can be.

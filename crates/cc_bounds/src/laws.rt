@@ -6,7 +6,8 @@ ghost use Rattle.cc_bounds.specs.declared.span.Span.{Span as SpanSpec};
 ghost use Rattle.cc_bounds.specs.Span.{IsSpan, length_of, span_from, from_zero};
 ghost use Rattle.cc_bounds.specs.Granule.{IsGranule, IsExponent, IsGranted, IsSound, granule_of, exponent_of, granted_span, padded_size};
 ghost use Rattle.cc_bounds.specs.Encoding.{HasBoundsFields, StoresSpan, ie_of, t_of, b_of};
-ghost use Rattle.cc_bounds.specs.Decoding.{IsTopMantissa, IsWindow, IsPlaced, IsTopBeside, DecodesTo, EveryBitCounts, ExactlyOne};
+ghost use Rattle.cc_bounds.specs.Window.{IsRepresentable};
+ghost use Rattle.cc_bounds.specs.Decoding.{stored_exponent, IsTopMantissa, IsWindow, IsPlaced, IsTopBeside, DecodesTo, SharesBoundsFields, EveryBitCounts, ExactlyOne};
 ghost use Rattle.cc_bounds.specs.Tightest.{IsDecoded};
 
 /// Proves that each relation that defines decoding has exactly one number, and so every word one
@@ -76,4 +77,17 @@ pub fn padded_sizes_are_least()
         → span.base % granule_of (from_zero size) ≡ 0 }
     ensures enough { (span : SpanSpec) (size : ℕ) → IsSpan span → IsSound span → size ≤ length_of span
         → padded_size size ≤ length_of span }
+{}
+
+/// Proves that a word keeps its bounds at another address if and only if this address is
+/// representable for them, for every word, canonical or not.
+///
+/// The two words share their bounds fields, and can differ in every other field. At exponents of at
+/// least 50, a word keeps its bounds at every address.
+pub fn representable_addresses_keep_bounds()
+    ensures window { (fields other : FieldsSpec) (span : SpanSpec) → SharesBoundsFields fields other
+        → DecodesTo fields span
+        → (DecodesTo other span ↔ IsRepresentable span.base (stored_exponent fields) other.address) }
+    ensures large { (fields other : FieldsSpec) (span : SpanSpec) → SharesBoundsFields fields other
+        → DecodesTo fields span → 50 ≤ stored_exponent fields → DecodesTo other span }
 {}

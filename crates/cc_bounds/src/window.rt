@@ -1,11 +1,14 @@
 //! The window of addresses at which bounds are representable.
 ghost use Rattle.std.specs.Prelude.{◌≡◌, ◌≤◌, ◌↔◌, IsTrue};
 ghost use Rattle.cc_word.specs.declared.fields.Fields.{Fields as FieldsSpec};
+ghost use Rattle.cc_bounds.specs.declared.span.Span.{Span as SpanSpec};
 ghost use Rattle.cc_bounds.specs.Window.{IsRepresentable, Represents};
 ghost use Rattle.cc_bounds.specs.Encoding.{HasBoundsFields};
-ghost use Rattle.cc_bounds.specs.Decoding.{DecodesTo};
+ghost use Rattle.cc_bounds.specs.Decoding.{stored_exponent, DecodesTo, SharesBoundsFields};
 
+use crate::decoding::{decode, exponent};
 use crate::encoding::Set;
+use cc_word::Fields;
 
 /// Returns whether the address is in the window, which wraps around the end of the address space.
 ///
@@ -35,4 +38,22 @@ pub fn represents(set: &Set, address: u64) -> bool
     ensures inside { set.now.granted.base ≤ address → address ≤ set.now.granted.top → IsTrue result }
 {
     is_representable(set.granted().base, set.e(), address)
+}
+
+/// Returns whether a word with these bounds fields decodes to the same bounds at `address` as at its
+/// own address.
+///
+/// The fields can be those of any word, canonical or not, and only the address is replaced. At
+/// exponents of at least 50, the result is true.
+///
+/// Source: UCAM-CL-TR-987, the representable region; Woodruff et al. 2019.
+pub fn keeps_bounds(fields: &Fields, address: u64) -> bool
+    ensures decodes { (other : FieldsSpec) (span : SpanSpec) → SharesBoundsFields fields.now other
+        → other.address ≡ address → DecodesTo fields.now span → (IsTrue result ↔ DecodesTo other span) }
+    ensures window { (span : SpanSpec) → DecodesTo fields.now span
+        → (IsTrue result ↔ IsRepresentable span.base (stored_exponent fields.now) address) }
+    ensures large { 50 ≤ stored_exponent fields.now → IsTrue result }
+{
+    let bounds = decode(fields);
+    is_representable(bounds.base, exponent(fields), address)
 }

@@ -1,0 +1,8 @@
+use Rattle.cc_bounds.proofs.KeptBoundsLemmas.{kept_in_window, kept_large}
+use Rattle.cc_bounds.proofs.laws.representable_addresses_keep_bounds.Goals as goal
+
+pub returns-clause-window : goal.returns-clause-window
+returns-clause-window c = kept_in_window
+
+pub returns-clause-large : goal.returns-clause-large
+returns-clause-large c = kept_large
