@@ -1,5 +1,6 @@
 -- The rules of derivation on words: from a word to a word or a refusal.
-use Rattle.std.specs.Prelude.{ℕ, ◌≡◌, Result, Ok, Err}
+use Rattle.std.specs.Prelude.{ℕ, ◌≡◌, Result, Ok, Err, IfOk}
+use Rattle.cc_word.specs.Word.{word_of}
 use Rattle.cc_word.specs.declared.fields.Fields.{Fields}
 use Rattle.cc_word.specs.Refusal.{RefusedUnless}
 use Rattle.cc_word.specs.declared.refusal.Refusal.{Refusal}
@@ -62,3 +63,20 @@ pub record IsSubset (inner outer : Fields) : Type 0 where
   pub outer_decodes : DecodesTo outer outer_span
   pub bytes : IsWithin inner_span outer_span
   pub permissions : HasAll outer.perms inner.perms
+
+-- `IsCanonicalSubset` holds if the inner word is canonical, and its fields are a subset of those of
+-- the outer word.
+pub record IsCanonicalSubset (inner outer : ℕ) : Type 0 where
+  pub canonical : IsCanonical inner
+  pub subset : (one other : Fields) → word_of one ≡ inner → word_of other ≡ outer → IsSubset one other
+
+-- `IsMonotonicOn` holds if each word that the rule on a word makes is a canonical subset of `word`.
+abbrev pub IsMonotonicOn : (rule : Capability → Result Capability Refusal → Type 0) (word : ℕ) → Type 0
+IsMonotonicOn rule word =
+    (result : Result ℕ Refusal) → OnWord rule word result → IfOk result (λ made. IsCanonicalSubset made word)
+
+-- `IsMonotonicUnder` holds if each word that the rule on two words makes is a canonical subset of
+-- `word`.
+abbrev pub IsMonotonicUnder : (rule : Capability → Capability → Result Capability Refusal → Type 0) (word authority : ℕ) → Type 0
+IsMonotonicUnder rule word authority =
+    (result : Result ℕ Refusal) → OnWords rule word authority result → IfOk result (λ made. IsCanonicalSubset made word)

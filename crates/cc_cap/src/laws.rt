@@ -1,9 +1,10 @@
 //! Laws of all capabilities, and of their words.
 ghost use Rattle.std.specs.Prelude.{ℕ, Bool};
 ghost use Rattle.cc_cap.specs.Capability.{Capability, IsCapability, IsUnsealed, GrantsNoMore};
+ghost use Rattle.cc_cap.specs.Canonical.{IsCanonical};
 ghost use Rattle.cc_cap.specs.Reach.{IsReachable};
 ghost use Rattle.cc_cap.specs.Derivation.{SetsAddress, Increments, SetsBounds, SetsExactBounds, MasksPermissions, SetsFlag, Seals, Unseals, Rebuilds};
-ghost use Rattle.cc_cap.specs.WordRules.{IsLikeCalls, AreLikeCalls};
+ghost use Rattle.cc_cap.specs.WordRules.{IsLikeCalls, AreLikeCalls, IsCanonicalSubset, IsMonotonicOn, IsMonotonicUnder};
 
 /// Proves that each capability grants no more than itself, and that granting no more is transitive.
 ///
@@ -37,4 +38,25 @@ pub fn rules_on_words_are_those_of_capabilities()
     ensures seal { (word authority : ℕ) → AreLikeCalls Seals word authority }
     ensures unseal { (word authority : ℕ) → AreLikeCalls Unseals word authority }
     ensures rebuild { (word authority : ℕ) → IsLikeCalls (λ by. Rebuilds by word) authority }
+{}
+
+/// Proves that the word that a rule on words returns is canonical, and a subset of the word that it
+/// is made of.
+///
+/// For `rebuild`, that is the word of the authority. A canonical word is a subset of itself, and
+/// subsets of canonical words form chains. So the result of any number of rules is a subset of the
+/// word that they began with.
+pub fn rules_on_words_are_monotonic()
+    ensures set_address { (address word : ℕ) → IsMonotonicOn (λ cap. SetsAddress cap address) word }
+    ensures increment { (amount word : ℕ) → IsMonotonicOn (λ cap. Increments cap amount) word }
+    ensures set_bounds { (len word : ℕ) → IsMonotonicOn (λ cap. SetsBounds cap len) word }
+    ensures set_bounds_exact { (len word : ℕ) → IsMonotonicOn (λ cap. SetsExactBounds cap len) word }
+    ensures and_perms { (mask word : ℕ) → IsMonotonicOn (λ cap. MasksPermissions cap mask) word }
+    ensures set_flag { (flag : Bool) (word : ℕ) → IsMonotonicOn (λ cap. SetsFlag cap flag) word }
+    ensures seal { (word authority : ℕ) → IsMonotonicUnder Seals word authority }
+    ensures unseal { (word authority : ℕ) → IsMonotonicUnder Unseals word authority }
+    ensures rebuild { (word authority : ℕ) → IsMonotonicOn (λ by. Rebuilds by word) authority }
+    ensures itself { (word : ℕ) → IsCanonical word → IsCanonicalSubset word word }
+    ensures chain { (one two three : ℕ) → IsCanonical three → IsCanonicalSubset one two → IsCanonicalSubset two three
+        → IsCanonicalSubset one three }
 {}
