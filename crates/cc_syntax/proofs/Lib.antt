@@ -5,3 +5,5 @@ pub mod ValueLemmas
 pub mod SpaceLemmas
 pub mod CommandLemmas
 pub mod TallyLemmas
+pub mod WordDigitLemmas
+pub mod ReadBackLemmas

@@ -248,7 +248,7 @@ digits_then (x ∷ word) rest is = by (both_true (is_digit x 10) (list_all (λ d
 decimal_of : (word : List ℕ) → 0 < length word → list_all (λ digit. is_digit digit 10) word ≡ true → numeral_of 10 word ≡ Some (digits_value 10 word)
 decimal_of word some is = rw (lt-ltb 0 (length word) some, is) refl
 
-spelled : (word : List ℕ) → 0 < length word → list_all (λ digit. is_digit digit 10) word ≡ true → number_of word ≡ Some (digits_value 10 word)
+pub spelled : (word : List ℕ) → 0 < length word → list_all (λ digit. is_digit digit 10) word ≡ true → number_of word ≡ Some (digits_value 10 word)
 spelled [] some is = absurd (omega (arith, some))
 spelled (x ∷ []) some is = by (bytes_eq (x ∷ []) (48 ∷ 120 ∷ [])) refl where
   by : (prefixed : Bool) → bytes_eq (x ∷ []) (48 ∷ 120 ∷ []) ≡ prefixed

@@ -2,6 +2,7 @@
 #![tactic(auto)]
 
 mod digits;
+mod laws;
 mod line_hints;
 mod numbers;
 mod parsing;
@@ -11,6 +12,7 @@ mod tally;
 mod values;
 mod words;
 
+pub use laws::printed_values_are_read_back;
 pub use numbers::{read_address, read_length};
 pub use parsing::{MOST_BYTES, Taker, parse_line, take_command};
 pub use planning::{plan_numbers, plan_opening};
