@@ -5,5 +5,4 @@ pub mod ValueLemmas
 pub mod SpaceLemmas
 pub mod CommandLemmas
 pub mod TallyLemmas
-pub mod WordDigitLemmas
 pub mod ReadBackLemmas

@@ -8,7 +8,7 @@ use Rattle.std.specs.Str.Parse.{digits_value}
 use Rattle.std.proofs.Math.Nat.{mod-lt}
 use Rattle.std.proofs.lemmas.Bool.{agree_below_at, cases_eq, eq-eqb, ne_eqb, lt-ltb}
 use Rattle.cc_word.specs.WordText.{digits_of, hexadecimal}
-use Rattle.cc_syntax.proofs.WordDigitLemmas.{digits-value, word_text, word_value}
+use Rattle.cc_word.proofs.ReadBackLemmas.{digits-value, word_text, word_value}
 use Rattle.cc_syntax.specs.Numbers.{number_of, numeral_of}
 use Rattle.cc_syntax.specs.Commands.{word_in}
 use Rattle.cc_syntax.proofs.SpaceLemmas.{spelled}
