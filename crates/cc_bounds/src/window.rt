@@ -3,7 +3,7 @@ ghost use Rattle.std.specs.Prelude.{◌≡◌, ◌≤◌, ◌↔◌, IsTrue};
 ghost use Rattle.cc_word.specs.declared.fields.Fields.{Fields as FieldsSpec};
 ghost use Rattle.cc_bounds.specs.declared.span.Span.{Span as SpanSpec};
 ghost use Rattle.cc_bounds.specs.Window.{IsRepresentable, Represents};
-ghost use Rattle.cc_bounds.specs.Encoding.{HasBoundsFields};
+ghost use Rattle.cc_bounds.specs.Encoding.{HasBoundsFields, StoresSpan};
 ghost use Rattle.cc_bounds.specs.Decoding.{stored_exponent, DecodesTo, SharesBoundsFields};
 
 use crate::decoding::{decode, exponent};
@@ -44,7 +44,8 @@ pub fn represents(set: &Set, address: u64) -> bool
 /// own address.
 ///
 /// The fields can be those of any word, canonical or not, and only the address is replaced. At
-/// exponents of at least 50, the result is true.
+/// exponents of at least 50, the result is true. If the fields store a sound span, it is that of
+/// [`represents`] for this span.
 ///
 /// Source: UCAM-CL-TR-987, the representable region; Woodruff et al. 2019.
 pub fn keeps_bounds(fields: &Fields, address: u64) -> bool
@@ -53,6 +54,7 @@ pub fn keeps_bounds(fields: &Fields, address: u64) -> bool
     ensures window { (span : SpanSpec) → DecodesTo fields.now span
         → (IsTrue result ↔ IsRepresentable span.base (stored_exponent fields.now) address) }
     ensures large { 50 ≤ stored_exponent fields.now → IsTrue result }
+    ensures stored { (span : SpanSpec) → StoresSpan fields.now span → (IsTrue result ↔ Represents span address) }
 {
     let bounds = decode(fields);
     is_representable(bounds.base, exponent(fields), address)

@@ -2,9 +2,12 @@ use Rattle.std.proofs.Common.{subst, ◌≡◌, ℕ, ◌≤◌, ◌<◌, ◌^◌
 use Rattle.std.specs.Prelude.{◌↔◌, IsTrue}
 use Rattle.cc_word.specs.declared.fields.Fields.{Fields}
 use Rattle.cc_bounds.specs.declared.span.Span.{Span}
-use Rattle.cc_bounds.specs.Window.{IsRepresentable}
+use Rattle.cc_bounds.specs.Window.{IsRepresentable, Represents}
+use Rattle.cc_bounds.specs.Encoding.{StoresSpan}
 use Rattle.cc_bounds.specs.Decoding.{stored_exponent, SharesBoundsFields, DecodesTo}
 use Rattle.cc_bounds.proofs.PlaceLemmas.{stored_exponent-le}
+use Rattle.cc_bounds.proofs.FieldsLemmas.{stored-decodes}
+use Rattle.cc_bounds.proofs.SoundDecodingLemmas.{represents-computed, stored_exponent-is}
 use Rattle.cc_bounds.proofs.KeptBoundsLemmas.{kept_in_window, kept_large}
 use Rattle.cc_bounds.proofs.window.keeps_bounds.Goals as goal
 
@@ -46,6 +49,15 @@ large_word fields span address answer fits decoded test large =
     let same : SharesBoundsFields fields other = record { ie = refl; t = refl; b = refl } in
     (other_word fields other span address answer same refl decoded test).1 (kept_large fields other span same decoded large)
 
+-- if the fields store a span, at the addresses that are representable for it
+stored_word : (fields : Fields) (span : Span) (address : ℕ) (answer : Type 0) → StoresSpan fields span
+    → answer ↔ IsRepresentable span.base (stored_exponent fields) address → answer ↔ Represents span address
+stored_word fields span address answer stores test =
+    let is_e = stored_exponent-is span fields stores.is_span stores.sound stores.bounds_fields in
+    let law = represents-computed span address stores.is_span in
+    let own = subst (λ (e : ℕ). answer ↔ IsRepresentable span.base e address) is_e test in
+    (λ h. law.0 (own.0 h), λ h. own.1 (law.1 h))
+
 pub is_representable-requires : goal.is_representable-requires
 is_representable-requires c = let small = stored_exponent-le c.args.fields.now in let is = c.exponent.ensures in omega (arith, small, is)
 
@@ -67,3 +79,9 @@ returns-clause-large c large =
     (own_window c.args.fields.now c.decode-bounds.result c.decode-bounds.result c.exponent.result c.args.address
     (IsTrue c.is_representable.result) refl c.exponent.ensures c.is_representable.ensures)
     large
+
+pub returns-clause-stored : goal.returns-clause-stored
+returns-clause-stored c span stores =
+    stored_word c.args.fields.now span c.args.address (IsTrue c.is_representable.result) stores
+    (own_window c.args.fields.now c.decode-bounds.result span c.exponent.result c.args.address (IsTrue c.is_representable.result)
+    (c.decode-bounds.ensures.only span (stored-decodes c.args.fields.now span stores)) c.exponent.ensures c.is_representable.ensures)
