@@ -1,1 +1,3 @@
 pub mod PaddingLemmas
+pub mod FieldsLemmas
+pub mod RuleLemmas

@@ -5,7 +5,7 @@ ghost use Rattle.cc_ffi.specs.Numbers.{number_of_halves};
 ghost use Rattle.cc_ffi.specs.Words.{OfFields};
 ghost use Rattle.cc_ffi.specs.Bounds.{AreDecoded, IsRequestGranted, IsNothing, IsToldOf, StoresNone};
 ghost use Rattle.cc_bounds.specs.Span.{span_from};
-ghost use Rattle.cc_bounds.specs.Decoding.{stored_exponent};
+ghost use Rattle.cc_bounds.specs.Decoding.{stored_exponent, DecodesTo};
 ghost use Rattle.cc_bounds.specs.Window.{Represents};
 ghost use Rattle.cc_bounds.specs.Encoding.{StoresSpan};
 ghost use Rattle.cc_bounds.specs.declared.span.Span.{Span as SpanSpec};
@@ -97,6 +97,8 @@ pub extern "C" fn cheri_cap_set_bounds(
 pub extern "C" fn cheri_cap_represents(high: u64, low: u64, address: u64) -> bool
     ensures stored { OfFields (number_of_halves high low) (λ fields.
         (span : SpanSpec) → StoresSpan fields span → (IsTrue result ↔ Represents span address)) }
+    ensures decodes { OfFields (number_of_halves high low) (λ fields. OfFields (number_of_halves high address) (λ moved.
+        (span : SpanSpec) → StoresSpan fields span → (IsTrue result ↔ DecodesTo moved span))) }
     ensures none { OfFields (number_of_halves high low) (λ fields. StoresNone fields → result ≡ false) }
 {
     match Set::of_fields(&unpack(number(high, low))) {

@@ -5,10 +5,10 @@ ghost use Rattle.cc_word.specs.declared.fields.Fields.{Fields as FieldsSpec};
 ghost use Rattle.cc_cap.specs.Capability.{Capability, GrantsNoMore};
 ghost use Rattle.cc_cap.specs.Canonical.{IsWordOf};
 ghost use Rattle.cc_cap.specs.Derivation.{SetsAddress, Increments, SetsBounds, SetsExactBounds, MasksPermissions, SetsFlag, Seals, Unseals, Rebuilds};
-ghost use Rattle.cc_cap.specs.WordRules.{OnWord, OnWords, IsSubset};
+ghost use Rattle.cc_cap.specs.WordRules.{OnWord, OnWords, IsSubset, IsCanonicalSubset};
 ghost use Rattle.cc_ffi.specs.Numbers.{number_of_halves};
 ghost use Rattle.cc_ffi.specs.Words.{OfFields};
-ghost use Rattle.cc_ffi.specs.Rules.{IsTold, GivesResult};
+ghost use Rattle.cc_ffi.specs.Rules.{IsTold, GivesResult, StoresRequest};
 
 use crate::halves::{halves, number};
 use crate::structs::MadeWord;
@@ -42,7 +42,8 @@ fn told(answer: Result<u128, Refusal>) -> MadeWord
 /// Instruction: CSetAddr.
 #[unsafe(no_mangle)]
 pub extern "C" fn cheri_cap_set_address(high: u64, low: u64, address: u64) -> MadeWord
-    ensures { GivesResult (OnWord (λ cap. SetsAddress cap address) (number_of_halves high low)) result }
+    ensures made { GivesResult (OnWord (λ cap. SetsAddress cap address) (number_of_halves high low)) result }
+    ensures monotonic { result.refusal ≡ 0 → IsCanonicalSubset (number_of_halves result.high result.low) (number_of_halves high low) }
 {
     told(words::set_address(number(high, low), address))
 }
@@ -53,7 +54,8 @@ pub extern "C" fn cheri_cap_set_address(high: u64, low: u64, address: u64) -> Ma
 /// Instruction: CIncOffset.
 #[unsafe(no_mangle)]
 pub extern "C" fn cheri_cap_increment(high: u64, low: u64, amount: u64) -> MadeWord
-    ensures { GivesResult (OnWord (λ cap. Increments cap amount) (number_of_halves high low)) result }
+    ensures made { GivesResult (OnWord (λ cap. Increments cap amount) (number_of_halves high low)) result }
+    ensures monotonic { result.refusal ≡ 0 → IsCanonicalSubset (number_of_halves result.high result.low) (number_of_halves high low) }
 {
     told(words::increment(number(high, low), amount))
 }
@@ -70,7 +72,10 @@ pub extern "C" fn cheri_cap_set_bounds_on(
     length_high: u64,
     length_low: u64,
 ) -> MadeWord
-    ensures { GivesResult (OnWord (λ cap. SetsBounds cap (number_of_halves length_high length_low)) (number_of_halves high low)) result }
+    ensures made { GivesResult (OnWord (λ cap. SetsBounds cap (number_of_halves length_high length_low)) (number_of_halves high low)) result }
+    ensures monotonic { result.refusal ≡ 0 → IsCanonicalSubset (number_of_halves result.high result.low) (number_of_halves high low) }
+    ensures stores { result.refusal ≡ 0 → OfFields (number_of_halves high low) (λ fields. OfFields (number_of_halves result.high result.low) (λ made.
+        StoresRequest fields (number_of_halves length_high length_low) made)) }
 {
     told(words::set_bounds(number(high, low), number(length_high, length_low)))
 }
@@ -86,7 +91,8 @@ pub extern "C" fn cheri_cap_set_bounds_exact_on(
     length_high: u64,
     length_low: u64,
 ) -> MadeWord
-    ensures { GivesResult (OnWord (λ cap. SetsExactBounds cap (number_of_halves length_high length_low)) (number_of_halves high low)) result }
+    ensures made { GivesResult (OnWord (λ cap. SetsExactBounds cap (number_of_halves length_high length_low)) (number_of_halves high low)) result }
+    ensures monotonic { result.refusal ≡ 0 → IsCanonicalSubset (number_of_halves result.high result.low) (number_of_halves high low) }
 {
     told(words::set_bounds_exact(number(high, low), number(length_high, length_low)))
 }
@@ -97,7 +103,8 @@ pub extern "C" fn cheri_cap_set_bounds_exact_on(
 /// Instruction: CAndPerm.
 #[unsafe(no_mangle)]
 pub extern "C" fn cheri_cap_and_perms(high: u64, low: u64, mask: u16) -> MadeWord
-    ensures { GivesResult (OnWord (λ cap. MasksPermissions cap mask) (number_of_halves high low)) result }
+    ensures made { GivesResult (OnWord (λ cap. MasksPermissions cap mask) (number_of_halves high low)) result }
+    ensures monotonic { result.refusal ≡ 0 → IsCanonicalSubset (number_of_halves result.high result.low) (number_of_halves high low) }
 {
     told(words::and_perms(number(high, low), Perms::from_bits_retain(mask)))
 }
@@ -108,7 +115,8 @@ pub extern "C" fn cheri_cap_and_perms(high: u64, low: u64, mask: u16) -> MadeWor
 /// Instruction: CSetFlags.
 #[unsafe(no_mangle)]
 pub extern "C" fn cheri_cap_set_flag(high: u64, low: u64, flag: bool) -> MadeWord
-    ensures { GivesResult (OnWord (λ cap. SetsFlag cap flag) (number_of_halves high low)) result }
+    ensures made { GivesResult (OnWord (λ cap. SetsFlag cap flag) (number_of_halves high low)) result }
+    ensures monotonic { result.refusal ≡ 0 → IsCanonicalSubset (number_of_halves result.high result.low) (number_of_halves high low) }
 {
     told(words::set_flag(number(high, low), flag))
 }
@@ -125,7 +133,8 @@ pub extern "C" fn cheri_cap_seal(
     authority_high: u64,
     authority_low: u64,
 ) -> MadeWord
-    ensures { GivesResult (OnWords Seals (number_of_halves high low) (number_of_halves authority_high authority_low)) result }
+    ensures made { GivesResult (OnWords Seals (number_of_halves high low) (number_of_halves authority_high authority_low)) result }
+    ensures monotonic { result.refusal ≡ 0 → IsCanonicalSubset (number_of_halves result.high result.low) (number_of_halves high low) }
 {
     told(words::seal(number(high, low), number(authority_high, authority_low)))
 }
@@ -142,7 +151,8 @@ pub extern "C" fn cheri_cap_unseal(
     authority_high: u64,
     authority_low: u64,
 ) -> MadeWord
-    ensures { GivesResult (OnWords Unseals (number_of_halves high low) (number_of_halves authority_high authority_low)) result }
+    ensures made { GivesResult (OnWords Unseals (number_of_halves high low) (number_of_halves authority_high authority_low)) result }
+    ensures monotonic { result.refusal ≡ 0 → IsCanonicalSubset (number_of_halves result.high result.low) (number_of_halves high low) }
 {
     told(words::unseal(number(high, low), number(authority_high, authority_low)))
 }
@@ -159,7 +169,8 @@ pub extern "C" fn cheri_cap_rebuild(
     high: u64,
     low: u64,
 ) -> MadeWord
-    ensures { GivesResult (OnWord (λ cap. Rebuilds cap (number_of_halves high low)) (number_of_halves authority_high authority_low)) result }
+    ensures made { GivesResult (OnWord (λ cap. Rebuilds cap (number_of_halves high low)) (number_of_halves authority_high authority_low)) result }
+    ensures monotonic { result.refusal ≡ 0 → IsCanonicalSubset (number_of_halves result.high result.low) (number_of_halves authority_high authority_low) }
 {
     told(words::rebuild(number(authority_high, authority_low), number(high, low)))
 }

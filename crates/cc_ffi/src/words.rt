@@ -1,5 +1,5 @@
 //! Words: their fields, and whether a capability has them.
-ghost use Rattle.std.specs.Prelude.{◌≡◌, ◌↔◌, IsTrue};
+ghost use Rattle.std.specs.Prelude.{ℕ, ◌≡◌, ◌<◌, ◌^◌, ◌↔◌, IsTrue};
 ghost use Rattle.cc_ffi.specs.Numbers.{number_of_halves, number_in};
 ghost use Rattle.cc_ffi.specs.Words.{OfFields, IsSame, IsCut};
 ghost use Rattle.cc_word.specs.Word.{word_of};
@@ -71,7 +71,9 @@ fn cut(given: WordFields) -> Fields
 /// Returns the word of fields. If a number is wider than its field, its lowest bits count.
 #[unsafe(no_mangle)]
 pub extern "C" fn cheri_cap_pack(given: WordFields) -> Halves
-    ensures { (fields : FieldsSpec) → IsCut given fields → word_of fields ≡ number_in result }
+    ensures cut { (fields : FieldsSpec) → IsCut given fields → word_of fields ≡ number_in result }
+    ensures unpacked { (high low : ℕ) → high < 2 ^ 64 → low < 2 ^ 64
+        → OfFields (number_of_halves high low) (λ fields. IsSame given fields) → number_in result ≡ number_of_halves high low }
 {
     halves(pack(&cut(given)))
 }

@@ -1,14 +1,25 @@
 use Rattle.std.proofs.Common.{ℕ, subst}
 use Rattle.cc_cap.specs.Derivation.{SetsBounds}
 use Rattle.cc_cap.specs.WordRules.{OnWord}
+use Rattle.cc_cap.proofs.SubsetLemmas.{SetsBounds-grants}
 use Rattle.cc_ffi.specs.Numbers.{number_of_halves}
+use Rattle.cc_ffi.proofs.RuleLemmas.{told_subset, told_stores}
 use Rattle.cc_ffi.proofs.rules.cheri_cap_set_bounds_on.Goals as goal
 
-pub returns : goal.returns
-returns c = record {
+pub returns-clause-made : goal.returns-clause-made
+returns-clause-made c = record {
   answer = c.set_bounds.result;
   is_answer =
       subst (λ (word : ℕ). OnWord (λ cap. SetsBounds cap (number_of_halves c.args.length_high c.args.length_low)) word c.set_bounds.result) c.number.ensures
       (subst (λ (length : ℕ). OnWord (λ cap. SetsBounds cap length) c.number.result c.set_bounds.result) c.number-2.ensures c.set_bounds.ensures.made);
   is_told = c.told.ensures;
 }
+
+pub returns-clause-monotonic : goal.returns-clause-monotonic
+returns-clause-monotonic c =
+    told_subset (λ cap. SetsBounds cap (number_of_halves c.args.length_high c.args.length_low)) (λ cap. SetsBounds-grants cap (number_of_halves c.args.length_high c.args.length_low))
+    (number_of_halves c.args.high c.args.low) c.told.result (returns-clause-made c)
+
+pub returns-clause-stores : goal.returns-clause-stores
+returns-clause-stores c =
+    told_stores (number_of_halves c.args.length_high c.args.length_low) (number_of_halves c.args.high c.args.low) c.told.result (returns-clause-made c)
