@@ -17,7 +17,7 @@ use Rattle.cc_bounds.specs.Align.{align_bytes}
 use Rattle.cc_plan.specs.PlannerState.{padded_size_for, unit_of}
 
 -- whole units of an exponent are whole units of each lower one
-whole_smaller : (n e k : ℕ) → e ≤ k → n * 2 ^ (k - e) * 2 ^ (e + 3) ≡ n * 2 ^ (k + 3)
+pub whole_smaller : (n e k : ℕ) → e ≤ k → n * 2 ^ (k - e) * 2 ^ (e + 3) ≡ n * 2 ^ (k + 3)
 whole_smaller n e k le =
     let s : k - e + (e + 3) ≡ k + 3 = omega arith in
     let p = pow-add 2 (k - e) (e + 3) in
@@ -54,7 +54,7 @@ units-sound span n m k few is_span base top = elim (cases_lt (length_of span) 40
 
 -- ---- units
 
-granule-some : (size : ℕ) → 0 < granule_of (from_zero size)
+pub granule-some : (size : ℕ) → 0 < granule_of (from_zero size)
 granule-some size = elim (cases_lt size 4096) [
   | inl short ↦ let one = granule_of-short (from_zero size) (omega arith) in omega (arith, one)
   | inr long ↦
@@ -71,13 +71,13 @@ pub padded-one : (size : ℕ) → padded_size_for One size ≡ padded_size size
 padded-one size = ap (λ (n : ℕ). div_ceil size n * n) (unit-one size)
 
 -- with alignment 16 the unit is 16 of a size of at most 8,184, or else the granule, which is a multiple of 16
-record IsFine (size : ℕ) : Type 0 where
-  unit : unit_of Sixteen size ≡ 16
-  small : size ≤ 8184
+pub record IsFine (size : ℕ) : Type 0 where
+  pub unit : unit_of Sixteen size ≡ 16
+  pub small : size ≤ 8184
 
-record IsGrown (size : ℕ) : Type 0 where
-  unit : unit_of Sixteen size ≡ granule_of (from_zero size)
-  multiple : granule_of (from_zero size) % 16 ≡ 0
+pub record IsGrown (size : ℕ) : Type 0 where
+  pub unit : unit_of Sixteen size ≡ granule_of (from_zero size)
+  pub multiple : granule_of (from_zero size) % 16 ≡ 0
 
 -- the size touches at most 1,023 granules
 few_granules : (size : ℕ) → size ≤ 2 ^ 64 → 4096 ≤ size
@@ -106,7 +106,7 @@ by_exponent size (suc k) is few =
       multiple = ap (λ (n : ℕ). n % 16) (is ∙ split) ∙ mul-mod_right 16 (2 ^ k);
     })
 
-fine_or_grown : (size : ℕ) → size ≤ 2 ^ 64 → IsFine size ⊎ IsGrown size
+pub fine_or_grown : (size : ℕ) → size ≤ 2 ^ 64 → IsFine size ⊎ IsGrown size
 fine_or_grown size fits = elim (cases_lt size 4096) [
   | inl short ↦
       let one = granule_of-short (from_zero size) (omega arith) in
@@ -123,7 +123,7 @@ padded-fine : (size : ℕ) → IsFine size → padded_size_for Sixteen size ≡ 
 padded-fine size fine = ap (λ (n : ℕ). div_ceil size n * n) fine.unit
 
 -- a unit of alignment 16 is a multiple of 16
-unit-sixteen : (size : ℕ) → size ≤ 2 ^ 64 → unit_of Sixteen size % 16 ≡ 0
+pub unit-sixteen : (size : ℕ) → size ≤ 2 ^ 64 → unit_of Sixteen size % 16 ≡ 0
 unit-sixteen size fits = elim (fine_or_grown size fits) [
   | inl fine ↦ ap (λ (n : ℕ). n % 16) fine.unit
   | inr grown ↦ ap (λ (n : ℕ). n % 16) grown.unit ∙ grown.multiple
@@ -142,7 +142,7 @@ multiple_of_sixteen size number fits multiple =
 
 -- ---- padded sizes
 
-unit-some : (align : Align) (size : ℕ) → 0 < unit_of align size
+pub unit-some : (align : Align) (size : ℕ) → 0 < unit_of align size
 unit-some One size = omega arith
 unit-some Sixteen size = omega arith
 
