@@ -95,6 +95,19 @@ static void check_bounds(char **row, cheri_cap_u128 word)
     expect(bounds.base == 0 || !cheri_cap_bounds_hold(&bounds, bounds.base - 1), row[NAME], "the byte before held");
 }
 
+// Checks that the word keeps its bounds at an address if and only if it decodes to them there.
+static void check_kept_bounds(char **row, cheri_cap_u128 word)
+{
+    cheri_cap_bounds own = cheri_cap_decode(word.high, word.low);
+    expect(cheri_cap_keeps_bounds(word.high, word.low, word.low), row[NAME], "bounds at its own address");
+    for (unsigned bit = 0; bit < 64; bit++) {
+        uint64_t address = word.low ^ UINT64_C(1) << bit;
+        cheri_cap_bounds there = cheri_cap_decode(word.high, address);
+        bool are_same = there.base == own.base && there.top_high == own.top_high && there.top_low == own.top_low;
+        expect(cheri_cap_keeps_bounds(word.high, word.low, address) == are_same, row[NAME], "bounds at another address");
+    }
+}
+
 static void check_text(char **row, cheri_cap_u128 word)
 {
     char text[33] = {0};
@@ -220,6 +233,7 @@ static unsigned check_table(FILE *table)
         cheri_cap_u128 halves = {word.high, word.low};
         check_fields(row, halves);
         check_bounds(row, halves);
+        check_kept_bounds(row, halves);
         check_text(row, halves);
         check_inline(row, halves);
         check_rules(row, halves);
@@ -292,6 +306,12 @@ static void check_requests(void)
     expect(!cheri_cap_represents(word.high, word.low, UINT64_C(0x7000000000000000)), "2^61 bytes", "the address after it");
     expect(cheri_cap_represents(word.high, word.low, UINT64_C(0xf000000000000000)), "2^61 bytes", "the window's first address");
     expect(!cheri_cap_represents(word.high, word.low, UINT64_C(0xefffffffffffffff)), "2^61 bytes", "the address before it");
+    expect(cheri_cap_keeps_bounds(word.high, word.low, UINT64_C(0x6fffffffffffffff)), "2^61 bytes", "kept at the window's last address");
+    expect(!cheri_cap_keeps_bounds(word.high, word.low, UINT64_C(0x7000000000000000)), "2^61 bytes", "kept at the address after it");
+    // The word with exponent field 53 stores no bounds, and keeps those that it decodes to at every address.
+    word.high = UINT64_C(0xffff000000000001);
+    expect(!cheri_cap_represents(word.high, 0, 0), "exponent 53", "its own address");
+    expect(cheri_cap_keeps_bounds(word.high, 0, UINT64_MAX), "exponent 53", "kept at the last address");
 }
 
 // Checks the types that a word of the root's bounds may have: those that sealing gives, and unsealed.

@@ -217,6 +217,16 @@ cheri_cap_granted cheri_cap_set_bounds(uint64_t base, uint64_t length_high, uint
 bool cheri_cap_represents(uint64_t high, uint64_t low, uint64_t address);
 
 /*
+ * Returns whether the word with this address in place of its own decodes to the same bounds, for
+ * every word, canonical or not.
+ *
+ * The address does so if it is in the window of the decoded bounds. At exponents of at least 50,
+ * every address does. For canonical words, and for all others that store their bounds as setting
+ * bounds stores them, the result is that of cheri_cap_represents.
+ */
+bool cheri_cap_keeps_bounds(uint64_t high, uint64_t low, uint64_t address);
+
+/*
  * Batch functions. Each writes the result of cheri_cap_decode, cheri_cap_is_canonical or
  * cheri_cap_represents for each word, at the same position as the word, and returns the number of
  * words for which it did so.

@@ -148,6 +148,7 @@ _CALLS = {
     "decode": (_Bounds, _WORD),
     "set_bounds": (_Granted, [c_uint64, *_WORD]),
     "represents": (c_bool, [*_WORD, c_uint64]),
+    "keeps_bounds": (c_bool, [*_WORD, c_uint64]),
     "granule": (c_uint64, _WORD),
     "round_length": (_Halves, _WORD),
     "alignment_mask": (c_uint64, _WORD),
@@ -410,8 +411,12 @@ class Capability:
     def representable(self, address: int) -> bool:
         """Returns whether the word with that address decodes to the same bounds.
 
-        It is False for a word that does not store its bounds as setting bounds stores them."""
+        It is False for a word that does not store its bounds as setting bounds stores them. `keeps_bounds` is for every word."""
         return _calls["represents"](*self._halves(), _address(address))
+
+    def keeps_bounds(self, address: int) -> bool:
+        """Returns whether the word with that address decodes to the same bounds, for every word, canonical or not."""
+        return _calls["keeps_bounds"](*self._halves(), _address(address))
 
     # ---- Derivation: each returns another capability, or raises the first `Refusal` of those listed, in this order
 

@@ -5,14 +5,15 @@ ghost use Rattle.cc_ffi.specs.Numbers.{number_of_halves};
 ghost use Rattle.cc_ffi.specs.Words.{OfFields};
 ghost use Rattle.cc_ffi.specs.Bounds.{AreDecoded, IsRequestGranted, IsNothing, IsToldOf, StoresNone};
 ghost use Rattle.cc_bounds.specs.Span.{span_from};
-ghost use Rattle.cc_bounds.specs.Decoding.{stored_exponent, DecodesTo};
-ghost use Rattle.cc_bounds.specs.Window.{Represents};
+ghost use Rattle.cc_bounds.specs.Decoding.{stored_exponent, DecodesTo, SharesBoundsFields};
+ghost use Rattle.cc_bounds.specs.Window.{IsRepresentable, Represents};
 ghost use Rattle.cc_bounds.specs.Encoding.{StoresSpan};
 ghost use Rattle.cc_bounds.specs.declared.span.Span.{Span as SpanSpec};
+ghost use Rattle.cc_word.specs.declared.fields.Fields.{Fields as FieldsSpec};
 
 use crate::halves::{halves, number};
 use crate::structs::{Bounds, GrantedBounds};
-use cc_bounds::{ADDRESS_SPACE, Set, decode, exponent, represents, set_bounds};
+use cc_bounds::{ADDRESS_SPACE, Set, decode, exponent, keeps_bounds, represents, set_bounds};
 use cc_word::unpack;
 
 /// Returns the base, the top and the exponent of a word, for every word.
@@ -105,4 +106,24 @@ pub extern "C" fn cheri_cap_represents(high: u64, low: u64, address: u64) -> boo
         Some(set) => represents(&set, address),
         None => false,
     }
+}
+
+/// Returns whether a word decodes to the same bounds at `address` as at its own address, for every
+/// word.
+///
+/// At exponents of at least 50, the result is true. If the word stores its bounds as setting bounds
+/// stores them, it is that of [`cheri_cap_represents`].
+#[unsafe(no_mangle)]
+pub extern "C" fn cheri_cap_keeps_bounds(high: u64, low: u64, address: u64) -> bool
+    ensures decodes { OfFields (number_of_halves high low) (λ fields.
+        (other : FieldsSpec) (span : SpanSpec) → SharesBoundsFields fields other → other.address ≡ address
+        → DecodesTo fields span → (IsTrue result ↔ DecodesTo other span)) }
+    ensures window { OfFields (number_of_halves high low) (λ fields.
+        (span : SpanSpec) → DecodesTo fields span
+        → (IsTrue result ↔ IsRepresentable span.base (stored_exponent fields) address)) }
+    ensures large { OfFields (number_of_halves high low) (λ fields. 50 ≤ stored_exponent fields → IsTrue result) }
+    ensures stored { OfFields (number_of_halves high low) (λ fields.
+        (span : SpanSpec) → StoresSpan fields span → (IsTrue result ↔ Represents span address)) }
+{
+    keeps_bounds(&unpack(number(high, low)), address)
 }
