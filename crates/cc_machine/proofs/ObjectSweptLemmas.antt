@@ -21,14 +21,14 @@ use Rattle.cc_machine.proofs.ObjectTreeLemmas.{KeepsObjects}
 use Rattle.cc_machine.proofs.ObjectMarkedLemmas.{Was, child-marked, differ-marked, exact-marked, apart-marked, pool-of-none}
 
 -- what a sweep leaves of an object
-record IsSwept (object : Object) : Type 0 where
-  same_slot : (swept object).slot ≡ object.slot
-  same_size : (swept object).size ≡ object.size
+pub record IsSwept (object : Object) : Type 0 where
+  pub same_slot : (swept object).slot ≡ object.slot
+  pub same_size : (swept object).size ≡ object.size
   held : IsTrue (is_held (swept object).state) → IsTrue (is_held object.state)
   of_swept : (swept object).state ≡ Swept → (object.state ≡ Freed) ⊎ (object.state ≡ Swept)
   to_swept : ((object.state ≡ Freed) ⊎ (object.state ≡ Swept)) → (swept object).state ≡ Swept
 
-is-swept : (object : Object) → IsSwept object
+pub is-swept : (object : Object) → IsSwept object
 is-swept object = by_state object.state refl
   where
     by_state : (state : ObjectState) → object.state ≡ state → IsSwept object
@@ -62,12 +62,12 @@ is-swept object = by_state object.state refl
         }
 
 -- there was an object of this number, and this is what a sweep makes of it
-record IsBefore (objects : List Object) (number : ℕ) (object : Object) : Type 0 where
-  before : Object
-  found : object_at objects number ≡ Ok before
-  is : object ≡ swept before
+pub record IsBefore (objects : List Object) (number : ℕ) (object : Object) : Type 0 where
+  pub before : Object
+  pub found : object_at objects number ≡ Ok before
+  pub is : object ≡ swept before
 
-swept-at : (objects : List Object) (number : ℕ) (object : Object) → object_at (map swept objects) number ≡ Ok object → IsBefore objects number object
+pub swept-at : (objects : List Object) (number : ℕ) (object : Object) → object_at (map swept objects) number ≡ Ok object → IsBefore objects number object
 swept-at objects zero object found = cc
 swept-at objects (suc k) object found =
     by_found (slice_get objects k) refl (sym (slice_get-map swept objects k) ∙ ok-some (slice_get (map swept objects) k) object found)
@@ -81,7 +81,7 @@ swept-at objects (suc k) object found =
     }
 
 -- after a sweep, each object is at its number, swept if it was freed
-swept-of : (objects : List Object) (number : ℕ) (before : Object) → object_at objects number ≡ Ok before → object_at (map swept objects) number ≡ Ok (swept before)
+pub swept-of : (objects : List Object) (number : ℕ) (before : Object) → object_at objects number ≡ Ok before → object_at (map swept objects) number ≡ Ok (swept before)
 swept-of objects zero before found = cc
 swept-of objects (suc k) before found =
     ap (λ (o : Option Object). ok_or o NoObject)
