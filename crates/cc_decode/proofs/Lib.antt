@@ -2,3 +2,4 @@ mod DigitLemmas
 mod AnswerLemmas
 mod ListLemmas
 mod ListingLemmas
+mod PartLemmas

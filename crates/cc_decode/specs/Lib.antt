@@ -2,5 +2,6 @@
 pub mod Input
 pub mod Row
 pub mod Output
+pub mod Parts
 pub mod Correct
 pub mod Decoder

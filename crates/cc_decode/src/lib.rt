@@ -14,5 +14,5 @@ mod writers;
 pub use decoding::decode_words;
 pub use format::Format;
 pub use input::{ByteOrder, InputForm};
-pub use laws::one_listing;
+pub use laws::{listing_in_parts, one_listing};
 pub use options::Options;
