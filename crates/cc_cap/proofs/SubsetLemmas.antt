@@ -130,7 +130,7 @@ OnWords-subset rule grants word authority (Ok result) (inl (canonical, (cap, has
 -- ---- chains
 
 -- if a word is a canonical subset, its capability grants no more
-subset_grants : (one other : Capability) (inner outer : ℕ) → IsWordOf one inner → IsWordOf other outer → IsCanonicalSubset inner outer
+pub subset_grants : (one other : Capability) (inner outer : ℕ) → IsWordOf one inner → IsWordOf other outer → IsCanonicalSubset inner outer
     → GrantsNoMore one other
 subset_grants one other inner outer has has' is =
     let first = sym has.is_word in

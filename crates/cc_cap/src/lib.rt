@@ -3,6 +3,7 @@
 
 mod canonical;
 mod cap;
+mod counterexamples;
 mod laws;
 pub mod many;
 mod word_line;

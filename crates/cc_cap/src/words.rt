@@ -6,6 +6,10 @@
 //! capability has, and then the refusals of that function. [`rebuild`] checks its authority before
 //! its word. [`is_subset`] refuses nothing. Tags are up to the caller: each word is treated as
 //! tagged, and no [`Cap`] is returned.
+//!
+//! Each word that a rule returns is canonical, and a subset of the word that it is made of, as
+//! [`is_subset`] compares words. This is the law
+//! [`rules_on_words_are_monotonic`](crate::rules_on_words_are_monotonic).
 ghost use Rattle.std.specs.Prelude.{◌≡◌, ◌↔◌, ◌<◌, ◌^◌, IsTrue, IfOk};
 ghost use Rattle.cc_word.specs.Word.{word_of};
 ghost use Rattle.cc_word.specs.declared.fields.Fields.{Fields as FieldsSpec};
