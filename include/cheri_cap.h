@@ -176,7 +176,7 @@ bool cheri_cap_flag(uint64_t high, uint64_t low);
 
 /*
  * Returns the word of these fields. Only the lowest bits of a number that is wider than its field
- * count.
+ * count. For the fields that cheri_cap_unpack returned for a word, that is this word again.
  */
 cheri_cap_u128 cheri_cap_pack(cheri_cap_fields fields);
 
@@ -211,8 +211,9 @@ cheri_cap_granted cheri_cap_set_bounds(uint64_t base, uint64_t length_high, uint
  * Returns whether the address is representable for the bounds of the word: whether a capability
  * that stores its bounds as this word does could have this address.
  *
- * Returns false for a word that does not store its bounds as setting bounds stores them. The
- * permissions, the reserved bits, the flag and the type are ignored.
+ * Returns false for a word that does not store its bounds as setting bounds stores them. For any
+ * other word, returns whether the word with this address as its low half decodes to the same
+ * bounds. The permissions, the reserved bits, the flag and the type are ignored.
  */
 bool cheri_cap_represents(uint64_t high, uint64_t low, uint64_t address);
 
@@ -315,6 +316,10 @@ size_t cheri_cap_format(uint64_t high, uint64_t low, bool tagged, char *text /* 
  * which are in the order of the checks. CANONICAL comes first if a word is not that of a
  * capability, and so for every sentry.
  *
+ * The result of each rule is canonical, and a subset of the word that it was made of, as
+ * cheri_cap_is_subset compares words. For cheri_cap_rebuild, that is the authority's word. So the
+ * result of any number of rules is a subset of the word that they began with.
+ *
  * Tags are up to the caller: the result is for words whose tags are set. If a rule refuses, an
  * instruction of the standard (UCAM-CL-TR-987, ISA version 9) still writes a result, with its tag
  * cleared. The parts after "Standard:" describe that result and its bits. They are taken from the
@@ -346,7 +351,8 @@ cheri_cap_made cheri_cap_increment(uint64_t high, uint64_t low, uint64_t amount)
  * CSetBounds: returns the word with the bounds of `length` bytes from its address.
  *
  * Bounds that cannot be stored exactly are rounded outward, but never beyond the word's own bounds.
- * The address does not change. Any length may be requested; one above 2^64 is out of bounds.
+ * The address, the permissions, the flag and the type do not change. Any length may be requested;
+ * one above 2^64 is out of bounds.
  *
  * Refusals: CANONICAL; SEALED; BOUNDS.
  * Standard: a refusal clears the tag; the bounds fields are those of the request, and the other

@@ -90,7 +90,7 @@ pub extern "C" fn cheri_cap_set_bounds(
 }
 
 /// Returns whether a word stores its bounds as setting bounds stores them, and the address is
-/// representable for them.
+/// representable for them: the word with this address as its low half decodes to the same bounds.
 ///
 /// The permissions, the reserved bits, the flag and the type are not examined.
 #[inline(always)]

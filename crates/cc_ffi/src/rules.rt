@@ -1,5 +1,6 @@
 //! The rules of derivation on words. Each function forwards to one of `cc_cap::words`, and has its
-//! errors in the same order.
+//! errors in the same order. The word that it returns is canonical, and a subset of the word that it
+//! is made of: for `cheri_cap_rebuild`, of the authority's.
 ghost use Rattle.std.specs.Prelude.{◌≡◌, ◌↔◌, IsTrue};
 ghost use Rattle.cc_word.specs.declared.fields.Fields.{Fields as FieldsSpec};
 ghost use Rattle.cc_cap.specs.Capability.{Capability, GrantsNoMore};
@@ -62,6 +63,9 @@ pub extern "C" fn cheri_cap_increment(high: u64, low: u64, amount: u64) -> MadeW
 
 /// Returns the word with the bounds of `length` bytes from its address on, rounded if they cannot
 /// be stored exactly.
+///
+/// Bounds are rounded outward, but never beyond the word's own. The address, the permissions, the
+/// reserved bits, the flag and the type do not change.
 ///
 /// Errors, in order: `NotCanonical`; `Sealed`; `OutOfBounds`.
 /// Instruction: CSetBounds.

@@ -69,6 +69,8 @@ fn cut(given: WordFields) -> Fields
 }
 
 /// Returns the word of fields. If a number is wider than its field, its lowest bits count.
+///
+/// For the fields that `cheri_cap_unpack` returned for a word, that is this word again.
 #[unsafe(no_mangle)]
 pub extern "C" fn cheri_cap_pack(given: WordFields) -> Halves
     ensures cut { (fields : FieldsSpec) → IsCut given fields → word_of fields ≡ number_in result }
