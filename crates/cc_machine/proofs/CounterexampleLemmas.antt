@@ -1,9 +1,9 @@
 -- The states that break the laws do, and one step has no outcome.
-use Rattle.std.proofs.Common.{ℕ, zero, suc, true, false, ◌≡◌, ◌≢◌, ◌*◌, ◌/◌, ◌%◌, ◌^◌, IsTrue, [], ◌∷◌, Some, None, Result, Ok, Err, refl, sym, ap, subst, ◌∙◌, inl, inr, arith}
+use Rattle.std.proofs.Common.{ℕ, zero, suc, true, false, ◌≡◌, ◌≢◌, ◌*◌, ◌/◌, ◌%◌, ◌^◌, ◌≤◌, IsTrue, [], ◌∷◌, Some, None, Result, Ok, Err, refl, sym, ap, subst, ◌∙◌, inl, inr, arith}
 use Rattle.std.proofs.Math.Nat.{div-eq_of_lt}
 use Rattle.std.specs.Int.RustNames.{bit_and}
 use Rattle.cc_bounds.specs.declared.span.Span.{Span}
-use Rattle.cc_bounds.specs.Span.{span_from, from_zero}
+use Rattle.cc_bounds.specs.Span.{span_from, from_zero, length_of}
 use Rattle.cc_bounds.specs.Granule.{IsSound, exponent_of}
 use Rattle.cc_bounds.specs.Window.{IsRepresentable, Represents}
 use Rattle.cc_bounds.proofs.ComputingLemmas.{exponent_of-long, granule_of-short}
@@ -26,10 +26,11 @@ use Rattle.cc_ops.specs.declared.reply.Reply.{Reply}
 use Rattle.cc_machine.specs.Step.{Adds, Step}
 use Rattle.cc_machine.proofs.RootLemmas.{whole-least}
 use Rattle.cc_machine.specs.State.IsAncestor.{parent_of, above_parent}
-use Rattle.cc_machine.specs.Objects.{IsObject, BelongsToSome}
+use Rattle.cc_machine.specs.Objects.{IsObject, IsPool, BelongsTo, BelongsToSome, held_bytes_of}
 use Rattle.cc_machine.specs.Laws.{HoldsCapabilities, IsMonotonicTree, HasAuthorityBefore, HasSealingAuthority}
 use Rattle.cc_machine.specs.ObjectLaws.{HangsFromPool, HasExactObjects, HasDisjointObjects, IsRevokedExactly}
 use Rattle.cc_machine.specs.Confinement.{HasGivenAncestor, NoneMay, IsConfined}
+use Rattle.cc_machine.specs.ObjectConfinement.{ReusesAfterRevocation, IsConfinedToObject}
 use Rattle.cc_machine.specs.Reach.{path_to, ReachesAll}
 use Rattle.cc_machine.specs.Counterexamples.{unsound_bounds, address_past_the_end, reserved_type, own_parent}
 use Rattle.cc_machine.specs.Counterexamples.{child_with_more_bytes, revoked_child_with_more_permissions, sealed_by_none}
@@ -38,7 +39,9 @@ use Rattle.cc_machine.specs.Counterexamples.{object_with_another_byte, object_wi
 use Rattle.cc_machine.specs.Counterexamples.{live_in_freed, revoked_without_object, tagged_after_sweep}
 use Rattle.cc_machine.specs.Counterexamples.{revoked_while_live, revoked_pool, is_first, two_slots, child_of_another}
 use Rattle.cc_machine.specs.Counterexamples.{sealed_alone, child_unsealed, unsealed_alone, child_sealed, root_alone}
-use Rattle.cc_machine.specs.Counterexamples.{five_refusals, of_slots, first_slot, powerless_root, object_in}
+use Rattle.cc_machine.specs.Counterexamples.{reused_before_revocation, objects_past_the_pool, two_objects}
+use Rattle.cc_machine.specs.Counterexamples.{child_of_the_pool, child_in_another_object, child_tagged_after_sweep}
+use Rattle.cc_machine.specs.Counterexamples.{five_refusals, of_slots, first_slot, child_slot, bounded_root, powerless_root, object_in}
 use Rattle.cc_machine.proofs.RuleLemmas.{GrantsNoMore-refl}
 
 -- ---- slots
@@ -292,6 +295,73 @@ past_end-breaks reply new step = by_rule step.result step.made step.added
     by_rule result (inl (_, inr not)) adds = absurd (not.0 past_end-representable)
     by_rule result (inl (_, inl (_, is))) adds = no_word result is adds
 
+-- ---- bytes of objects
+
+pub reused_before_revocation-breaks : ¬ ReusesAfterRevocation reused_before_revocation
+reused_before_revocation-breaks reuses =
+    let same : 1 ≡ 2 =
+    reuses.same 1 2 _ _ 1 2 _ _ (record { found = refl }) (record { is_object = record { found = refl }; held = refl })
+    (inl refl) (inl refl) (record { found = refl }) (record { found = refl }) refl
+    (record {
+      byte = 0;
+      in_one = record { from_base = omega arith; below_top = omega arith };
+      in_other = record { from_base = omega arith; below_top = omega arith };
+    }) in
+    absurd (omega (arith, same))
+
+pub objects_past_the_pool-break : (slot : SlotState) → IsPool objects_past_the_pool 0 slot
+    → ¬ (held_bytes_of objects_past_the_pool ≤ length_of slot.capability.span)
+objects_past_the_pool-break slot is fits =
+    let at : Some (first_slot (bounded_root 0 1)) ≡ Some slot = is.is_slot.found in
+    let same : first_slot (bounded_root 0 1) ≡ slot = (let e = at in cc) in
+    let length : length_of slot.capability.span ≡ 1 = sym (ap (λ (s : SlotState). length_of s.capability.span) same) in
+    absurd (omega (arith, fits, length))
+
+pub child_of_the_pool-breaks : ¬ IsConfinedToObject two_objects child_of_the_pool 1 (object_in 1 Live)
+child_of_the_pool-breaks confined = by_belongs (confined.belongs 3 (omega arith) (omega arith))
+  where
+    parent : {above : ℕ} → IsParent child_of_the_pool above 3 → above ≡ 0
+    parent {above} is =
+        let at : Some (child_slot (bounded_root 2 1)) ≡ Some is.slot = is.is_slot.found in
+        let same : child_slot (bounded_root 2 1) ≡ is.slot = (let e = at in cc) in
+        let e : Some 0 ≡ Some above = ap (λ (s : SlotState). s.parent) same ∙ is.is_parent in
+        let f : 0 ≡ above = (let g = e in cc) in
+        sym f
+
+    root : {above : ℕ} → IsParent child_of_the_pool above 0 → ⊥
+    root {above} is =
+        let at : Some (first_slot root_capability) ≡ Some is.slot = is.is_slot.found in
+        let same : first_slot root_capability ≡ is.slot = (let e = at in cc) in
+        let e : None ≡ Some above = ap (λ (s : SlotState). s.parent) same ∙ is.is_parent in
+        cc
+
+    above_root : {above number : ℕ} → number ≡ 0 → IsAncestor child_of_the_pool above number → ⊥
+    above_root {above} {number} is (parent_of at) = root (subst (λ (n : ℕ). IsParent child_of_the_pool above n) is at)
+    above_root {above} {number} is (above_parent {parent = mid} at up) = root (subst (λ (n : ℕ). IsParent child_of_the_pool mid n) is at)
+
+    by_ancestor : IsAncestor child_of_the_pool 1 3 → ⊥
+    by_ancestor (parent_of at) = absurd (omega (arith, parent at))
+    by_ancestor (above_parent at up) = above_root (parent at) up
+
+    by_belongs : BelongsTo child_of_the_pool (object_in 1 Live) 3 → ⊥
+    by_belongs (inl same) = absurd (omega (arith, same))
+    by_belongs (inr up) = by_ancestor up
+
+pub child_in_another_object-breaks : ¬ IsConfinedToObject two_objects child_in_another_object 1 (object_in 1 Live)
+child_in_another_object-breaks confined =
+    confined.apart 2 _ 3 2 _ _ (record { is_object = record { found = refl }; held = refl })
+    (λ one. absurd (omega (arith, one))) (inl refl) (record { found = refl }) (omega arith) (record { found = refl })
+    (record {
+      byte = 1;
+      in_one = record { from_base = omega arith; below_top = omega arith };
+      in_other = record { from_base = omega arith; below_top = omega arith };
+    })
+
+pub child_tagged_after_sweep-breaks : ¬ IsConfinedToObject two_objects child_tagged_after_sweep 1 (object_in 1 Live)
+child_tagged_after_sweep-breaks confined =
+    let revoked : false ≡ true = confined.revoked (object_in 1 Swept) 3 _ (record { found = refl }) refl (omega arith) (record { found = refl }) in
+    cc
+
 -- ---- those of each law
 
 pub ruleset slots_break = (unsound_bounds-breaks, address_past_the_end-breaks, reserved_type-breaks)
@@ -309,5 +379,11 @@ pub ruleset confinement_breaks = (child_of_another-breaks, child_unsealed-breaks
 pub ruleset exactness_breaks = (object_without_bytes-breaks, object_off_alignment-breaks, object_with_another_byte-breaks)
 
 pub ruleset disjointness_breaks = (live_in_freed-breaks)
+
+pub ruleset reuse_breaks = (reused_before_revocation-breaks)
+
+pub ruleset pool_breaks = (objects_past_the_pool-break)
+
+pub ruleset object_confinement_breaks = (child_of_the_pool-breaks, child_in_another_object-breaks, child_tagged_after_sweep-breaks)
 
 pub ruleset reaching_breaks = (five_refusals-break)

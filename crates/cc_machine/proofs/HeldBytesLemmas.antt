@@ -1,12 +1,13 @@
 -- Objects lie within the pool, and the held ones have at most as many bytes as the pool.
-use Rattle.std.proofs.Common.{ℕ, suc, ◌≡◌, ◌<◌, ◌≤◌, ◌∙◌, IsTrue, List, length, map, refl, sym, ap, subst, inl, arith}
-use Rattle.std.specs.Prelude.{All, AllPairs, Option, get_or, ok_or, sum_by}
+use Rattle.std.proofs.Common.{ℕ, suc, ◌≡◌, ◌<◌, ◌≤◌, ◌∙◌, IsTrue, List, Some, None, length, map, refl, sym, ap, subst, inl, arith}
+use Rattle.std.specs.Prelude.{All, AllPairs, Option, get_or, ok_or, option_and_then, option_map, slice_get, sum_by, unwrap_or}
 use Rattle.std.proofs.Math.ListN.{get_or-map}
 use Rattle.std.proofs.lemmas.List.{get_or_default, length-map}
 use Rattle.std.proofs.lemmas.Option.{slice_get-get_or}
 use Rattle.cc_word.specs.declared.refusal.Refusal.TheVariants.{NoObject}
 use Rattle.cc_bounds.specs.declared.span.Span.{Span}
-use Rattle.cc_bounds.specs.Span.{IsWithin, SharesByte, length_of}
+use Rattle.cc_bounds.specs.Span.{IsWithin, SharesByte, from_zero, length_of}
+use Rattle.cc_cap.specs.Capability.{Capability}
 use Rattle.cc_plan.specs.declared.object.ObjectState.TheVariants.{Live}
 use Rattle.cc_plan.specs.declared.object.PlannedObject.{PlannedObject}
 use Rattle.cc_plan.specs.Plan.{is_held, held_bytes_of as planned_bytes}
@@ -16,10 +17,19 @@ use Rattle.cc_machine.specs.declared.object.Object.{Object}
 use Rattle.cc_machine.specs.State.{State, SlotState, IsSlot}
 use Rattle.cc_machine.specs.Objects.{IsObject, IsHeldObject, IsPool, held_bytes_of}
 use Rattle.cc_machine.specs.ObjectLaws.{KeepsObjectLaws}
-use Rattle.cc_machine.specs.Planned.{planned_object, plan_of}
+use Rattle.cc_machine.specs.Planned.{planned_object, plan_of, pool_capability}
+use Rattle.cc_machine.specs.Run.{IsReached}
 use Rattle.cc_machine.proofs.ObjectLemmas.{span_of_slot-is}
-use Rattle.cc_machine.proofs.TreeLemmas.{Keeps}
-use Rattle.cc_machine.proofs.PlanLemmas.{held-planned}
+use Rattle.cc_machine.proofs.TreeLemmas.{Keeps, Keeps-reached}
+use Rattle.cc_machine.proofs.PlanLemmas.{held-planned, pool_capability-is}
+use Rattle.cc_machine.proofs.ObjectLawLemmas.{KeepsObjectLaws-reached}
+
+-- the objects have bytes, lie in the pool, and share no byte while they are held
+pub record ArePlaced (pool : Span) (objects : List PlannedObject) : Type 0 where
+  pub in_order : pool.base ≤ pool.top
+  pub some : All (λ object. object.span.base < object.span.top) objects
+  pub within : All (λ object. IsWithin object.span pool) objects
+  pub apart : AllPairs AreApart objects
 
 module _ (state : State) (keeps : Keeps state) (laws : KeepsObjectLaws state) where
   -- an object's slot lies within the pool's
@@ -96,3 +106,47 @@ module _ (state : State) (keeps : Keeps state) (laws : KeepsObjectLaws state) wh
       let same : planned_bytes planned ≡ held_bytes_of state =
       ap (λ (spans : List Span). sum_by length_of spans) (held-planned (plan_of state) state refl) in
       omega (arith, fit, same)
+
+  planned-some : All (λ object. object.span.base < object.span.top) planned
+  planned-some place d within =
+      let at = planned-at place d within in
+      let exact = laws.exact.exact (suc place) at.object at.slot at.is_object at.is_slot in
+      let bytes : at.slot.capability.span.base < at.slot.capability.span.top = omega (arith, exact.some, exact.at_least) in
+      subst (λ (s : Span). s.base < s.top) (sym at.span_is) bytes
+
+  -- without a pool there is no object
+  planned-none : state.pool ≡ None → (pool : Span) → All (λ object. IsWithin object.span pool) planned
+  planned-none none pool place d within =
+      let at = planned-at place d within in
+      let child = laws.hang.child (suc place) at.object at.is_object in
+      let e : None ≡ Some child.pool = sym none ∙ child.is_pool.is_pool in
+      cc
+
+  placed-by : (pool : Span) → pool.base ≤ pool.top → All (λ object. IsWithin object.span pool) planned
+      → ArePlaced pool (plan_of state).objects
+  unfolding planned
+  placed-by pool in_order within =
+      record { in_order = in_order; some = planned-some; within = within; apart = planned-apart }
+
+  pub placed : ArePlaced (unwrap_or (option_map (λ pool. pool.span) (pool_capability state)) (from_zero 0)) (plan_of state).objects
+  placed = by_pool state.pool refl
+    where
+      by_pool : (pool : Option ℕ) → state.pool ≡ pool
+          → ArePlaced (unwrap_or (option_map (λ pool. pool.span) (pool_capability state)) (from_zero 0)) (plan_of state).objects
+      by_pool None is =
+          let none : pool_capability state ≡ None =
+          ap (λ (p : Option ℕ). option_and_then (λ n. option_map (λ s. s.capability) (slice_get state.slots n)) p) is in
+          subst (λ (p : Option Capability). ArePlaced (unwrap_or (option_map (λ c. c.span) p) (from_zero 0)) (plan_of state).objects) (sym none)
+          (placed-by (from_zero 0) (omega arith) (planned-none is (from_zero 0)))
+      by_pool (Some number) is =
+          let there = keeps.pool number is in
+          let some : pool_capability state ≡ Some there.slot.capability = pool_capability-is state number there.slot is there.is_slot in
+          let span = keeps.spans number there.slot there.is_slot in
+          subst (λ (p : Option Capability). ArePlaced (unwrap_or (option_map (λ c. c.span) p) (from_zero 0)) (plan_of state).objects) (sym some)
+          (placed-by there.slot.capability.span span.in_order
+          (planned-within number there.slot (record { is_pool = is; is_slot = there.is_slot })))
+
+-- so they are in every reached state
+pub placed-reached : (state : State) → IsReached state
+    → ArePlaced (unwrap_or (option_map (λ pool. pool.span) (pool_capability state)) (from_zero 0)) (plan_of state).objects
+placed-reached state reached = placed state (Keeps-reached state reached) (KeepsObjectLaws-reached state reached)

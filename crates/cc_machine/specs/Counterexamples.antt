@@ -121,6 +121,18 @@ abbrev pub tagged_after_sweep : State
 tagged_after_sweep =
     of_objects (first_slot root_capability ∷ child_slot (bounded_root 0 1) ∷ []) (object_in 1 Swept ∷ [])
 
+-- The slot of a swept object, still tagged, and a live object in its byte.
+abbrev pub reused_before_revocation : State
+reused_before_revocation =
+    of_objects (first_slot root_capability ∷ child_slot (bounded_root 0 1) ∷ child_slot (bounded_root 0 1) ∷ [])
+    (object_in 1 Swept ∷ object_in 2 Live ∷ [])
+
+-- A pool of one byte, with two live objects of one byte.
+abbrev pub objects_past_the_pool : State
+objects_past_the_pool =
+    of_objects (first_slot (bounded_root 0 1) ∷ child_slot (bounded_root 0 1) ∷ child_slot (bounded_root 1 1) ∷ [])
+    (object_in 1 Live ∷ object_in 2 Live ∷ [])
+
 -- The slot of a live object, revoked.
 abbrev pub revoked_while_live : State
 revoked_while_live =
@@ -159,6 +171,28 @@ unsealed_alone = of_slots (first_slot powerless_root ∷ [])
 -- The unsealed slot, and a sealed child.
 abbrev pub child_sealed : State
 child_sealed = record unsealed_alone { slots = unsealed_alone.slots ++ child_slot (sealed_with powerless_root 0) ∷ [] }
+
+-- Two live objects of one byte.
+abbrev pub two_objects : State
+two_objects =
+    of_objects (first_slot root_capability ∷ child_slot (bounded_root 0 1) ∷ child_slot (bounded_root 1 1) ∷ [])
+    (object_in 1 Live ∷ object_in 2 Live ∷ [])
+
+-- The two objects, and a child of the pool's slot, which belongs to neither of them.
+abbrev pub child_of_the_pool : State
+child_of_the_pool = record two_objects { slots = two_objects.slots ++ child_slot (bounded_root 2 1) ∷ [] }
+
+-- The two objects, and a slot derived from the first that has the byte of the second.
+abbrev pub child_in_another_object : State
+child_in_another_object =
+    record two_objects { slots = two_objects.slots ++ tagged_slot (bounded_root 1 1) (Some 1) ∷ [] }
+
+-- The two objects, of which the first is swept, and a slot derived from it that is still tagged.
+abbrev pub child_tagged_after_sweep : State
+child_tagged_after_sweep = record two_objects {
+  slots = two_objects.slots ++ tagged_slot (bounded_root 0 1) (Some 1) ∷ [];
+  objects = object_in 1 Swept ∷ object_in 2 Live ∷ [];
+}
 
 -- The root alone.
 abbrev pub root_alone : State

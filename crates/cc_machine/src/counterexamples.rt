@@ -1,14 +1,20 @@
 //! Proves that no law holds for everything: states, or a run, break it. Each function here does
 //! nothing, and its contract is the claim.
-ghost use Rattle.std.specs.Prelude.{◌^◌};
+ghost use Rattle.std.specs.Prelude.{◌^◌, ◌≤◌};
 ghost use Rattle.cc_cap.specs.Capability.{root_capability};
 ghost use Rattle.cc_ops.specs.declared.op.Op.TheVariants.{Addr};
 ghost use Rattle.cc_ops.specs.declared.reply.Reply.{Reply};
-ghost use Rattle.cc_machine.specs.State.{State, initial_state};
+ghost use Rattle.cc_machine.specs.State.{State, SlotState, initial_state};
 ghost use Rattle.cc_machine.specs.Step.{Step};
 ghost use Rattle.cc_machine.specs.Laws.{HoldsCapabilities, IsMonotonicTree, HasSealingAuthority};
 ghost use Rattle.cc_machine.specs.ObjectLaws.{HangsFromPool, HasExactObjects, HasDisjointObjects, IsRevokedExactly};
 ghost use Rattle.cc_machine.specs.Confinement.{IsConfined};
+ghost use Rattle.cc_bounds.specs.Span.{length_of};
+ghost use Rattle.cc_plan.specs.declared.object.ObjectState.TheVariants.{Live};
+ghost use Rattle.cc_machine.specs.Objects.{IsPool, held_bytes_of};
+ghost use Rattle.cc_machine.specs.ObjectConfinement.{ReusesAfterRevocation, IsConfinedToObject};
+ghost use Rattle.cc_machine.specs.Counterexamples.{reused_before_revocation, objects_past_the_pool, object_in};
+ghost use Rattle.cc_machine.specs.Counterexamples.{two_objects, child_of_the_pool, child_in_another_object, child_tagged_after_sweep};
 ghost use Rattle.cc_machine.specs.Reach.{path_to, ReachesAll};
 ghost use Rattle.cc_machine.specs.Counterexamples.{unsound_bounds, address_past_the_end, reserved_type, own_parent};
 ghost use Rattle.cc_machine.specs.Counterexamples.{child_with_more_bytes, revoked_child_with_more_permissions};
@@ -71,6 +77,24 @@ fn runs_that_are_not_confined()
     ensures derived { ¬ IsConfined is_first two_slots child_of_another }
     ensures unsealed { ¬ IsConfined is_first sealed_alone child_unsealed }
     ensures sealed { ¬ IsConfined is_first unsealed_alone child_sealed }
+{}
+
+#[tactic(auto, using(crate::proofs::CounterexampleLemmas::reuse_breaks))]
+fn bytes_reused_before_revocation()
+    ensures { ¬ ReusesAfterRevocation reused_before_revocation }
+{}
+
+#[tactic(auto, using(crate::proofs::CounterexampleLemmas::pool_breaks))]
+fn held_bytes_that_do_not_fit_the_pool()
+    ensures { (slot : SlotState) → IsPool objects_past_the_pool 0 slot
+        → ¬ (held_bytes_of objects_past_the_pool ≤ length_of slot.capability.span) }
+{}
+
+#[tactic(auto, using(crate::proofs::CounterexampleLemmas::object_confinement_breaks))]
+fn runs_that_are_not_confined_to_an_object()
+    ensures belongs { ¬ IsConfinedToObject two_objects child_of_the_pool 1 (object_in 1 Live) }
+    ensures apart { ¬ IsConfinedToObject two_objects child_in_another_object 1 (object_in 1 Live) }
+    ensures revoked { ¬ IsConfinedToObject two_objects child_tagged_after_sweep 1 (object_in 1 Live) }
 {}
 
 #[tactic(auto, using(crate::proofs::CounterexampleLemmas::reaching_breaks))]
