@@ -149,15 +149,17 @@ void check_rules(const row &it, word cap)
 void check_many(const std::vector<word> &words)
 {
     std::vector<cheri_cap_bounds> bounds(words.size());
-    std::vector<std::uint8_t> canonical(words.size()), representable(words.size());
-    std::vector<std::uint64_t> addresses(words.size(), 0x1000);
+    std::vector<std::uint8_t> canonical(words.size(), 7), representable(words.size(), 7);
+    std::vector<std::uint64_t> addresses(words.size());
+    for (std::size_t i = 0; i < words.size(); i++)
+        addresses[i] = words[i].low() ^ UINT64_C(1) << i % 64;
     cheri::decode_many(words.data(), bounds.data(), words.size());
     cheri::is_canonical_many(words.data(), canonical.data(), words.size());
     cheri::represents_many(words.data(), addresses.data(), representable.data(), words.size());
     for (std::size_t i = 0; i < words.size(); i++) {
         const cheri::bounds wanted = words[i].bounds();
         expect(bounds[i].base == wanted.base() && cheri::bounds(bounds[i]).top() == wanted.top(), "many words", "bounds");
-        expect(canonical[i] == words[i].is_canonical() && representable[i] == words[i].represents(0x1000), "many words", "canonical and representable");
+        expect(canonical[i] == words[i].is_canonical() && representable[i] == words[i].represents(addresses[i]), "many words", "canonical and representable");
     }
     cheri::decode_many(nullptr, nullptr, 0);
     cheri::is_canonical_many(nullptr, nullptr, 0);
@@ -178,7 +180,7 @@ void check_lengths()
     expect(word() == word(0, 0) && word() != word::root() && word().bounds().length() == cheri::address_space, "null", "its bounds");
     expect(u128(1) < u128(2) && u128(1, 0) > u128(UINT64_MAX) && u128(1, 0) >= u128(1, 0) && u128(2) <= u128(2), "numbers", "order");
     constexpr word fixed(0, 5);
-    static_assert(fixed.address() == 5 && fixed == word(0, 5), "words are constant expressions");
+    static_assert(fixed.address() == 5 && fixed == word(0, 5) && fixed != word(0, 6) && fixed != word(1, 5), "words are constant expressions");
     static_assert(noexcept(fixed.set_address(1)) && noexcept(cheri_cap_decode(0, 0)), "no function throws");
 }
 

@@ -749,7 +749,7 @@ CHERI_CAP_NODISCARD
 static inline cheri_cap_u128 cheri_cap_with_type(uint64_t high, uint64_t low, uint64_t otype) CHERI_CAP_NOEXCEPT
 {
     const uint64_t mask = UINT64_C(0x3ffff) << 27;
-    cheri_cap_u128 word = {(high & ~mask) | ((otype << 27 ^ CHERI_CAP_NULL_MASK_HIGH) & mask), low};
+    cheri_cap_u128 word = {(high & ~mask) | (((otype & 0x3ffffu) << 27 ^ CHERI_CAP_NULL_MASK_HIGH) & mask), low};
     return word;
 }
 
