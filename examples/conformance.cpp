@@ -47,7 +47,8 @@ u128 hexadecimal(const std::string &text)
 {
     u128 number;
     for (char digit : text.substr(text.rfind("0x", 0) == 0 ? 2 : 0))
-        number = {number.high << 4 | number.low >> 60, number.low << 4 | std::stoull(std::string(1, digit), nullptr, 16)};
+        number = {number.high << 4 | number.low >> 60,
+                  number.low << 4 | std::stoull(std::string(1, digit), nullptr, 16)};
     return number;
 }
 
@@ -58,18 +59,22 @@ void check_fields(const row &it, word cap)
     expect(hexadecimal(it.reserved) == fields.reserved, it.name, "reserved");
     expect(hexadecimal(it.flag) == fields.flag && hexadecimal(it.flag) == cap.flag(), it.name, "flag");
     expect(hexadecimal(it.type) == fields.otype && hexadecimal(it.type) == cap.otype(), it.name, "type");
-    expect(hexadecimal(it.ie) == fields.ie && hexadecimal(it.t) == fields.t && hexadecimal(it.b) == fields.b, it.name, "bounds fields");
+    expect(hexadecimal(it.ie) == fields.ie && hexadecimal(it.t) == fields.t && hexadecimal(it.b) == fields.b, it.name,
+           "bounds fields");
     expect(hexadecimal(it.address) == fields.address && hexadecimal(it.address) == cap.address(), it.name, "address");
     expect(word(fields) == cap, it.name, "the word of the fields");
-    expect(cap.is_sealed() == (it.type != "3ffff") && cap.is_sentry() == (it.type == "3fffe"), it.name, "sealed or a sentry");
-    expect(cap.has_perms(fields.perms) && (fields.perms == 0xffff || !cap.has_perms(0xffff)), it.name, "has permissions");
+    expect(cap.is_sealed() == (it.type != "3ffff") && cap.is_sentry() == (it.type == "3fffe"), it.name,
+           "sealed or a sentry");
+    expect(cap.has_perms(fields.perms) && (fields.perms == 0xffff || !cap.has_perms(0xffff)), it.name,
+           "has permissions");
 }
 
 void check_bounds(const row &it, word cap)
 {
     const cheri::bounds bounds = cap.bounds();
     expect(hexadecimal(it.base) == bounds.base() && hexadecimal(it.top) == bounds.top(), it.name, "bounds");
-    expect(std::stoul(it.exponent) == bounds.exponent() && bounds.raw().exponent == bounds.exponent(), it.name, "exponent");
+    expect(std::stoul(it.exponent) == bounds.exponent() && bounds.raw().exponent == bounds.exponent(), it.name,
+           "exponent");
     expect(cap.is_canonical() == (it.canonical == "yes"), it.name, "canonical");
     expect(cap.offset() + bounds.base() == cap.address(), it.name, "offset");
     if (!cap.is_canonical())
@@ -79,8 +84,10 @@ void check_bounds(const row &it, word cap)
     expect(granted && cap.with_bounds(*granted) == cap, it.name, "with its own bounds");
     expect(cap.represents(cap.address()) && cap.represents(bounds.base()), it.name, "represents");
     const bool is_empty = bounds.length() == 0;
-    expect(bounds.contains(bounds.base()) != is_empty && bounds.contains(bounds.base(), 1) != is_empty, it.name, "its first byte");
-    expect(bounds.contains(bounds.base(), bounds.length().low) && bounds.contains(bounds.base(), 0), it.name, "all its bytes");
+    expect(bounds.contains(bounds.base()) != is_empty && bounds.contains(bounds.base(), 1) != is_empty, it.name,
+           "its first byte");
+    expect(bounds.contains(bounds.base(), bounds.length().low) && bounds.contains(bounds.base(), 0), it.name,
+           "all its bytes");
     expect(bounds.top() == cheri::address_space || !bounds.contains(bounds.top().low), it.name, "the byte after them");
     expect(!bounds.contains(UINT64_MAX, 2), it.name, "an access that wraps around");
 }
@@ -90,11 +97,15 @@ void check_text(const row &it, word cap)
     expect(cap.digits().view() == it.word, it.name, "digits");
     expect(cap.from_bytes(cap.to_bytes(byte_order::little), byte_order::little) == cap, it.name, "little-endian bytes");
     expect(cap.from_bytes(cap.to_bytes(byte_order::big), byte_order::big) == cap, it.name, "big-endian bytes");
-    expect(cap.to_bytes(byte_order::big)[0] == cap.high() >> 56 && cap.to_bytes(byte_order::little)[15] == cap.high() >> 56, it.name, "the highest byte");
+    expect(cap.to_bytes(byte_order::big)[0] == cap.high() >> 56 &&
+               cap.to_bytes(byte_order::little)[15] == cap.high() >> 56,
+           it.name, "the highest byte");
     const std::string end = "," + it.base + "-" + it.top + "]", text(cap.line().view());
     expect(text.rfind(it.address + " [", 0) == 0 && text.find(end) != std::string::npos, it.name, "one-line form");
-    expect(text == cap.line(true).c_str() && cap.line(false).view().find("(invalid") != std::string_view::npos, it.name, "one-line form without a tag");
-    expect(!word::parse(it.word.substr(1)) && !word::parse({}) && !word::parse(it.word + "0"), it.name, "fewer or more digits");
+    expect(text == cap.line(true).c_str() && cap.line(false).view().find("(invalid") != std::string_view::npos, it.name,
+           "one-line form without a tag");
+    expect(!word::parse(it.word.substr(1)) && !word::parse({}) && !word::parse(it.word + "0"), it.name,
+           "fewer or more digits");
 }
 
 void check_changed(const row &it, word cap)
@@ -110,7 +121,8 @@ void check_changed(const row &it, word cap)
     expect(cap.with_flag(wanted.flag) == word(wanted), it.name, "with another flag");
     wanted = cap.fields();
     wanted.otype = CHERI_CAP_OTYPE_SENTRY;
-    expect(cap.with_type(CHERI_CAP_OTYPE_SENTRY) == word(wanted) && word(wanted).is_sentry(), it.name, "with the type of a sentry");
+    expect(cap.with_type(CHERI_CAP_OTYPE_SENTRY) == word(wanted) && word(wanted).is_sentry(), it.name,
+           "with the type of a sentry");
 }
 
 // Checks the rules for which the table has the result.
@@ -119,7 +131,8 @@ void check_rules(const row &it, word cap)
     const word root = word::root();
     const cheri::result rebuilt = root.rebuild(cap);
     const unsigned refused = it.rebuild == "made" ? 0 : static_cast<unsigned>(std::stoul(it.rebuild));
-    expect(static_cast<unsigned>(rebuilt.error()) == refused && rebuilt.has_value() == (refused == 0), it.name, "rebuild");
+    expect(static_cast<unsigned>(rebuilt.error()) == refused && rebuilt.has_value() == (refused == 0), it.name,
+           "rebuild");
     expect(cap.is_subset_of(cap), it.name, "subset of itself");
     const refusal wanted = !cap.is_canonical() ? refusal::canonical : refused != 0 ? refusal::sealed : refusal::none;
     const cheri::bounds bounds = cap.bounds();
@@ -129,12 +142,18 @@ void check_rules(const row &it, word cap)
         cap.increment(0),
         cap.and_perms(cap.perms()),
         cap.set_flag(cap.flag()),
-        cap.set_address(bounds.base()).and_then([&](word at) { return at.set_bounds(bounds.length()); }).and_then([&](word at) { return at.set_address(cap.address()); }),
-        cap.set_address(bounds.base()).and_then([&](word at) { return at.set_bounds_exact(bounds.length()); }).and_then([&](word at) { return at.set_address(cap.address()); }),
+        cap.set_address(bounds.base())
+            .and_then([&](word at) { return at.set_bounds(bounds.length()); })
+            .and_then([&](word at) { return at.set_address(cap.address()); }),
+        cap.set_address(bounds.base())
+            .and_then([&](word at) { return at.set_bounds_exact(bounds.length()); })
+            .and_then([&](word at) { return at.set_address(cap.address()); }),
     };
     for (const cheri::result &made : same) {
-        expect(made.error() == wanted && made == (wanted == refusal::none ? cheri::result(cap) : cheri::result(wanted)), it.name, "the same word made");
-        expect(made.value_or(root) == (made ? cap : root) && made.to_optional().has_value() == made.has_value(), it.name, "the word or another");
+        expect(made.error() == wanted && made == (wanted == refusal::none ? cheri::result(cap) : cheri::result(wanted)),
+               it.name, "the same word made");
+        expect(made.value_or(root) == (made ? cap : root) && made.to_optional().has_value() == made.has_value(),
+               it.name, "the word or another");
     }
     if (wanted != refusal::none)
         return;
@@ -142,7 +161,8 @@ void check_rules(const row &it, word cap)
     const cheri::result sealed = cap.seal(authority);
     expect(sealed && sealed->otype() == 7 && sealed->is_sealed(), it.name, "sealed");
     expect(sealed->unseal(authority) == cap, it.name, "unsealed again");
-    expect(sealed->set_flag(true).error() == refusal::sealed && cap.unseal(authority).error() == refusal::unsealed, it.name, "refusals");
+    expect(sealed->set_flag(true).error() == refusal::sealed && cap.unseal(authority).error() == refusal::unsealed,
+           it.name, "refusals");
     expect(cap.is_subset_of(root) && !root.is_subset_of(cap.with_perms(0)), it.name, "subset of the root");
 }
 
@@ -158,8 +178,10 @@ void check_many(const std::vector<word> &words)
     cheri::represents_many(words.data(), addresses.data(), representable.data(), words.size());
     for (std::size_t i = 0; i < words.size(); i++) {
         const cheri::bounds wanted = words[i].bounds();
-        expect(bounds[i].base == wanted.base() && cheri::bounds(bounds[i]).top() == wanted.top(), "many words", "bounds");
-        expect(canonical[i] == words[i].is_canonical() && representable[i] == words[i].represents(addresses[i]), "many words", "canonical and representable");
+        expect(bounds[i].base == wanted.base() && cheri::bounds(bounds[i]).top() == wanted.top(), "many words",
+               "bounds");
+        expect(canonical[i] == words[i].is_canonical() && representable[i] == words[i].represents(addresses[i]),
+               "many words", "canonical and representable");
     }
     cheri::decode_many(nullptr, nullptr, 0);
     cheri::is_canonical_many(nullptr, nullptr, 0);
@@ -170,17 +192,28 @@ void check_many(const std::vector<word> &words)
 
 void check_lengths()
 {
-    expect(cheri::granule(0xfff) == 1u && cheri::granule(0x1000) == 8u && cheri::granule(cheri::address_space) == UINT64_C(1) << 55, "lengths", "granule");
-    expect(cheri::round_length(0x1fff) == u128(0x2000) && cheri::round_length(cheri::address_space) == cheri::address_space, "lengths", "representable length");
+    expect(cheri::granule(0xfff) == 1u && cheri::granule(0x1000) == 8u &&
+               cheri::granule(cheri::address_space) == UINT64_C(1) << 55,
+           "lengths", "granule");
+    expect(cheri::round_length(0x1fff) == u128(0x2000) &&
+               cheri::round_length(cheri::address_space) == cheri::address_space,
+           "lengths", "representable length");
     expect(cheri::alignment_mask(0x1000) == ~UINT64_C(7), "lengths", "mask");
     const u128 above(1, 1);
-    expect(!cheri::granule(above) && !cheri::round_length(above) && !cheri::alignment_mask(above) && !cheri::grant(0, above) && !cheri::grant(1, cheri::address_space), "lengths", "above 2^64");
-    expect(word::root().set_bounds(above).error() == refusal::bounds && word::root().set_bounds_exact(4097).error() == refusal::inexact, "lengths", "refusals");
+    expect(!cheri::granule(above) && !cheri::round_length(above) && !cheri::alignment_mask(above) &&
+               !cheri::grant(0, above) && !cheri::grant(1, cheri::address_space),
+           "lengths", "above 2^64");
+    expect(word::root().set_bounds(above).error() == refusal::bounds &&
+               word::root().set_bounds_exact(4097).error() == refusal::inexact,
+           "lengths", "refusals");
     expect(cheri::name(refusal::inexact) == "inexact" && cheri::name(refusal::none).empty(), "refusals", "names");
-    expect(word() == word(0, 0) && word() != word::root() && word().bounds().length() == cheri::address_space, "null", "its bounds");
-    expect(u128(1) < u128(2) && u128(1, 0) > u128(UINT64_MAX) && u128(1, 0) >= u128(1, 0) && u128(2) <= u128(2), "numbers", "order");
+    expect(word() == word(0, 0) && word() != word::root() && word().bounds().length() == cheri::address_space, "null",
+           "its bounds");
+    expect(u128(1) < u128(2) && u128(1, 0) > u128(UINT64_MAX) && u128(1, 0) >= u128(1, 0) && u128(2) <= u128(2),
+           "numbers", "order");
     constexpr word fixed(0, 5);
-    static_assert(fixed.address() == 5 && fixed == word(0, 5) && fixed != word(0, 6) && fixed != word(1, 5), "words are constant expressions");
+    static_assert(fixed.address() == 5 && fixed == word(0, 5) && fixed != word(0, 6) && fixed != word(1, 5),
+                  "words are constant expressions");
     static_assert(noexcept(fixed.set_address(1)) && noexcept(cheri_cap_decode(0, 0)), "no function throws");
 }
 

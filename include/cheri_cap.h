@@ -290,9 +290,13 @@ bool cheri_cap_represents(uint64_t high, uint64_t low, uint64_t address) CHERI_C
  * aligned to 8 bytes. The results must not overlap what is read, but words and addresses may
  * overlap each other. The previous contents of the results do not matter. See "Pointers" above.
  */
-size_t cheri_cap_decode_many(const cheri_cap_u128 *words, size_t word_count, cheri_cap_bounds *bounds, size_t bounds_count) CHERI_CAP_NOEXCEPT;
-size_t cheri_cap_is_canonical_many(const cheri_cap_u128 *words, size_t word_count, uint8_t *answers, size_t answer_count) CHERI_CAP_NOEXCEPT;
-size_t cheri_cap_represents_many(const cheri_cap_u128 *words, size_t word_count, const uint64_t *addresses, size_t address_count, uint8_t *answers, size_t answer_count) CHERI_CAP_NOEXCEPT;
+size_t cheri_cap_decode_many(
+    const cheri_cap_u128 *words, size_t word_count, cheri_cap_bounds *bounds, size_t bounds_count) CHERI_CAP_NOEXCEPT;
+size_t cheri_cap_is_canonical_many(
+    const cheri_cap_u128 *words, size_t word_count, uint8_t *answers, size_t answer_count) CHERI_CAP_NOEXCEPT;
+size_t cheri_cap_represents_many(
+    const cheri_cap_u128 *words, size_t word_count, const uint64_t *addresses, size_t address_count, uint8_t *answers,
+    size_t answer_count) CHERI_CAP_NOEXCEPT;
 
 /*
  * Returns the granule of a length in bytes: the unit in which the bounds of that many bytes from
@@ -360,7 +364,8 @@ void cheri_cap_write_word(uint64_t high, uint64_t low, char *text /* 32 bytes */
  * Pointers: `text` must not be null. All CHERI_CAP_LINE_SIZE bytes of it are written: from the end
  * of the line on they are zero bytes.
  */
-size_t cheri_cap_format(uint64_t high, uint64_t low, bool tagged, char *text /* CHERI_CAP_LINE_SIZE bytes */) CHERI_CAP_NOEXCEPT;
+size_t cheri_cap_format(
+    uint64_t high, uint64_t low, bool tagged, char *text /* CHERI_CAP_LINE_SIZE bytes */) CHERI_CAP_NOEXCEPT;
 
 /* ---- The rules of derivation, on words */
 
@@ -417,7 +422,8 @@ cheri_cap_made cheri_cap_increment(uint64_t high, uint64_t low, uint64_t amount)
  * Without the checks: cheri_cap_with_bounds of cheri_cap_set_bounds, if that is in range.
  */
 CHERI_CAP_NODISCARD CHERI_CAP_CONST
-cheri_cap_made cheri_cap_set_bounds_on(uint64_t high, uint64_t low, uint64_t length_high, uint64_t length_low) CHERI_CAP_NOEXCEPT;
+cheri_cap_made cheri_cap_set_bounds_on(
+    uint64_t high, uint64_t low, uint64_t length_high, uint64_t length_low) CHERI_CAP_NOEXCEPT;
 
 /*
  * CSetBoundsExact: returns the word with the bounds of `length` bytes from its address, never
@@ -430,7 +436,8 @@ cheri_cap_made cheri_cap_set_bounds_on(uint64_t high, uint64_t low, uint64_t len
  * Without the checks: cheri_cap_with_bounds of cheri_cap_set_bounds, if that is in range.
  */
 CHERI_CAP_NODISCARD CHERI_CAP_CONST
-cheri_cap_made cheri_cap_set_bounds_exact_on(uint64_t high, uint64_t low, uint64_t length_high, uint64_t length_low) CHERI_CAP_NOEXCEPT;
+cheri_cap_made cheri_cap_set_bounds_exact_on(
+    uint64_t high, uint64_t low, uint64_t length_high, uint64_t length_low) CHERI_CAP_NOEXCEPT;
 
 /*
  * CAndPerm: returns the word with only those of its permissions that are also in the mask.
@@ -462,7 +469,8 @@ cheri_cap_made cheri_cap_set_flag(uint64_t high, uint64_t low, bool flag) CHERI_
  * Without the checks: cheri_cap_with_type of the authority's address.
  */
 CHERI_CAP_NODISCARD CHERI_CAP_CONST
-cheri_cap_made cheri_cap_seal(uint64_t high, uint64_t low, uint64_t authority_high, uint64_t authority_low) CHERI_CAP_NOEXCEPT;
+cheri_cap_made cheri_cap_seal(
+    uint64_t high, uint64_t low, uint64_t authority_high, uint64_t authority_low) CHERI_CAP_NOEXCEPT;
 
 /*
  * CUnseal: returns the sealed word unsealed.
@@ -477,7 +485,8 @@ cheri_cap_made cheri_cap_seal(uint64_t high, uint64_t low, uint64_t authority_hi
  * GLOBAL.
  */
 CHERI_CAP_NODISCARD CHERI_CAP_CONST
-cheri_cap_made cheri_cap_unseal(uint64_t high, uint64_t low, uint64_t authority_high, uint64_t authority_low) CHERI_CAP_NOEXCEPT;
+cheri_cap_made cheri_cap_unseal(
+    uint64_t high, uint64_t low, uint64_t authority_high, uint64_t authority_low) CHERI_CAP_NOEXCEPT;
 
 /*
  * CBuildCap: returns the word again if its capability grants no more than the authority.
@@ -492,7 +501,8 @@ cheri_cap_made cheri_cap_unseal(uint64_t high, uint64_t low, uint64_t authority_
  * Without the checks: the word.
  */
 CHERI_CAP_NODISCARD CHERI_CAP_CONST
-cheri_cap_made cheri_cap_rebuild(uint64_t authority_high, uint64_t authority_low, uint64_t high, uint64_t low) CHERI_CAP_NOEXCEPT;
+cheri_cap_made cheri_cap_rebuild(
+    uint64_t authority_high, uint64_t authority_low, uint64_t high, uint64_t low) CHERI_CAP_NOEXCEPT;
 
 /*
  * CTestSubset: returns whether the word grants no more than the outer word.
@@ -689,7 +699,8 @@ static inline bool cheri_cap_bounds_hold(const cheri_cap_bounds *bounds, uint64_
  * size of 0, the address may be the top. `bounds` must not be null.
  */
 CHERI_CAP_NODISCARD
-static inline bool cheri_cap_bounds_hold_bytes(const cheri_cap_bounds *bounds, uint64_t address, uint64_t size) CHERI_CAP_NOEXCEPT
+static inline bool cheri_cap_bounds_hold_bytes(
+    const cheri_cap_bounds *bounds, uint64_t address, uint64_t size) CHERI_CAP_NOEXCEPT
 {
     if (bounds->base > address)
         return false;
@@ -763,7 +774,8 @@ static inline cheri_cap_u128 cheri_cap_with_type(uint64_t high, uint64_t low, ui
  * be null.
  */
 CHERI_CAP_NODISCARD
-static inline cheri_cap_u128 cheri_cap_with_bounds(uint64_t high, uint64_t low, const cheri_cap_granted *granted) CHERI_CAP_NOEXCEPT
+static inline cheri_cap_u128 cheri_cap_with_bounds(
+    uint64_t high, uint64_t low, const cheri_cap_granted *granted) CHERI_CAP_NOEXCEPT
 {
     const uint64_t mask = UINT64_C(0x7ffffff), t = granted->t & 0xfffu, b = granted->b & 0x3fffu;
     const uint64_t fields = CHERI_CAP_CAST_(uint64_t, granted->ie) << 26 | t << 14 | b;

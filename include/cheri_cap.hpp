@@ -39,9 +39,15 @@ struct u128 {
     constexpr u128(std::uint64_t number) noexcept : low(number) {}
     constexpr u128(std::uint64_t upper, std::uint64_t lower) noexcept : high(upper), low(lower) {}
 
-    friend constexpr bool operator==(u128 one, u128 other) noexcept { return one.high == other.high && one.low == other.low; }
+    friend constexpr bool operator==(u128 one, u128 other) noexcept
+    {
+        return one.high == other.high && one.low == other.low;
+    }
     friend constexpr bool operator!=(u128 one, u128 other) noexcept { return !(one == other); }
-    friend constexpr bool operator<(u128 one, u128 other) noexcept { return one.high != other.high ? one.high < other.high : one.low < other.low; }
+    friend constexpr bool operator<(u128 one, u128 other) noexcept
+    {
+        return one.high != other.high ? one.high < other.high : one.low < other.low;
+    }
     friend constexpr bool operator>(u128 one, u128 other) noexcept { return other < one; }
     friend constexpr bool operator<=(u128 one, u128 other) noexcept { return !(other < one); }
     friend constexpr bool operator>=(u128 one, u128 other) noexcept { return !(one < other); }
@@ -91,10 +97,16 @@ public:
     }
 
     /* Returns whether the bounds contain the byte at the address. */
-    [[nodiscard]] bool contains(std::uint64_t address) const noexcept { return cheri_cap_bounds_hold(&decoded_, address); }
+    [[nodiscard]] bool contains(std::uint64_t address) const noexcept
+    {
+        return cheri_cap_bounds_hold(&decoded_, address);
+    }
 
     /* Returns whether the bounds contain an access: cheri_cap_bounds_hold_bytes. */
-    [[nodiscard]] bool contains(std::uint64_t address, std::uint64_t size) const noexcept { return cheri_cap_bounds_hold_bytes(&decoded_, address, size); }
+    [[nodiscard]] bool contains(std::uint64_t address, std::uint64_t size) const noexcept
+    {
+        return cheri_cap_bounds_hold_bytes(&decoded_, address, size);
+    }
 
     /* The struct of C. */
     [[nodiscard]] constexpr const cheri_cap_bounds &raw() const noexcept { return decoded_; }
@@ -150,8 +162,14 @@ public:
     }
 
     /* Returns the word of 16 bytes of memory. `bytes` must not be null. */
-    [[nodiscard]] static word from_bytes(const std::uint8_t bytes[16], byte_order order) noexcept { return word(cheri_cap_word_from_bytes(bytes, order == byte_order::big)); }
-    [[nodiscard]] static word from_bytes(const std::array<std::uint8_t, 16> &bytes, byte_order order) noexcept { return from_bytes(bytes.data(), order); }
+    [[nodiscard]] static word from_bytes(const std::uint8_t bytes[16], byte_order order) noexcept
+    {
+        return word(cheri_cap_word_from_bytes(bytes, order == byte_order::big));
+    }
+    [[nodiscard]] static word from_bytes(const std::array<std::uint8_t, 16> &bytes, byte_order order) noexcept
+    {
+        return from_bytes(bytes.data(), order);
+    }
 
     [[nodiscard]] std::array<std::uint8_t, 16> to_bytes(byte_order order) const noexcept
     {
@@ -198,15 +216,33 @@ public:
     [[nodiscard]] std::uint64_t offset() const noexcept { return address() - bounds().base(); }
 
     [[nodiscard]] bool is_canonical() const noexcept { return cheri_cap_is_canonical(high(), low()); }
-    [[nodiscard]] bool represents(std::uint64_t address) const noexcept { return cheri_cap_represents(high(), low(), address); }
-    [[nodiscard]] bool is_subset_of(word outer) const noexcept { return cheri_cap_is_subset(high(), low(), outer.high(), outer.low()); }
+    [[nodiscard]] bool represents(std::uint64_t address) const noexcept
+    {
+        return cheri_cap_represents(high(), low(), address);
+    }
+    [[nodiscard]] bool is_subset_of(word outer) const noexcept
+    {
+        return cheri_cap_is_subset(high(), low(), outer.high(), outer.low());
+    }
 
     /* The words with one field changed and nothing checked: cheri_cap_with_*. They have no tag. */
-    [[nodiscard]] word with_address(std::uint64_t address) const noexcept { return word(cheri_cap_with_address(high(), low(), address)); }
-    [[nodiscard]] word with_perms(std::uint16_t perms) const noexcept { return word(cheri_cap_with_perms(high(), low(), perms)); }
+    [[nodiscard]] word with_address(std::uint64_t address) const noexcept
+    {
+        return word(cheri_cap_with_address(high(), low(), address));
+    }
+    [[nodiscard]] word with_perms(std::uint16_t perms) const noexcept
+    {
+        return word(cheri_cap_with_perms(high(), low(), perms));
+    }
     [[nodiscard]] word with_flag(bool flag) const noexcept { return word(cheri_cap_with_flag(high(), low(), flag)); }
-    [[nodiscard]] word with_type(std::uint64_t otype) const noexcept { return word(cheri_cap_with_type(high(), low(), otype)); }
-    [[nodiscard]] word with_bounds(const cheri_cap_granted &granted) const noexcept { return word(cheri_cap_with_bounds(high(), low(), &granted)); }
+    [[nodiscard]] word with_type(std::uint64_t otype) const noexcept
+    {
+        return word(cheri_cap_with_type(high(), low(), otype));
+    }
+    [[nodiscard]] word with_bounds(const cheri_cap_granted &granted) const noexcept
+    {
+        return word(cheri_cap_with_bounds(high(), low(), &granted));
+    }
 
     /* The rules of derivation. */
     [[nodiscard]] inline result set_address(std::uint64_t address) const noexcept;
@@ -222,21 +258,27 @@ public:
     /* CBuildCap, with this word as the authority: cheri_cap_rebuild. */
     [[nodiscard]] inline result rebuild(word untagged) const noexcept;
 
-    friend constexpr bool operator==(word one, word other) noexcept { return one.high() == other.high() && one.low() == other.low(); }
+    friend constexpr bool operator==(word one, word other) noexcept
+    {
+        return one.high() == other.high() && one.low() == other.low();
+    }
     friend constexpr bool operator!=(word one, word other) noexcept { return !(one == other); }
 
 private:
     cheri_cap_u128 halves_{0, 0};
 };
 
-static_assert(sizeof(word) == sizeof(cheri_cap_u128) && std::is_standard_layout_v<word> && std::is_trivially_copyable_v<word>);
+static_assert(sizeof(word) == sizeof(cheri_cap_u128) && std::is_standard_layout_v<word> &&
+              std::is_trivially_copyable_v<word>);
 
 /* The result of a rule: a word, or the refusal for which there is none. */
 class [[nodiscard]] result {
 public:
     constexpr result(word made) noexcept : word_(made) {}
     explicit constexpr result(refusal why) noexcept : refusal_(why) {}
-    explicit constexpr result(const cheri_cap_made &made) noexcept : word_(made.high, made.low), refusal_(static_cast<refusal>(made.refusal)) {}
+    explicit constexpr result(const cheri_cap_made &made) noexcept
+        : word_(made.high, made.low), refusal_(static_cast<refusal>(made.refusal))
+    {}
 
     [[nodiscard]] constexpr bool has_value() const noexcept { return refusal_ == refusal::none; }
     explicit constexpr operator bool() const noexcept { return has_value(); }
@@ -251,7 +293,10 @@ public:
     [[nodiscard]] constexpr word value_or(word other) const noexcept { return has_value() ? word_ : other; }
 
     /* Returns the word as an optional, without the refusal. */
-    [[nodiscard]] constexpr std::optional<word> to_optional() const noexcept { return has_value() ? std::optional<word>(word_) : std::nullopt; }
+    [[nodiscard]] constexpr std::optional<word> to_optional() const noexcept
+    {
+        return has_value() ? std::optional<word>(word_) : std::nullopt;
+    }
 
     /* Calls a function that takes a word and returns a result, and returns that. After a refusal, it
      * returns this refusal, and the function is not called. */
@@ -261,7 +306,10 @@ public:
         return has_value() ? result(std::forward<Function>(next)(word_)) : *this;
     }
 
-    friend constexpr bool operator==(const result &one, const result &other) noexcept { return one.refusal_ == other.refusal_ && one.word_ == other.word_; }
+    friend constexpr bool operator==(const result &one, const result &other) noexcept
+    {
+        return one.refusal_ == other.refusal_ && one.word_ == other.word_;
+    }
     friend constexpr bool operator!=(const result &one, const result &other) noexcept { return !(one == other); }
 
 private:
@@ -269,16 +317,43 @@ private:
     refusal refusal_ = refusal::none;
 };
 
-inline result word::set_address(std::uint64_t address) const noexcept { return result(cheri_cap_set_address(high(), low(), address)); }
-inline result word::set_offset(std::uint64_t offset) const noexcept { return result(cheri_cap_set_offset(high(), low(), offset)); }
-inline result word::increment(std::uint64_t amount) const noexcept { return result(cheri_cap_increment(high(), low(), amount)); }
-inline result word::set_bounds(u128 length) const noexcept { return result(cheri_cap_set_bounds_on(high(), low(), length.high, length.low)); }
-inline result word::set_bounds_exact(u128 length) const noexcept { return result(cheri_cap_set_bounds_exact_on(high(), low(), length.high, length.low)); }
-inline result word::and_perms(std::uint16_t mask) const noexcept { return result(cheri_cap_and_perms(high(), low(), mask)); }
+inline result word::set_address(std::uint64_t address) const noexcept
+{
+    return result(cheri_cap_set_address(high(), low(), address));
+}
+inline result word::set_offset(std::uint64_t offset) const noexcept
+{
+    return result(cheri_cap_set_offset(high(), low(), offset));
+}
+inline result word::increment(std::uint64_t amount) const noexcept
+{
+    return result(cheri_cap_increment(high(), low(), amount));
+}
+inline result word::set_bounds(u128 length) const noexcept
+{
+    return result(cheri_cap_set_bounds_on(high(), low(), length.high, length.low));
+}
+inline result word::set_bounds_exact(u128 length) const noexcept
+{
+    return result(cheri_cap_set_bounds_exact_on(high(), low(), length.high, length.low));
+}
+inline result word::and_perms(std::uint16_t mask) const noexcept
+{
+    return result(cheri_cap_and_perms(high(), low(), mask));
+}
 inline result word::set_flag(bool flag) const noexcept { return result(cheri_cap_set_flag(high(), low(), flag)); }
-inline result word::seal(word authority) const noexcept { return result(cheri_cap_seal(high(), low(), authority.high(), authority.low())); }
-inline result word::unseal(word authority) const noexcept { return result(cheri_cap_unseal(high(), low(), authority.high(), authority.low())); }
-inline result word::rebuild(word untagged) const noexcept { return result(cheri_cap_rebuild(high(), low(), untagged.high(), untagged.low())); }
+inline result word::seal(word authority) const noexcept
+{
+    return result(cheri_cap_seal(high(), low(), authority.high(), authority.low()));
+}
+inline result word::unseal(word authority) const noexcept
+{
+    return result(cheri_cap_unseal(high(), low(), authority.high(), authority.low()));
+}
+inline result word::rebuild(word untagged) const noexcept
+{
+    return result(cheri_cap_rebuild(high(), low(), untagged.high(), untagged.low()));
+}
 
 /* Returns the granted request, or nothing if base + length is above 2^64: cheri_cap_set_bounds. */
 [[nodiscard]] inline std::optional<cheri_cap_granted> grant(std::uint64_t base, u128 length) noexcept
@@ -290,7 +365,8 @@ inline result word::rebuild(word untagged) const noexcept { return result(cheri_
 /* Returns the granule of a length in bytes, or nothing above 2^64. */
 [[nodiscard]] inline std::optional<std::uint64_t> granule(u128 length) noexcept
 {
-    return length <= address_space ? std::optional<std::uint64_t>(cheri_cap_granule(length.high, length.low)) : std::nullopt;
+    return length <= address_space ? std::optional<std::uint64_t>(cheri_cap_granule(length.high, length.low))
+                                   : std::nullopt;
 }
 
 /* CRRL: returns the representable length, or nothing above 2^64. */
@@ -305,7 +381,8 @@ inline result word::rebuild(word untagged) const noexcept { return result(cheri_
 /* CRAM: returns the representable alignment mask, or nothing above 2^64. */
 [[nodiscard]] inline std::optional<std::uint64_t> alignment_mask(u128 length) noexcept
 {
-    return length <= address_space ? std::optional<std::uint64_t>(cheri_cap_alignment_mask(length.high, length.low)) : std::nullopt;
+    return length <= address_space ? std::optional<std::uint64_t>(cheri_cap_alignment_mask(length.high, length.low))
+                                   : std::nullopt;
 }
 
 /*
@@ -322,7 +399,8 @@ inline void is_canonical_many(const word *words, std::uint8_t *results, std::siz
     if (count != 0)
         cheri_cap_is_canonical_many(&words->raw(), count, results, count);
 }
-inline void represents_many(const word *words, const std::uint64_t *addresses, std::uint8_t *results, std::size_t count) noexcept
+inline void represents_many(const word *words, const std::uint64_t *addresses, std::uint8_t *results,
+                            std::size_t count) noexcept
 {
     if (count != 0)
         cheri_cap_represents_many(&words->raw(), count, addresses, count, results, count);
