@@ -29,10 +29,10 @@
  * Pointers, of the three text functions and the three batch functions: none may be null, not even
  * with a count or a length of 0, since the library has references to what they point to. An empty
  * std::vector may have a null pointer: cheri_cap.hpp skips the call, and so must a caller from C.
- * An array has as many elements as its count says, and its size is
- * at most PTRDIFF_MAX bytes. It must be aligned for its element type: to 8 bytes for
- * cheri_cap_u128, cheri_cap_bounds and uint64_t. Arrays that a function reads may overlap each
- * other. An array that a function writes must not overlap any other array of that call.
+ * An array has as many elements as its count says, and its size is at most PTRDIFF_MAX bytes. It
+ * must be aligned for its element type: to 8 bytes for cheri_cap_u128, cheri_cap_bounds and
+ * uint64_t. Arrays that a function reads may overlap each other. An array that a function writes
+ * must not overlap any other array of that call.
  *
  * Booleans: a `bool` must be 0 or 1, as C and C++ create it, also in a struct. If the bytes of a
  * struct come from a file or a socket, check them first: any other value is undefined behavior, in
