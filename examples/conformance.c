@@ -11,6 +11,10 @@
 #include <stdlib.h>
 #include <string.h>
 
+#if CHERI_CAP_RELEASE < 300
+#error "the header is that of an older release"
+#endif
+
 // The capacity for the words of the table, and more.
 #define CAPACITY 256u
 static cheri_cap_u128 words[CAPACITY];
@@ -149,6 +153,57 @@ static void check_inline(char **row, cheri_cap_u128 word)
     }
 }
 
+static bool is_word(cheri_cap_u128 word, cheri_cap_u128 wanted)
+{
+    return word.high == wanted.high && word.low == wanted.low;
+}
+
+// Compares each inline function that changes one field with the library's word of the changed fields.
+static void check_changed(char **row, cheri_cap_u128 word)
+{
+    static const cheri_cap_fields others[] = {
+        {0, 0, 0, 0, 0, 0, false, false},
+        {UINT64_MAX, 0x3ffff, 0xffff, 0xfff, 0x3fff, 0, true, true},
+        {UINT64_C(0x0123456789abcdef), CHERI_CAP_OTYPE_SENTRY, 0x8421, 0x5a3, 0x2c71, 0, true, false},
+    };
+    for (size_t i = 0; i < sizeof others / sizeof *others; i++) {
+        const cheri_cap_fields other = others[i], fields = cheri_cap_unpack(word.high, word.low);
+        cheri_cap_fields wanted = fields;
+        wanted.address = other.address;
+        expect(is_word(cheri_cap_with_address(word.high, word.low, other.address), cheri_cap_pack(wanted)), row[NAME], "with another address");
+        wanted = fields, wanted.perms = other.perms;
+        expect(is_word(cheri_cap_with_perms(word.high, word.low, other.perms), cheri_cap_pack(wanted)), row[NAME], "with other permissions");
+        wanted = fields, wanted.flag = other.flag;
+        expect(is_word(cheri_cap_with_flag(word.high, word.low, other.flag), cheri_cap_pack(wanted)), row[NAME], "with another flag");
+        wanted = fields, wanted.otype = other.otype;
+        expect(is_word(cheri_cap_with_type(word.high, word.low, other.otype), cheri_cap_pack(wanted)), row[NAME], "with another type");
+        expect(is_word(cheri_cap_with_type(word.high, word.low, ~UINT64_C(0x3ffff) | other.otype), cheri_cap_pack(wanted)), row[NAME], "with a type that is too wide");
+        wanted = fields, wanted.t = other.t, wanted.b = other.b, wanted.ie = other.ie;
+        cheri_cap_granted set = {7, 1, 7, other.t, other.b, 7, other.ie, false, false};
+        expect(is_word(cheri_cap_with_bounds(word.high, word.low, &set), cheri_cap_pack(wanted)), row[NAME], "with other bounds fields");
+        set.t |= 0xf000u, set.b |= 0xc000u;
+        expect(is_word(cheri_cap_with_bounds(word.high, word.low, &set), cheri_cap_pack(wanted)), row[NAME], "with bounds fields that are too wide");
+    }
+}
+
+// Checks the access check on the bounds of a row, by single bytes.
+static void check_accesses(char **row, cheri_cap_u128 word)
+{
+    static const uint64_t sizes[] = {1, 2, 8, 0x1000, UINT64_C(1) << 63, UINT64_MAX};
+    const cheri_cap_bounds bounds = cheri_cap_decode(word.high, word.low);
+    const uint64_t addresses[] = {0, 1, UINT64_MAX, UINT64_MAX - 7, word.low, bounds.base - 1, bounds.base, bounds.base + 1, bounds.top_low - 8, bounds.top_low - 1, bounds.top_low, bounds.top_low + 1};
+    for (size_t i = 0; i < sizeof addresses / sizeof *addresses; i++) {
+        const uint64_t first = addresses[i];
+        const bool is_top = bounds.top_high == 0 && first == bounds.top_low && bounds.base <= first;
+        expect(cheri_cap_bounds_hold_bytes(&bounds, first, 0) == (cheri_cap_bounds_hold(&bounds, first) || is_top), row[NAME], "an access of no bytes");
+        for (size_t j = 0; j < sizeof sizes / sizeof *sizes; j++) {
+            const uint64_t last = first + (sizes[j] - 1);
+            const bool wanted = cheri_cap_bounds_hold(&bounds, first) && cheri_cap_bounds_hold(&bounds, last) && last >= first;
+            expect(cheri_cap_bounds_hold_bytes(&bounds, first, sizes[j]) == wanted, row[NAME], "an access of several bytes");
+        }
+    }
+}
+
 // Checks the rules for which the table has the result: a canonical unsealed word is rebuilt from the root, moved to its
 // own address, given its own bounds at its base, its own permissions and flag, and is sealed and unsealed.
 static void check_rules(char **row, cheri_cap_u128 word)
@@ -173,7 +228,8 @@ static void check_rules(char **row, cheri_cap_u128 word)
     if (refusal != 0)
         return;
     same[5] = cheri_cap_set_address(same[5].high, same[5].low, word.low);
-    same[4] = made;
+    same[4] = cheri_cap_set_offset(same[4].high, same[4].low, cheri_cap_offset(&bounds, word.low));
+    expect(made.high == word.high && made.low == word.low, row[NAME], "the word rebuilt");
     for (int i = 0; i < 6; i++)
         expect(same[i].refusal == 0 && same[i].high == word.high && same[i].low == word.low, row[NAME], "the same word made");
     cheri_cap_made sealed = cheri_cap_seal(word.high, word.low, root.high, 7);
@@ -236,6 +292,8 @@ static unsigned check_table(FILE *table)
         check_kept_bounds(row, halves);
         check_text(row, halves);
         check_inline(row, halves);
+        check_changed(row, halves);
+        check_accesses(row, halves);
         check_rules(row, halves);
         check_line(row, halves);
         if (rows < CAPACITY)
@@ -269,6 +327,23 @@ static void check_many(size_t count)
     }
     expect(bounds[count - 1].exponent == 77 && canonical[count - 1] == 7 && representable[count - 1] == 7, "many words", "the element after the results");
     expect(cheri_cap_decode_many(words, 0, bounds, count) == 0, "many words", "no words");
+}
+
+// Checks the offsets and the accesses that the rows do not have.
+static void check_offsets(void)
+{
+    const cheri_cap_u128 word = {UINT64_C(0xffff000004819004), 0x1000}; // [0x1000, 0x1200)
+    cheri_cap_made made = cheri_cap_set_offset(word.high, 0x1123, 0x1ff);
+    expect(made.refusal == 0 && made.high == word.high && made.low == 0x11ff, "an offset", "counted from the base");
+    made = cheri_cap_set_offset(word.high, word.low, UINT64_C(0) - 0x1000);
+    expect(made.refusal == CHERI_CAP_REFUSAL_UNREPRESENTABLE, "an offset below the window", "unrepresentable");
+    made = cheri_cap_set_offset(cheri_cap_with_type(word.high, word.low, 5).high, word.low, 0);
+    expect(made.refusal == CHERI_CAP_REFUSAL_SEALED, "an offset", "in a sealed word");
+    const cheri_cap_bounds all = {0, 1, 0, 52}, last = {UINT64_C(0xffffffffffffff00), 1, 0, 0}, above = {16, 1, 32, 0};
+    expect(cheri_cap_bounds_hold_bytes(&all, 0, UINT64_MAX) && cheri_cap_bounds_hold_bytes(&all, 1, UINT64_MAX), "all addresses", "an access up to 2^64");
+    expect(!cheri_cap_bounds_hold_bytes(&all, 2, UINT64_MAX) && !cheri_cap_bounds_hold_bytes(&last, UINT64_MAX, 2), "all addresses", "an access that wraps around");
+    expect(cheri_cap_bounds_hold_bytes(&last, UINT64_C(0xffffffffffffff00), 0x100), "the last bytes", "an access of them");
+    expect(!cheri_cap_bounds_hold_bytes(&above, UINT64_MAX, 18), "a top above 2^64", "an access that wraps around");
 }
 
 static void check_lengths(void)
@@ -378,6 +453,7 @@ int main(int argc, char **argv)
     expect(rows >= 24, argv[1], "too few rows");
     check_many(rows < CAPACITY ? rows : CAPACITY);
     check_lengths();
+    check_offsets();
     check_requests();
     check_types();
     printf("%u rows, %u failures\n", rows, failures);

@@ -11,7 +11,8 @@
  * end are plain C: they are tested, not proved.
  *
  * Version: CHERI_CAP_VERSION is the version of this header, and cheri_cap_version() returns that of
- * the library. They are equal if the two belong together.
+ * the library. They are equal if the two belong together. CHERI_CAP_RELEASE is the release that the
+ * header came with, which `#if` can compare.
  *
  * Words: a word has 128 bits and is passed as two halves. `high` has its bits 127 to 64, with the
  * permissions at the top; `low` has its bits 63 to 0, the address. In memory, a little-endian
@@ -26,10 +27,12 @@
  * invalid `bool`s. Its comment says what it returns for values out of range.
  *
  * Pointers, of the three text functions and the three batch functions: none may be null, not even
- * with a count or a length of 0. An array has as many elements as its count says, and its size is
- * at most PTRDIFF_MAX bytes. It must be aligned for its element type: to 8 bytes for
- * cheri_cap_u128, cheri_cap_bounds and uint64_t. Arrays that a function reads may overlap each
- * other. An array that a function writes must not overlap any other array of that call.
+ * with a count or a length of 0, since the library has references to what they point to. An empty
+ * std::vector may have a null pointer: cheri_cap.hpp skips the call, and so must a caller from C.
+ * An array has as many elements as its count says, and its size is at most PTRDIFF_MAX bytes. It
+ * must be aligned for its element type: to 8 bytes for cheri_cap_u128, cheri_cap_bounds and
+ * uint64_t. Arrays that a function reads may overlap each other. An array that a function writes
+ * must not overlap any other array of that call.
  *
  * Booleans: a `bool` must be 0 or 1, as C and C++ create it, also in a struct. If the bytes of a
  * struct come from a file or a socket, check them first: any other value is undefined behavior, in
@@ -54,13 +57,59 @@ extern "C" {
 #define CHERI_CAP_CAST_(type, value) ((type)(value))
 #endif
 
-#ifdef __clang__
-#pragma clang diagnostic push
-#pragma clang diagnostic ignored "-Wpadded"
+#ifdef __GNUC__
+#pragma GCC diagnostic push
+#pragma GCC diagnostic ignored "-Wpadded"
 #endif
 
 /* The version of this header. */
 #define CHERI_CAP_VERSION 1u
+
+/* The release of this header: 10000 * major + 100 * minor + patch, so 300 for 0.3.0. */
+#define CHERI_CAP_RELEASE 300
+
+/*
+ * Attributes of the functions below. To change one, define it before the include, empty or not.
+ *
+ * CHERI_CAP_CONST: the result depends only on the values of the arguments, and the call has no
+ * effect, so that a compiler may move or merge calls.
+ * CHERI_CAP_PURE: the result also depends on the memory that a pointer leads to.
+ * CHERI_CAP_NODISCARD: a call whose result is not used is a mistake, which gets a warning.
+ * CHERI_CAP_NOEXCEPT: the function throws no exception.
+ */
+#ifndef CHERI_CAP_CONST
+#ifdef __GNUC__
+#define CHERI_CAP_CONST __attribute__((__const__))
+#else
+#define CHERI_CAP_CONST
+#endif
+#endif
+
+#ifndef CHERI_CAP_PURE
+#ifdef __GNUC__
+#define CHERI_CAP_PURE __attribute__((__pure__))
+#else
+#define CHERI_CAP_PURE
+#endif
+#endif
+
+#ifndef CHERI_CAP_NODISCARD
+#if defined __cplusplus && __cplusplus >= 201703L
+#define CHERI_CAP_NODISCARD [[nodiscard]]
+#elif defined __GNUC__
+#define CHERI_CAP_NODISCARD __attribute__((__warn_unused_result__))
+#else
+#define CHERI_CAP_NODISCARD
+#endif
+#endif
+
+#ifndef CHERI_CAP_NOEXCEPT
+#if defined __cplusplus && __cplusplus >= 201103L
+#define CHERI_CAP_NOEXCEPT noexcept
+#else
+#define CHERI_CAP_NOEXCEPT
+#endif
+#endif
 
 /* The permissions, as bits of `perms`. */
 #define CHERI_CAP_PERM_GLOBAL 0x0001u
@@ -160,25 +209,31 @@ typedef struct cheri_cap_made {
 /* ---- The library */
 
 /* Returns the version of the library. */
-uint32_t cheri_cap_version(void);
+CHERI_CAP_NODISCARD CHERI_CAP_CONST
+uint32_t cheri_cap_version(void) CHERI_CAP_NOEXCEPT;
 
 /* Returns the fields of a word, for every word. */
-cheri_cap_fields cheri_cap_unpack(uint64_t high, uint64_t low);
+CHERI_CAP_NODISCARD CHERI_CAP_CONST
+cheri_cap_fields cheri_cap_unpack(uint64_t high, uint64_t low) CHERI_CAP_NOEXCEPT;
 
 /* Returns the permissions of a word, for every word. */
-uint16_t cheri_cap_perms(uint64_t high, uint64_t low);
+CHERI_CAP_NODISCARD CHERI_CAP_CONST
+uint16_t cheri_cap_perms(uint64_t high, uint64_t low) CHERI_CAP_NOEXCEPT;
 
 /* Returns the object type of a word, for every word. */
-uint32_t cheri_cap_otype(uint64_t high, uint64_t low);
+CHERI_CAP_NODISCARD CHERI_CAP_CONST
+uint32_t cheri_cap_otype(uint64_t high, uint64_t low) CHERI_CAP_NOEXCEPT;
 
 /* Returns the flag of a word, for every word. */
-bool cheri_cap_flag(uint64_t high, uint64_t low);
+CHERI_CAP_NODISCARD CHERI_CAP_CONST
+bool cheri_cap_flag(uint64_t high, uint64_t low) CHERI_CAP_NOEXCEPT;
 
 /*
  * Returns the word of these fields. Only the lowest bits of a number that is wider than its field
  * count. For the fields that cheri_cap_unpack returned for a word, that is this word again.
  */
-cheri_cap_u128 cheri_cap_pack(cheri_cap_fields fields);
+CHERI_CAP_NODISCARD CHERI_CAP_CONST
+cheri_cap_u128 cheri_cap_pack(cheri_cap_fields fields) CHERI_CAP_NOEXCEPT;
 
 /*
  * Returns whether the word is that of a capability, sealed or not: "canonical" means "of a
@@ -187,25 +242,30 @@ cheri_cap_u128 cheri_cap_pack(cheri_cap_fields fields);
  * Sentries and words of the other reserved types, 0x3fff0 to 0x3fffe, decode as every word does,
  * and are not canonical.
  */
-bool cheri_cap_is_canonical(uint64_t high, uint64_t low);
+CHERI_CAP_NODISCARD CHERI_CAP_CONST
+bool cheri_cap_is_canonical(uint64_t high, uint64_t low) CHERI_CAP_NOEXCEPT;
 
 /*
  * Returns the base, the top and the exponent of a word, for every word.
  *
  * If the word is not canonical, the top may be below the base, or above 2^64 (but below 2^65).
  */
-cheri_cap_bounds cheri_cap_decode(uint64_t high, uint64_t low);
+CHERI_CAP_NODISCARD CHERI_CAP_CONST
+cheri_cap_bounds cheri_cap_decode(uint64_t high, uint64_t low) CHERI_CAP_NOEXCEPT;
 
 /* Returns the exponent of a word, 0 to 52, for every word. */
-uint8_t cheri_cap_exponent(uint64_t high, uint64_t low);
+CHERI_CAP_NODISCARD CHERI_CAP_CONST
+uint8_t cheri_cap_exponent(uint64_t high, uint64_t low) CHERI_CAP_NOEXCEPT;
 
 /*
  * Returns the bounds that a request for [base, base + length) is granted: the tightest that any
  * word can store and that cover the request.
  *
- * If base + length is above 2^64, `in_range` is false and every other field is zero.
+ * If base + length is above 2^64, `in_range` is false and every other field is zero: no bounds cover
+ * such a request, so there are no fields that store them.
  */
-cheri_cap_granted cheri_cap_set_bounds(uint64_t base, uint64_t length_high, uint64_t length_low);
+CHERI_CAP_NODISCARD CHERI_CAP_CONST
+cheri_cap_granted cheri_cap_set_bounds(uint64_t base, uint64_t length_high, uint64_t length_low) CHERI_CAP_NOEXCEPT;
 
 /*
  * Returns whether the address is representable for the bounds of the word: whether a capability
@@ -215,7 +275,8 @@ cheri_cap_granted cheri_cap_set_bounds(uint64_t base, uint64_t length_high, uint
  * other word, returns whether the word with this address as its low half decodes to the same
  * bounds. The permissions, the reserved bits, the flag and the type are ignored.
  */
-bool cheri_cap_represents(uint64_t high, uint64_t low, uint64_t address);
+CHERI_CAP_NODISCARD CHERI_CAP_CONST
+bool cheri_cap_represents(uint64_t high, uint64_t low, uint64_t address) CHERI_CAP_NOEXCEPT;
 
 /*
  * Returns whether the word with this address in place of its own decodes to the same bounds, for
@@ -225,7 +286,8 @@ bool cheri_cap_represents(uint64_t high, uint64_t low, uint64_t address);
  * every address does. For canonical words, and for all others that store their bounds as setting
  * bounds stores them, the result is that of cheri_cap_represents.
  */
-bool cheri_cap_keeps_bounds(uint64_t high, uint64_t low, uint64_t address);
+CHERI_CAP_NODISCARD CHERI_CAP_CONST
+bool cheri_cap_keeps_bounds(uint64_t high, uint64_t low, uint64_t address) CHERI_CAP_NOEXCEPT;
 
 /*
  * Batch functions. Each writes the result of cheri_cap_decode, cheri_cap_is_canonical or
@@ -236,13 +298,17 @@ bool cheri_cap_keeps_bounds(uint64_t high, uint64_t low, uint64_t address);
  * 0. Each array has its own count: if they differ, the smallest of them applies, and the results
  * past it do not change.
  *
- * Pointers: none may be null, not even for a count of 0. Words, bounds and addresses must be
+ * Pointers: none may be null, not even for a count of 0: skip the call then. Words, bounds and addresses must be
  * aligned to 8 bytes. The results must not overlap what is read, but words and addresses may
  * overlap each other. The previous contents of the results do not matter. See "Pointers" above.
  */
-size_t cheri_cap_decode_many(const cheri_cap_u128 *words, size_t word_count, cheri_cap_bounds *bounds, size_t bounds_count);
-size_t cheri_cap_is_canonical_many(const cheri_cap_u128 *words, size_t word_count, uint8_t *answers, size_t answer_count);
-size_t cheri_cap_represents_many(const cheri_cap_u128 *words, size_t word_count, const uint64_t *addresses, size_t address_count, uint8_t *answers, size_t answer_count);
+size_t cheri_cap_decode_many(
+    const cheri_cap_u128 *words, size_t word_count, cheri_cap_bounds *bounds, size_t bounds_count) CHERI_CAP_NOEXCEPT;
+size_t cheri_cap_is_canonical_many(
+    const cheri_cap_u128 *words, size_t word_count, uint8_t *answers, size_t answer_count) CHERI_CAP_NOEXCEPT;
+size_t cheri_cap_represents_many(
+    const cheri_cap_u128 *words, size_t word_count, const uint64_t *addresses, size_t address_count, uint8_t *answers,
+    size_t answer_count) CHERI_CAP_NOEXCEPT;
 
 /*
  * Returns the granule of a length in bytes: the unit in which the bounds of that many bytes from
@@ -251,7 +317,8 @@ size_t cheri_cap_represents_many(const cheri_cap_u128 *words, size_t word_count,
  * It is 1 below 4096 bytes, otherwise a power of two from 8 to 2^55. It is 0 for a length above
  * 2^64.
  */
-uint64_t cheri_cap_granule(uint64_t length_high, uint64_t length_low);
+CHERI_CAP_NODISCARD CHERI_CAP_CONST
+uint64_t cheri_cap_granule(uint64_t length_high, uint64_t length_low) CHERI_CAP_NOEXCEPT;
 
 /*
  * CRRL: returns the representable length, which is the length rounded up to a multiple of its
@@ -259,7 +326,8 @@ uint64_t cheri_cap_granule(uint64_t length_high, uint64_t length_low);
  *
  * Both halves are all ones for a length above 2^64.
  */
-cheri_cap_u128 cheri_cap_round_length(uint64_t length_high, uint64_t length_low);
+CHERI_CAP_NODISCARD CHERI_CAP_CONST
+cheri_cap_u128 cheri_cap_round_length(uint64_t length_high, uint64_t length_low) CHERI_CAP_NOEXCEPT;
 
 /*
  * CRAM: returns the representable alignment mask. An address "and" the mask is the address rounded
@@ -267,7 +335,8 @@ cheri_cap_u128 cheri_cap_round_length(uint64_t length_high, uint64_t length_low)
  *
  * The mask is 0 for a length above 2^64.
  */
-uint64_t cheri_cap_alignment_mask(uint64_t length_high, uint64_t length_low);
+CHERI_CAP_NODISCARD CHERI_CAP_CONST
+uint64_t cheri_cap_alignment_mask(uint64_t length_high, uint64_t length_low) CHERI_CAP_NOEXCEPT;
 
 /*
  * Reads a word from `length` bytes of text: 32 hexadecimal digits of either case and nothing else.
@@ -277,14 +346,15 @@ uint64_t cheri_cap_alignment_mask(uint64_t length_high, uint64_t length_low);
  * Pointers: `text` must not be null, not even for length 0. `length` bytes of it are read, at most
  * PTRDIFF_MAX. It needs no terminating NUL.
  */
-cheri_cap_read cheri_cap_read_word(const char *text, size_t length);
+CHERI_CAP_NODISCARD CHERI_CAP_PURE
+cheri_cap_read cheri_cap_read_word(const char *text, size_t length) CHERI_CAP_NOEXCEPT;
 
 /*
  * Writes the 32 hexadecimal digits of a word, in lower case, and no terminating NUL.
  *
  * Pointers: `text` must not be null. 32 bytes of it are written.
  */
-void cheri_cap_write_word(uint64_t high, uint64_t low, char *text /* 32 bytes */);
+void cheri_cap_write_word(uint64_t high, uint64_t low, char *text /* 32 bytes */) CHERI_CAP_NOEXCEPT;
 
 /* Buffer size for the one-line form of any word, including the terminating NUL. */
 #define CHERI_CAP_LINE_SIZE 96
@@ -306,7 +376,8 @@ void cheri_cap_write_word(uint64_t high, uint64_t low, char *text /* 32 bytes */
  * Pointers: `text` must not be null. All CHERI_CAP_LINE_SIZE bytes of it are written: from the end
  * of the line on they are zero bytes.
  */
-size_t cheri_cap_format(uint64_t high, uint64_t low, bool tagged, char *text /* CHERI_CAP_LINE_SIZE bytes */);
+size_t cheri_cap_format(
+    uint64_t high, uint64_t low, bool tagged, char *text /* CHERI_CAP_LINE_SIZE bytes */) CHERI_CAP_NOEXCEPT;
 
 /* ---- The rules of derivation, on words */
 
@@ -320,32 +391,41 @@ size_t cheri_cap_format(uint64_t high, uint64_t low, bool tagged, char *text /* 
  * cheri_cap_is_subset compares words. For cheri_cap_rebuild, that is the authority's word. So the
  * result of any number of rules is a subset of the word that they began with.
  *
- * Tags are up to the caller: the result is for words whose tags are set. If a rule refuses, an
- * instruction of the standard (UCAM-CL-TR-987, ISA version 9) still writes a result, with its tag
- * cleared. The parts after "Standard:" describe that result and its bits. They are taken from the
- * standard, and are neither proved nor tested here. Nor is it proved or tested here that a result
- * of an untagged word, or by an untagged authority, has no tag. A processor treats a tagged sentry
- * as a sealed capability.
+ * Tags: no function takes or returns one, except the mark of cheri_cap_format. The part after
+ * "Tags:" says which tags must be set for the result to have one. If one of them is not set, or if
+ * the rule refuses, the result has no tag.
  *
- * CSealEntry, CInvoke and jumps have no function here. The word with another type, such as that of
- * a sentry or an unsealed one, is cheri_cap_pack of its fields with another `otype`.
+ * Without the checks: if a rule refuses, an instruction may still write a word, with its tag
+ * cleared. The part after "Without the checks:" is the word with the field changed all the same.
+ * Whether an instruction writes this word, another one, or traps is for its ISA text to say.
+ *
+ * The name of an instruction says which function is for it. Agreement with any instruction is
+ * neither proved nor tested here: docs/EMBEDDING.md, "Where an instruction may write something
+ * else", lists the places to compare with an ISA text.
+ *
+ * CSealEntry, CInvoke, CCSeal, CCopyType and jumps have no function here. The word with another
+ * type, such as that of a sentry or an unsealed one, is cheri_cap_with_type.
  */
 
 /*
  * CSetAddr: returns the word with another address and the same bounds.
  *
  * Refusals: CANONICAL; SEALED; UNREPRESENTABLE.
- * Standard: a refusal clears the tag; the address is set, and the upper half keeps its bits.
+ * Tags: the word's.
+ * Without the checks: cheri_cap_with_address.
  */
-cheri_cap_made cheri_cap_set_address(uint64_t high, uint64_t low, uint64_t address);
+CHERI_CAP_NODISCARD CHERI_CAP_CONST
+cheri_cap_made cheri_cap_set_address(uint64_t high, uint64_t low, uint64_t address) CHERI_CAP_NOEXCEPT;
 
 /*
  * CIncOffset: returns the word with `amount` added to its address, modulo 2^64.
  *
  * Refusals: CANONICAL; SEALED; UNREPRESENTABLE.
- * Standard: like CSetAddr, with the sum as the address.
+ * Tags: the word's.
+ * Without the checks: cheri_cap_with_address of the sum.
  */
-cheri_cap_made cheri_cap_increment(uint64_t high, uint64_t low, uint64_t amount);
+CHERI_CAP_NODISCARD CHERI_CAP_CONST
+cheri_cap_made cheri_cap_increment(uint64_t high, uint64_t low, uint64_t amount) CHERI_CAP_NOEXCEPT;
 
 /*
  * CSetBounds: returns the word with the bounds of `length` bytes from its address.
@@ -355,10 +435,12 @@ cheri_cap_made cheri_cap_increment(uint64_t high, uint64_t low, uint64_t amount)
  * one above 2^64 is out of bounds.
  *
  * Refusals: CANONICAL; SEALED; BOUNDS.
- * Standard: a refusal clears the tag; the bounds fields are those of the request, and the other
- * bits stay.
+ * Tags: the word's.
+ * Without the checks: cheri_cap_with_bounds of cheri_cap_set_bounds, if that is in range.
  */
-cheri_cap_made cheri_cap_set_bounds_on(uint64_t high, uint64_t low, uint64_t length_high, uint64_t length_low);
+CHERI_CAP_NODISCARD CHERI_CAP_CONST
+cheri_cap_made cheri_cap_set_bounds_on(
+    uint64_t high, uint64_t low, uint64_t length_high, uint64_t length_low) CHERI_CAP_NOEXCEPT;
 
 /*
  * CSetBoundsExact: returns the word with the bounds of `length` bytes from its address, never
@@ -367,25 +449,32 @@ cheri_cap_made cheri_cap_set_bounds_on(uint64_t high, uint64_t low, uint64_t len
  * The address does not change. Any length may be requested; one above 2^64 is out of bounds.
  *
  * Refusals: CANONICAL; SEALED; BOUNDS; INEXACT.
- * Standard: like CSetBounds, with the bounds fields of the rounded request.
+ * Tags: the word's.
+ * Without the checks: cheri_cap_with_bounds of cheri_cap_set_bounds, if that is in range.
  */
-cheri_cap_made cheri_cap_set_bounds_exact_on(uint64_t high, uint64_t low, uint64_t length_high, uint64_t length_low);
+CHERI_CAP_NODISCARD CHERI_CAP_CONST
+cheri_cap_made cheri_cap_set_bounds_exact_on(
+    uint64_t high, uint64_t low, uint64_t length_high, uint64_t length_low) CHERI_CAP_NOEXCEPT;
 
 /*
  * CAndPerm: returns the word with only those of its permissions that are also in the mask.
  *
  * Refusals: CANONICAL; SEALED.
- * Standard: a refusal clears the tag; the permissions are masked, and the other bits stay.
+ * Tags: the word's.
+ * Without the checks: cheri_cap_with_perms of the word's permissions "and" the mask.
  */
-cheri_cap_made cheri_cap_and_perms(uint64_t high, uint64_t low, uint16_t mask);
+CHERI_CAP_NODISCARD CHERI_CAP_CONST
+cheri_cap_made cheri_cap_and_perms(uint64_t high, uint64_t low, uint16_t mask) CHERI_CAP_NOEXCEPT;
 
 /*
  * CSetFlags: returns the word with this flag.
  *
  * Refusals: CANONICAL; SEALED.
- * Standard: a refusal clears the tag; the flag is set, and the other bits stay.
+ * Tags: the word's.
+ * Without the checks: cheri_cap_with_flag.
  */
-cheri_cap_made cheri_cap_set_flag(uint64_t high, uint64_t low, bool flag);
+CHERI_CAP_NODISCARD CHERI_CAP_CONST
+cheri_cap_made cheri_cap_set_flag(uint64_t high, uint64_t low, bool flag) CHERI_CAP_NOEXCEPT;
 
 /*
  * CSeal: returns the word sealed, with the authority's address as its type.
@@ -393,10 +482,12 @@ cheri_cap_made cheri_cap_set_flag(uint64_t high, uint64_t low, bool flag);
  * Refusals: CANONICAL (either word); SEALED (either word); PERMISSION unless the authority has
  * SEAL; BOUNDS unless its address is in its bounds; TYPE if its address is above
  * CHERI_CAP_OTYPE_LAST_SEALING.
- * Standard: a refusal clears the tag; the type is the low 18 bits of the authority's address, and
- * the other bits stay.
+ * Tags: the word's and the authority's.
+ * Without the checks: cheri_cap_with_type of the authority's address.
  */
-cheri_cap_made cheri_cap_seal(uint64_t high, uint64_t low, uint64_t authority_high, uint64_t authority_low);
+CHERI_CAP_NODISCARD CHERI_CAP_CONST
+cheri_cap_made cheri_cap_seal(
+    uint64_t high, uint64_t low, uint64_t authority_high, uint64_t authority_low) CHERI_CAP_NOEXCEPT;
 
 /*
  * CUnseal: returns the sealed word unsealed.
@@ -406,23 +497,29 @@ cheri_cap_made cheri_cap_seal(uint64_t high, uint64_t low, uint64_t authority_hi
  * Refusals: CANONICAL (either word); UNSEALED if the word is not sealed; SEALED if the authority
  * is; PERMISSION unless the authority has UNSEAL; BOUNDS unless its address is in its bounds;
  * MISMATCH unless its address is the word's type.
- * Standard: a refusal clears the tag; the result is unsealed with the same rule on GLOBAL, and the
- * other bits stay.
+ * Tags: the word's and the authority's.
+ * Without the checks: cheri_cap_with_type of CHERI_CAP_OTYPE_UNSEALED, and cheri_cap_with_perms for
+ * GLOBAL.
  */
-cheri_cap_made cheri_cap_unseal(uint64_t high, uint64_t low, uint64_t authority_high, uint64_t authority_low);
+CHERI_CAP_NODISCARD CHERI_CAP_CONST
+cheri_cap_made cheri_cap_unseal(
+    uint64_t high, uint64_t low, uint64_t authority_high, uint64_t authority_low) CHERI_CAP_NOEXCEPT;
 
 /*
- * CBuildCap: returns the word again, now with a tag, if its capability grants no more than the
- * authority.
+ * CBuildCap: returns the word again if its capability grants no more than the authority.
  *
- * The authority is the first argument.
+ * The authority is the first argument. The word's own tag does not matter: the rule is for words
+ * that have none.
  *
  * Refusals: CANONICAL (the authority's word); SEALED (the authority); CANONICAL (the word); EXCEEDS
  * if the word is sealed, its bounds are not within the authority's, or it has a permission that the
  * authority lacks.
- * Standard: a refusal clears the tag, and the word's bits stay.
+ * Tags: the authority's alone.
+ * Without the checks: the word.
  */
-cheri_cap_made cheri_cap_rebuild(uint64_t authority_high, uint64_t authority_low, uint64_t high, uint64_t low);
+CHERI_CAP_NODISCARD CHERI_CAP_CONST
+cheri_cap_made cheri_cap_rebuild(
+    uint64_t authority_high, uint64_t authority_low, uint64_t high, uint64_t low) CHERI_CAP_NOEXCEPT;
 
 /*
  * CTestSubset: returns whether the word grants no more than the outer word.
@@ -430,9 +527,10 @@ cheri_cap_made cheri_cap_rebuild(uint64_t authority_high, uint64_t authority_low
  * Its base must be at or above the outer base, its top at or below the outer top, and the outer
  * word must have all its permissions. Any two words are compared by the bounds that they decode to.
  * Types, flags and reserved bits are ignored.
- * Standard: their tags must be equal too.
+ * Tags: none is compared. A caller who needs equal tags compares them too.
  */
-bool cheri_cap_is_subset(uint64_t high, uint64_t low, uint64_t outer_high, uint64_t outer_low);
+CHERI_CAP_NODISCARD CHERI_CAP_CONST
+bool cheri_cap_is_subset(uint64_t high, uint64_t low, uint64_t outer_high, uint64_t outer_low) CHERI_CAP_NOEXCEPT;
 
 /* ---- Plain C over the library, which no proof covers */
 
@@ -443,27 +541,31 @@ bool cheri_cap_is_subset(uint64_t high, uint64_t low, uint64_t outer_high, uint6
 #define CHERI_CAP_NULL_MASK_HIGH UINT64_C(0x00001ffffc018004)
 
 /* Returns the null word, all zeros. */
-static inline cheri_cap_u128 cheri_cap_null(void)
+CHERI_CAP_NODISCARD
+static inline cheri_cap_u128 cheri_cap_null(void) CHERI_CAP_NOEXCEPT
 {
     cheri_cap_u128 word = {0, 0};
     return word;
 }
 
 /* Returns the word of the root: every permission over every address, at address 0. */
-static inline cheri_cap_u128 cheri_cap_root(void)
+CHERI_CAP_NODISCARD
+static inline cheri_cap_u128 cheri_cap_root(void) CHERI_CAP_NOEXCEPT
 {
     cheri_cap_u128 word = {UINT64_C(0xffff000000000000), 0};
     return word;
 }
 
 /* Returns the permissions of a word from its upper half, as cheri_cap_perms does, but inline. */
-static inline uint16_t cheri_cap_perms_of(uint64_t high)
+CHERI_CAP_NODISCARD
+static inline uint16_t cheri_cap_perms_of(uint64_t high) CHERI_CAP_NOEXCEPT
 {
     return CHERI_CAP_CAST_(uint16_t, high >> 48);
 }
 
 /* Returns the object type of a word from its upper half, as cheri_cap_otype does, but inline. */
-static inline uint32_t cheri_cap_otype_of(uint64_t high)
+CHERI_CAP_NODISCARD
+static inline uint32_t cheri_cap_otype_of(uint64_t high) CHERI_CAP_NOEXCEPT
 {
     return CHERI_CAP_CAST_(uint32_t, (high ^ CHERI_CAP_NULL_MASK_HIGH) >> 27) & 0x3ffffu;
 }
@@ -472,13 +574,15 @@ static inline uint32_t cheri_cap_otype_of(uint64_t high)
  * CGetSealed: returns whether the type is any but unsealed: sealed, a sentry, or another reserved
  * type.
  */
-static inline bool cheri_cap_is_sealed(uint64_t high)
+CHERI_CAP_NODISCARD
+static inline bool cheri_cap_is_sealed(uint64_t high) CHERI_CAP_NOEXCEPT
 {
     return cheri_cap_otype_of(high) != CHERI_CAP_OTYPE_UNSEALED;
 }
 
 /* Returns whether the type is that of a sentry. */
-static inline bool cheri_cap_is_sentry(uint64_t high)
+CHERI_CAP_NODISCARD
+static inline bool cheri_cap_is_sentry(uint64_t high) CHERI_CAP_NOEXCEPT
 {
     return cheri_cap_otype_of(high) == CHERI_CAP_OTYPE_SENTRY;
 }
@@ -487,7 +591,8 @@ static inline bool cheri_cap_is_sentry(uint64_t high)
  * Compares two numbers in halves, such as tops. Returns a negative number if the one is below the
  * other, 0 if they are equal, and a positive number if the one is above the other.
  */
-static inline int cheri_cap_compare(cheri_cap_u128 one, cheri_cap_u128 other)
+CHERI_CAP_NODISCARD
+static inline int cheri_cap_compare(cheri_cap_u128 one, cheri_cap_u128 other) CHERI_CAP_NOEXCEPT
 {
     if (one.high != other.high)
         return one.high < other.high ? -1 : 1;
@@ -495,7 +600,8 @@ static inline int cheri_cap_compare(cheri_cap_u128 one, cheri_cap_u128 other)
 }
 
 /* Returns the top of bounds. `bounds` must not be null. */
-static inline cheri_cap_u128 cheri_cap_top(const cheri_cap_bounds *bounds)
+CHERI_CAP_NODISCARD
+static inline cheri_cap_u128 cheri_cap_top(const cheri_cap_bounds *bounds) CHERI_CAP_NOEXCEPT
 {
     cheri_cap_u128 top = {bounds->top_high, bounds->top_low};
     return top;
@@ -505,10 +611,11 @@ static inline cheri_cap_u128 cheri_cap_top(const cheri_cap_bounds *bounds)
  * Returns the length of bounds in bytes: the top minus the base, modulo 2^128 if the top is below
  * the base.
  *
- * `bounds` must not be null.
- * Standard: CGetLen returns 2^64 - 1 for a length of 2^64.
+ * `bounds` must not be null. For a length of 2^64 the high half is 1 and the low half is 0, and what
+ * CGetLen writes into a register of 64 bits is for its ISA text to say.
  */
-static inline cheri_cap_u128 cheri_cap_length(const cheri_cap_bounds *bounds)
+CHERI_CAP_NODISCARD
+static inline cheri_cap_u128 cheri_cap_length(const cheri_cap_bounds *bounds) CHERI_CAP_NOEXCEPT
 {
     cheri_cap_u128 length = {bounds->top_high - (bounds->top_low < bounds->base), bounds->top_low - bounds->base};
     return length;
@@ -518,13 +625,15 @@ static inline cheri_cap_u128 cheri_cap_length(const cheri_cap_bounds *bounds)
  * CGetOffset: returns the offset of an address in bounds, in bytes, modulo 2^64. `bounds` must not
  * be null.
  */
-static inline uint64_t cheri_cap_offset(const cheri_cap_bounds *bounds, uint64_t address)
+CHERI_CAP_NODISCARD
+static inline uint64_t cheri_cap_offset(const cheri_cap_bounds *bounds, uint64_t address) CHERI_CAP_NOEXCEPT
 {
     return address - bounds->base;
 }
 
 /* Returns a half with its bytes in reverse order. */
-static inline uint64_t cheri_cap_swapped(uint64_t half)
+CHERI_CAP_NODISCARD
+static inline uint64_t cheri_cap_swapped(uint64_t half) CHERI_CAP_NOEXCEPT
 {
     half = (half & UINT64_C(0x00ff00ff00ff00ff)) << 8 | (half >> 8 & UINT64_C(0x00ff00ff00ff00ff));
     half = (half & UINT64_C(0x0000ffff0000ffff)) << 16 | (half >> 16 & UINT64_C(0x0000ffff0000ffff));
@@ -532,7 +641,8 @@ static inline uint64_t cheri_cap_swapped(uint64_t half)
 }
 
 /* Returns whether this processor is big-endian. */
-static inline bool cheri_cap_is_big_endian(void)
+CHERI_CAP_NODISCARD
+static inline bool cheri_cap_is_big_endian(void) CHERI_CAP_NOEXCEPT
 {
     const uint16_t one = 1;
     uint8_t first;
@@ -544,7 +654,8 @@ static inline bool cheri_cap_is_big_endian(void)
  * Returns the word of 16 bytes of memory, in the byte order of the memory. `bytes` must not be
  * null.
  */
-static inline cheri_cap_u128 cheri_cap_word_from_bytes(const uint8_t bytes[16], bool big_endian)
+CHERI_CAP_NODISCARD
+static inline cheri_cap_u128 cheri_cap_word_from_bytes(const uint8_t bytes[16], bool big_endian) CHERI_CAP_NOEXCEPT
 {
     uint64_t halves[2];
     cheri_cap_u128 word;
@@ -561,7 +672,7 @@ static inline cheri_cap_u128 cheri_cap_word_from_bytes(const uint8_t bytes[16], 
 /*
  * Writes a word as 16 bytes of memory, in the byte order of the memory. `bytes` must not be null.
  */
-static inline void cheri_cap_word_to_bytes(cheri_cap_u128 word, uint8_t bytes[16], bool big_endian)
+static inline void cheri_cap_word_to_bytes(cheri_cap_u128 word, uint8_t bytes[16], bool big_endian) CHERI_CAP_NOEXCEPT
 {
     uint64_t halves[2];
     if (big_endian != cheri_cap_is_big_endian()) {
@@ -577,7 +688,8 @@ static inline void cheri_cap_word_to_bytes(cheri_cap_u128 word, uint8_t bytes[16
  * Returns the name of a refusal, one token in lower case. It is an empty string for 0 and for a
  * number that no rule returns.
  */
-static inline const char *cheri_cap_refusal_name(uint8_t refusal)
+CHERI_CAP_NODISCARD
+static inline const char *cheri_cap_refusal_name(uint8_t refusal) CHERI_CAP_NOEXCEPT
 {
     static const char *const names[] = {
         "sealed", "unsealed", "bounds", "inexact", "unrepresentable", "permission", "type", "mismatch", "canonical", "exceeds",
@@ -588,16 +700,108 @@ static inline const char *cheri_cap_refusal_name(uint8_t refusal)
 /*
  * Returns whether the bounds contain the byte at the address. `bounds` must not be null.
  *
- * They contain all bytes of an access if they contain its first and its last byte, and the address
- * of the last is not below that of the first.
+ * For an access of several bytes, call cheri_cap_bounds_hold_bytes.
  */
-static inline bool cheri_cap_bounds_hold(const cheri_cap_bounds *bounds, uint64_t address)
+CHERI_CAP_NODISCARD
+static inline bool cheri_cap_bounds_hold(const cheri_cap_bounds *bounds, uint64_t address) CHERI_CAP_NOEXCEPT
 {
     return bounds->base <= address && (bounds->top_high != 0 || address < bounds->top_low);
 }
 
-#ifdef __clang__
-#pragma clang diagnostic pop
+/*
+ * Returns whether the bounds contain an access of `size` bytes from the address: whether the base
+ * is at most the address, and address + size at most the top.
+ *
+ * Returns false if an access would wrap around past address 2^64 - 1, whatever the top is. With a
+ * size of 0, the address may be the top. `bounds` must not be null.
+ */
+CHERI_CAP_NODISCARD
+static inline bool cheri_cap_bounds_hold_bytes(
+    const cheri_cap_bounds *bounds, uint64_t address, uint64_t size) CHERI_CAP_NOEXCEPT
+{
+    if (bounds->base > address)
+        return false;
+    if (size > UINT64_MAX - address) /* the access ends at 2^64 or wraps around */
+        return size - 1 == UINT64_MAX - address && bounds->top_high != 0;
+    return bounds->top_high != 0 || address + size <= bounds->top_low;
+}
+
+/*
+ * CSetOffset: returns the word with its base plus `offset`, modulo 2^64, as its address.
+ *
+ * Refusals: CANONICAL; SEALED; UNREPRESENTABLE.
+ * Tags: the word's.
+ * Without the checks: cheri_cap_with_address of the sum.
+ */
+CHERI_CAP_NODISCARD
+static inline cheri_cap_made cheri_cap_set_offset(uint64_t high, uint64_t low, uint64_t offset) CHERI_CAP_NOEXCEPT
+{
+    return cheri_cap_set_address(high, low, cheri_cap_decode(high, low).base + offset);
+}
+
+/*
+ * The functions cheri_cap_with_* return a word with one field changed, and check nothing. They
+ * accept every word, and all other bits stay. The result may decode to other bounds or grant more
+ * than the word did, so it has no tag. An exception is the type of a sentry, if an ISA text says
+ * that an instruction keeps the tag: CHERI_CAP_OTYPE_SENTRY for CSealEntry, and
+ * CHERI_CAP_OTYPE_UNSEALED for a jump through one.
+ */
+
+/* Returns the word with this address. */
+CHERI_CAP_NODISCARD
+static inline cheri_cap_u128 cheri_cap_with_address(uint64_t high, uint64_t low, uint64_t address) CHERI_CAP_NOEXCEPT
+{
+    cheri_cap_u128 word = {high, address};
+    (void)low;
+    return word;
+}
+
+/* Returns the word with these permissions. */
+CHERI_CAP_NODISCARD
+static inline cheri_cap_u128 cheri_cap_with_perms(uint64_t high, uint64_t low, uint16_t perms) CHERI_CAP_NOEXCEPT
+{
+    cheri_cap_u128 word = {(high & UINT64_C(0x0000ffffffffffff)) | CHERI_CAP_CAST_(uint64_t, perms) << 48, low};
+    return word;
+}
+
+/* Returns the word with this flag. */
+CHERI_CAP_NODISCARD
+static inline cheri_cap_u128 cheri_cap_with_flag(uint64_t high, uint64_t low, bool flag) CHERI_CAP_NOEXCEPT
+{
+    cheri_cap_u128 word = {(high & ~(UINT64_C(1) << 45)) | CHERI_CAP_CAST_(uint64_t, flag) << 45, low};
+    return word;
+}
+
+/* Returns the word with this object type. Only its low 18 bits count. */
+CHERI_CAP_NODISCARD
+static inline cheri_cap_u128 cheri_cap_with_type(uint64_t high, uint64_t low, uint64_t otype) CHERI_CAP_NOEXCEPT
+{
+    const uint64_t mask = UINT64_C(0x3ffff) << 27;
+    cheri_cap_u128 word = {(high & ~mask) | (((otype & 0x3ffffu) << 27 ^ CHERI_CAP_NULL_MASK_HIGH) & mask), low};
+    return word;
+}
+
+/*
+ * Returns the word with the bounds fields `t`, `b` and `ie` of a granted request, by their low 12,
+ * 14 and 1 bits. The other members are ignored.
+ *
+ * The request should be for bytes from the word's address: at a distant address, the same fields
+ * may decode to other bounds. If `in_range` is false there are no fields to store: an emulator whose
+ * ISA text has them for a request past 2^64 puts them into a cheri_cap_granted. `granted` must not
+ * be null.
+ */
+CHERI_CAP_NODISCARD
+static inline cheri_cap_u128 cheri_cap_with_bounds(
+    uint64_t high, uint64_t low, const cheri_cap_granted *granted) CHERI_CAP_NOEXCEPT
+{
+    const uint64_t mask = UINT64_C(0x7ffffff), t = granted->t & 0xfffu, b = granted->b & 0x3fffu;
+    const uint64_t fields = CHERI_CAP_CAST_(uint64_t, granted->ie) << 26 | t << 14 | b;
+    cheri_cap_u128 word = {(high & ~mask) | ((fields ^ CHERI_CAP_NULL_MASK_HIGH) & mask), low};
+    return word;
+}
+
+#ifdef __GNUC__
+#pragma GCC diagnostic pop
 #endif
 
 #ifdef __cplusplus

@@ -137,10 +137,10 @@ def prose():
     return {
         "pages": all_of(markdown, "*.md", "docs/*.md"),
         "help": all_of(strings, "crates/*/src/help.rt") | all_of(manual, "man/*"),
-        "public": all_of(lambda text: rattle(text, True), sources) | all_of(c, "include/*.h") | all_of(antt, "crates/*/specs/**/*.antt"),
+        "public": all_of(lambda text: rattle(text, True), sources) | all_of(c, "include/*.h", "include/*.hpp") | all_of(antt, "crates/*/specs/**/*.antt"),
         "other": all_of(lambda text: rattle(text, False), sources)
         | all_of(antt, "crates/*/proofs/**/*.antt")
-        | all_of(c, "examples/*.c", "bench/*.[ch]")
+        | all_of(c, "examples/*.c", "examples/*.cpp", "bench/*.[ch]")
         | all_of(script, "python/*.py", "gdb/*.py", "lldb/*.py", "conformance/*.py")
         | {str(it.relative_to(TOP)): script(it.read_text(encoding="utf-8")) for it in plain},
     }
