@@ -193,3 +193,29 @@ pub kept_large : (fields other : Fields) (span : Span) → SharesBoundsFields fi
 kept_large fields other span same decoded large =
     let one = one-span other in
     subst (λ (s : Span). DecodesTo other s) (spans_large fields other span one.value same decoded one.has large) one.has
+
+-- the fields with their address replaced
+abbrev pub moved_to : (fields : Fields) (address : ℕ) → address < 2 ^ 64 → Fields
+moved_to fields address fits = record {
+  perms = fields.perms;
+  reserved = fields.reserved;
+  flag = fields.flag;
+  otype = fields.otype;
+  ie = fields.ie;
+  t = fields.t;
+  b = fields.b;
+  address = address;
+  perms_fit = fields.perms_fit;
+  reserved_fits = fields.reserved_fits;
+  otype_fits = fields.otype_fits;
+  t_fits = fields.t_fits;
+  b_fits = fields.b_fits;
+  address_fits = fits;
+}
+
+pub moved_shares : (fields : Fields) (address : ℕ) (fits : address < 2 ^ 64) → SharesBoundsFields fields (moved_to fields address fits)
+moved_shares fields address fits = record { ie = refl; t = refl; b = refl }
+
+pub shared_everywhere : (fields : Fields) (address : ℕ) → address < 2 ^ 64
+    → (other : Fields) × SharesBoundsFields fields other × (other.address ≡ address)
+shared_everywhere fields address fits = (moved_to fields address fits, moved_shares fields address fits, refl)

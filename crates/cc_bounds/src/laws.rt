@@ -83,11 +83,14 @@ pub fn padded_sizes_are_least()
 /// representable for them, for every word, canonical or not.
 ///
 /// The two words share their bounds fields, and can differ in every other field. At exponents of at
-/// least 50, a word keeps its bounds at every address.
+/// least 50, a word keeps its bounds at every address. For each word and each address there is
+/// such another word.
 pub fn representable_addresses_keep_bounds()
     ensures window { (fields other : FieldsSpec) (span : SpanSpec) → SharesBoundsFields fields other
         → DecodesTo fields span
         → (DecodesTo other span ↔ IsRepresentable span.base (stored_exponent fields) other.address) }
     ensures large { (fields other : FieldsSpec) (span : SpanSpec) → SharesBoundsFields fields other
         → DecodesTo fields span → 50 ≤ stored_exponent fields → DecodesTo other span }
+    ensures every_address { (fields : FieldsSpec) (address : ℕ) → address < 2 ^ 64
+        → ((other : FieldsSpec) × SharesBoundsFields fields other × (other.address ≡ address)) }
 {}

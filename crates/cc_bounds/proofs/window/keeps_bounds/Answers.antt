@@ -8,7 +8,7 @@ use Rattle.cc_bounds.specs.Decoding.{stored_exponent, SharesBoundsFields, Decode
 use Rattle.cc_bounds.proofs.PlaceLemmas.{stored_exponent-le}
 use Rattle.cc_bounds.proofs.FieldsLemmas.{stored-decodes}
 use Rattle.cc_bounds.proofs.SoundDecodingLemmas.{represents-computed, stored_exponent-is}
-use Rattle.cc_bounds.proofs.KeptBoundsLemmas.{kept_in_window, kept_large}
+use Rattle.cc_bounds.proofs.KeptBoundsLemmas.{kept_in_window, kept_large, moved_to, moved_shares}
 use Rattle.cc_bounds.proofs.window.keeps_bounds.Goals as goal
 
 -- a test of the computed span and exponent is one of the word's own
@@ -30,23 +30,8 @@ other_word fields other span address answer same is decoded test =
 large_word : (fields : Fields) (span : Span) (address : ℕ) (answer : Type 0) → address < 2 ^ 64 → DecodesTo fields span
     → answer ↔ IsRepresentable span.base (stored_exponent fields) address → 50 ≤ stored_exponent fields → answer
 large_word fields span address answer fits decoded test large =
-    let other : Fields = record {
-      perms = fields.perms;
-      reserved = fields.reserved;
-      flag = fields.flag;
-      otype = fields.otype;
-      ie = fields.ie;
-      t = fields.t;
-      b = fields.b;
-      address = address;
-      perms_fit = fields.perms_fit;
-      reserved_fits = fields.reserved_fits;
-      otype_fits = fields.otype_fits;
-      t_fits = fields.t_fits;
-      b_fits = fields.b_fits;
-      address_fits = fits;
-    } in
-    let same : SharesBoundsFields fields other = record { ie = refl; t = refl; b = refl } in
+    let other = moved_to fields address fits in
+    let same = moved_shares fields address fits in
     (other_word fields other span address answer same refl decoded test).1 (kept_large fields other span same decoded large)
 
 -- if the fields store a span, at the addresses that are representable for it
