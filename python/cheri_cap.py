@@ -562,7 +562,9 @@ def granule(length: int) -> int:
 
 
 def round_length(length: int) -> int:
-    """CRRL: returns the representable length: the length, 0 to 2**64, rounded up to a multiple of its granule."""
+    """CRRL: returns the representable length: the length, 0 to 2**64, rounded up to a multiple of its granule.
+
+    No exact bounds of at least `length` bytes are shorter."""
     halves = _calls["round_length"](*_length(length))
     return halves.high << 64 | halves.low
 
