@@ -282,9 +282,9 @@ bool cheri_cap_represents(uint64_t high, uint64_t low, uint64_t address) CHERI_C
  * Returns whether the word with this address in place of its own decodes to the same bounds, for
  * every word, canonical or not.
  *
- * The address does so if it is in the window of the decoded bounds. At exponents of at least 50,
- * every address does. For canonical words, and for all others that store their bounds as setting
- * bounds stores them, the result is that of cheri_cap_represents.
+ * It does if and only if the address is in the window of the decoded bounds, as every address is at
+ * exponents of at least 50. For a word that stores its bounds as setting bounds stores them, such as
+ * a canonical one, the result is that of cheri_cap_represents.
  */
 CHERI_CAP_NODISCARD CHERI_CAP_CONST
 bool cheri_cap_keeps_bounds(uint64_t high, uint64_t low, uint64_t address) CHERI_CAP_NOEXCEPT;
