@@ -4,7 +4,7 @@
 use Rule::{
     AndPerms, Increment, Rebuild, Seal, SetAddress, SetBounds, SetBoundsExact, SetFlag, Unseal,
 };
-use cc_cap::{Perms, words};
+use cc_cap::{Perms, is_canonical, words};
 use cc_word::Refusal;
 
 /// A rule and its argument after the word. The last three take another word.
@@ -95,6 +95,17 @@ fn answer(word: u128, rule: Rule) -> (u128, u8) {
 fn each_rule_on_words(rt: HostRuntime) {
     for (word, rule, wanted) in &ROWS {
         assert!(rt; answer(*word, *rule) == *wanted, "{word:x}");
+    }
+}
+
+/// Each word that a rule returns is canonical, and a subset of the word that it is made of.
+#[test]
+fn results_are_canonical_subsets(rt: HostRuntime) {
+    for (word, rule, _) in &ROWS {
+        if let Ok(result) = made(*word, *rule) {
+            assert!(rt; is_canonical(result), "{result:x}");
+            assert!(rt; words::is_subset(result, *word), "{result:x} {word:x}");
+        }
     }
 }
 
