@@ -2,3 +2,5 @@ mod UsageLemmas
 mod MapLemmas
 mod WritingLemmas
 mod DrawingLemmas
+pub mod HoleLemmas
+pub mod StateLemmas

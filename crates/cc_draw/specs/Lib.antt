@@ -2,3 +2,4 @@
 pub mod Usage
 pub mod Map
 pub mod Drawing
+pub mod Laws
