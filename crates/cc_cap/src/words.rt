@@ -21,9 +21,8 @@ ghost use Rattle.cc_cap.specs.Derivation.{SetsAddress, Increments, SetsBounds, S
 ghost use Rattle.cc_cap.specs.WordRules.{InWords, OnWord, OnWords, IsSubset};
 
 use crate::cap::Cap;
-use crate::perms::Perms;
 use cc_bounds::{ADDRESS_SPACE, decode};
-use cc_word::{Fields, Refusal, unpack};
+use cc_word::{Fields, Perms, Refusal, unpack};
 
 /// Returns the word at another address, with the same bounds.
 ///
