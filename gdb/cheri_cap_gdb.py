@@ -72,7 +72,7 @@ def show(lines):
     """Prints lines as they come, and the reason if there are no more."""
     try:
         for line in lines:
-            print(line)
+            gdb.write(f"{line}\n")
     except Refused as error:
         raise gdb.GdbError(str(error))
 
