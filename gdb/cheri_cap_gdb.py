@@ -7,9 +7,9 @@
     (gdb) capinfo WORD                  the fields and bounds of a word in hexadecimal digits
     (gdb) capprint TYPE                 print values of this type, which has 16 bytes, as capabilities
 
-Bytes are read in the byte order of the target (`show endian`). The modules cheri_cap.py and cheri_cap_memory.py must be in
-the directory of this file, as ./install puts them, or in the directory python/ of a checkout, or be installed for gdb's
-Python.
+Bytes are read in the byte order of the target (`show endian`). The modules cheri_cap.py and cheri_cap_memory.py must be
+in the directory of this file, as ./install puts them, or in the directory python/ of a checkout, or be installed for
+gdb's Python.
 """
 
 import os
@@ -99,10 +99,10 @@ def of_value(value):
 class CapDump(gdb.Command):
     """Show the capabilities from an address: capdump ADDRESS [COUNT]
 
-ADDRESS is a number, a pointer or an array. Quote it if it contains spaces. COUNT is the number of words, of 16 bytes each,
-in the byte order of the target [default: those of an array, otherwise 1]. Each line has the address, the word and its
-one-line form, and "(not canonical)" if the word is not that of a capability. Only the tag of memory says whether it holds
-a capability, and the tag is not read."""
+ADDRESS is a number, a pointer or an array. Quote it if it contains spaces. COUNT is the number of words, of 16 bytes
+each, in the byte order of the target [default: those of an array, otherwise 1]. Each line has the address, the word and
+its one-line form, and "(not canonical)" if the word is not that of a capability. Only the tag of memory says whether it
+holds a capability, and the tag is not read."""
 
     def __init__(self):
         super().__init__("capdump", gdb.COMMAND_DATA, gdb.COMPLETE_EXPRESSION)
@@ -119,9 +119,9 @@ a capability, and the tag is not read."""
 class CapFind(gdb.Command):
     """Find the words that could be capabilities to an address: capfind ADDRESS START END [PERMS]
 
-The addresses are numbers, pointers or arrays; quote one that contains spaces. The words from START to below END are read,
-at multiples of 16. A word is shown if it is canonical, its bounds contain ADDRESS, and it has permissions, among them
-PERMS: names joined by +, as in LOAD+STORE. So null and integers are omitted. The tag of memory is not read."""
+The addresses are numbers, pointers or arrays; quote one that contains spaces. The words from START to below END are
+read, at multiples of 16. A word is shown if it is canonical, its bounds contain ADDRESS, and it has permissions, among
+them PERMS: names joined by +, as in LOAD+STORE. So null and integers are omitted. The tag of memory is not read."""
 
     def __init__(self):
         super().__init__("capfind", gdb.COMMAND_DATA, gdb.COMPLETE_EXPRESSION)
@@ -141,8 +141,8 @@ PERMS: names joined by +, as in LOAD+STORE. So null and integers are omitted. Th
 class CapInfo(gdb.Command):
     """Show the fields and the bounds of a capability: capinfo EXPRESSION, or capinfo WORD
 
-EXPRESSION is a value of 16 bytes. WORD is 32 hexadecimal digits, with or without 0x, or two halves of 16 digits joined by
-_ or :, the high one first. The lines are those of `cheri-cap show`."""
+EXPRESSION is a value of 16 bytes. WORD is 32 hexadecimal digits, with or without 0x, or two halves of 16 digits joined
+by _ or :, the high one first. The lines are those of `cheri-cap show`."""
 
     def __init__(self):
         super().__init__("capinfo", gdb.COMMAND_DATA, gdb.COMPLETE_EXPRESSION)

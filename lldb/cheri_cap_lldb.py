@@ -7,8 +7,9 @@
     (lldb) capinfo WORD                  the fields and bounds of a word in hexadecimal digits
     (lldb) capprint TYPE                 show values of this type, which has 16 bytes, as capabilities
 
-Bytes are read in the byte order of the target. The modules cheri_cap.py and cheri_cap_memory.py must be in the directory
-of this file, as ./install puts them, or in the directory python/ of a checkout, or be installed for LLDB's Python.
+Bytes are read in the byte order of the target. The modules cheri_cap.py and cheri_cap_memory.py must be in the
+directory of this file, as ./install puts them, or in the directory python/ of a checkout, or be installed for LLDB's
+Python.
 """
 
 import os
@@ -87,9 +88,9 @@ def of_value(value):
 
 
 def capdump(debugger, command, context, result, _):
-    """Show the capabilities from an address: capdump ADDRESS [COUNT]. COUNT is the number of words, of 16 bytes each, in the
-    byte order of the target [default: those of an array, otherwise 1]. "(not canonical)" follows a word that is not that of
-    a capability."""
+    """Show the capabilities from an address: capdump ADDRESS [COUNT]. COUNT is the number of words, of 16 bytes each,
+    in the byte order of the target [default: those of an array, otherwise 1]. "(not canonical)" follows a word that is
+    not that of a capability."""
     try:
         words = shlex.split(command)
         if len(words) not in (1, 2):
@@ -104,9 +105,9 @@ def capdump(debugger, command, context, result, _):
 
 
 def capfind(debugger, command, context, result, _):
-    """Find the words that could be capabilities to an address: capfind ADDRESS START END [PERMS]. The words from START to
-    below END are read, at multiples of 16. A word is shown if it is canonical, its bounds contain ADDRESS, and it has
-    permissions, among them PERMS: names joined by +, as in LOAD+STORE. So null and integers are omitted."""
+    """Find the words that could be capabilities to an address: capfind ADDRESS START END [PERMS]. The words from START
+    to below END are read, at multiples of 16. A word is shown if it is canonical, its bounds contain ADDRESS, and it
+    has permissions, among them PERMS: names joined by +, as in LOAD+STORE. So null and integers are omitted."""
     try:
         words = shlex.split(command)
         if len(words) not in (3, 4):
@@ -121,8 +122,8 @@ def capfind(debugger, command, context, result, _):
 
 def capinfo(debugger, command, context, result, _):
     """Show the fields and the bounds of a capability: capinfo EXPRESSION, a value of 16 bytes, or capinfo WORD, 32
-    hexadecimal digits, with or without 0x, or two halves of 16 digits joined by _ or :, the high one first. The lines are
-    those of `cheri-cap show`."""
+    hexadecimal digits, with or without 0x, or two halves of 16 digits joined by _ or :, the high one first. The lines
+    are those of `cheri-cap show`."""
     try:
         text = command.strip()
         if not text:

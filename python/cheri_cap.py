@@ -485,7 +485,8 @@ class Capability:
     def representable(self, address: SupportsIndex) -> bool:
         """Returns whether the word with that address decodes to the same bounds.
 
-        It is False for a word that does not store its bounds as setting bounds stores them. `keeps_bounds` is for every word."""
+        It is False for a word that does not store its bounds as setting bounds stores them. `keeps_bounds` is for every
+        word."""
         return bool(_calls["represents"](*self._halves(), _address(address)))
 
     def keeps_bounds(self, address: SupportsIndex) -> bool:
@@ -572,7 +573,7 @@ class Capability:
         return self.line()
 
     def __format__(self, spec: str) -> str:
-        """Returns the word by a specification for integers, such as "032x", or otherwise `line()` by one for strings."""
+        """Returns the word by a format for integers, such as "032x", or otherwise `line()` by one for strings."""
         return format(self._word if spec[-1:] in tuple("bcdoxXn") else self.line(), spec)
 
     def listing(self) -> str:
@@ -668,21 +669,21 @@ def round_length(length: SupportsIndex) -> int:
 
 
 def alignment_mask(length: SupportsIndex) -> int:
-    """CRAM: returns the representable alignment mask. An address "and" the mask is a multiple of the length's granule."""
+    """CRAM: returns the representable alignment mask. An address "and" the mask is a multiple of the granule."""
     return int(_calls["alignment_mask"](*_length(length)))
 
 
 # ---- Many words
 
-# A buffer of words has 16 bytes for each, one after the other, in the byte order of the memory that it was read from. Its
-# items may have any size and shape: bytes, bytearray, memoryview, array.array, mmap, or an array of numpy.
+# A buffer of words has 16 bytes for each, one after the other, in the byte order of the memory that it was read from.
+# Its items may have any size and shape: bytes, bytearray, memoryview, array.array, mmap, or an array of numpy.
 
 
 class ManyBounds(Sequence[Bounds]):
     """The bounds of many words: a sequence of `Bounds`, in the order of the words.
 
-    The columns are memoryviews, and numpy.asarray(BOUNDS.base) is an array over the same memory. The last address of a word
-    is top_low - 1 modulo 2**64, and a top of 2**64 has top_high 1 and top_low 0."""
+    The columns are memoryviews, and numpy.asarray(BOUNDS.base) is an array over the same memory. The last address of a
+    word is top_low - 1 modulo 2**64, and a top of 2**64 has top_high 1 and top_low 0."""
 
     __slots__ = ("base", "top_high", "top_low", "exponent")
 
@@ -718,7 +719,7 @@ class ManyBounds(Sequence[Bounds]):
 
 
 def _bytes_of(data: "ReadableBuffer") -> memoryview:
-    """Returns the bytes of a buffer of words. They are copied if they are not contiguous, or if their items are structs."""
+    """Returns the bytes of a buffer of words, copied if they are not contiguous or if its items are structs."""
     view = memoryview(data)
     if view.nbytes % _WORD_SIZE:
         raise ValueError(f"words must be {_WORD_SIZE} bytes each, and {view.nbytes} is not a multiple of that")
@@ -729,7 +730,7 @@ def _bytes_of(data: "ReadableBuffer") -> memoryview:
 
 
 def _pieces(data: memoryview, byteorder: str) -> Iterator[Tuple[int, int, "array[int]"]]:
-    """Yields the words of a buffer in pieces: the position of the first, their number, and two halves for each, high first."""
+    """Yields the words of a buffer in pieces: the position of the first, their number, and the halves, high first."""
     if byteorder not in ("little", "big"):
         raise ValueError(f"byteorder must be 'little' or 'big', not {byteorder!r}")
     for start in range(0, data.nbytes // _WORD_SIZE, _PIECE):
@@ -821,9 +822,9 @@ def find_holding(
 ) -> List[int]:
     """Returns the positions of the words of a buffer that could be capabilities to the byte at an address.
 
-    These words are canonical, their bounds contain the address, and they have at least one permission and all of the mask
-    `perms`, which `mask_of` makes from names. Null, and every integer below 2**64, is a canonical word whose bounds contain
-    each address, but it has no permission. The word at position N begins at byte 16 * N.
+    These words are canonical, their bounds contain the address, and they have at least one permission and all of the
+    mask `perms`, which `mask_of` makes from names. Null, and every integer below 2**64, is a canonical word whose
+    bounds contain each address, but it has no permission. The word at position N begins at byte 16 * N.
 
     Errors: ValueError for a buffer whose size is not a multiple of 16 bytes."""
     at, mask = _address(address), _halves(perms, 0xFFFF, "a mask")[1]

@@ -1,8 +1,8 @@
-"""Builds the wheel of the package cheri_cap: the module, the mark of its types, and the shared library. pip calls it for
-`pip install ./python` and `pip wheel ./python`, as pyproject.toml says.
+"""Builds the wheel of the package cheri_cap: the module, the mark of its types, and the shared library. pip calls it
+for `pip install ./python` and `pip wheel ./python`, as pyproject.toml says.
 
-The library is the file that the environment's CHERI_CAP_LIBRARY names, or otherwise the one that `examples/run shared` of
-the checkout builds if necessary. The version is the latest of CHANGELOG.md. Equal files give an equal wheel.
+The library is the file that the environment's CHERI_CAP_LIBRARY names, or otherwise the one that `examples/run shared`
+of the checkout builds if necessary. The version is the latest of CHANGELOG.md. Equal files give an equal wheel.
 """
 
 import base64

@@ -1,7 +1,7 @@
 """Words in the memory of a program that is debugged: the parts of the commands that gdb and LLDB share.
 
-A `read` function takes an address and a size in bytes, and returns that many bytes, or raises `Unreadable`. Memory is read
-in blocks. If a block cannot be read, its pages are read one by one.
+A `read` function takes an address and a size in bytes, and returns that many bytes, or raises `Unreadable`. Memory is
+read in blocks. If a block cannot be read, its pages are read one by one.
 """
 
 import re
@@ -31,8 +31,8 @@ class Unreadable(Exception):
 def word_in(text: str) -> Optional[Capability]:
     """Returns the word that a text is, or None.
 
-    It is 32 hexadecimal digits, with or without 0x, two halves of 16 joined by "_" or ":", high first, or 0x and 17 to 31
-    digits of a word whose leading zeros are omitted."""
+    It is 32 hexadecimal digits, with or without 0x, two halves of 16 joined by "_" or ":", high first, or 0x and 17 to
+    31 digits of a word whose leading zeros are omitted."""
     found = _WORD.fullmatch(text.strip())
     return Capability(int("".join(it for it in found.groups() if it), 16)) if found else None
 
@@ -78,10 +78,10 @@ def _readable(read: Read, start: int, size: int) -> bytes:
 
 
 def found(read: Read, order: ByteOrder, address: int, start: int, end: int, perms: int = 0) -> Iterator[str]:
-    """Yields the lines of the words from `start` to below `end` that could be capabilities to an address, and a last line.
+    """Yields the lines of the words from `start` to below `end` that could be capabilities to an address, and a summary.
 
-    A word begins at a multiple of 16. Those without permissions, as null, are omitted. The last line has the number of the
-    words, and that of the bytes that could not be read."""
+    A word begins at a multiple of 16. Those without permissions, as null, are omitted. The last line has the number of
+    the words, and that of the bytes that could not be read."""
     if not 0 <= address < ADDRESSES:
         raise Refused("ADDRESS must be from 0 to 2^64 - 1")
     if not 0 <= start <= end <= ADDRESSES:
