@@ -8,8 +8,7 @@
     (gdb) capprint TYPE                 print values of this type, which has 16 bytes, as capabilities
 
 Bytes are read in the byte order of the target (`show endian`). The modules cheri_cap.py and cheri_cap_memory.py must be
-in the directory of this file, as ./install puts them, or in the directory python/ of a checkout, or be installed for
-gdb's Python.
+in the directory of this file, as ./install puts them, or in the directory python/ of a checkout.
 """
 
 import os
