@@ -1,17 +1,17 @@
 """gdb commands for words of CHERI Concentrate in the memory of the program that is debugged.
 
     (gdb) source .../cheri_cap_gdb.py
-    (gdb) capdump ADDRESS [COUNT]       the words from an address, 16 bytes each [default count: 1]
+    (gdb) capdump ADDRESS [COUNT]       the words from an address, 16 bytes each [default: a whole array, or 1]
+    (gdb) capfind ADDRESS START END [PERMS]    the words in memory that could be capabilities to an address
     (gdb) capinfo EXPRESSION            the fields and bounds of a value of 16 bytes
-    (gdb) capinfo WORD                  the fields and bounds of a word of 32 hexadecimal digits
+    (gdb) capinfo WORD                  the fields and bounds of a word in hexadecimal digits
     (gdb) capprint TYPE                 print values of this type, which has 16 bytes, as capabilities
 
-Bytes are read in the byte order of the target (`show endian`). The module cheri_cap.py must be in the directory of this
-file, as ./install puts it, or in the directory python/ of a checkout.
+Bytes are read in the byte order of the target (`show endian`). The modules cheri_cap.py and cheri_cap_memory.py must be
+in the directory of this file, as ./install puts them, or in the directory python/ of a checkout.
 """
 
 import os
-import re
 import sys
 
 import gdb
@@ -20,8 +20,7 @@ import gdb.printing
 HERE = os.path.dirname(os.path.realpath(__file__))
 sys.path[1:1] = [HERE, os.path.join(os.path.dirname(HERE), "python")]
 from cheri_cap import Capability  # noqa: E402
-
-BYTES = 16
+from cheri_cap_memory import ADDRESSES, BYTES, Refused, Unreadable, dumped, found, mask_in, word_in  # noqa: E402
 
 
 def byte_order():
@@ -55,13 +54,34 @@ def count_of(value):
     return count
 
 
+def words_in(value):
+    """Returns the number of words of an array, or 1."""
+    return max(value.type.sizeof // BYTES, 1) if value.type.strip_typedefs().code == gdb.TYPE_CODE_ARRAY else 1
+
+
+def read(address, size):
+    """Returns bytes of the inferior's memory."""
+    try:
+        return bytes(gdb.selected_inferior().read_memory(address, size))
+    except (gdb.error, OverflowError) as error:
+        raise Unreadable(str(error))
+
+
+def show(lines):
+    """Prints lines as they come, and the reason if there are no more."""
+    try:
+        for line in lines:
+            gdb.write(f"{line}\n")
+    except Refused as error:
+        raise gdb.GdbError(str(error))
+
+
 def from_memory(address):
     """Returns the capability at an address of the inferior."""
     try:
-        data = gdb.selected_inferior().read_memory(address, BYTES)
-    except gdb.error as error:
+        return Capability.from_bytes(read(address, BYTES), byte_order())
+    except Unreadable as error:
         raise gdb.GdbError(str(error))
-    return Capability.from_bytes(bytes(data), byte_order())
 
 
 def of_value(value):
@@ -78,9 +98,10 @@ def of_value(value):
 class CapDump(gdb.Command):
     """Show the capabilities from an address: capdump ADDRESS [COUNT]
 
-ADDRESS is a number, a pointer or an array. Quote it if it contains spaces. COUNT is the number of words [default: 1],
-of 16 bytes each, in the byte order of the target. Each line has the address, the word and its one-line form. Only the
-tag of memory says whether it holds a capability, and the tag is not read."""
+ADDRESS is a number, a pointer or an array. Quote it if it contains spaces. COUNT is the number of words, of 16 bytes
+each, in the byte order of the target [default: those of an array, otherwise 1]. Each line has the address, the word and
+its one-line form, and "(not canonical)" if the word is not that of a capability. Only the tag of memory says whether it
+holds a capability, and the tag is not read."""
 
     def __init__(self):
         super().__init__("capdump", gdb.COMMAND_DATA, gdb.COMPLETE_EXPRESSION)
@@ -89,17 +110,38 @@ tag of memory says whether it holds a capability, and the tag is not read."""
         words = gdb.string_to_argv(argument)
         if len(words) not in (1, 2):
             raise gdb.GdbError("usage: capdump ADDRESS [COUNT]")
-        start = address_of(evaluate(words[0]))
-        count = count_of(evaluate(words[1])) if len(words) == 2 else 1
-        for address in range(start, start + BYTES * count, BYTES):
-            cap = from_memory(address)
-            print(f"{address:#x}: {cap.digits} {cap}")
+        value = evaluate(words[0])
+        count = count_of(evaluate(words[1])) if len(words) == 2 else words_in(value)
+        show(dumped(read, byte_order(), address_of(value) % ADDRESSES, count))
+
+
+class CapFind(gdb.Command):
+    """Find the words that could be capabilities to an address: capfind ADDRESS START END [PERMS]
+
+The addresses are numbers, pointers or arrays; quote one that contains spaces. The words from START to below END are
+read, at multiples of 16. A word is shown if it is canonical, its bounds contain ADDRESS, and it has permissions, among
+them PERMS: names joined by +, as in LOAD+STORE. So null and integers are omitted. The tag of memory is not read."""
+
+    def __init__(self):
+        super().__init__("capfind", gdb.COMMAND_DATA, gdb.COMPLETE_EXPRESSION)
+
+    def invoke(self, argument, from_tty):
+        words = gdb.string_to_argv(argument)
+        if len(words) not in (3, 4):
+            raise gdb.GdbError("usage: capfind ADDRESS START END [PERMS]")
+        address, start, end = (address_of(evaluate(it)) % ADDRESSES for it in words[:3])
+        try:
+            perms = mask_in(words[3]) if len(words) == 4 else 0
+        except Refused as error:
+            raise gdb.GdbError(str(error))
+        show(found(read, byte_order(), address, start, end, perms))
 
 
 class CapInfo(gdb.Command):
     """Show the fields and the bounds of a capability: capinfo EXPRESSION, or capinfo WORD
 
-EXPRESSION is a value of 16 bytes, and WORD is 32 hexadecimal digits. The lines are those of `cheri-cap show`."""
+EXPRESSION is a value of 16 bytes. WORD is 32 hexadecimal digits, with or without 0x, or two halves of 16 digits joined
+by _ or :, the high one first. The lines are those of `cheri-cap show`."""
 
     def __init__(self):
         super().__init__("capinfo", gdb.COMMAND_DATA, gdb.COMPLETE_EXPRESSION)
@@ -108,8 +150,8 @@ EXPRESSION is a value of 16 bytes, and WORD is 32 hexadecimal digits. The lines 
         text = argument.strip()
         if not text:
             raise gdb.GdbError("usage: capinfo EXPRESSION, or capinfo WORD")
-        is_word = re.fullmatch("[0-9a-fA-F]{32}", text)
-        cap = Capability.parse(text) if is_word else of_value(evaluate(text))
+        cap = word_in(text)
+        cap = of_value(evaluate(text)) if cap is None else cap
         print(cap.listing(), end="")
 
 
@@ -162,6 +204,7 @@ def register():
     printers = Printers()
     gdb.printing.register_pretty_printer(None, printers, replace=True)
     CapDump()
+    CapFind()
     CapInfo()
     CapPrint(printers)
 

@@ -8,15 +8,22 @@
     0x1000 [rwxRW,0x1000-0x1200]
     >>> Capability.from_bytes(cap.to_bytes("little"), "little") == cap
     True
+    >>> 0x1100 in cap, hex(cap), f"{cap:>30}"
+    (True, '0xffff0000048190040000000000001000', '  0x1000 [rwxRW,0x1000-0x1200]')
 
 A word has 128 bits, and every word has fields and bounds. A word is in its memory form: null is all zeros. Addresses,
 bases, tops, lengths and granules are numbers of bytes. Bounds are [base, top): the top is the address after the last
 byte, and may be 2**64. A word carries no tag: the caller must know whether memory holds a capability.
 
+An integer may be of any type that has `__index__`, such as numpy's. `decode_many`, `is_canonical_many`,
+`represents_many` and `find_holding` take the words of a buffer, such as bytes, an array or an array of numpy, and numpy
+reads their results without a copy.
+
 The results of the library are proved. This module, which calls it, is tested and not proved. It needs Python 3.8 or
 later with no other modules than Python's own, and x86-64 Linux. It searches for the library in this order:
 
 - the file that the environment's CHERI_CAP_LIBRARY names
+- the file in the directory of this module, where a wheel has it
 - the file that ./install installed together with this module
 - the file that `examples/run shared` puts into examples/out of a checkout
 - the loader's search path
@@ -24,9 +31,32 @@ later with no other modules than Python's own, and x86-64 Linux. It searches for
 
 import ctypes
 import os
+import sys
+from array import array
 from ctypes import POINTER, c_bool, c_char, c_char_p, c_size_t, c_uint8, c_uint16, c_uint32, c_uint64
+from itertools import compress
+from operator import index
 from pathlib import Path
-from typing import NamedTuple, Tuple
+from typing import (
+    TYPE_CHECKING,
+    Any,
+    Callable,
+    Dict,
+    Iterator,
+    List,
+    Literal,
+    NamedTuple,
+    Optional,
+    Sequence,
+    SupportsIndex,
+    Tuple,
+    Type,
+    Union,
+    overload,
+)
+
+if TYPE_CHECKING:
+    from _typeshed import ReadableBuffer
 
 __all__ = [
     "LAST_SEALING",
@@ -35,15 +65,25 @@ __all__ = [
     "SENTRY",
     "UNSEALED",
     "VERSION",
+    "Bounds",
     "Capability",
     "Fields",
     "Granted",
+    "ManyBounds",
     "Refusal",
     "alignment_mask",
+    "decode_many",
+    "find_holding",
     "grant",
     "granule",
+    "is_canonical_many",
+    "mask_of",
+    "represents_many",
     "round_length",
 ]
+
+#: The byte order of memory.
+ByteOrder = Literal["little", "big"]
 
 #: The version of the library that this module calls.
 VERSION = 1
@@ -92,6 +132,9 @@ LAST_SEALING = 0x3FFEF
 _HALF = 2**64 - 1
 _HINT = "set CHERI_CAP_LIBRARY to its file; `examples/run shared` of a checkout builds it"
 _LINE_SIZE = 96
+_WORD_SIZE = 16
+# The number of words that one call on many words gets: their halves and bounds stay in a processor's cache.
+_PIECE = 1 << 13
 
 
 class _Halves(ctypes.Structure):
@@ -137,10 +180,12 @@ class _Made(ctypes.Structure):
     _fields_ = [("high", c_uint64), ("low", c_uint64), ("refusal", c_uint8)]
 
 
-_WORD = [c_uint64, c_uint64]
+_WORD: List[Any] = [c_uint64, c_uint64]
+_WORDS: List[Any] = [POINTER(_Halves), c_size_t]
+_ANSWERS: List[Any] = [POINTER(c_uint8), c_size_t]
 
 # the functions of the header: the result and the parameters of each
-_CALLS = {
+_CALLS: Dict[str, Tuple[Any, List[Any]]] = {
     "version": (c_uint32, []),
     "unpack": (_Fields, _WORD),
     "pack": (_Halves, [_Fields]),
@@ -165,6 +210,9 @@ _CALLS = {
     "rebuild": (_Made, [*_WORD, *_WORD]),
     "is_subset": (c_bool, [*_WORD, *_WORD]),
     "format": (c_size_t, [*_WORD, c_bool, POINTER(c_char)]),
+    "decode_many": (c_size_t, [*_WORDS, POINTER(_Bounds), c_size_t]),
+    "is_canonical_many": (c_size_t, [*_WORDS, *_ANSWERS]),
+    "represents_many": (c_size_t, [*_WORDS, POINTER(c_uint64), c_size_t, *_ANSWERS]),
 }
 
 
@@ -172,20 +220,21 @@ def _place() -> str:
     """Returns the library's file, or its name, for which the loader searches."""
     name = f"libcheri_cap.so.{VERSION}"
     here = Path(__file__).resolve().parent
-    for place in here.parent.parent / "lib" / name, here.parent / "examples" / "out" / name:
+    for place in here / name, here.parent.parent / "lib" / name, here.parent / "examples" / "out" / name:
         if place.exists():
             return str(place)
     return name
 
 
-def _load():
+def _load() -> Dict[str, Callable[..., Any]]:
     place = os.environ.get("CHERI_CAP_LIBRARY") or _place()
     try:
         library = ctypes.CDLL(place)
-        calls = {}
+        calls: Dict[str, Callable[..., Any]] = {}
         for name, (answer, parameters) in _CALLS.items():
-            calls[name] = library[f"cheri_cap_{name}"]
-            calls[name].restype, calls[name].argtypes = answer, parameters
+            call = library[f"cheri_cap_{name}"]
+            call.restype, call.argtypes = answer, parameters
+            calls[name] = call
     except (OSError, AttributeError) as error:
         raise ImportError(f"cheri_cap: the shared library cannot be used: {error}; {_HINT}") from error
     if calls["version"]() != VERSION:
@@ -196,18 +245,19 @@ def _load():
 _calls = _load()
 
 
-def _halves(number: int, most: int, what: str) -> Tuple[int, int]:
+def _halves(number: SupportsIndex, most: int, what: str) -> Tuple[int, int]:
     """Returns the two halves of a number from 0 to `most`."""
+    number = index(number)
     if not 0 <= number <= most:
         raise ValueError(f"{what} must be from 0 to {most:#x}, not {number:#x}")
     return number >> 64, number & _HALF
 
 
-def _address(number: int) -> int:
+def _address(number: SupportsIndex) -> int:
     return _halves(number, _HALF, "an address")[1]
 
 
-def _length(number: int) -> Tuple[int, int]:
+def _length(number: SupportsIndex) -> Tuple[int, int]:
     return _halves(number, 2**64, "a length")
 
 
@@ -244,6 +294,17 @@ class Fields(NamedTuple):
     address: int
 
 
+class Bounds(NamedTuple):
+    """The bounds of a word."""
+
+    #: the first address, in bytes
+    base: int
+    #: the address after the last byte: for a canonical word at most 2**64, otherwise below 2**65
+    top: int
+    #: 0 to 52
+    exponent: int
+
+
 class Granted(NamedTuple):
     """The bounds that a request is granted."""
 
@@ -265,13 +326,16 @@ class Capability:
     """A word of 128 bits, read as a capability. It cannot be changed. Two are equal if their words are."""
 
     __slots__ = ("_word", "_fields", "_bounds")
+    _word: int
+    _fields: Optional[Fields]
+    _bounds: Optional[Bounds]
 
-    def __init__(self, word: int = 0):
+    def __init__(self, word: SupportsIndex = 0):
         """Creates the capability of a word from 0 to 2**128 - 1 [default: null].
 
         Every such word has fields and bounds."""
-        _halves(word, 2**128 - 1, "a word")
-        self._word = word
+        high, low = _halves(word, 2**128 - 1, "a word")
+        self._word = high << 64 | low
         self._fields = None
         self._bounds = None
 
@@ -294,19 +358,21 @@ class Capability:
         return cls(read.high << 64 | read.low)
 
     @classmethod
-    def from_bytes(cls, data: bytes, byteorder: str = "little") -> "Capability":
-        """Returns the word of 16 bytes of memory, in the byte order of the memory: "little" or "big"."""
-        if len(data) != 16:
-            raise ValueError(f"a word must be 16 bytes, not {len(data)}")
-        return cls(int.from_bytes(data, byteorder))
+    def from_bytes(cls, data: "ReadableBuffer", byteorder: ByteOrder = "little") -> "Capability":
+        """Returns the word of a buffer of 16 bytes, in the byte order of the memory: "little" or "big"."""
+        raw = memoryview(data).tobytes()
+        if len(raw) != _WORD_SIZE:
+            raise ValueError(f"a word must be {_WORD_SIZE} bytes, not {len(raw)}")
+        return cls(int.from_bytes(raw, byteorder))
 
     @classmethod
     def from_fields(cls, fields: Fields) -> "Capability":
         """Returns the word of fields.
 
         Errors: ValueError for a number that is wider than its field."""
-        given = _Fields(**fields._asdict())
-        if any(getattr(given, name) != value for name, value in fields._asdict().items()):
+        numbers = {name: index(value) for name, value in fields._asdict().items()}
+        given = _Fields(**numbers)
+        if any(getattr(given, name) != value for name, value in numbers.items()):
             raise ValueError(f"a field is too wide: {fields}")
         halves = _calls["pack"](given)
         made = cls(halves.high << 64 | halves.low)
@@ -314,9 +380,9 @@ class Capability:
             raise ValueError(f"a field is too wide: {fields}")
         return made
 
-    def to_bytes(self, byteorder: str = "little") -> bytes:
+    def to_bytes(self, byteorder: ByteOrder = "little") -> bytes:
         """Returns the 16 bytes of the word in memory of this byte order, "little" or "big"."""
-        return self._word.to_bytes(16, byteorder)
+        return self._word.to_bytes(_WORD_SIZE, byteorder)
 
     @property
     def word(self) -> int:
@@ -375,22 +441,27 @@ class Capability:
         """The address, 64 bits."""
         return self.fields.address
 
+    @property
+    def offset(self) -> int:
+        """The bytes from the base to the address, modulo 2**64 (CGetOffset)."""
+        return (self.address - self.base) & _HALF
+
     # ---- Bounds
 
     @property
     def base(self) -> int:
         """The first address of the bounds."""
-        return self._decoded()[0]
+        return self._decoded().base
 
     @property
     def top(self) -> int:
         """The address after the last byte of the bounds: for a canonical word at most 2**64, otherwise below 2**65."""
-        return self._decoded()[1]
+        return self._decoded().top
 
     @property
     def exponent(self) -> int:
         """The exponent of the bounds, 0 to 52: they are stored in units of 2**exponent bytes, or 2**(exponent + 3)."""
-        return self._decoded()[2]
+        return self._decoded().exponent
 
     @property
     def length(self) -> int:
@@ -402,37 +473,41 @@ class Capability:
     @property
     def is_canonical(self) -> bool:
         """Whether the word is that of a capability which derivation creates, sealed or not."""
-        return _calls["is_canonical"](*self._halves())
+        return bool(_calls["is_canonical"](*self._halves()))
 
-    def holds(self, address: int) -> bool:
-        """Returns whether the bounds contain the byte at the address."""
+    def holds(self, address: SupportsIndex) -> bool:
+        """Returns whether the bounds contain the byte at the address. `ADDRESS in CAPABILITY` says the same."""
         return self.base <= _address(address) < self.top
 
-    def representable(self, address: int) -> bool:
+    def __contains__(self, address: SupportsIndex) -> bool:
+        return self.holds(address)
+
+    def representable(self, address: SupportsIndex) -> bool:
         """Returns whether the word with that address decodes to the same bounds.
 
-        It is False for a word that does not store its bounds as setting bounds stores them. `keeps_bounds` is for every word."""
-        return _calls["represents"](*self._halves(), _address(address))
+        It is False for a word that does not store its bounds as setting bounds stores them. `keeps_bounds` is for every
+        word."""
+        return bool(_calls["represents"](*self._halves(), _address(address)))
 
-    def keeps_bounds(self, address: int) -> bool:
+    def keeps_bounds(self, address: SupportsIndex) -> bool:
         """Returns whether the word with that address decodes to the same bounds, for every word, canonical or not."""
-        return _calls["keeps_bounds"](*self._halves(), _address(address))
+        return bool(_calls["keeps_bounds"](*self._halves(), _address(address)))
 
     # ---- Derivation: each returns another capability, or raises the first `Refusal` of those listed, in this order
 
-    def set_address(self, address: int) -> "Capability":
+    def set_address(self, address: SupportsIndex) -> "Capability":
         """CSetAddr: returns the capability with another address and the same bounds.
 
         Refusals: canonical; sealed; unrepresentable."""
         return self._derived("set_address", _address(address))
 
-    def increment(self, amount: int) -> "Capability":
+    def increment(self, amount: SupportsIndex) -> "Capability":
         """CIncOffset: returns the capability with `amount` added to its address, modulo 2**64, and the same bounds.
 
         Refusals: canonical; sealed; unrepresentable."""
-        return self._derived("increment", amount & _HALF)
+        return self._derived("increment", index(amount) & _HALF)
 
-    def set_bounds(self, length: int) -> "Capability":
+    def set_bounds(self, length: SupportsIndex) -> "Capability":
         """CSetBounds: returns the capability with the bounds of `length` bytes from its address.
 
         Bounds that cannot be stored exactly are rounded outward.
@@ -440,14 +515,16 @@ class Capability:
         Refusals: canonical; sealed; bounds."""
         return self._derived("set_bounds_on", *_halves(length, 2**128 - 1, "a length"))
 
-    def set_bounds_exact(self, length: int) -> "Capability":
+    def set_bounds_exact(self, length: SupportsIndex) -> "Capability":
         """CSetBoundsExact: returns the capability with the bounds of `length` bytes from its address, never rounded.
 
         Refusals: canonical; sealed; bounds; inexact."""
         return self._derived("set_bounds_exact_on", *_halves(length, 2**128 - 1, "a length"))
 
-    def and_perms(self, mask: int) -> "Capability":
+    def and_perms(self, mask: SupportsIndex) -> "Capability":
         """CAndPerm: returns the capability with only those of its permissions that are also in the mask of 16 bits.
+
+        `mask_of` returns the mask of names.
 
         Refusals: canonical; sealed."""
         return self._derived("and_perms", _halves(mask, 0xFFFF, "a mask")[1])
@@ -478,7 +555,7 @@ class Capability:
 
     def is_subset(self, outer: "Capability") -> bool:
         """CTestSubset: returns whether all its bytes and permissions are within those of `outer`, for any two words."""
-        return _calls["is_subset"](*self._halves(), *outer._halves())
+        return bool(_calls["is_subset"](*self._halves(), *outer._halves()))
 
     # ---- Strings
 
@@ -494,6 +571,10 @@ class Capability:
     def __str__(self) -> str:
         """Returns `line()` as if it were tagged."""
         return self.line()
+
+    def __format__(self, spec: str) -> str:
+        """Returns the word by a format for integers, such as "032x", or otherwise `line()` by one for strings."""
+        return format(self._word if spec[-1:] in tuple("bcdoxXn") else self.line(), spec)
 
     def listing(self) -> str:
         """Returns the fields and bounds, one on each line, as `cheri-cap show` prints them."""
@@ -520,13 +601,19 @@ class Capability:
 
     # ---- The object
 
+    def __index__(self) -> int:
+        """Returns the word, as `int` and `hex` use it."""
+        return self._word
+
     def __eq__(self, other: object) -> bool:
-        return self._word == other._word if isinstance(other, Capability) else NotImplemented
+        if not isinstance(other, Capability):
+            return NotImplemented
+        return self._word == other._word
 
     def __hash__(self) -> int:
         return hash((Capability, self._word))
 
-    def __reduce__(self):
+    def __reduce__(self) -> Tuple[Type["Capability"], Tuple[int]]:
         return Capability, (self._word,)
 
     def _derived(self, call: str, *values: int) -> "Capability":
@@ -538,37 +625,221 @@ class Capability:
     def _halves(self) -> Tuple[int, int]:
         return self._word >> 64, self._word & _HALF
 
-    def _decoded(self) -> Tuple[int, int, int]:
+    def _decoded(self) -> Bounds:
         if self._bounds is None:
             found = _calls["decode"](*self._halves())
-            self._bounds = found.base, found.top_high << 64 | found.top_low, found.exponent
+            self._bounds = Bounds(found.base, found.top_high << 64 | found.top_low, found.exponent)
         return self._bounds
 
 
-def grant(base: int, length: int) -> Granted:
+def mask_of(names: str) -> int:
+    """Returns the mask of permissions by their names, joined by "+", as in a script. "-" is none of them.
+
+    Errors: ValueError for another name."""
+    mask = 0
+    for name in names.split("+") if names != "-" else ():
+        if name not in PERMISSIONS:
+            raise ValueError(f"{name!r} is not a permission: the names are {', '.join(PERMISSIONS)}")
+        mask |= 1 << PERMISSIONS.index(name)
+    return mask
+
+
+def grant(base: SupportsIndex, length: SupportsIndex) -> Granted:
     """Returns the tightest bounds that a word can store and that cover `length` bytes from `base`.
 
     Errors: ValueError if these end above 2**64."""
     found = _calls["set_bounds"](_address(base), *_length(length))
     if not found.in_range:
-        raise ValueError(f"{length:#x} bytes from {base:#x} end above 2**64")
+        raise ValueError(f"{index(length):#x} bytes from {index(base):#x} end above 2**64")
     top = found.top_high << 64 | found.top_low
     return Granted(found.base, top, found.exponent, found.exact, found.ie, found.t, found.b)
 
 
-def granule(length: int) -> int:
+def granule(length: SupportsIndex) -> int:
     """Returns the unit in which the bounds of `length` bytes, 0 to 2**64, from address 0 are stored."""
-    return _calls["granule"](*_length(length))
+    return int(_calls["granule"](*_length(length)))
 
 
-def round_length(length: int) -> int:
+def round_length(length: SupportsIndex) -> int:
     """CRRL: returns the representable length: the length, 0 to 2**64, rounded up to a multiple of its granule.
 
     No exact bounds of at least `length` bytes are shorter."""
     halves = _calls["round_length"](*_length(length))
-    return halves.high << 64 | halves.low
+    return int(halves.high << 64 | halves.low)
 
 
-def alignment_mask(length: int) -> int:
-    """CRAM: returns the representable alignment mask. An address "and" the mask is a multiple of the length's granule."""
-    return _calls["alignment_mask"](*_length(length))
+def alignment_mask(length: SupportsIndex) -> int:
+    """CRAM: returns the representable alignment mask. An address "and" the mask is a multiple of the granule."""
+    return int(_calls["alignment_mask"](*_length(length)))
+
+
+# ---- Many words
+
+# A buffer of words has 16 bytes for each, one after the other, in the byte order of the memory that it was read from.
+# Its items may have any size and shape: bytes, bytearray, memoryview, array.array, mmap, or an array of numpy.
+
+
+class ManyBounds(Sequence[Bounds]):
+    """The bounds of many words: a sequence of `Bounds`, in the order of the words.
+
+    The columns are memoryviews, and numpy.asarray(BOUNDS.base) is an array over the same memory. The last address of a
+    word is top_low - 1 modulo 2**64, and a top of 2**64 has top_high 1 and top_low 0."""
+
+    __slots__ = ("base", "top_high", "top_low", "exponent")
+
+    #: the bases, 64 bits each
+    base: memoryview
+    #: the tops divided by 2**64: 0 or 1, 64 bits each
+    top_high: memoryview
+    #: the tops modulo 2**64, 64 bits each
+    top_low: memoryview
+    #: the exponents, a byte each
+    exponent: memoryview
+
+    def __init__(self, results: "array[int]"):
+        numbers = memoryview(results)
+        self.base, self.top_high, self.top_low = numbers[0::4], numbers[1::4], numbers[2::4]
+        # the struct's byte after its numbers
+        self.exponent = numbers.cast("B")[24::32]
+
+    def __len__(self) -> int:
+        return len(self.base)
+
+    @overload
+    def __getitem__(self, position: int) -> Bounds: ...
+
+    @overload
+    def __getitem__(self, position: slice) -> List[Bounds]: ...
+
+    def __getitem__(self, position: Union[int, slice]) -> Union[Bounds, List[Bounds]]:
+        if isinstance(position, slice):
+            return [self[it] for it in range(*position.indices(len(self)))]
+        top = self.top_high[position] << 64 | self.top_low[position]
+        return Bounds(self.base[position], top, self.exponent[position])
+
+
+def _bytes_of(data: "ReadableBuffer") -> memoryview:
+    """Returns the bytes of a buffer of words, copied if they are not contiguous or if its items are structs."""
+    view = memoryview(data)
+    if view.nbytes % _WORD_SIZE:
+        raise ValueError(f"words must be {_WORD_SIZE} bytes each, and {view.nbytes} is not a multiple of that")
+    try:
+        return view.cast("B")
+    except TypeError:
+        return memoryview(view.tobytes())
+
+
+def _pieces(data: memoryview, byteorder: str) -> Iterator[Tuple[int, int, "array[int]"]]:
+    """Yields the words of a buffer in pieces: the position of the first, their number, and the halves, high first."""
+    if byteorder not in ("little", "big"):
+        raise ValueError(f"byteorder must be 'little' or 'big', not {byteorder!r}")
+    for start in range(0, data.nbytes // _WORD_SIZE, _PIECE):
+        halves = array("Q", data[start * _WORD_SIZE : (start + _PIECE) * _WORD_SIZE].tobytes())
+        if byteorder != sys.byteorder:
+            halves.byteswap()
+        if byteorder == "little":
+            halves[0::2], halves[1::2] = halves[1::2], halves[0::2]
+        yield start, len(halves) // 2, halves
+
+
+def _words_in(halves: "array[int]") -> Any:
+    return (_Halves * (len(halves) // 2)).from_buffer(halves)
+
+
+def _decode_into(results: "array[int]", start: int, count: int, halves: "array[int]") -> None:
+    """Writes the bounds of a piece of words, as structs of the header, from a position on."""
+    bounds = (_Bounds * count).from_buffer(results, start * ctypes.sizeof(_Bounds))
+    _calls["decode_many"](_words_in(halves), count, bounds, count)
+
+
+def _is_canonical_into(results: bytearray, start: int, count: int, halves: "array[int]") -> None:
+    answers = (c_uint8 * count).from_buffer(results, start)
+    _calls["is_canonical_many"](_words_in(halves), count, answers, count)
+
+
+def _empty_bounds(count: int) -> "array[int]":
+    return array("Q", bytes(ctypes.sizeof(_Bounds))) * count
+
+
+def decode_many(words: "ReadableBuffer", byteorder: ByteOrder = "little") -> ManyBounds:
+    """Returns the bounds of each word of a buffer, canonical or not.
+
+    Errors: ValueError for a buffer whose size is not a multiple of 16 bytes."""
+    data = _bytes_of(words)
+    results = _empty_bounds(data.nbytes // _WORD_SIZE)
+    for piece in _pieces(data, byteorder):
+        _decode_into(results, *piece)
+    return ManyBounds(results)
+
+
+def is_canonical_many(words: "ReadableBuffer", byteorder: ByteOrder = "little") -> memoryview:
+    """Returns whether each word of a buffer is canonical: a memoryview of bools, which numpy takes as a mask.
+
+    Errors: ValueError for a buffer whose size is not a multiple of 16 bytes."""
+    data = _bytes_of(words)
+    results = bytearray(data.nbytes // _WORD_SIZE)
+    for piece in _pieces(data, byteorder):
+        _is_canonical_into(results, *piece)
+    return memoryview(results).cast("?")
+
+
+def represents_many(
+    words: "ReadableBuffer", addresses: Union["ReadableBuffer", SupportsIndex], byteorder: ByteOrder = "little"
+) -> memoryview:
+    """Returns whether each word of a buffer is representable with its address: a memoryview of bools.
+
+    `addresses` is one address for all words, or a buffer of an unsigned 64-bit number for each, in the order of this
+    machine, such as array("Q") or an array of numpy.uint64.
+
+    Errors: ValueError for a buffer whose size is not a multiple of 16 bytes, and for another number of addresses."""
+    data = _bytes_of(words)
+    count = data.nbytes // _WORD_SIZE
+    given = _addresses_of(addresses, count)
+    results = bytearray(count)
+    for start, size, halves in _pieces(data, byteorder):
+        at = (c_uint64 * size).from_buffer(given, start * ctypes.sizeof(c_uint64))
+        answers = (c_uint8 * size).from_buffer(results, start)
+        _calls["represents_many"](_words_in(halves), size, at, size, answers, size)
+    return memoryview(results).cast("?")
+
+
+def _addresses_of(addresses: Union["ReadableBuffer", SupportsIndex], count: int) -> "array[int]":
+    """Returns `count` addresses: those given, or the one given."""
+    try:
+        # first, since a number of numpy is a buffer too
+        return array("Q", [_address(addresses)]) * count  # type: ignore[arg-type]
+    except TypeError:
+        view = memoryview(addresses)  # type: ignore[arg-type]
+    if view.itemsize != 8 or view.format.lstrip("@=") not in ("Q", "L"):
+        raise ValueError(f"addresses must be unsigned 64-bit numbers of this machine, not of format {view.format!r}")
+    if view.nbytes != 8 * count:
+        raise ValueError(f"each of {count} words must have an address, not {view.nbytes // 8} of them")
+    return array("Q", view.tobytes())
+
+
+def find_holding(
+    words: "ReadableBuffer", address: SupportsIndex, perms: SupportsIndex = 0, byteorder: ByteOrder = "little"
+) -> List[int]:
+    """Returns the positions of the words of a buffer that could be capabilities to the byte at an address.
+
+    These words are canonical, their bounds contain the address, and they have at least one permission and all of the
+    mask `perms`, which `mask_of` makes from names. Null, and every integer below 2**64, is a canonical word whose
+    bounds contain each address, but it has no permission. The word at position N begins at byte 16 * N.
+
+    Errors: ValueError for a buffer whose size is not a multiple of 16 bytes."""
+    at, mask = _address(address), _halves(perms, 0xFFFF, "a mask")[1]
+    bounds, canonical = _empty_bounds(_PIECE), bytearray(_PIECE)
+    found: List[int] = []
+    for start, count, halves in _pieces(_bytes_of(words), byteorder):
+        _is_canonical_into(canonical, 0, count, halves)
+        likely = []
+        for i in compress(range(count), canonical):
+            held = halves[2 * i] >> 48
+            if held and held & mask == mask:
+                likely.append(i)
+        if likely:
+            _decode_into(bounds, 0, count, halves)
+        for i in likely:
+            if bounds[4 * i] <= at and (bounds[4 * i + 1] or at < bounds[4 * i + 2]):
+                found.append(start + i)
+    return found
