@@ -24,6 +24,7 @@ later with no other modules than Python's own, and x86-64 Linux. It searches for
 
 import ctypes
 import os
+import sys
 from ctypes import POINTER, c_bool, c_char, c_char_p, c_size_t, c_uint8, c_uint16, c_uint32, c_uint64
 from pathlib import Path
 from typing import NamedTuple, Tuple
@@ -171,7 +172,10 @@ def _place() -> str:
     """Returns the library's file, or its name, for which the loader searches."""
     name = f"libcheri_cap.so.{VERSION}"
     here = Path(__file__).resolve().parent
-    for place in here.parent.parent / "lib" / name, here.parent / "examples" / "out" / name:
+    installed = here.parent.parent / "lib"
+    # the directory below lib/ in which Debian has the libraries of this interpreter's machine
+    triplet = getattr(sys.implementation, "_multiarch", ".")
+    for place in installed / name, installed / triplet / name, here.parent / "examples" / "out" / name:
         if place.exists():
             return str(place)
     return name
