@@ -220,7 +220,10 @@ def _place() -> str:
     """Returns the library's file, or its name, for which the loader searches."""
     name = f"libcheri_cap.so.{VERSION}"
     here = Path(__file__).resolve().parent
-    for place in here / name, here.parent.parent / "lib" / name, here.parent / "examples" / "out" / name:
+    installed = here.parent.parent / "lib"
+    # the directory below lib/ in which Debian has the libraries of this interpreter's machine
+    triplet = getattr(sys.implementation, "_multiarch", ".")
+    for place in here / name, installed / name, installed / triplet / name, here.parent / "examples" / "out" / name:
         if place.exists():
             return str(place)
     return name

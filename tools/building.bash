@@ -6,7 +6,7 @@
 #
 # and then calls `stand_built`. Two files next to the product of a build describe the build:
 #
-#   built-from    the toolchain's identity, and the checksums of the sources and of the product
+#   built-from    the toolchain's identity with the processor, and the checksums of the sources and of the product
 #   seen          their names, sizes and times when they last had these checksums
 #
 # If `seen` matches the files, no file is read. Names are relative to the checkout, so that it can be moved and copied. The
@@ -14,6 +14,9 @@
 
 : "${top:?}" "${who:?}"
 readonly NOT_BUILT=125
+# The processor for which the program and the library are compiled: the first of x86-64, so that they run on each. The toolchain's
+# default is a later one, and a library checks nothing when it is loaded.
+readonly CPU=x86-64
 # the progress of a slow crate is printed at this interval, in seconds
 readonly TELLS_EACH=20
 
@@ -28,7 +31,7 @@ stop() {
 }
 
 # Sets `identity` to the line that identifies the installed toolchain, from the file in its directory or, if there is none, by
-# asking it. Without a toolchain it is empty.
+# asking it, and the processor. Without a toolchain it is empty.
 identify() {
   local directories directory rt=''
   IFS=: read -ra directories <<<"$PATH"
@@ -43,6 +46,7 @@ identify() {
   else
     identity=$(rt version 2>/dev/null) || identity=''
   fi
+  identity=${identity:+$identity for $CPU}
 }
 
 # Sets `needs` from crates.txt, which has a line NAME: BELOW.. for each crate. Names without a line are the toolchain's.
@@ -157,8 +161,8 @@ want_toolchain() {
   [[ -n $identity ]] || stop "the toolchain's command rt was not found or has no version, and the existing build is not from these sources: see README.md, \"Install\""
 }
 
-# Builds a file of a crate's directory out/ by the rt command that follows, unless it is already built from the present
-# sources:  stand_built CRATE FILE run -- --version
+# Builds a file of a crate's directory out/ for the processor by the rt command that follows, unless it is already built from the
+# present sources:  stand_built CRATE FILE run -- --version
 stand_built() {
   local product=crates/$1/out/$2 kept=$top/crates/$1/out identity
   local -A needs listed
@@ -168,6 +172,6 @@ stand_built() {
   # shellcheck source=tools/proving.bash
   declare -F prove_crates >/dev/null || source "$top/tools/proving.bash"
   lock_checkout
-  is_current "$identity" "$product" "$kept" || build_all "$product" "$kept" "${@:3}"
+  is_current "$identity" "$product" "$kept" || build_all "$product" "$kept" "$3" --cpu "$CPU" "${@:4}"
   unlock_checkout
 }

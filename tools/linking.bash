@@ -23,12 +23,12 @@ exported_symbols() {
   printf '  local:\n    *;\n};\n'
 }
 
-# Links the shared library in a directory, under its soname, from the static library.
+# Links the shared library in a directory, under its soname, from the static library:  link_shared STATIC DIRECTORY [COMPILER]
 link_shared() {
-  local static=$1 directory=$2 name
+  local static=$1 directory=$2 links=${3:-$compiler} name
   name=$(soname)
   exported_symbols >"$directory/symbols"
-  "$compiler" -shared -Wl,-soname,"$name" -Wl,--version-script,"$directory/symbols" -Wl,-z,defs -Wl,-z,relro,-z,now -s \
+  "$links" -shared -Wl,-soname,"$name" -Wl,--version-script,"$directory/symbols" -Wl,-z,defs -Wl,-z,relro,-z,now -s \
     -o "$directory/$name" -Wl,--whole-archive "$static" -Wl,--no-whole-archive || stop 'the shared library cannot be linked'
   rm -- "$directory/symbols"
 }

@@ -167,11 +167,7 @@ make_view() {
     [[ ! -d $top/crates/$it/out/rlib ]] || stand+=("$it/out/rlib")
   done
   [[ ! -d $top/crates/$name/out/incremental ]] || stand+=("$name/out/incremental")
-  mkdir -- "${out[@]}" && link_directories "$top/crates" "$view/crates" "${stand[@]}" || return
-  # no hard link, since the linker may write into the program
-  for it in "$name" "$name.stamp"; do
-    [[ ! -f $top/crates/$name/out/$it ]] || cp -p -- "$top/crates/$name/out/$it" "$view/crates/$name/out/$it" || return
-  done
+  mkdir -- "${out[@]}" && link_directories "$top/crates" "$view/crates" "${stand[@]}"
 }
 
 # Moves the contents of a view's directory out/, or one entry of it, to the crate's own:  move_out CRATE [ENTRY]
