@@ -261,8 +261,8 @@ uint8_t cheri_cap_exponent(uint64_t high, uint64_t low) CHERI_CAP_NOEXCEPT;
  * Returns the bounds that a request for [base, base + length) is granted: the tightest that any
  * word can store and that cover the request.
  *
- * If base + length is above 2^64, `in_range` is false and every other field is zero: no bounds cover
- * such a request, so there are no fields that store them.
+ * If base + length is above 2^64, `in_range` is false and every other field is zero: no capability
+ * has bounds that end above 2^64. (A word that is not canonical can decode to such bounds.)
  */
 CHERI_CAP_NODISCARD CHERI_CAP_CONST
 cheri_cap_granted cheri_cap_set_bounds(uint64_t base, uint64_t length_high, uint64_t length_low) CHERI_CAP_NOEXCEPT;
@@ -385,18 +385,18 @@ size_t cheri_cap_format(
  * Each rule accepts any words, and returns the word that it gives for the capabilities of these
  * words, with refusal 0. If it refuses, it returns no word and the first refusal of those listed,
  * which are in the order of the checks. CANONICAL comes first if a word is not that of a
- * capability, and so for every sentry.
+ * capability, and so for every sentry. (cheri_cap_rebuild checks the authority before the word.)
  *
- * The result of each rule is canonical, and a subset of the word that it was made of, as
+ * A word that a rule returns is canonical, and a subset of the word that it was made of, as
  * cheri_cap_is_subset compares words. For cheri_cap_rebuild, that is the authority's word. So the
- * result of any number of rules is a subset of the word that they began with.
+ * word after any number of rules is a subset of the one that they began with.
  *
  * Tags: no function takes or returns one, except the mark of cheri_cap_format. The part after
  * "Tags:" says which tags must be set for the result to have one. If one of them is not set, or if
  * the rule refuses, the result has no tag.
  *
  * Without the checks: if a rule refuses, an instruction may still write a word, with its tag
- * cleared. The part after "Without the checks:" is the word with the field changed all the same.
+ * cleared. The part after "Without the checks:" names the word with the field changed although a check fails.
  * Whether an instruction writes this word, another one, or traps is for its ISA text to say.
  *
  * The name of an instruction says which function is for it. Agreement with any instruction is

@@ -5,7 +5,8 @@
  * derivation. The comments of cheri_cap.h apply: each method names the function that it calls, if
  * it is not the one of its name. The code here is plain C++: it is tested, not proved.
  *
- * No function here allocates or throws, and none has state. Link with libcheri_cap, as for C.
+ * No function here allocates, and none has state. None throws, except what the function given to
+ * and_then throws. Link with libcheri_cap, as for C.
  *
  * Tags are up to the caller, as in C: a word has none.
  */
@@ -290,7 +291,7 @@ public:
     /* The refusal, `refusal::none` if there is a word. */
     [[nodiscard]] constexpr refusal error() const noexcept { return refusal_; }
 
-    /* The word. There must be one: after a refusal, it is null. */
+    /* The word, or null after a refusal: test `has_value` first. */
     [[nodiscard]] constexpr const word &operator*() const noexcept { return word_; }
     [[nodiscard]] constexpr const word *operator->() const noexcept { return &word_; }
 

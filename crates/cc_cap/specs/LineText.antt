@@ -33,8 +33,8 @@ word_line_of fields bounds tagged =
     hexadecimal fields.address ++ codes " [" ++ letters_of fields.perms ++ codes ","
     ++ hexadecimal bounds.base ++ codes "-" ++ hexadecimal bounds.top ++ codes "]" ++ marks_of fields.otype tagged
 
--- `IsWordLine` holds if `line` is the one-line form of the word: that of its fields and of the bounds
--- that they decode to. No other fields and no other bounds are such.
+-- `IsWordLine` holds if `line` is the one-line form of the word: that of its fields and of the
+-- bounds that they decode to. No other fields and no other bounds are such.
 pub record IsWordLine (word : ℕ) (tagged : Bool) (line : List ℕ) : Type 0 where
   pub fields : Fields
   pub bounds : Span

@@ -5,8 +5,8 @@ ghost use Rattle.std.specs.Prelude.{◌*◌, ◌^◌, Ok};
 ghost use Rattle.cc_cap.specs.Derivation.{MasksPermissions};
 ghost use Rattle.cc_cap.specs.WordRules.{OnWord, IsCanonicalSubset};
 
-/// Proves that masking all permissions of the root's word returns null, and that the root's word is
-/// not a subset of null.
+/// Proves that removing all permissions of the root's word returns null, and that the root's word
+/// is not a subset of null.
 #[tactic(auto, using(crate::proofs::CounterexampleLemmas::null_made, crate::proofs::CounterexampleLemmas::root_outside))]
 fn null_and_the_word_of_the_root()
     ensures made { OnWord (λ cap. MasksPermissions cap 0) (0xffff * 2 ^ 112) (Ok 0) }

@@ -21,8 +21,8 @@ pub fn one_listing()
 /// in two parts are the rows of the first part followed by those of the second.
 ///
 /// The first part has to have no trailing bytes: it ends in a line feed, or, if the input is raw
-/// bytes, its length is a multiple of 16. So parts of an input can be decoded apart, and their listings joined, if
-/// the header is kept only once.
+/// bytes, its length is a multiple of 16. So parts of an input can be decoded separately, and their
+/// listings joined, if the header is kept only once.
 pub fn listing_in_parts()
     ensures rows { (options : OptionsSpec) (text : List ℕ) (taken taken_now : Option (List ℕ)) (any_error : Bool)
         → (WritesListing options text taken taken_now any_error

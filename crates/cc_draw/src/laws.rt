@@ -24,9 +24,9 @@ pub fn holes_are_the_free_bytes()
         → CountsFreeBytes (pool_span (plan_of state)) (held_spans (plan_of state).objects) usage }
 {}
 
-/// Proves that, in every state that a run leads to, the drawing shows each object over exactly the
-/// cells that hold a byte of it. There is at least one such cell, and all of them are cells of the
-/// drawing.
+/// Proves that, in every state that a run leads to, the cells from `first_cell` to `end_cell` of
+/// each object are exactly those that hold a byte of it. There is at least one such cell, and all of
+/// them are cells of the drawing. This includes swept objects, which are not drawn.
 pub fn objects_are_drawn_exactly()
     ensures { (state : State) → IsReached state
         → All (λ object. IsDrawnExactly (layout_for (pool_span (plan_of state))) object.span) (plan_of state).objects }

@@ -22,8 +22,8 @@ cell_bytes most bytes = max (div_ceil bytes most) 1
 abbrev pub cell_count : (most bytes : ℕ) → ℕ
 cell_count most bytes = div_ceil bytes (cell_bytes most bytes)
 
--- IsPictureRow holds if the row has 64 cells, a cell has the mark if it holds a byte of the span, and it
--- is blank if it holds none.
+-- IsPictureRow holds if the row has 64 cells, a cell has the mark if it holds a byte of the span,
+-- and it is blank if it holds none.
 pub record IsPictureRow (start size : ℕ) (span : Span) (mark : ℕ) (row : List ℕ) : Type 0 where
   pub count : length row ≡ 64
   pub marked : (index : ℕ) → index < 64 → SharesByte (cell_of start size index) span → slice_index row index ≡ mark

@@ -4,10 +4,10 @@ ghost use Rattle.cc_word.specs.WordText.{digits_of, hexadecimal};
 ghost use Rattle.cc_syntax.specs.Commands.{word_in};
 ghost use Rattle.cc_syntax.specs.Numbers.{number_of};
 
-/// Proves that the numbers and the words that replies print parse as the same numbers and words.
+/// Proves that numbers printed in decimal or with `0x`, and words, parse as the same numbers and
+/// words: decimal numbers below 10^64, hexadecimal numbers below 16^64, and words of 32 digits.
 ///
-/// This holds for decimal numbers below 10^64, for hexadecimal numbers with `0x` below 16^64, and
-/// for words of 32 hexadecimal digits. So a value can be copied from a reply into a line.
+/// The permissions and the type in the reply to `show` have no `0x`, and are not meant.
 pub fn printed_values_are_read_back()
     ensures decimal { (number : ℕ) → number < 10 ^ 64 → number_of (decimal number) ≡ Some number }
     ensures hexadecimal { (number : ℕ) → number < 16 ^ 64 → number_of (hexadecimal number) ≡ Some number }
