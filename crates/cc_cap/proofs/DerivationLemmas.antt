@@ -8,7 +8,7 @@ use Rattle.cc_bounds.specs.Span.{IsSpan, IsWithin}
 use Rattle.cc_bounds.specs.Granule.{IsGranted, IsSound}
 use Rattle.cc_bounds.proofs.SoundDecodingLemmas.{sound-IsDecoded}
 use Rattle.cc_bounds.proofs.TightestLemmas.{granted-tightest}
-use Rattle.cc_cap.specs.Capability.{Capability, GrantsNoMore}
+use Rattle.cc_cap.specs.Capability.{Capability, GrantsNoMore, unsealed_permissions}
 use Rattle.cc_word.specs.Permissions.{HasAll, global_permission}
 
 -- ---- permissions
