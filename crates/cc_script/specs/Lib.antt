@@ -1,5 +1,6 @@
 -- In reading order.
 pub mod Output
+pub mod Parts
 pub mod Laws
 pub mod Correct
 pub mod Answering
