@@ -6,3 +6,4 @@ pub mod Correct
 pub mod Answering
 pub mod Lent
 pub mod Session
+pub mod Operations
