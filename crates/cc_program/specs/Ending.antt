@@ -1,9 +1,10 @@
 -- The end of the program for a command line that is accepted.
-use Rattle.std.specs.Prelude.{◌≡◌, ◌⊎◌, List, Option, Result}
+use Rattle.std.specs.Prelude.{◌≡◌, ◌⊎◌, Err, List, Option, Result}
 use Rattle.clap.specs.Words.{Row, Text}
 use Rattle.cc_io.specs.declared.summary.Summary.{Summary}
 use Rattle.cc_program.specs.Execution.{Console, Executes, OnDevices}
 use Rattle.cc_arguments.specs.Invocation.{IsInvocation}
+use Rattle.cc_program.specs.Input.{ReadsFile}
 use Rattle.cc_program.specs.Outcome.{ending_of}
 use Rattle.cc_arguments.specs.declared.invocation.Invocation.{Invocation}
 use Rattle.cc_program.specs.declared.outcome.Ending.{Ending}
@@ -12,13 +13,15 @@ use Rattle.cc_program.specs.declared.outcome.Fault.{Fault}
 use Rattle.cc_program.specs.declared.outcome.Fault.TheVariants as fault
 use Rattle.cc_program.specs.declared.report.Terminals.{Terminals}
 
--- ExecutesCommand holds if the command that clap found was executed, and its result ends the program.
+-- ExecutesCommand holds if the command that clap found was executed, and its result ends the program. Only a command that reads
+-- a file can end because its input was not opened.
 pub record ExecutesCommand (found : Option (Text × List Row)) (terminals : Terminals) (ending : Ending) : Type 0 where
   pub invocation : Invocation
   pub is_invocation : IsInvocation found invocation
   pub console : Console
   pub result : Result Summary Fault
   pub executes : OnDevices (Executes invocation terminals console) result
+  pub opens : result ≡ Err fault.Open → ReadsFile invocation
   pub ends : ending ≡ ending_of result
 
 -- EndsCommand holds if the command that clap found was executed, or memory ran out before it began.

@@ -19,12 +19,12 @@ abbrev pub IsFile : InputName → Type 0
 IsFile Standard = ⊥
 IsFile (File path) = ⊤
 
--- ReadsFile holds if the command reads a file.
+-- ReadsFile holds if the command reads a file: FILE names one, and BASE and LENGTH of `plan` and `map` are those of a pool.
 abbrev pub ReadsFile : Invocation → Type 0
 ReadsFile (Ask question) = ⊥
 ReadsFile (Run limit stats file) = IsFile (file_input file)
-ReadsFile (Plan limit pool align stats file) = IsFile (file_input file)
-ReadsFile (Map limit pool align svg file) = IsFile (file_input file)
+ReadsFile (Plan limit pool align stats file) = IsOk (pool_of pool.base.now pool.length.now) × IsFile (file_input file)
+ReadsFile (Map limit pool align svg file) = IsOk (pool_of pool.base.now pool.length.now) × IsFile (file_input file)
 ReadsFile (Decode options file) = IsFile (file_input file)
 
 -- RunsMachine holds if the command creates a machine: `run`, and `plan` and `map` if BASE and LENGTH are those of a pool.
@@ -40,3 +40,9 @@ abbrev pub IsRunOrPlan : Invocation → Type 0
 IsRunOrPlan (Run limit stats file) = ⊤
 IsRunOrPlan (Plan limit pool align stats file) = ⊤
 IsRunOrPlan _ = ⊥
+
+-- IsReported holds if the command can write to standard error: `run`, and `plan` if BASE and LENGTH are those of a pool.
+abbrev pub IsReported : Invocation → Type 0
+IsReported (Run limit stats file) = ⊤
+IsReported (Plan limit pool align stats file) = IsOk (pool_of pool.base.now pool.length.now)
+IsReported _ = ⊥

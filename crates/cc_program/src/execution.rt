@@ -5,7 +5,7 @@ ghost use Rattle.cc_machine.specs.State.{initial_state};
 ghost use Rattle.cc_syntax.specs.Tally.{IsTally};
 ghost use Rattle.cc_arguments.specs.Invocation.{IsInvocation};
 ghost use Rattle.cc_program.specs.Execution.{DrawsRun, Executes, FromInput, ListsWords, OnDevices, ReportsRun, Traffic};
-ghost use Rattle.cc_program.specs.Input.{IsFile, ReadsFile, RunsMachine};
+ghost use Rattle.cc_program.specs.Input.{IsFile, IsReported, ReadsFile, RunsMachine};
 
 use crate::discard::Discard;
 use crate::input::{InputName, Inputs, file_input};
@@ -33,7 +33,8 @@ const MOST_DECODED: usize = 1 << 62;
 ///
 /// Requires: no device has failed.
 /// Errors: `Memory` if an allocation fails, in a command that creates a machine; `Open` if the input cannot be opened;
-/// `Read` if a read fails; `Write` if and only if the sink failed. Nothing is reported then.
+/// `Read` if a read fails; `Write` if and only if the sink failed. Nothing is reported then. If the error is `Open`, nothing
+/// was written to `sink` either.
 pub fn execute<R: AllocGlobal, I: Inputs, W: Sink, E: Sink>(
     rt: &R,
     invocation: Invocation<'_>,
@@ -58,6 +59,8 @@ pub fn execute<R: AllocGlobal, I: Inputs, W: Sink, E: Sink>(
     ensures write { (result ≡ Err Fault.Write) ↔ (W.has_failed sink.new ≡ true) }
     ensures flushed { OnOk result (W.is_flushed sink.new ≡ true) }
     ensures unreported { OnErr result (E.taken_bytes errors.new ≡ E.taken_bytes errors.old) }
+    ensures untouched { result ≡ Err Fault.Open → W.taken_bytes sink.new ≡ W.taken_bytes sink.old }
+    ensures silent { ¬ IsReported invocation.entry → errors.new ≡ errors.old }
 {
     match invocation {
         Invocation::Ask(question) => Ok(answer_question(question, sink)?),
@@ -152,6 +155,7 @@ fn run<R: AllocGlobal, I: Inputs, W: Sink, E: Sink>(
       errors_failed = E.has_failed errors.new;
     }) (ReportsRun report opening.now pool (initial_state limit))) result }
     ensures open { result ≡ Err Fault.Open → IsFile input.entry }
+    ensures untouched { result ≡ Err Fault.Open → W.taken_bytes sink.new ≡ W.taken_bytes sink.old }
     ensures write { (result ≡ Err Fault.Write) ↔ (W.has_failed sink.new ≡ true) }
     ensures flushed { OnOk result (W.is_flushed sink.new ≡ true) }
     ensures unreported { OnErr result (E.taken_bytes errors.new ≡ E.taken_bytes errors.old) }
@@ -230,6 +234,7 @@ fn draw<R: AllocGlobal, I: Inputs, W: Sink>(
       errors_failed = errors_failed;
     }) (DrawsRun svg opening.now (initial_state limit))) result }
     ensures open { result ≡ Err Fault.Open → IsFile input.entry }
+    ensures untouched { result ≡ Err Fault.Open → W.taken_bytes sink.new ≡ W.taken_bytes sink.old }
     ensures write { (result ≡ Err Fault.Write) ↔ (W.has_failed sink.new ≡ true) }
     ensures flushed { OnOk result (W.is_flushed sink.new ≡ true) }
 {
@@ -289,6 +294,7 @@ fn list_words<I: Inputs, W: Sink>(
       errors_failed = errors_failed;
     }) (ListsWords options)) result }
     ensures open { result ≡ Err Fault.Open → IsFile input.entry }
+    ensures untouched { result ≡ Err Fault.Open → W.taken_bytes sink.new ≡ W.taken_bytes sink.old }
     ensures memory { result ≢ Err Fault.Memory }
     ensures write { (result ≡ Err Fault.Write) ↔ (W.has_failed sink.new ≡ true) }
     ensures flushed { OnOk result (W.is_flushed sink.new ≡ true) }

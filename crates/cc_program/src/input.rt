@@ -1,5 +1,6 @@
 //! The inputs that commands read.
 ghost use Rattle.std.specs.Prelude.{◌≡◌, ℕ, List, None, Option, Some, IfErr, IfOk, IfSome, IsTrue, ◌↔◌};
+ghost use Rattle.either.specs.Either.{is_left};
 ghost use Rattle.cc_program.specs.declared.input.InputName.{InputName as InputNameSpec};
 ghost use Rattle.cc_program.specs.Input.{IsFile, IsRunOrPlan, file_input};
 
@@ -64,17 +65,31 @@ impl<R: Files + Input + Eprint> Inputs for ProcessInputs<'_, R> {
     ghost bytes_of = { λ _ _. None };
 
     fn open(&self, input: InputName<'_>) -> Result<Either<R::File, R::Reader>, Fault> {
-        match input {
-            InputName::File(path) => match fs::open(self.rt, path) {
-                Ok(file) => Ok(Left(file)),
-                Err(_) => Err(Fault::Open),
-            },
-            InputName::Standard => {
-                if self.is_typed {
-                    announce(&mut FromWriter::new(ErrorWriter { to: self.rt }));
-                }
-                Ok(Right(self.rt.reader()))
+        open_input(self.rt, self.is_typed, input)
+    }
+}
+
+/// Opens an input of the process: a file of this name, or standard input.
+///
+/// Errors: `Open` if a file cannot be opened.
+fn open_input<R: Files + Input + Eprint>(
+    rt: &R,
+    is_typed: bool,
+    input: InputName<'_>,
+) -> Result<Either<R::File, R::Reader>, Fault>
+    ensures kind { IfOk result (λ reader. IsTrue (is_left reader) ↔ IsFile input.entry) }
+    ensures fails { IfErr result (λ fault. (fault ≡ Fault.Open) × IsFile input.entry) }
+{
+    match input {
+        InputName::File(path) => match fs::open(rt, path) {
+            Ok(file) => Ok(Left(file)),
+            Err(_) => Err(Fault::Open),
+        },
+        InputName::Standard => {
+            if is_typed {
+                announce(&mut FromWriter::new(ErrorWriter { to: rt }));
             }
+            Ok(Right(rt.reader()))
         }
     }
 }

@@ -56,15 +56,15 @@ one_output old new other opening text output other_output any_error other_error 
 
 -- IsCut holds if a run of commands is cut in two: the front leads to a state in between, and the
 -- back leads on from there.
-record IsCut (old end : State) (front back : List (Result Op Refusal)) (replies : List Reply) : Type 0 where
-  first : List Reply
-  second : List Reply
-  replies_are : replies ≡ first ++ second
-  mid : State
-  before : TakesAll old front first mid
-  after : TakesAll mid back second end
+pub record IsCut (old end : State) (front back : List (Result Op Refusal)) (replies : List Reply) : Type 0 where
+  pub first : List Reply
+  pub second : List Reply
+  pub replies_are : replies ≡ first ++ second
+  pub mid : State
+  pub before : TakesAll old front first mid
+  pub after : TakesAll mid back second end
 
-cut : (old end : State) (front back : List (Result Op Refusal)) (replies : List Reply)
+pub cut : (old end : State) (front back : List (Result Op Refusal)) (replies : List Reply)
     → TakesAll old (front ++ back) replies end → IsCut old end front back replies
 cut old end [] back replies taken =
     record { first = []; second = replies; replies_are = refl; mid = old; before = refl; after = taken }

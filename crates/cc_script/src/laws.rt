@@ -1,6 +1,6 @@
 //! Laws of every line and of every script. The contract of each function is a law, and its body is
 //! empty.
-ghost use Rattle.std.specs.Prelude.{◌≡◌, ◌⊎◌, ℕ, Bool, List, Option, Result};
+ghost use Rattle.std.specs.Prelude.{◌≡◌, ◌⊎◌, ◌↔◌, ◌++◌, [], ◌∷◌, ℕ, Bool, List, Option, Result};
 ghost use Rattle.std.specs.Io.KnownBytes.{Appends};
 ghost use Rattle.std.specs.List.{AllByRecursion};
 ghost use Rattle.cc_word.specs.declared.refusal.Refusal.{Refusal};
@@ -10,6 +10,7 @@ ghost use Rattle.cc_machine.specs.State.{State};
 ghost use Rattle.cc_machine.specs.Run.{Run, IsReached, IsInAddressSpace};
 ghost use Rattle.cc_syntax.specs.Commands.{OneJoin};
 ghost use Rattle.cc_script.specs.Output.{commands_of, TakesAll, ScriptOutput, operations_of, operation_replies};
+ghost use Rattle.cc_script.specs.Parts.{EndsLine, OutputInParts};
 ghost use Rattle.cc_script.specs.Correct.{StopsInReply, StopsAfterLines, BeginsOutput};
 
 /// Proves that the tokens of a line, with one space between each two, are the line, and that no
@@ -46,6 +47,17 @@ pub fn one_output()
 pub fn every_script_has_an_output()
     ensures { (old : State) (opening : List Op) (text : List ℕ) → IsReached old → AllByRecursion IsInAddressSpace opening
         → (output : List ℕ) × (any_error : Bool) × (new : State) × ScriptOutput old opening text output any_error new }
+{}
+
+/// Proves that the output of a script in two parts is the output of the first part, followed by the
+/// output of the second from the state that the first leads to.
+///
+/// The first part has to be empty or end in a line feed. So a run can be stopped at the end of any
+/// line and continued later, and a script can be extended at its end.
+pub fn output_in_parts()
+    ensures parts { (old new : State) (opening : List Op) (text more output : List ℕ) (any_error : Bool) → EndsLine text
+        → (ScriptOutput old opening (text ++ more) output any_error new ↔ OutputInParts old opening text more output any_error new) }
+    ensures line_feed { (text : List ℕ) → EndsLine (text ++ 10 ∷ []) }
 {}
 
 /// Proves that, if a sink failed, the bytes that it took are a prefix of the script's output.

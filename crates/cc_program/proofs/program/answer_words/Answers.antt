@@ -30,6 +30,7 @@ returns-in-Ok-clause-executes g c =
         console = c.execute_in_process.ensures.executes.0;
         result = c.execute_in_process.result;
         executes = c.execute_in_process.ensures.executes.1;
+        opens = c.execute_in_process.ensures.open;
         ends = c.ending_of.ensures;
       }),
     )
