@@ -11,6 +11,10 @@ use Rattle.cc_machine.proofs.TreeLemmas.{Keeps-reached, IsMonotonicTree-reached,
 use Rattle.cc_machine.proofs.ObjectLawLemmas.{KeepsObjectLaws-reached}
 use Rattle.cc_machine.proofs.ReachLemmas.{ReachesAll-run}
 use Rattle.cc_machine.proofs.ConfinementLemmas.{IsConfined-run}
+use Rattle.cc_machine.proofs.ObjectConfinementLemmas.{confined-to-object}
+use Rattle.cc_machine.specs.declared.object.Object.{Object}
+use Rattle.cc_machine.specs.Objects.{IsHeldObject}
+use Rattle.cc_machine.specs.ObjectConfinement.{AreOfObject, IsConfinedToObject}
 use Rattle.cc_script.specs.Output.{Takes, TakesAll, with_operation, with_reply, operations_of, operation_replies}
 use Rattle.cc_script.specs.Laws.{TakesWithin, TakesAllWithin, KeepsLaws}
 
@@ -61,6 +65,13 @@ commands_confined : (given : ℕ → Bool) (a b : State) (commands : List (Resul
 commands_confined given a b commands replies reached t =
     let r = commands_within given a a b commands replies t in
     IsConfined-run given a b (operations_of commands) r.0 (Keeps-reached a reached) r.1
+
+pub commands_confined_to_object : (given : ℕ → Bool) (a b : State) (commands : List (Result Op Refusal)) (replies : List Reply)
+    (number : ℕ) (object : Object) → IsReached a → IsHeldObject a number object → AreOfObject given a object
+    → TakesAllWithin given a a commands replies b → IsConfinedToObject a b number object
+commands_confined_to_object given a b commands replies number object reached held own t =
+    let r = commands_within given a a b commands replies t in
+    confined-to-object given a b (operations_of commands) r.0 number object reached held own r.1
 
 -- Machines are in reached states, and these keep the laws.
 pub laws_kept : (a b : State) → IsReached a → IsReached b → KeepsLaws a b

@@ -6,10 +6,14 @@ ghost use Rattle.std.specs.List.{AllByRecursion};
 ghost use Rattle.cc_word.specs.declared.refusal.Refusal.{Refusal};
 ghost use Rattle.cc_ops.specs.declared.op.Op.{Op};
 ghost use Rattle.cc_ops.specs.declared.reply.Reply.{Reply};
+ghost use Rattle.cc_machine.specs.declared.object.Object.{Object};
 ghost use Rattle.cc_machine.specs.State.{State};
+ghost use Rattle.cc_machine.specs.Objects.{IsHeldObject};
+ghost use Rattle.cc_machine.specs.ObjectConfinement.{AreOfObject, IsConfinedToObject};
 ghost use Rattle.cc_machine.specs.Run.{Run, IsReached, IsInAddressSpace};
 ghost use Rattle.cc_syntax.specs.Commands.{OneJoin};
 ghost use Rattle.cc_script.specs.Output.{commands_of, TakesAll, ScriptOutput, operations_of, operation_replies};
+ghost use Rattle.cc_script.specs.Laws.{TakesAllWithin};
 ghost use Rattle.cc_script.specs.Parts.{EndsLine, OutputInParts};
 ghost use Rattle.cc_script.specs.Correct.{StopsInReply, StopsAfterLines, BeginsOutput};
 
@@ -29,6 +33,17 @@ pub fn commands_run()
         → Run old (operations_of commands) (operation_replies commands replies) new }
     ensures reached { (old new : State) (commands : List (Result Op Refusal)) (replies : List Reply)
         → IsReached old → TakesAll old commands replies new → IsReached new }
+{}
+
+/// Proves that a script whose commands use only slots of one held object, and slots that they made,
+/// is confined to that object.
+///
+/// cc_machine's law [`confinement_to_an_object`](cc_machine::confinement_to_an_object) says the
+/// same of a run.
+pub fn scripts_are_confined_to_an_object()
+    ensures { (given : ℕ → Bool) (old new : State) (commands : List (Result Op Refusal)) (replies : List Reply) (number : ℕ) (object : Object)
+        → IsReached old → IsHeldObject old number object → AreOfObject given old object
+        → TakesAllWithin given old old commands replies new → IsConfinedToObject old new number object }
 {}
 
 /// Proves that a script has at most one output.
