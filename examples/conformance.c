@@ -399,7 +399,9 @@ static void check_types(void)
         {CHERI_CAP_OTYPE_UNSEALED - 1, false},
         {CHERI_CAP_OTYPE_UNSEALED, true},
     };
-    cheri_cap_fields fields = cheri_cap_unpack(0, 0);
+    cheri_cap_u128 null = cheri_cap_null();
+    expect(null.high == 0 && null.low == 0, "null", "all zeros");
+    cheri_cap_fields fields = cheri_cap_unpack(null.high, null.low);
     expect(fields.otype == CHERI_CAP_OTYPE_UNSEALED, "null", "unsealed");
     for (size_t i = 0; i < sizeof rows / sizeof *rows; i++) {
         fields.otype = rows[i].otype;
