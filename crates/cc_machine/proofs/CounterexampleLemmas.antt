@@ -3,7 +3,7 @@ use Rattle.std.proofs.Common.{ℕ, zero, suc, true, false, ◌≡◌, ◌≢◌,
 use Rattle.std.proofs.Math.Nat.{div-eq_of_lt}
 use Rattle.std.specs.Int.RustNames.{bit_and}
 use Rattle.cc_bounds.specs.declared.span.Span.{Span}
-use Rattle.cc_bounds.specs.Span.{span_from, from_zero, length_of}
+use Rattle.cc_bounds.specs.Span.{IsWithin, span_from, from_zero, length_of}
 use Rattle.cc_bounds.specs.Granule.{IsSound, exponent_of}
 use Rattle.cc_bounds.specs.Window.{IsRepresentable, Represents}
 use Rattle.cc_bounds.proofs.ComputingLemmas.{exponent_of-long, granule_of-short}
@@ -317,6 +317,17 @@ objects_past_the_pool-break slot is fits =
     let length : length_of slot.capability.span ≡ 1 = sym (ap (λ (s : SlotState). length_of s.capability.span) same) in
     absurd (omega (arith, fits, length))
 
+pub object_past_the_pool-breaks : (slot own : SlotState) → IsPool objects_past_the_pool 0 slot → IsSlot objects_past_the_pool 2 own
+    → ¬ IsWithin own.capability.span slot.capability.span
+object_past_the_pool-breaks slot own is is_own within =
+    let at : Some (first_slot (bounded_root 0 1)) ≡ Some slot = is.is_slot.found in
+    let same : first_slot (bounded_root 0 1) ≡ slot = (let e = at in cc) in
+    let at_own : Some (child_slot (bounded_root 1 1)) ≡ Some own = is_own.found in
+    let same_own : child_slot (bounded_root 1 1) ≡ own = (let e = at_own in cc) in
+    let top : slot.capability.span.top ≡ 1 = sym (ap (λ (s : SlotState). s.capability.span.top) same) in
+    let top_own : own.capability.span.top ≡ 2 = sym (ap (λ (s : SlotState). s.capability.span.top) same_own) in
+    absurd (omega (arith, within.to_top, top, top_own))
+
 pub child_of_the_pool-breaks : ¬ IsConfinedToObject two_objects child_of_the_pool 1 (object_in 1 Live)
 child_of_the_pool-breaks confined = by_belongs (confined.belongs 3 (omega arith) (omega arith))
   where
@@ -382,7 +393,7 @@ pub ruleset disjointness_breaks = (live_in_freed-breaks)
 
 pub ruleset reuse_breaks = (reused_before_revocation-breaks)
 
-pub ruleset pool_breaks = (objects_past_the_pool-break)
+pub ruleset pool_breaks = (objects_past_the_pool-break, object_past_the_pool-breaks)
 
 pub ruleset object_confinement_breaks = (child_of_the_pool-breaks, child_in_another_object-breaks, child_tagged_after_sweep-breaks)
 

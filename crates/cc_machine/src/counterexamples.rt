@@ -4,12 +4,12 @@ ghost use Rattle.std.specs.Prelude.{◌^◌, ◌≤◌};
 ghost use Rattle.cc_cap.specs.Capability.{root_capability};
 ghost use Rattle.cc_ops.specs.declared.op.Op.TheVariants.{Addr};
 ghost use Rattle.cc_ops.specs.declared.reply.Reply.{Reply};
-ghost use Rattle.cc_machine.specs.State.{State, SlotState, initial_state};
+ghost use Rattle.cc_machine.specs.State.{State, SlotState, IsSlot, initial_state};
 ghost use Rattle.cc_machine.specs.Step.{Step};
 ghost use Rattle.cc_machine.specs.Laws.{HoldsCapabilities, IsMonotonicTree, HasSealingAuthority};
 ghost use Rattle.cc_machine.specs.ObjectLaws.{HangsFromPool, HasExactObjects, HasDisjointObjects, IsRevokedExactly};
 ghost use Rattle.cc_machine.specs.Confinement.{IsConfined};
-ghost use Rattle.cc_bounds.specs.Span.{length_of};
+ghost use Rattle.cc_bounds.specs.Span.{IsWithin, length_of};
 ghost use Rattle.cc_plan.specs.declared.object.ObjectState.TheVariants.{Live};
 ghost use Rattle.cc_machine.specs.Objects.{IsPool, held_bytes_of};
 ghost use Rattle.cc_machine.specs.ObjectConfinement.{ReusesAfterRevocation, IsConfinedToObject};
@@ -86,8 +86,10 @@ fn bytes_reused_before_revocation()
 
 #[tactic(auto, using(crate::proofs::CounterexampleLemmas::pool_breaks))]
 fn held_bytes_that_do_not_fit_the_pool()
-    ensures { (slot : SlotState) → IsPool objects_past_the_pool 0 slot
+    ensures held { (slot : SlotState) → IsPool objects_past_the_pool 0 slot
         → ¬ (held_bytes_of objects_past_the_pool ≤ length_of slot.capability.span) }
+    ensures in_pool { (slot own : SlotState) → IsPool objects_past_the_pool 0 slot
+        → IsSlot objects_past_the_pool 2 own → ¬ IsWithin own.capability.span slot.capability.span }
 {}
 
 #[tactic(auto, using(crate::proofs::CounterexampleLemmas::object_confinement_breaks))]
