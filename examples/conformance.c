@@ -112,6 +112,24 @@ static void check_kept_bounds(char **row, cheri_cap_u128 word)
     }
 }
 
+// Checks the ends of the window against the addresses that keep the bounds, and the length, the granule and the defect.
+static void check_measures(char **row, cheri_cap_u128 word)
+{
+    cheri_cap_ends window = cheri_cap_window(word.high, word.low);
+    bool is_all = window.first == 0 && window.last == UINT64_MAX;
+    expect(cheri_cap_keeps_bounds(word.high, word.low, window.first), row[NAME], "the window's first address");
+    expect(cheri_cap_keeps_bounds(word.high, word.low, window.last), row[NAME], "the window's last address");
+    expect(cheri_cap_keeps_bounds(word.high, word.low, window.first - 1) == is_all, row[NAME], "the address before the window");
+    expect(cheri_cap_keeps_bounds(word.high, word.low, window.last + 1) == is_all, row[NAME], "the address after the window");
+    cheri_cap_bounds bounds = cheri_cap_decode(word.high, word.low);
+    cheri_cap_u128 length = cheri_cap_word_length(word.high, word.low), inline_length = cheri_cap_length(&bounds);
+    expect(length.high == inline_length.high && length.low == inline_length.low, row[NAME], "length");
+    uint64_t granule = cheri_cap_unpack(word.high, word.low).ie ? UINT64_C(8) << bounds.exponent : 1;
+    expect(cheri_cap_word_granule(word.high, word.low) == granule, row[NAME], "granule");
+    bool is_canonical = cheri_cap_defect(word.high, word.low) == CHERI_CAP_DEFECT_NONE;
+    expect(is_canonical == (strcmp(row[CANONICAL], "yes") == 0), row[NAME], "defect");
+}
+
 static void check_text(char **row, cheri_cap_u128 word)
 {
     char text[33] = {0};
@@ -290,6 +308,7 @@ static unsigned check_table(FILE *table)
         check_fields(row, halves);
         check_bounds(row, halves);
         check_kept_bounds(row, halves);
+        check_measures(row, halves);
         check_text(row, halves);
         check_inline(row, halves);
         check_changed(row, halves);
@@ -370,6 +389,12 @@ static void check_requests(void)
 {
     cheri_cap_granted set = cheri_cap_set_bounds(1, 0, 8184);
     expect(set.in_range && !set.exact && set.base == 0 && set.top_low == 0x2000, "8184 bytes from 1", "granted");
+    cheri_cap_excess lost = cheri_cap_lost(1, 0, 8184);
+    expect(lost.in_range && lost.before == 1 && lost.after == 7, "8184 bytes from 1", "lost");
+    lost = cheri_cap_lost(UINT64_MAX, 0, 1);
+    expect(lost.in_range && lost.before == 0 && lost.after == 0, "the last byte", "lost");
+    lost = cheri_cap_lost(1, 1, 0);
+    expect(!lost.in_range && lost.before == 0 && lost.after == 0, "2^64 bytes from 1", "lost");
     set = cheri_cap_set_bounds(1, 0, UINT64_MAX);
     expect(set.in_range && set.top_high == 1 && set.top_low == 0, "all bytes from 1", "granted");
     set = cheri_cap_set_bounds(1, 1, 0);

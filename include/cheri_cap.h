@@ -138,6 +138,17 @@ extern "C" {
 #define CHERI_CAP_OTYPE_UNSEALED 0x3ffffu
 
 /*
+ * The reasons why a word is not canonical, as results of cheri_cap_defect, which returns the first
+ * that applies, and CHERI_CAP_DEFECT_NONE for a canonical word.
+ */
+#define CHERI_CAP_DEFECT_NONE 0u
+#define CHERI_CAP_DEFECT_RESERVED_BITS 1u /* a reserved bit is set */
+#define CHERI_CAP_DEFECT_TYPE 2u          /* the type is reserved: 0x3fff0 to 0x3fffe */
+#define CHERI_CAP_DEFECT_ORDER 3u         /* the top is below the base */
+#define CHERI_CAP_DEFECT_TOP 4u           /* the top is above 2^64 */
+#define CHERI_CAP_DEFECT_FIELDS 5u        /* setting the bounds that it decodes to stores other bounds fields */
+
+/*
  * The reasons for which a rule returns no word, as values of `refusal` in cheri_cap_made. 0 means
  * that it returned one. cheri_cap_refusal_name returns the name of each, which scripts of cheri-cap
  * print.
@@ -191,6 +202,22 @@ typedef struct cheri_cap_granted {
     bool exact;    /* the request was granted without rounding */
     bool in_range; /* the request ends at 2^64 or below */
 } cheri_cap_granted;
+
+/*
+ * The window of a word: the addresses from `first` up to `last`, through 2^64 - 1 to 0 if `last` is
+ * below `first`.
+ */
+typedef struct cheri_cap_ends {
+    uint64_t first;
+    uint64_t last;
+} cheri_cap_ends;
+
+/* The numbers of bytes that a request is granted before and after those that it asks for. */
+typedef struct cheri_cap_excess {
+    uint64_t before;
+    uint64_t after;
+    bool in_range; /* the request ends at 2^64 or below */
+} cheri_cap_excess;
 
 /* The word that was read from a text, if `found`. */
 typedef struct cheri_cap_read {
@@ -246,6 +273,13 @@ CHERI_CAP_NODISCARD CHERI_CAP_CONST
 bool cheri_cap_is_canonical(uint64_t high, uint64_t low) CHERI_CAP_NOEXCEPT;
 
 /*
+ * Returns CHERI_CAP_DEFECT_NONE, 0, if the word is canonical, and otherwise the first reason why it is
+ * not, one of CHERI_CAP_DEFECT_*.
+ */
+CHERI_CAP_NODISCARD CHERI_CAP_CONST
+uint8_t cheri_cap_defect(uint64_t high, uint64_t low) CHERI_CAP_NOEXCEPT;
+
+/*
  * Returns the base, the top and the exponent of a word, for every word.
  *
  * If the word is not canonical, the top may be below the base, or above 2^64 (but below 2^65).
@@ -258,6 +292,20 @@ CHERI_CAP_NODISCARD CHERI_CAP_CONST
 uint8_t cheri_cap_exponent(uint64_t high, uint64_t low) CHERI_CAP_NOEXCEPT;
 
 /*
+ * Returns the number of bytes in the bounds of a word, for every word: the top minus the base,
+ * modulo 2^128 if the top is below the base.
+ */
+CHERI_CAP_NODISCARD CHERI_CAP_CONST
+cheri_cap_u128 cheri_cap_word_length(uint64_t high, uint64_t low) CHERI_CAP_NOEXCEPT;
+
+/*
+ * Returns the granule of a word in bytes, for every word: the unit in which its bounds fields store
+ * the ends of bounds. It is 1 if IE is clear, otherwise 2^(exponent + 3).
+ */
+CHERI_CAP_NODISCARD CHERI_CAP_CONST
+uint64_t cheri_cap_word_granule(uint64_t high, uint64_t low) CHERI_CAP_NOEXCEPT;
+
+/*
  * Returns the bounds that a request for [base, base + length) is granted: the tightest that any
  * word can store and that cover the request.
  *
@@ -266,6 +314,15 @@ uint8_t cheri_cap_exponent(uint64_t high, uint64_t low) CHERI_CAP_NOEXCEPT;
  */
 CHERI_CAP_NODISCARD CHERI_CAP_CONST
 cheri_cap_granted cheri_cap_set_bounds(uint64_t base, uint64_t length_high, uint64_t length_low) CHERI_CAP_NOEXCEPT;
+
+/*
+ * Returns how many bytes the bounds of cheri_cap_set_bounds have before and after those of the
+ * request, which are lost to other objects: less than a granule at each end.
+ *
+ * If base + length is above 2^64, `in_range` is false and the numbers are 0.
+ */
+CHERI_CAP_NODISCARD CHERI_CAP_CONST
+cheri_cap_excess cheri_cap_lost(uint64_t base, uint64_t length_high, uint64_t length_low) CHERI_CAP_NOEXCEPT;
 
 /*
  * Returns whether the address is representable for the bounds of the word: whether a capability
@@ -288,6 +345,16 @@ bool cheri_cap_represents(uint64_t high, uint64_t low, uint64_t address) CHERI_C
  */
 CHERI_CAP_NODISCARD CHERI_CAP_CONST
 bool cheri_cap_keeps_bounds(uint64_t high, uint64_t low, uint64_t address) CHERI_CAP_NOEXCEPT;
+
+/*
+ * Returns the first and the last address of the window of a word, for every word, canonical or not:
+ * of the addresses for which cheri_cap_keeps_bounds returns true.
+ *
+ * They are those from the first up to the last, through 2^64 - 1 and on from 0 if the last is below
+ * the first. At exponents of at least 50, the window is every address: from 0 to 2^64 - 1.
+ */
+CHERI_CAP_NODISCARD CHERI_CAP_CONST
+cheri_cap_ends cheri_cap_window(uint64_t high, uint64_t low) CHERI_CAP_NOEXCEPT;
 
 /*
  * Batch functions. Each writes the result of cheri_cap_decode, cheri_cap_is_canonical or

@@ -1,3 +1,6 @@
 pub mod PaddingLemmas
 pub mod FieldsLemmas
 pub mod RuleLemmas
+pub mod WindowLemmas
+pub mod DefectLemmas
+pub mod MeasureLemmas

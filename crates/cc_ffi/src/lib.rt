@@ -3,11 +3,14 @@
 #![tactic(auto)]
 
 mod bounds;
+mod defect;
 mod halves;
 mod lengths;
 mod many;
+mod measures;
 mod rules;
 mod structs;
 mod text;
 mod version;
+mod window;
 mod words;

@@ -94,3 +94,27 @@ pub struct MadeWord {
     /// 0 if a word was made, and otherwise the code of the refusal, from 7 to 16.
     pub refusal: u8,
 }
+
+/// The window of a word: the addresses from `first` up to `last`, through 2^64 - 1 to 0 if `last` is
+/// below `first`.
+#[derive(Clone, Copy)]
+#[repr(C)]
+pub struct Window {
+    /// The first address of the window.
+    pub first: u64,
+    /// The last address of the window.
+    pub last: u64,
+}
+
+/// The bytes that a request is granted and did not ask for.
+#[derive(Clone, Copy)]
+#[repr(C)]
+pub struct Excess {
+    /// The number of granted bytes before the request.
+    pub before: u64,
+    /// The number of granted bytes after the request.
+    pub after: u64,
+    /// Whether the request ends at or below 2^64. If not, nothing is granted and the numbers are
+    /// zero.
+    pub in_range: bool,
+}

@@ -1,0 +1,14 @@
+use Rattle.std.proofs.Common.{◌∙◌, sym, subst}
+use Rattle.cc_word.specs.declared.fields.Fields.{Fields}
+use Rattle.cc_bounds.specs.Decoding.{DecodesTo}
+use Rattle.cc_ffi.specs.Windows.{IsFromTo}
+use Rattle.cc_ffi.proofs.WindowLemmas.{own_window}
+use Rattle.cc_ffi.proofs.window.cheri_cap_window.Goals as goal
+
+pub returns-clause-window : goal.returns-clause-window
+returns-clause-window c fields has span address decodes fits =
+    let same = c.unpack-fields.ensures.only fields (has ∙ sym c.number.ensures) in
+    let found = c.decode.ensures.only span (subst (λ (f : Fields). DecodesTo f span) same decodes) in
+    own_window fields c.unpack-fields.result span c.decode.result c.exponent.result address
+    (IsFromTo c.window_of.result.first c.window_of.result.last address) same found c.exponent.ensures
+    (c.window_of.ensures.window address fits)
