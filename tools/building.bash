@@ -14,9 +14,9 @@
 
 : "${top:?}" "${who:?}"
 readonly NOT_BUILT=125
-# The processor for which the program and the library are compiled: the first of x86-64, so that they run on each. The toolchain's
-# default is a later one, and a library checks nothing when it is loaded.
-readonly CPU=x86-64
+# The processor for which the library is compiled: the first of x86-64, so that it runs on each, since a library checks nothing
+# when it is loaded. The program is compiled for the processor that CHERI_CAP_CPU names, or for the toolchain's default, x86-64-v2.
+readonly LIBRARY_CPU=x86-64
 # the progress of a slow crate is printed at this interval, in seconds
 readonly TELLS_EACH=20
 
@@ -30,10 +30,12 @@ stop() {
   exit "$NOT_BUILT"
 }
 
-# Sets `identity` to the line that identifies the installed toolchain, from the file in its directory or, if there is none, by
-# asking it, and the processor. Without a toolchain it is empty.
+# Sets `cpu` to the processor for which the product of a crate is compiled; it is empty for the toolchain's default. Sets `identity`
+# to the line that identifies the installed toolchain, from the file in its directory or, if there is none, by asking it, and the
+# processor. Without a toolchain it is empty.
 identify() {
   local directories directory rt=''
+  if [[ $1 == cheri_cap ]]; then cpu=${CHERI_CAP_CPU-}; else cpu=$LIBRARY_CPU; fi
   IFS=: read -ra directories <<<"$PATH"
   for directory in "${directories[@]}"; do
     [[ ! -f ${directory:-.}/rt || ! -x ${directory:-.}/rt ]] || { rt=${directory:-.}/rt && break; }
@@ -46,7 +48,7 @@ identify() {
   else
     identity=$(rt version 2>/dev/null) || identity=''
   fi
-  identity=${identity:+$identity for $CPU}
+  [[ -z $identity || -z $cpu ]] || identity+=" for $cpu"
 }
 
 # Sets `needs` from crates.txt, which has a line NAME: BELOW.. for each crate. Names without a line are the toolchain's.
@@ -94,7 +96,8 @@ keep() {
 is_current() {
   local identity=$1 product=$2 kept=$3 built_by found seen
   [[ -f $top/$product && -f $kept/built-from ]] && read -r built_by <"$kept/built-from" || return
-  [[ -z $identity || $identity == "$built_by" ]] || return
+  # a program for every processor, as ./package builds it, is as good as one for the default
+  [[ -z $identity || $built_by == "$identity" || $built_by == "$identity for $LIBRARY_CPU" ]] || return
   found=$(looks "$product") || return
   if [[ -f $kept/seen ]] && mapfile -d '' seen <"$kept/seen" && [[ ${seen[0]-} == "$found"$'\n' ]]; then return; fi
   [[ $(<"$kept/built-from") == "$built_by"$'\n'"$(checksums "$product")" ]] || return
@@ -148,23 +151,22 @@ build_all() {
   [[ -z $first || $who != cheri-cap ]] || drop_libraries
 }
 
-# Sets `order`, `needs` and `identity` for a crate, and returns whether the file of its directory out/ is built from the present
+# Sets `order`, `needs`, `cpu` and `identity` for a crate, and returns whether the file of its directory out/ is built from the present
 # sources:  is_built CRATE FILE
 is_built() {
   needs=() listed=() order=()
   read_crates
   list_crates "$1"
-  identify
+  identify "$1"
   is_current "$identity" "crates/$1/out/$2" "$top/crates/$1/out"
 }
 want_toolchain() {
   [[ -n $identity ]] || stop "the toolchain's command rt was not found or has no version, and the existing build is not from these sources: see README.md, \"Install\""
 }
 
-# Builds a file of a crate's directory out/ for the processor by the rt command that follows, unless it is already built from the
-# present sources:  stand_built CRATE FILE run -- --version
+# Builds a file of a crate's directory out/ by the rt command that follows, unless it is already built from the present sources:  stand_built CRATE FILE run -- --version
 stand_built() {
-  local product=crates/$1/out/$2 kept=$top/crates/$1/out identity
+  local product=crates/$1/out/$2 kept=$top/crates/$1/out identity cpu
   local -A needs listed
   local order locks=()
   if is_built "$1" "$2"; then return; fi
@@ -172,6 +174,6 @@ stand_built() {
   # shellcheck source=tools/proving.bash
   declare -F prove_crates >/dev/null || source "$top/tools/proving.bash"
   lock_checkout
-  is_current "$identity" "$product" "$kept" || build_all "$product" "$kept" "$3" --cpu "$CPU" "${@:4}"
+  is_current "$identity" "$product" "$kept" || build_all "$product" "$kept" "$3" ${cpu:+--cpu "$cpu"} "${@:4}"
   unlock_checkout
 }
