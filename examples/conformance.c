@@ -365,6 +365,15 @@ static void check_offsets(void)
     expect(!cheri_cap_bounds_hold_bytes(&above, UINT64_MAX, 18), "a top above 2^64", "an access that wraps around");
 }
 
+// Checks comparisons of numbers whose upper halves are not 0.
+static void check_comparisons(void)
+{
+    const cheri_cap_u128 one = {1, 5}, other = {1, 6}, above = {2, 0};
+    expect(cheri_cap_compare(one, one) == 0, "a comparison", "with itself");
+    expect(cheri_cap_compare(one, other) < 0 && cheri_cap_compare(other, one) > 0, "a comparison", "of the lower halves");
+    expect(cheri_cap_compare(other, above) < 0 && cheri_cap_compare(above, other) > 0, "a comparison", "of the upper halves");
+}
+
 static void check_lengths(void)
 {
     static const struct { const char *length, *rounded, *granule, *mask; } rows[] = {
@@ -479,6 +488,7 @@ int main(int argc, char **argv)
     unsigned rows = check_table(table);
     expect(rows >= 24, argv[1], "too few rows");
     check_many(rows < CAPACITY ? rows : CAPACITY);
+    check_comparisons();
     check_lengths();
     check_offsets();
     check_requests();

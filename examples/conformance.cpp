@@ -203,7 +203,9 @@ void check_lengths()
     expect(cheri::round_length(0x1fff) == u128(0x2000) &&
                cheri::round_length(cheri::address_space) == cheri::address_space,
            "lengths", "representable length");
-    expect(cheri::alignment_mask(0x1000) == ~UINT64_C(7), "lengths", "mask");
+    expect(cheri::alignment_mask(0x1000) == ~UINT64_C(7) &&
+               cheri::alignment_mask(cheri::address_space) == UINT64_C(0xff80000000000000),
+           "lengths", "mask");
     const u128 above(1, 1);
     expect(!cheri::granule(above) && !cheri::round_length(above) && !cheri::alignment_mask(above) &&
                !cheri::grant(0, above) && !cheri::grant(1, cheri::address_space),
@@ -220,6 +222,41 @@ void check_lengths()
     static_assert(fixed.address() == 5 && fixed == word(0, 5) && fixed != word(0, 6) && fixed != word(1, 5),
                   "words are constant expressions");
     static_assert(noexcept(fixed.set_address(1)) && noexcept(cheri_cap_decode(0, 0)), "no function throws");
+}
+
+// Checks the rules with arguments that change a word, and results that differ.
+void check_results()
+{
+    const word root = word::root(), cap = *root.set_address(0x10000), sealed = *cap.seal(*root.set_address(7));
+    expect(cap.increment(0x10)->address() == 0x10010 && cap.increment(UINT64_MAX)->address() == 0xffff &&
+               cap.set_offset(5)->address() == 5,
+           "rules", "another address");
+    expect(cap.and_perms(CHERI_CAP_PERM_LOAD)->perms() == CHERI_CAP_PERM_LOAD, "rules", "fewer permissions");
+    expect(cap.set_flag(true)->flag() && !cap.with_flag(true).set_flag(false)->flag(), "rules", "another flag");
+    const cheri::bounds rounded = cap.set_bounds(4097)->bounds();
+    expect(rounded.base() == 0x10000 && rounded.length() == 4104, "rules", "rounded bounds");
+    expect(sealed.unseal(*root.set_address(8)).error() == refusal::mismatch, "rules", "unsealed at another type");
+    expect(cheri::result(refusal::sealed) != cheri::result(refusal::bounds) &&
+               cheri::result(refusal::sealed) != cheri::result(word()) &&
+               cheri::result(root) != cheri::result(word()) && cheri::result(root) == cheri::result(root),
+           "results", "those that differ");
+    expect(cap.set_flag(true).to_optional() == cap.with_flag(true), "results", "the word as an optional");
+    const cheri::line line = cap.line();
+    const cheri::digits digits = cap.digits();
+    const std::string_view line_text = line, digits_text = digits;
+    expect(line_text == line.view() && line_text == line.c_str() && digits_text == digits.view(), "texts", "converted");
+    expect(!word::parse(std::string(32, 'g')) && word::parse(digits_text) == cap, "texts", "32 characters");
+    const word stores_none(UINT64_C(0xffff000000000001), 0);
+    expect(!stores_none.represents(0) && stores_none.keeps_bounds(UINT64_MAX), "exponent 53", "every address");
+    constexpr std::pair<refusal, const char *> names[] = {
+        {refusal::sealed, "sealed"},         {refusal::unsealed, "unsealed"},
+        {refusal::bounds, "bounds"},         {refusal::inexact, "inexact"},
+        {refusal::permission, "permission"}, {refusal::unrepresentable, "unrepresentable"},
+        {refusal::type, "type"},             {refusal::mismatch, "mismatch"},
+        {refusal::canonical, "canonical"},   {refusal::exceeds, "exceeds"},
+    };
+    for (const auto &[why, text] : names)
+        expect(cheri::name(why) == text, "refusals", text);
 }
 
 } // namespace
@@ -246,6 +283,7 @@ int main(int argc, char **argv)
     expect(words.size() >= 24, argv[1], "too few rows");
     check_many(words);
     check_lengths();
+    check_results();
     std::printf("%zu rows, %u failures\n", words.size(), failures);
     return failures != 0;
 }
