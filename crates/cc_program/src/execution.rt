@@ -33,8 +33,8 @@ const MOST_DECODED: usize = 1 << 62;
 ///
 /// Requires: no device has failed.
 /// Errors: `Memory` if an allocation fails, in a command that creates a machine; `Open` if the input cannot be opened;
-/// `Read` if a read fails; `Write` if and only if the sink failed. Nothing is reported then. If the error is `Open`, nothing
-/// was written to `sink` either.
+/// `Read` if a read fails; `Write` if and only if the sink failed. Nothing is reported then. If the error is `Open`, or if it
+/// is `Memory` in `map`, nothing was written to `sink` either.
 pub fn execute<R: AllocGlobal, I: Inputs, W: Sink, E: Sink>(
     rt: &R,
     invocation: Invocation<'_>,
@@ -61,6 +61,7 @@ pub fn execute<R: AllocGlobal, I: Inputs, W: Sink, E: Sink>(
     ensures unreported { OnErr result (E.taken_bytes errors.new ≡ E.taken_bytes errors.old) }
     ensures untouched { result ≡ Err Fault.Open → W.taken_bytes sink.new ≡ W.taken_bytes sink.old }
     ensures silent { ¬ IsReported invocation.entry → errors.new ≡ errors.old }
+    ensures starved { ¬ IsReported invocation.entry → result ≡ Err Fault.Memory → W.taken_bytes sink.new ≡ W.taken_bytes sink.old }
 {
     match invocation {
         Invocation::Ask(question) => Ok(answer_question(question, sink)?),
@@ -235,6 +236,7 @@ fn draw<R: AllocGlobal, I: Inputs, W: Sink>(
     }) (DrawsRun svg opening.now (initial_state limit))) result }
     ensures open { result ≡ Err Fault.Open → IsFile input.entry }
     ensures untouched { result ≡ Err Fault.Open → W.taken_bytes sink.new ≡ W.taken_bytes sink.old }
+    ensures starved { result ≡ Err Fault.Memory → W.taken_bytes sink.new ≡ W.taken_bytes sink.old }
     ensures write { (result ≡ Err Fault.Write) ↔ (W.has_failed sink.new ≡ true) }
     ensures flushed { OnOk result (W.is_flushed sink.new ≡ true) }
 {
@@ -261,6 +263,7 @@ fn draw_end<R: AllocGlobal, S: Source, W: Sink>(
         → traffic.output ≡ W.taken_bytes sink.old → traffic.output_now ≡ W.taken_bytes sink.new
         → OnDevices (DrawsRun svg opening.now session.old.machine traffic) result }
     ensures open { result ≢ Err Fault.Open }
+    ensures starved { result ≡ Err Fault.Memory → W.taken_bytes sink.new ≡ W.taken_bytes sink.old }
     ensures read { (result ≡ Err Fault.Read) ↔ (S.has_failed source.new ≡ true) }
     ensures write { (result ≡ Err Fault.Write) ↔ (W.has_failed sink.new ≡ true) }
     ensures flushed { OnOk result (W.is_flushed sink.new ≡ true) }
