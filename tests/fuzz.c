@@ -1,0 +1,179 @@
+/*
+ * The functions for C under a coverage-guided fuzzer: each result is compared with that of a plain C body (bench/plain.c), and
+ * results of the header's inline functions with those of the functions of the library. tests/fuzz builds and runs it.
+ */
+#include <stdio.h>
+#include <stdlib.h>
+#include <string.h>
+
+#include "../bench/plain.h"
+
+#define SAME(one, other) \
+    do { \
+        if ((one) != (other)) { \
+            fprintf(stderr, "line %d: %s is not %s\n", __LINE__, #one, #other); \
+            abort(); \
+        } \
+    } while (0)
+
+/* The input: two words, an address and a length. Bytes that are missing are 0. */
+typedef struct input {
+    uint64_t high, low, outer_high, outer_low, address, length_low, length_high;
+} input;
+
+/* Makes words that few random bytes are: canonical ones, with the bounds of a request. */
+static void shape(input *it)
+{
+    it->length_high &= 3;
+    if (it->length_high == 3) {
+        it->length_high = 0;
+        it->length_low >>= it->address & 63;
+    }
+    if (it->high & 1) {
+        const cheri_cap_granted granted = plain_set_bounds(it->low, it->length_high, it->length_low);
+        if (granted.in_range) {
+            cheri_cap_fields fields = plain_unpack(it->high, it->low);
+            fields.ie = granted.ie;
+            fields.t = granted.t;
+            fields.b = granted.b;
+            if (it->high & 2)
+                fields.reserved = 0;
+            if (it->high & 4)
+                fields.otype = CHERI_CAP_OTYPE_UNSEALED;
+            const cheri_cap_u128 word = plain_pack(fields);
+            it->high = word.high;
+            it->low = word.low;
+        }
+    }
+    if (it->outer_high & 1) {
+        it->outer_high = it->high ^ (it->outer_high & UINT64_C(0xffff) << 48);
+        it->outer_low = it->low;
+    }
+}
+
+static void same_made(cheri_cap_made one, cheri_cap_made other)
+{
+    SAME(one.high, other.high);
+    SAME(one.low, other.low);
+    SAME(one.refusal, other.refusal);
+}
+
+static void same_fields(cheri_cap_fields one, cheri_cap_fields other)
+{
+    SAME(one.address, other.address);
+    SAME(one.otype, other.otype);
+    SAME(one.perms, other.perms);
+    SAME(one.t, other.t);
+    SAME(one.b, other.b);
+    SAME(one.reserved, other.reserved);
+    SAME(one.flag, other.flag);
+    SAME(one.ie, other.ie);
+}
+
+static void same_bounds(cheri_cap_bounds one, cheri_cap_bounds other)
+{
+    SAME(one.base, other.base);
+    SAME(one.top_high, other.top_high);
+    SAME(one.top_low, other.top_low);
+    SAME(one.exponent, other.exponent);
+}
+
+static void check_word(const input *it)
+{
+    const cheri_cap_fields fields = cheri_cap_unpack(it->high, it->low);
+    const cheri_cap_bounds bounds = cheri_cap_decode(it->high, it->low);
+    same_fields(fields, plain_unpack(it->high, it->low));
+    const cheri_cap_u128 packed = cheri_cap_pack(fields);
+    SAME(packed.high, it->high);
+    SAME(packed.low, it->low);
+    same_bounds(bounds, plain_decode(it->high, it->low));
+    SAME(cheri_cap_exponent(it->high, it->low), bounds.exponent);
+    SAME(cheri_cap_is_canonical(it->high, it->low), plain_is_canonical(it->high, it->low));
+    SAME(cheri_cap_is_canonical(it->high, it->low), cheri_cap_defect(it->high, it->low) == 0);
+    SAME(cheri_cap_represents(it->high, it->low, it->address), plain_represents(it->high, it->low, it->address));
+    SAME(cheri_cap_is_subset(it->high, it->low, it->outer_high, it->outer_low),
+         plain_is_subset(it->high, it->low, it->outer_high, it->outer_low));
+
+    const cheri_cap_bounds there = plain_decode(it->high, it->address);
+    const bool keeps = there.base == bounds.base && there.top_high == bounds.top_high && there.top_low == bounds.top_low;
+    SAME(cheri_cap_keeps_bounds(it->high, it->low, it->address), keeps);
+    const cheri_cap_ends window = cheri_cap_window(it->high, it->low);
+    SAME(it->address - window.first <= window.last - window.first, keeps);
+
+    char text[33] = {0}, plain[33] = {0};
+    cheri_cap_write_word(it->high, it->low, text);
+    plain_write_word(it->high, it->low, plain);
+    SAME(memcmp(text, plain, sizeof text), 0);
+    const cheri_cap_read read = cheri_cap_read_word(text, 32);
+    SAME(read.found, true);
+    SAME(read.high, it->high);
+    SAME(read.low, it->low);
+}
+
+static void check_request(const input *it)
+{
+    const cheri_cap_granted granted = cheri_cap_set_bounds(it->address, it->length_high, it->length_low);
+    const cheri_cap_granted plain = plain_set_bounds(it->address, it->length_high, it->length_low);
+    SAME(granted.in_range, plain.in_range);
+    SAME(granted.exact, plain.exact);
+    SAME(granted.base, plain.base);
+    SAME(granted.top_high, plain.top_high);
+    SAME(granted.top_low, plain.top_low);
+    SAME(granted.t, plain.t);
+    SAME(granted.b, plain.b);
+    SAME(granted.ie, plain.ie);
+    SAME(granted.exponent, plain.exponent);
+    SAME(cheri_cap_granule(it->length_high, it->length_low), plain_granule(it->length_high, it->length_low));
+    SAME(cheri_cap_alignment_mask(it->length_high, it->length_low), plain_alignment_mask(it->length_high, it->length_low));
+    const cheri_cap_u128 rounded = cheri_cap_round_length(it->length_high, it->length_low);
+    const cheri_cap_u128 plain_rounded = plain_round_length(it->length_high, it->length_low);
+    SAME(rounded.high, plain_rounded.high);
+    SAME(rounded.low, plain_rounded.low);
+}
+
+static void check_rules(const input *it)
+{
+    const uint64_t high = it->high, low = it->low;
+    same_made(cheri_cap_increment(high, low, it->address), plain_increment(high, low, it->address));
+    same_made(cheri_cap_set_address(high, low, it->address), plain_increment(high, low, it->address - low));
+    same_made(cheri_cap_set_bounds_on(high, low, it->length_high, it->length_low),
+              plain_set_bounds_on(high, low, it->length_high, it->length_low));
+    same_made(cheri_cap_seal(high, low, it->outer_high, it->outer_low), plain_seal(high, low, it->outer_high, it->outer_low));
+    same_made(cheri_cap_unseal(high, low, it->outer_high, it->outer_low),
+              plain_unseal(high, low, it->outer_high, it->outer_low));
+    same_made(cheri_cap_rebuild(it->outer_high, it->outer_low, high, low),
+              plain_rebuild(it->outer_high, it->outer_low, high, low));
+    same_made(cheri_cap_set_offset(high, low, it->address),
+              cheri_cap_set_address(high, low, cheri_cap_decode(high, low).base + it->address));
+
+    const cheri_cap_made masked = cheri_cap_and_perms(high, low, (uint16_t)it->length_low);
+    if (masked.refusal == 0) {
+        SAME(masked.high, high & ~((uint64_t)(uint16_t)~it->length_low << 48));
+        SAME(masked.low, low);
+        SAME(cheri_cap_is_subset(masked.high, masked.low, high, low), true);
+    }
+}
+
+static void check_texts(const uint8_t *data, size_t size)
+{
+    const cheri_cap_read one = cheri_cap_read_word((const char *)data, size);
+    const cheri_cap_read other = plain_read_word((const char *)data, size);
+    SAME(one.found, other.found);
+    SAME(one.high, other.high);
+    SAME(one.low, other.low);
+}
+
+int LLVMFuzzerTestOneInput(const uint8_t *data, size_t size);
+
+int LLVMFuzzerTestOneInput(const uint8_t *data, size_t size)
+{
+    input it = {0};
+    if (size > 0)
+        check_texts(data, size);
+    memcpy(&it, data, size < sizeof it ? size : sizeof it);
+    shape(&it);
+    check_word(&it);
+    check_request(&it);
+    check_rules(&it);
+    return 0;
+}
