@@ -60,14 +60,15 @@ weigh_crates() {
 pick() {
   local name it ready=0 most
   picked=''
-  ((busy < slots)) || return
+  # with no status, bash may return that of the command before a trap
+  ((busy < slots)) || return 1
   for name in "${order[@]}"; do
     [[ ${states[$name]} == waits ]] || continue
     for it in ${needs[$name]}; do [[ -z ${states[$it]-} || ${states[$it]} == built ]] || continue 2; done
     ready=$((ready + 1))
     if [[ -z $picked ]] || ((${ranks[$picked]} < ${ranks[$name]})); then picked=$name; fi
   done
-  [[ -n $picked ]] || return
+  [[ -n $picked ]] || return 1
   most=$((1 + ${costs[$picked]} / JOB_SECONDS)) jobs=$((slots - busy - ready + 1))
   # the last crate itself has few functions, and one process compiles its code
   [[ $picked != "${order[-1]}" ]] || most=1
@@ -149,8 +150,16 @@ list_lines() {
 # Runs a command in the background and waits for it, so that a signal ends the build at once. While bash waits for a process in
 # the foreground, it may lose a signal.
 aside() {
+  local status=0
   "$@" &
-  wait "$!"
+  wait "$!" || status=$?
+  heed_signal
+  return "$status"
+}
+
+# Ends the build if a signal came.
+heed_signal() {
+  [[ -z $signal ]] || interrupt "$signal"
 }
 
 # Makes the view of a crate, with what earlier builds of it left.
@@ -181,10 +190,9 @@ move_out() {
   done
 }
 
-# Calls move_out, and removes the view. A signal meanwhile is kept for later, so that it ends no move.
+# Calls move_out, and removes the view. A signal meanwhile ends no move.
 place() {
   local name=$1 mover again status=128
-  moving=yes
   (
     trap '' INT TERM HUP
     move_out "$@" && rm -rf -- "${apart:?}/$name"
@@ -195,8 +203,7 @@ place() {
     status=0
     wait "$mover" || status=$?
   done
-  moving=''
-  [[ -z $signal ]] || interrupt "$signal"
+  heed_signal
   return "$status"
 }
 
@@ -264,13 +271,8 @@ leave_build() {
   wait 2>/dev/null || true
   rm -rf -- "${apart:?}"
 }
-# Ends the build by a signal, but not while a crate is moved to its place.
+# Ends the build by a signal.
 interrupt() {
-  if [[ -n $moving ]]; then
-    signal=$1
-    # with no status, bash returns that of the command before the trap, which ends the build
-    return 0
-  fi
   signal=''
   trap '' INT TERM HUP
   leave_build
@@ -282,12 +284,13 @@ interrupt() {
 # Proves and builds all crates in `order`, the last one by the rt command given.
 prove_crates() {
   local apart=$top/crates/${order[-1]}/out/apart last=("$@") name picked jobs idle start=$SECONDS
-  local busy=0 begun=0 moving='' signal='' left=${#order[@]}
+  local busy=0 begun=0 signal='' left=${#order[@]}
   local -A states=() given=() pids=() places=() began=() told=()
   trap leave_build EXIT
-  trap 'interrupt INT' INT
-  trap 'interrupt TERM' TERM
-  trap 'interrupt HUP' HUP
+  # A trap only notes the signal. If one did more while bash is in `read -t`, the timeout would end it in the middle.
+  trap 'signal=INT' INT
+  trap 'signal=TERM' TERM
+  trap 'signal=HUP' HUP
   rm -rf -- "$apart"
   aside copy_sources || stop "the sources cannot be copied to $apart"
   for name in "${order[@]}"; do states[$name]=waits; done
@@ -296,6 +299,7 @@ prove_crates() {
   while ((left > 0)); do
     while pick; do begin "$picked" "$jobs"; done
     read -r -t "$LOOKS_EACH" -u "$idle" name || true
+    heed_signal
     for name in "${!pids[@]}"; do
       if ! kill -0 "${pids[$name]}" 2>/dev/null; then
         finish "$name"
@@ -305,6 +309,7 @@ prove_crates() {
     done
   done
   exec {idle}>&-
+  heed_signal
   trap - EXIT INT TERM HUP
   rm -rf -- "$apart"
   say "all ${#order[@]} crates took $((SECONDS - start)) s"
