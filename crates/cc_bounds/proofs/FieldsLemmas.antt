@@ -1,5 +1,5 @@
 -- Fields that store a sound span.
-use Rattle.std.proofs.Common.{subst, ◌≡◌, ℕ, true, sym, ◌∙◌, ap}
+use Rattle.std.proofs.Common.{subst, ◌≡◌, true, sym, ◌∙◌, ap}
 use Rattle.std.specs.Prelude.{IsTrue, ◌↔◌}
 use Rattle.cc_word.specs.declared.fields.Fields.{Fields}
 use Rattle.cc_bounds.specs.declared.span.Span.{Span}

@@ -341,36 +341,123 @@ grown_fits request power fits most many =
           absurd (omega (arith, few, many'))
     ]
 
--- ---- the power of a length by its leading zeros
+-- ---- the power of two by the leading zeros of the distance from the first byte to the last
 
-pub record IsPowerOfLength (size power : ℕ) : Type 0 where
-  pub from_three : 3 ≤ power
-  pub fits : power ≤ 55
-  pub least : 512 * 2 ^ power ≤ size
-  pub below : size < 1024 * 2 ^ power
+-- the leading zeros of a number give a power of two of which it has 512 or more, and less than 1,024
+pub record IsLeading (number zeros : ℕ) : Type 0 where
+  pub zeros_fit : zeros ≤ 54
+  pub least : 512 * 2 ^ (54 - zeros) ≤ number
+  pub below : number < 1024 * 2 ^ (54 - zeros)
 
-pub leading_power : (size : ℕ) → 4096 ≤ size → size ≤ 2 ^ 64 → IsPowerOfLength size (67 - count_leading_zeros 64 (size / 8192))
-leading_power size long fits =
-    let h = leading_length 64 (size / 8192) (omega arith) in
-    by_bits h.0 h.1 h.2 h.3
+pub leading_number : (number : ℕ) → 4095 ≤ number → number < 2 ^ 64 → IsLeading number (count_leading_zeros 64 number)
+leading_number number long fits =
+    let h = leading_length 64 number fits in
+    by_bits h.0 (count_leading_zeros 64 number) h.1 h.2 h.3
   where
-    by_bits : (bits : ℕ) → count_leading_zeros 64 (size / 8192) + bits ≡ 64 → size / 8192 < 2 ^ bits
-        → 2 ^ bits ≤ 2 * (size / 8192) + 1 → IsPowerOfLength size (67 - count_leading_zeros 64 (size / 8192))
-    by_bits zero sum small large =
-        let is : 67 - count_leading_zeros 64 (size / 8192) ≡ 3 = omega (arith, sum) in
-        rw is (record { from_three = omega arith; fits = omega arith; least = omega arith; below = omega (arith, small) })
-    by_bits (suc rest) sum small large =
-        let bits : ℕ = suc rest in
-        let is : 67 - count_leading_zeros 64 (size / 8192) ≡ bits + 3 = omega (arith, sum) in
-        let units = pow-add 2 bits 3 in
-        let half = pow-suc 2 rest in
-        rw is (record {
-          from_three = omega arith;
-          fits =
-              elim (cases_lt 52 bits) [
-                | inl more ↦ let p = pow_mono more in absurd (omega (arith, p, large))
-                | inr less ↦ omega (arith, less)
-              ];
-          least = omega (arith, units, half, large);
-          below = omega (arith, units, small);
-        })
+    by_bits : (bits zeros : ℕ) → zeros + bits ≡ 64 → number < 2 ^ bits → 2 ^ bits ≤ 2 * number + 1 → IsLeading number zeros
+    by_bits bits zeros sum small large =
+        elim (cases_lt bits 12) [
+          | inl few ↦
+              let less : bits ≤ 11 = omega (arith, few) in
+              let p : 2 ^ bits ≤ 2 ^ 11 = pow_mono less in
+              absurd (omega (arith, p, small, long))
+          | inr many ↦
+              let is : 54 - zeros ≡ bits - 10 = omega (arith, sum, many) in
+              let split : bits ≡ bits - 10 + 10 = omega (arith, many) in
+              let units = ap (λ (n : ℕ). 2 ^ n) split ∙ pow-add 2 (bits - 10) 10 in
+              record {
+                zeros_fit = omega (arith, sum, many);
+                least = rw is (omega (arith, units, large));
+                below = rw is (omega (arith, units, small));
+              }
+        ]
+
+too_short : (number power : ℕ) → 4095 ≤ number → number < 1024 * 2 ^ power → power < 2 → ⊥
+too_short number power long below small =
+    let less : power ≤ 1 = omega (arith, small) in
+    let p : 2 ^ power ≤ 2 ^ 1 = pow_mono less in
+    omega (arith, p, long, below)
+
+-- the number of granules that a request touches, from that of its first byte to that of its last
+touched : (request : Span) (last power : ℕ) → request.top ≡ last + 1
+    → granule_count request (2 ^ power) ≡ last / 2 ^ power + 1 - request.base / 2 ^ power
+touched request last power is =
+    let count = last_granule request.top power (omega (arith, is)) in
+    let same : request.top - 1 ≡ last = omega (arith, is) in
+    let count' : last / 2 ^ power + 1 ≡ div_ceil request.top (2 ^ power) = rw same at count in
+    ap (λ (n : ℕ). n - request.base / 2 ^ power) (sym count')
+
+-- a request that touches less than 1,024 granules of the power has that granule
+few_granules : (request : Span) (last power : ℕ) → request.top ≡ last + 1 → request.base + 4095 ≤ last
+    → 512 * 2 ^ power ≤ last - request.base → last - request.base < 1024 * 2 ^ power
+    → last / 2 ^ power - request.base / 2 ^ power < 1023 → (3 ≤ power) × IsGranule request (2 ^ power)
+few_granules request last power is long least below few =
+    let count = touched request last power is in
+    let far : 4095 ≤ last - request.base = omega (arith, long) in
+    let three : 3 ≤ power =
+    elim (cases_lt power 3) [
+      | inl small ↦
+          elim (cases_lt power 2) [
+            | inl less ↦ absurd (too_short (last - request.base) power far below less)
+            | inr two ↦
+                let is_two : power ≡ 2 = omega (arith, small, two) in
+                let few' : last / 2 ^ 2 - request.base / 2 ^ 2 < 1023 = rw is_two at few in
+                absurd (omega (arith, few', long))
+          ]
+      | inr large ↦ large
+    ] in (
+      three,
+      length_granule request (length_of request) power (omega (arith, least, is)) refl (omega (arith, long, is)) three
+          (rw count (omega (arith, few))),
+    )
+
+-- a request that touches 1,024 granules of the power has the next one
+many_granules : (request : Span) (last power : ℕ) → request.top ≡ last + 1 → request.base + 4095 ≤ last
+    → 512 * 2 ^ power ≤ last - request.base → last - request.base < 1024 * 2 ^ power
+    → 1023 ≤ last / 2 ^ power - request.base / 2 ^ power → (3 ≤ power + 1) × IsGranule request (2 ^ (power + 1))
+many_granules request last power is long least below many =
+    let count = touched request last power is in
+    let far : 4095 ≤ last - request.base = omega (arith, long) in
+    let two : 2 ^ (power + 1) ≡ 2 * 2 ^ power = let s : power + 1 ≡ suc power = omega arith in let p = pow-suc 2 power in rw s (omega (arith, p)) in
+    let three : 3 ≤ power + 1 =
+    elim (cases_lt power 2) [
+      | inl small ↦ absurd (too_short (last - request.base) power far below small)
+      | inr large ↦ omega (arith, large)
+    ] in
+    let long' : 4096 ≤ length_of request = omega (arith, long, is) in
+    let few = granule_count-few request (2 ^ (power + 1)) 512 (pow_pos (power + 1)) (omega (arith, is, long)) (omega (arith, below, two, is)) in
+    let more : 1023 < granule_count request (2 ^ power) = rw count (omega (arith, many)) in (
+      three,
+      first_granule request (power + 1) long' three (omega (arith, few))
+          (λ k from_three less. elim (cases_lt k power) [
+            | inl smaller ↦ length-before request power (omega (arith, is, long)) (omega (arith, least, is)) k from_three smaller
+            | inr larger ↦ let same : k ≡ power = omega (arith, less, larger) in rw same more
+          ]),
+    )
+
+-- the granule of a request, if `more` is 1 for one that touches 1,024 granules of the power
+granule_of_last : (request : Span) (last power more : ℕ) → request.top ≡ last + 1 → request.base + 4095 ≤ last
+    → 512 * 2 ^ power ≤ last - request.base → last - request.base < 1024 * 2 ^ power
+    → (last / 2 ^ power - request.base / 2 ^ power < 1023 → more ≡ 0) → (1023 ≤ last / 2 ^ power - request.base / 2 ^ power → more ≡ 1)
+    → (3 ≤ power + more) × IsGranule request (2 ^ (power + more))
+granule_of_last request last power more is long least below none one =
+    elim (cases_lt (last / 2 ^ power - request.base / 2 ^ power) 1023) [
+      | inl few ↦ let same : power + more ≡ power = let h = none few in omega (arith, h) in rw same (few_granules request last power is long least below few)
+      | inr many ↦ rw (one many) (many_granules request last power is long least below many)
+    ]
+
+-- the same, by the steps that lead to `power` and `more`
+pub granule_of_steps : (request : Span) (last far raised power before more : ℕ) → 4096 ≤ length_of request
+    → (request.base < request.top → request.top ≡ last + 1) → (request.base ≤ last → far ≡ last - request.base)
+    → (4095 ≤ far → raised ≡ far) → 512 * 2 ^ power ≤ raised → raised < 1024 * 2 ^ power
+    → (request.base / 2 ^ power ≤ last / 2 ^ power → before ≡ last / 2 ^ power - request.base / 2 ^ power)
+    → (before < 1023 → more ≡ 0) → (1023 ≤ before → more ≡ 1) → (3 ≤ power + more) × IsGranule request (2 ^ (power + more))
+granule_of_steps request last far raised power before more long last_is far_is raised_is least below before_is none one =
+    let is : request.top ≡ last + 1 = last_is (omega (arith, long)) in
+    let apart : request.base + 4095 ≤ last = omega (arith, long, is) in
+    let far' = far_is (omega (arith, apart)) in
+    let raised' = raised_is (omega (arith, far', apart)) in
+    let down = div-mul-le_self request.base (2 ^ power) in
+    let before' = before_is (le-div (request.base / 2 ^ power) last (2 ^ power) (pow_pos power) (omega (arith, down, apart))) in
+    granule_of_last request last power more is apart (omega (arith, least, raised', far')) (omega (arith, below, raised', far'))
+    (λ few. none (omega (arith, few, before'))) (λ many. one (omega (arith, many, before')))

@@ -4,10 +4,13 @@ ghost use Rattle.std.specs.Int.{div_ceil};
 ghost use Rattle.cc_bounds.specs.Span.{IsSpan, length_of, from_zero};
 ghost use Rattle.cc_bounds.specs.Granule.{granule_count, IsGranule, rounded_to, granule_of, padded_size};
 
-use crate::span::Span;
+use crate::span::{ADDRESS_SPACE, Span};
 
 /// The smallest length in bytes of a request with a granule of more than 1 byte.
-const FIRST_COARSE_LENGTH: u128 = 4096;
+const SHORTEST_COARSE: u128 = 4096;
+
+/// The distance from the first byte to the last of such a request.
+const SHORTEST_DISTANCE: u64 = 4095;
 
 /// The maximum number of granules that a request of at least 4,096 bytes may touch: the largest
 /// number of ten bits.
@@ -24,42 +27,72 @@ fn low_bits(power: u32) -> u64
     (1 << power) - 1
 }
 
-/// Returns the number of granules of 2^power bytes that the request touches, from that of its first
-/// byte to that of its last.
-#[tactic(auto, using(crate::proofs::GranuleLemmas::last_granule, crate::proofs::GranuleLemmas::first_granule_within, crate::proofs::GranuleLemmas::last_granule_fits))]
-fn granules_touched(request: &Span, power: u32) -> u64
-    requires is_span { IsSpan request.now }
-    requires some { request.now.base < request.now.top }
-    requires coarse { 3 ≤ power }
-    requires fits { power ≤ MAX_POWER }
-    ensures { result ≡ granule_count request.now (2 ^ power) }
+/// Returns how far a number is above another one, if it is not below it.
+fn distance(low: u64, high: u64) -> u64
+    ensures { low ≤ high → result ≡ high - low }
 {
-    let last_byte = (request.top - 1) as u64;
-    (last_byte >> power) + 1 - (request.base >> power)
+    high.wrapping_sub(low)
 }
 
-/// Returns the power of two of the granule of which a length of at least 4,096 bytes has at least
-/// 512 and less than 1,024.
-///
-/// It is 3, and one more for each bit from bit 13 to the highest that is set in the length.
-#[tactic(auto, using(crate::proofs::GranuleLemmas::leading_power))]
-fn power_of_length(len: u128) -> u32
-    requires coarse { 4096 ≤ len }
-    requires fits { len ≤ 2 ^ 64 }
-    ensures from_three { 3 ≤ result }
-    ensures fits { result ≤ MAX_POWER }
-    ensures least { 512 * 2 ^ result ≤ len }
-    ensures below { len < 1024 * 2 ^ result }
+/// Returns the number, or 4,095 for a smaller one.
+fn raised(number: u64) -> u64
+    ensures least { 4095 ≤ result }
+    ensures same { 4095 ≤ number → result ≡ number }
 {
-    67 - ((len >> 13) as u64).leading_zeros()
+    number.max(SHORTEST_DISTANCE)
+}
+
+/// Returns the power of two of which a number of at least 4,095 has at least 512 and less than
+/// 1,024.
+///
+/// It is 2, and one more for each bit from bit 12 to the highest that is set in the number.
+#[tactic(auto, using(crate::proofs::GranuleLemmas::leading_number))]
+fn leading_power(number: u64) -> u32
+    requires { 4095 ≤ number }
+    ensures fits { result ≤ 54 }
+    ensures least { 512 * 2 ^ result ≤ number }
+    ensures below { number < 1024 * 2 ^ result }
+{
+    54 - number.leading_zeros()
+}
+
+/// Returns how much larger the power of a request's granule is, if `before` granules lie between that
+/// of its first byte and that of its last.
+fn growth(before: u64) -> u32
+    ensures few { before < 1023 → result ≡ 0 }
+    ensures many { 1023 ≤ before → result ≡ 1 }
+{
+    u32::from(before >= MAX_GRANULES)
+}
+
+/// Returns the address of a request's last byte, if it has one.
+fn last_byte(request: &Span) -> u64
+    requires { IsSpan request.now }
+    ensures { request.now.base < request.now.top → request.now.top ≡ result + 1 }
+{
+    (request.top.wrapping_sub(1) % ADDRESS_SPACE) as u64
+}
+
+/// Returns the power of two of the granule of a request of at least 4,096 bytes.
+///
+/// It is that of the distance from the first byte to the last, or one more if the request touches
+/// more than 1,023 granules of that size. It has no branch, and some result for a shorter request.
+fn coarse_power(request: &Span) -> u32
+    requires { IsSpan request.now }
+    ensures granule { 4096 ≤ length_of request.now → IsGranule request.now (2 ^ result) }
+    ensures coarse { 4096 ≤ length_of request.now → 3 ≤ result }
+    ensures fits { result ≤ MAX_POWER }
+{
+    let first = request.base;
+    let last = last_byte(request);
+    let power = leading_power(raised(distance(first, last)));
+    power + growth(distance(first >> power, last >> power))
 }
 
 /// Returns the granule of a request as a power of two: 0 for less than 4,096 bytes, otherwise from
 /// 3 to 55.
 ///
-/// It is the power of the length, or one more if the request touches more than 1,023 granules of
-/// that size.
-#[tactic(auto, using(crate::proofs::GranuleLemmas::length_granule, crate::proofs::GranuleLemmas::grown_granule, crate::proofs::GranuleLemmas::grown_fits))]
+/// Both are computed, so that the compiler chooses without a branch.
 pub(crate) fn granule_power(request: &Span) -> u32
     requires { IsSpan request.now }
     ensures granule { IsGranule request.now (2 ^ result) }
@@ -68,15 +101,8 @@ pub(crate) fn granule_power(request: &Span) -> u32
     ensures large { 4096 ≤ length_of request.now → 3 ≤ result }
 {
     let len = request.top - u128::from(request.base);
-    if len < FIRST_COARSE_LENGTH {
-        return 0;
-    }
-    let power = power_of_length(len);
-    if granules_touched(request, power) <= MAX_GRANULES {
-        power
-    } else {
-        power + 1
-    }
+    let power = coarse_power(request);
+    if len < SHORTEST_COARSE { 0 } else { power }
 }
 
 /// Returns the number rounded up to a multiple of 2^power.

@@ -15,7 +15,7 @@ use cc_io::{Blocks, IoError, Lines, Sink, Source, Summary, pump};
 ///
 /// The reply to a word is its row in the format, and the reply to a line that is not 32 hexadecimal
 /// digits is `error 1 syntax`. Bytes after the last entry get the reply `error 2 unfinished`,
-/// unless there are none. The source is read in chunks of up to 64 KiB. Before each read, all
+/// unless there are none. The source is read in chunks of up to 16 KiB. Before each read, all
 /// replies to earlier entries are written. The sink is flushed once, at the end. Allocates nothing.
 ///
 /// Requires: neither the source nor the sink has failed.

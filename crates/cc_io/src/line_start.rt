@@ -93,10 +93,14 @@ pub fn split_at_line_feed(text: &[u8]) -> Option<(&[u8], &[u8])>
 fn first_line_feed(text: &[u8]) -> Option<usize>
     ensures { IsFirstByte (is_byte 10) text.now result }
 {
-    if text.len() >= NEAR {
+    if text.len() > NEAR {
         let near = line_feeds_near(text).trailing_zeros() as usize;
         if near < NEAR {
             return Some(near);
+        }
+        // the line feed of a line that is a word
+        if text[NEAR] == b'\n' {
+            return Some(NEAR);
         }
     }
     first_line_feed_of_any(text)

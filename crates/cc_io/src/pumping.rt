@@ -14,7 +14,7 @@ use crate::summary::{IoError, Summary};
 use cc_text::Page;
 
 /// The maximum number of bytes in one read.
-const PIECE: usize = 65536;
+const PIECE: usize = 16384;
 
 /// The number of bytes of an entry that an answerer sees. The further bytes of a longer entry are
 /// dropped.
@@ -22,7 +22,7 @@ const SEEN: usize = 129;
 
 /// Writes the bytes on the page, and then the reply to each entry that the source gives.
 ///
-/// The source is read in chunks of up to 64 KiB. The replies to all entries of a chunk are written
+/// The source is read in chunks of up to 16 KiB. The replies to all entries of a chunk are written
 /// before the next read, and none is pending then. An entry that ends in a later chunk gets its
 /// reply then. [`Answerer::end`] replies to the bytes after the last entry, unless there are none.
 /// The sink is flushed once, at the end. Allocates nothing.

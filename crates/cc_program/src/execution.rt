@@ -131,6 +131,8 @@ fn new_session(alloc: Global, limit: u32) -> Result<Session, AllocError>
 }
 
 /// Runs a script on a new machine, and reports the run if it came to its end.
+// not inlined, so that other commands do not touch the pages of its buffers on the stack
+#[inline(never)]
 fn run<R: AllocGlobal, I: Inputs, W: Sink, E: Sink>(
     rt: &R,
     limit: u32,
@@ -213,6 +215,8 @@ fn run_and_report<R: AllocGlobal, S: Source, W: Sink, E: Sink>(
 }
 
 /// Runs a script on a new machine without writing the replies, and draws the pool if the script came to its end.
+// not inlined, so that other commands do not touch the pages of its buffers on the stack
+#[inline(never)]
 fn draw<R: AllocGlobal, I: Inputs, W: Sink>(
     rt: &R,
     limit: u32,
@@ -281,6 +285,8 @@ fn draw_end<R: AllocGlobal, S: Source, W: Sink>(
 }
 
 /// Writes a row for each word of an input.
+// not inlined, so that other commands do not touch the pages of its buffers on the stack
+#[inline(never)]
 fn list_words<I: Inputs, W: Sink>(
     options: Options,
     inputs: &I,

@@ -85,6 +85,14 @@ three_pairs n low high =
     let first : n / 10000 / 10 ≡ n / 100000 % 10 = omega (arith, high) in
     rw (first, thousands_of n, hundreds_of n, tens_of n, ones_of n) (six_digits n low high)
 
+-- the last two digits, and those before them
+pub last_pair : (n : ℕ) → 100 ≤ n → n < 2 ^ 64 → decimal n ≡ decimal (n / 100) ++ (48 + n % 100 / 10) ∷ (48 + n % 100 % 10) ∷ []
+last_pair n some small =
+    let hundredth : n / 10 / 10 ≡ n / 100 = omega arith in
+    rw (tens_of n, ones_of n, ← hundredth)
+    (more n _ (omega (arith, some)) small (decimal_step (n / 10) (omega (arith, some)) (omega (arith, small)))
+    ∙ append_assoc (decimal (n / 10 / 10)) ((48 + n / 10 % 10) ∷ []) ((48 + n % 10) ∷ []))
+
 -- what was appended in two pieces, or in three
 pub in_two : (done a b whole : List ℕ) → a ++ b ≡ whole → (done ++ a) ++ b ≡ done ++ whole
 in_two done a b whole e = append_assoc done a b ∙ ap (λ (l : List ℕ). done ++ l) e

@@ -161,13 +161,25 @@ impl<const N: usize> Page<N> {
         ensures value { self.new ≡ self.old ++ decimal number }
         ensures fits { length self.new ≤ length self.old + 10 }
     {
+        if number >= 1_000_000 {
+            return self.push_large_index(number);
+        }
+        self.push_middle_index(number);
+    }
+
+    /// Appends a number of five or six digits in decimal digits.
+    #[inline(always)]
+    fn push_middle_index(&mut self, number: u32)
+        requires long { 10000 ≤ number }
+        requires short { number < 1000000 }
+        requires room { length self.old + 6 ≤ N }
+        ensures value { self.new ≡ self.old ++ decimal number }
+        ensures fits { length self.new ≤ length self.old + 6 }
+    {
         if number < 100_000 {
             self.push_second_digit(number / 10_000);
             self.push_pair(number / 100 % 100);
             return self.push_pair(number % 100);
-        }
-        if number >= 1_000_000 {
-            return self.push_large_index(number);
         }
         self.push_pair(number / 10_000);
         self.push_pair(number / 100 % 100);
@@ -198,10 +210,26 @@ impl<const N: usize> Page<N> {
         self.push(&[second]);
     }
 
-    /// Appends the number of a slot or of an object of any size.
-    #[cold]
+    /// Appends a number of at least seven digits in decimal digits, such as the bytes that a plan
+    /// holds.
     #[inline(never)]
     fn push_large_index(&mut self, number: u32)
+        requires large { 1000000 ≤ number }
+        requires room { length self.old + 10 ≤ N }
+        ensures value { self.new ≡ self.old ++ decimal number }
+        ensures fits { length self.new ≤ length self.old + 10 }
+    {
+        if number >= 100_000_000 {
+            return self.push_any_index(number);
+        }
+        self.push_middle_index(number / 100);
+        self.push_pair(number % 100);
+    }
+
+    /// Appends a number of any size in decimal digits.
+    #[cold]
+    #[inline(never)]
+    fn push_any_index(&mut self, number: u32)
         requires { length self.old + 10 ≤ N }
         ensures value { self.new ≡ self.old ++ decimal number }
         ensures fits { length self.new ≤ length self.old + 10 }

@@ -1,4 +1,4 @@
-use Rattle.std.proofs.Common.{◌≤◌, ◌≡◌, ◌∙◌, ap, sym, arith, length, length-take, drop}
+use Rattle.std.proofs.Common.{◌≤◌, ap, arith, length, length-take}
 use Rattle.cc_text.proofs.WaitingLemmas.{front_dropped}
 use Rattle.cc_text.proofs.page.Page.drop_front.Goals as goal
 
