@@ -9,3 +9,5 @@ pub mod RowLemmas
 pub mod GapLemmas
 pub mod GroupLemmas
 pub mod SearchLemmas
+pub mod FreeSpaceLemmas
+pub mod GapChangeLemmas

@@ -1,6 +1,8 @@
 -- In reading order.
 pub mod Placement
 pub mod PlacerState
+pub mod Gaps
+pub mod FreeSpace
 pub mod Fit
 pub mod Gap
 pub mod Chain
