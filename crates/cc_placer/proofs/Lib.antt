@@ -11,3 +11,6 @@ pub mod GroupLemmas
 pub mod SearchLemmas
 pub mod FreeSpaceLemmas
 pub mod GapChangeLemmas
+pub mod GapBlocksLemmas
+pub mod GapFitLemmas
+pub mod GapRowLemmas

@@ -13,3 +13,10 @@ pub mod Row
 pub mod Lends
 pub mod Groups
 pub mod BlockPlacer
+pub mod GapRowState
+pub mod GapBlocksState
+pub mod GapBlocks
+pub mod GapLends
+pub mod GapHeadsState
+pub mod GapHeads
+pub mod GapRow

@@ -1,0 +1,351 @@
+-- A row of gaps: its blocks and heads, and its gaps one after another.
+use Rattle.std.proofs.Common.{ℕ, zero, suc, ◌≡◌, ◌+◌, ◌-◌, ◌*◌, ◌/◌, ◌%◌, ◌^◌, ◌<◌, ◌≤◌, ◌⊎◌, Option, Some, None, List, [], ◌∷◌, ◌++◌, All, Contains, slice_get, length, take, drop, get_or, set, insert, remove, arith, refl, sym, ap, subst, ◌∙◌, inl, inr, append_assoc, length-append}
+use Rattle.std.specs.List.{AllZip}
+use Rattle.std.proofs.lemmas.Bool.{cases_eq, cases_lt}
+use Rattle.std.proofs.lemmas.List.{append-nil, get_or_default, get_or_append_left, get_or-append-add, set-append_left, set-append_right, take_more, take_all}
+use Rattle.std.proofs.lemmas.List.Edits.{insert-append_left, insert-append_right, remove-append_left, remove-append_right}
+use Rattle.std.proofs.lemmas.List.Elements.{Contains-append_cases, Contains-append_left, Contains-append_right}
+use Rattle.std.proofs.lemmas.Option.{slice_get-get_or}
+use Rattle.std.proofs.lemmas.List.Concat.{flat_map-append, get_or-flat_map}
+use Rattle.cc_bounds.specs.declared.span.Span.{Span}
+use Rattle.cc_bounds.specs.Span.{IsWithin, span_from}
+use Rattle.cc_placer.specs.declared.gap_heads.Head.{Head}
+use Rattle.cc_placer.specs.PlacerState.{IsSomeBytes}
+use Rattle.cc_placer.specs.Gaps.{AreGaps, FitsGap, IsFirstFit}
+use Rattle.cc_placer.specs.GapRowState.{IsPlaceAt, gaps_of, index_at}
+use Rattle.cc_placer.specs.GapRow.{AreHeaded, HaveNoFit, IsAtMost, IsHead, IsLocated}
+
+-- ---- Blocks and their heads.
+
+pub headed_length : (blocks : List (List Span)) (heads : List Head) → AreHeaded blocks heads → length heads ≡ length blocks
+headed_length [] [] are = refl
+headed_length [] (y ∷ ys) are = absurd are
+headed_length (x ∷ xs) [] are = absurd are
+headed_length (x ∷ xs) (y ∷ ys) are = let rest = headed_length xs ys are.1 in omega arith
+
+pub head_at : (blocks : List (List Span)) (heads : List Head) (k : ℕ) (d : List Span) (e : Head) → AreHeaded blocks heads
+    → k < length blocks → IsHead (get_or blocks k d) (get_or heads k e)
+head_at [] heads k d e are within = absurd (omega arith)
+head_at (x ∷ xs) [] k d e are within = absurd are
+head_at (x ∷ xs) (y ∷ ys) zero d e are within = are.0
+head_at (x ∷ xs) (y ∷ ys) (suc k) d e are within = head_at xs ys k d e are.1 (omega (arith, within))
+
+-- ---- The number of gaps before a place.
+
+-- the gaps of the blocks up to one, and its own
+pub index_next : (blocks : List (List Span)) (k : ℕ) (d : List Span) → k < length blocks
+    → length (gaps_of (take (k + 1) blocks)) ≡ length (gaps_of (take k blocks)) + length (get_or blocks k d)
+index_next blocks k d within =
+    ap (λ (bs : List (List Span)). length (gaps_of bs)) (take_more blocks k d within)
+    ∙ (ap (λ (gs : List Span). length gs) (flat_map-append (λ block. block) (take k blocks) (get_or blocks k d ∷ []))
+    ∙ (length-append (gaps_of (take k blocks)) (get_or blocks k d ++ [])
+    ∙ ap (λ (gs : List Span). length (gaps_of (take k blocks)) + length gs) (append-nil (get_or blocks k d))))
+
+pub index_most : (blocks : List (List Span)) (k : ℕ) → length (gaps_of (take k blocks)) ≤ length (gaps_of blocks)
+index_most blocks zero = omega arith
+index_most [] (suc k) = omega arith
+index_most (x ∷ xs) (suc k) =
+    let rest = index_most xs k in omega (arith, rest, length-append x (gaps_of (take k xs)), length-append x (gaps_of xs))
+
+-- the index of a place is that of a gap, or the end
+pub index_inside : (blocks : List (List Span)) (k at : ℕ) (d : List Span) → k < length blocks → at < length (get_or blocks k d)
+    → index_at blocks k at < length (gaps_of blocks)
+index_inside blocks k at d within inside =
+    omega (arith, index_next blocks k d within, index_most blocks (k + 1), inside)
+
+pub index_end : (blocks : List (List Span)) (k : ℕ) → length blocks ≤ k → length (gaps_of (take k blocks)) ≡ length (gaps_of blocks)
+index_end blocks k all = ap (λ (bs : List (List Span)). length (gaps_of bs)) (take_all k blocks all)
+
+-- the gap at a place
+pub gap_at : (blocks : List (List Span)) (k at : ℕ) (d : List Span) (e : Span) → k < length blocks
+    → at < length (get_or blocks k d) → get_or (gaps_of blocks) (index_at blocks k at) e ≡ get_or (get_or blocks k d) at e
+gap_at blocks k at d e within inside = get_or-flat_map (λ block. block) blocks k at d e within inside
+
+-- ---- Locating an address.
+
+-- if the last gap before a position ends at or below an address, each does
+pub each_below : (gaps : List Span) (address at : ℕ) → AreGaps gaps → at ≤ length gaps
+    → (0 < at → (d : Span) → (get_or gaps (at - 1) d).top ≤ address)
+    → (k : ℕ) (d : Span) → k < at → (get_or gaps k d).top ≤ address
+each_below gaps address at are within last k d low =
+    elim (cases_lt k (at - 1)) [
+      | inl less ↦
+          let apart = are.apart k (at - 1) d less (omega (arith, low, within)) in
+          let some = are.some (at - 1) d (omega (arith, low, within)) in
+          omega (arith, apart, some.not_empty, last (omega (arith, low)) d)
+      | inr more ↦
+          let same : k ≡ at - 1 = omega (arith, more, low) in
+          rw same (last (omega (arith, low)) d)
+    ]
+
+-- the gap before a place: the one before it in its block, or the last of the block before
+pub before_inside : (blocks : List (List Span)) (k at : ℕ) (d : List Span) (e : Span) → k < length blocks → 0 < at
+    → at ≤ length (get_or blocks k d)
+    → get_or (gaps_of blocks) (index_at blocks k at - 1) e ≡ get_or (get_or blocks k d) (at - 1) e
+before_inside blocks k at d e within some inside =
+    let same : index_at blocks k at - 1 ≡ index_at blocks k (at - 1) = omega (arith, some) in
+    rw same (gap_at blocks k (at - 1) d e within (omega (arith, some, inside)))
+
+pub before_first : (blocks : List (List Span)) (k : ℕ) (d : List Span) (e : Span) → k < length blocks
+    → 0 < length (get_or blocks k d)
+    → get_or (gaps_of blocks) (index_at blocks (k + 1) 0 - 1) e ≡ get_or (get_or blocks k d) (length (get_or blocks k d) - 1) e
+before_first blocks k d e within some =
+    let same : index_at blocks (k + 1) 0 - 1 ≡ index_at blocks k (length (get_or blocks k d) - 1)
+    = omega (arith, index_next blocks k d within, some) in
+    rw same (gap_at blocks k (length (get_or blocks k d) - 1) d e within (omega (arith, some)))
+
+-- the position that heads give has all gaps before it at or below the address
+pub heads_below : (blocks : List (List Span)) (heads : List Head) (address k : ℕ) (d : Span) → AreHeaded blocks heads
+    → k ≤ length blocks → ((e : Head) → 0 < k → (get_or heads (k - 1) e).last < address) → 0 < index_at blocks k 0
+    → (get_or (gaps_of blocks) (index_at blocks k 0 - 1) d).top ≤ address
+heads_below blocks heads address zero d are within below some = absurd (omega arith)
+heads_below blocks heads address (suc k) d are within below some =
+    let one : suc k ≡ k + 1 = omega arith in
+    let same : suc k - 1 ≡ k = omega arith in
+    let e : Head = record { last = 0; bound = 0 } in
+    let head = head_at blocks heads k [] e are (omega (arith, within)) in
+    let low = rw same at (below e (omega arith)) in
+    rw one (rw (before_first blocks k [] d (omega (arith, within)) head.some)
+    (omega (arith, low, head.last d)))
+
+pub located_end : (blocks : List (List Span)) (heads : List Head) (address k : ℕ) → AreGaps (gaps_of blocks)
+    → AreHeaded blocks heads → k ≡ length blocks → ((e : Head) → 0 < k → (get_or heads (k - 1) e).last < address)
+    → IsLocated (gaps_of blocks) address (index_at blocks k 0)
+located_end blocks heads address k gaps are end below =
+    let all = index_end blocks k (omega (arith, end)) in
+    record {
+      within = omega (arith, all);
+      below = each_below (gaps_of blocks) address (index_at blocks k 0) gaps (omega (arith, all))
+          (λ some d. heads_below blocks heads address k d are (omega (arith, end)) below some);
+      above = λ d low. absurd (omega (arith, low, all));
+    }
+
+pub located_in : (blocks : List (List Span)) (heads : List Head) (address k at : ℕ) (b : List Span) → AreGaps (gaps_of blocks)
+    → AreHeaded blocks heads → k < length blocks → ((e : Head) → 0 < k → (get_or heads (k - 1) e).last < address)
+    → b ≡ get_or blocks k b → at < length b → (0 < at → (d : Span) → (get_or b (at - 1) d).top ≤ address)
+    → ((d : Span) → address < (get_or b at d).top)
+    → IsLocated (gaps_of blocks) address (index_at blocks k at)
+located_in blocks heads address k at b gaps are within below is inside low high =
+    let in_block : at < length (get_or blocks k b) = rw (← is) inside in
+    let in_gaps = index_inside blocks k at b within in_block in
+    record {
+      within = omega (arith, in_gaps);
+      below = each_below (gaps_of blocks) address (index_at blocks k at) gaps (omega (arith, in_gaps)) last;
+      above = λ d _. rw (gap_at blocks k at b d within in_block, ← is) (high d);
+    }
+  where
+    by_at : (n : ℕ) → n ≡ at → 0 < index_at blocks k n → (d : Span)
+        → (get_or (gaps_of blocks) (index_at blocks k n - 1) d).top ≤ address
+    by_at zero same some d = heads_below blocks heads address k d are (omega (arith, within)) below some
+    by_at (suc n) same some d =
+        rw (before_inside blocks k (suc n) b d within (omega arith) (rw (← is) (omega (arith, inside, same))), ← is, same)
+        (low (omega (arith, same)) d)
+
+    last : 0 < index_at blocks k at → (d : Span) → (get_or (gaps_of blocks) (index_at blocks k at - 1) d).top ≤ address
+    last some d = by_at at refl some d
+
+-- the head of a block that was read
+pub head_of_block : (blocks : List (List Span)) (heads : List Head) (k : ℕ) (b : List Span) (e : Head)
+    → AreHeaded blocks heads → k < length blocks → b ≡ get_or blocks k b → IsHead b (get_or heads k e)
+head_of_block blocks heads k b e are within is =
+    subst (λ (x : List Span). IsHead x (get_or heads k e)) (sym is) (head_at blocks heads k b e are within)
+
+-- the length of a block that was read
+pub length_of_block : (blocks : List (List Span)) (k : ℕ) (b d : List Span) → k < length blocks → b ≡ get_or blocks k b
+    → length (get_or blocks k d) ≡ length b
+length_of_block blocks k b d within is =
+    ap (λ (x : List Span). length x) (get_or_default blocks k d b within ∙ sym is)
+
+-- the last gap of a block ends above an address that its head's last byte reaches
+pub last_above : (block : List Span) (head : Head) (address : ℕ) → IsHead block head → address ≤ head.last → (d : Span)
+    → address < (get_or block (length block - 1) d).top
+last_above block head address is reaches d = omega (arith, is.last d, reaches)
+
+-- the last place of the block before
+pub before_place : (blocks : List (List Span)) (heads : List Head) (k block at n : ℕ) (b : List Span)
+    → AreHeaded blocks heads → k + 1 ≡ block → block ≤ length blocks → at ≡ 0 → b ≡ get_or blocks k b → n ≡ length b
+    → IsPlaceAt blocks k (n - 1) × (index_at blocks k (n - 1) + 1 ≡ index_at blocks block at)
+before_place blocks heads k block at n b are next within first is long =
+    let inside : k < length blocks = omega (arith, next, within) in
+    let head = head_of_block blocks heads k b (record { last = 0; bound = 0 }) are inside is in
+    let same = length_of_block blocks k b [] inside is in (
+      record {
+        within = omega (arith, inside);
+        inside = λ _. omega (arith, head.some, long, same);
+        end = λ high. absurd (omega (arith, high, inside));
+      },
+      rw (← next, first) (omega (arith, index_next blocks k [] inside, head.some, long, same)),
+    )
+
+-- ---- The first fit.
+
+fits_left : (xs ys : List Span) (size align start : ℕ) → FitsGap xs size align start → FitsGap (xs ++ ys) size align start
+fits_left xs ys size align start fits = record {
+  aligned = fits.aligned;
+  gap = fits.gap;
+  among = Contains-append_left xs ys fits.gap fits.among;
+  within = fits.within;
+}
+
+fits_right : (xs ys : List Span) (size align start : ℕ) → FitsGap ys size align start → FitsGap (xs ++ ys) size align start
+fits_right xs ys size align start fits = record {
+  aligned = fits.aligned;
+  gap = fits.gap;
+  among = Contains-append_right xs ys fits.gap fits.among;
+  within = fits.within;
+}
+
+fits_cases : (xs ys : List Span) (size align start : ℕ) → FitsGap (xs ++ ys) size align start
+    → FitsGap xs size align start ⊎ FitsGap ys size align start
+fits_cases xs ys size align start fits =
+    elim (Contains-append_cases xs ys fits.gap fits.among) [
+      | inl low ↦ inl (record { aligned = fits.aligned; gap = fits.gap; among = low; within = fits.within })
+      | inr high ↦ inr (record { aligned = fits.aligned; gap = fits.gap; among = high; within = fits.within })
+    ]
+
+-- of gaps in order each is below those after it
+gaps_between : (xs ys : List Span) (x y : Span) → AreGaps (xs ++ ys) → Contains xs x → Contains ys y → x.top < y.base
+gaps_between xs ys x y are low high =
+    let apart = are.apart low.0 (length xs + high.0) x (omega (arith, low.1)) (omega (arith, high.1, length-append xs ys)) in
+    let lower = get_or_append_left xs ys x low.0 low.1 ∙ low.2 in
+    let higher = get_or-append-add xs ys high.0 x ∙ (get_or_default ys high.0 x y high.1 ∙ high.2) in
+    omega (arith, apart, ap (λ (s : Span). s.top) lower, ap (λ (s : Span). s.base) higher)
+
+gaps_left : (xs ys : List Span) → AreGaps (xs ++ ys) → AreGaps xs
+gaps_left xs ys are = record {
+  some = λ k d within.
+      rw (get_or_append_left xs ys d k within) at (are.some k d (omega (arith, within, length-append xs ys)));
+  apart = λ i j d less within.
+      rw (get_or_append_left xs ys d j within, get_or_append_left xs ys d i (omega (arith, less, within)))
+      at (are.apart i j d less (omega (arith, within, length-append xs ys)));
+}
+
+gaps_right : (xs ys : List Span) → AreGaps (xs ++ ys) → AreGaps ys
+gaps_right xs ys are = record {
+  some = λ k d within.
+      rw (get_or-append-add xs ys k d) at (are.some (length xs + k) d (omega (arith, within, length-append xs ys)));
+  apart = λ i j d less within.
+      rw (get_or-append-add xs ys j d, get_or-append-add xs ys i d)
+      at (are.apart (length xs + i) (length xs + j) d (omega (arith, less)) (omega (arith, within, length-append xs ys)));
+}
+
+pub gaps_of_block : (blocks : List (List Span)) (k : ℕ) (d : List Span) → AreGaps (gaps_of blocks) → k < length blocks
+    → AreGaps (get_or blocks k d)
+gaps_of_block [] k d are within = absurd (omega arith)
+gaps_of_block (x ∷ xs) zero d are within = gaps_left x (gaps_of xs) are
+gaps_of_block (x ∷ xs) (suc k) d are within =
+    gaps_of_block xs k d (gaps_right x (gaps_of xs) are) (omega (arith, within))
+
+pub gaps_of_read : (blocks : List (List Span)) (k : ℕ) (b : List Span) → AreGaps (gaps_of blocks) → k < length blocks
+    → b ≡ get_or blocks k b → AreGaps b
+gaps_of_read blocks k b are within is = subst (λ (x : List Span). AreGaps x) (sym is) (gaps_of_block blocks k b are within)
+
+pub found_in : (blocks : List (List Span)) (k : ℕ) (d : List Span) (size align start : ℕ) → AreGaps (gaps_of blocks)
+    → k < length blocks → HaveNoFit blocks k size align → IsFirstFit (get_or blocks k d) size align (Some start)
+    → IsFirstFit (gaps_of blocks) size align (Some start)
+found_in [] k d size align start are within none found = absurd (omega arith)
+found_in (x ∷ xs) zero d size align start are within none found = (
+  fits_left x (gaps_of xs) size align start found.0,
+  λ other fits. elim (fits_cases x (gaps_of xs) size align other fits) [
+    | inl low ↦ found.1 other low
+    | inr high ↦
+        let apart = gaps_between x (gaps_of xs) found.0.gap high.gap are found.0.among high.among in
+        omega (arith, apart, found.0.within.to_top, high.within.from_base)
+  ],
+)
+found_in (x ∷ xs) (suc k) d size align start are within none found =
+    let rest = found_in xs k d size align start (gaps_right x (gaps_of xs) are) (omega (arith, within))
+    (λ j e s low inside. none (suc j) e s (omega (arith, low)) (omega (arith, inside))) found in (
+      fits_right x (gaps_of xs) size align start rest.0,
+      λ other fits. elim (fits_cases x (gaps_of xs) size align other fits) [
+        | inl low ↦ absurd (none zero d other (omega arith) (omega arith) low)
+        | inr high ↦ rest.1 other high
+      ],
+    )
+
+pub found_read : (blocks : List (List Span)) (k : ℕ) (b : List Span) (size align start : ℕ) → AreGaps (gaps_of blocks)
+    → k < length blocks → HaveNoFit blocks k size align → b ≡ get_or blocks k b → IsFirstFit b size align (Some start)
+    → IsFirstFit (gaps_of blocks) size align (Some start)
+found_read blocks k b size align start are within none is found =
+    found_in blocks k b size align start are within none
+    (subst (λ (x : List Span). IsFirstFit x size align (Some start)) is found)
+
+pub none_in : (blocks : List (List Span)) (to size align : ℕ) → length blocks ≤ to → HaveNoFit blocks to size align
+    → IsFirstFit (gaps_of blocks) size align None
+none_in [] to size align all none other fits = absurd (omega (arith, fits.among.1))
+none_in (x ∷ xs) to size align all none other fits =
+    elim (fits_cases x (gaps_of xs) size align other fits) [
+      | inl low ↦ none zero x other (omega (arith, all)) (omega arith) low
+      | inr high ↦
+          none_in xs (length xs) size align (omega arith)
+          (λ j e s low inside. none (suc j) e s (omega (arith, inside, all)) (omega (arith, inside))) other high
+    ]
+
+-- the bytes of a size above a block's bound fit none of its gaps
+narrow : (block : List Span) (head : Head) (less align start : ℕ) → IsHead block head → head.bound < less
+    → ¬ FitsGap block (less + 1) align start
+narrow block head less align start is low fits =
+    let bound = is.bound fits.among.0 fits.gap fits.among.1 in
+    omega (
+      arith,
+      low,
+      bound,
+      ap (λ (s : Span). s.base) fits.among.2,
+      ap (λ (s : Span). s.top) fits.among.2,
+      fits.within.from_base,
+      fits.within.to_top,
+    )
+
+-- one block more without a fit
+pub none_narrow : (blocks : List (List Span)) (heads : List Head) (k less align : ℕ) (h : Head) → AreHeaded blocks heads
+    → h ≡ get_or heads k h → h.bound < less → HaveNoFit blocks k (less + 1) align → HaveNoFit blocks (k + 1) (less + 1) align
+none_narrow blocks heads k less align h are is low none j d start below inside =
+    elim (cases_lt j k) [
+      | inl before ↦ none j d start before inside
+      | inr after ↦
+          let here : j ≡ k = omega (arith, below, after) in
+          narrow (get_or blocks j d) h less align start
+          (subst (λ (e : Head). IsHead (get_or blocks j d) e) (ap (λ (n : ℕ). get_or heads n h) here ∙ sym is)
+          (head_at blocks heads j d h are inside)) low
+    ]
+
+pub none_read : (blocks : List (List Span)) (k size align : ℕ) (b : List Span) → b ≡ get_or blocks k b
+    → IsFirstFit b size align None → HaveNoFit blocks k size align → HaveNoFit blocks (k + 1) size align
+none_read blocks k size align b is no_fit none j d start below inside =
+    elim (cases_lt j k) [
+      | inl before ↦ none j d start before inside
+      | inr after ↦
+          let here : j ≡ k = omega (arith, below, after) in
+          let same : get_or blocks j d ≡ b
+          = get_or_default blocks j d b inside ∙ (ap (λ (n : ℕ). get_or blocks n b) here ∙ sym is) in
+          λ fits. no_fit start (subst (λ (x : List Span). FitsGap x size align start) same fits)
+    ]
+
+-- the blocks of a group without a fit
+pub none_in_group : (blocks : List (List Span)) (heads : List Head) (group less align bound : ℕ) → AreHeaded blocks heads
+    → ((k : ℕ) (e : Head) → k < length heads → k / 16 ≡ group → (get_or heads k e).bound ≤ bound) → bound < less
+    → HaveNoFit blocks (16 * group) (less + 1) align → HaveNoFit blocks (16 * (group + 1)) (less + 1) align
+none_in_group blocks heads group less align bound are bounded low none j d start below inside =
+    elim (cases_lt j (16 * group)) [
+      | inl before ↦ none j d start before inside
+      | inr after ↦
+          let e : Head = record { last = 0; bound = 0 } in
+          let most = bounded j e (omega (arith, inside, headed_length blocks heads are)) (omega (arith, below, after)) in
+          narrow (get_or blocks j d) (get_or heads j e) less align start (head_at blocks heads j d e are inside)
+          (omega (arith, most, low))
+    ]
+
+-- no gap has more than 2 ^ 64 bytes
+pub too_long : (gaps : List Span) (size align : ℕ) → AreGaps gaps → 2 ^ 64 < size → IsFirstFit gaps size align None
+too_long gaps size align are long other fits =
+    let some = are.some fits.among.0 fits.gap fits.among.1 in
+    omega (arith, long, some.fits, ap (λ (s : Span). s.top) fits.among.2, fits.within.to_top)
+
+-- the gap at a place, read from its block
+pub gap_read : (blocks : List (List Span)) (k at : ℕ) (b : List Span) (x : Span) → k < length blocks
+    → at < length (get_or blocks k []) → b ≡ get_or blocks k b → x ≡ get_or b at x
+    → slice_get (gaps_of blocks) (index_at blocks k at) ≡ Some x
+gap_read blocks k at b x within inside is here =
+    slice_get-get_or (gaps_of blocks) (index_at blocks k at) x (index_inside blocks k at [] within inside)
+    ∙ ap Some (gap_at blocks k at [] x within inside
+    ∙ (ap (λ (gs : List Span). get_or gs at x) (get_or_default blocks k [] b within ∙ sym is) ∙ sym here))
