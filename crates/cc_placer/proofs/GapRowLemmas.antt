@@ -1,10 +1,11 @@
 -- A row of gaps: its blocks and heads, and its gaps one after another.
-use Rattle.std.proofs.Common.{ℕ, zero, suc, ◌≡◌, ◌+◌, ◌-◌, ◌*◌, ◌/◌, ◌%◌, ◌^◌, ◌<◌, ◌≤◌, ◌⊎◌, Option, Some, None, List, [], ◌∷◌, ◌++◌, All, Contains, slice_get, length, take, drop, get_or, set, insert, remove, arith, refl, sym, ap, subst, ◌∙◌, inl, inr, append_assoc, length-append}
+use Rattle.std.proofs.Common.{ℕ, zero, suc, ◌≡◌, ◌+◌, ◌-◌, ◌*◌, ◌/◌, ◌%◌, ◌^◌, ◌<◌, ◌≤◌, max, ◌⊎◌, Option, Some, None, List, [], ◌∷◌, ◌++◌, All, Contains, slice_get, length, take, drop, get_or, set, insert, remove, arith, refl, sym, ap, subst, ◌∙◌, inl, inr, append_assoc, length-append}
 use Rattle.std.specs.List.{AllZip}
 use Rattle.std.proofs.lemmas.Bool.{cases_eq, cases_lt}
-use Rattle.std.proofs.lemmas.List.{append-nil, get_or_default, get_or_append_left, get_or-append-add, set-append_left, set-append_right, take_more, take_all}
-use Rattle.std.proofs.lemmas.List.Edits.{insert-append_left, insert-append_right, remove-append_left, remove-append_right}
-use Rattle.std.proofs.lemmas.List.Elements.{Contains-append_cases, Contains-append_left, Contains-append_right}
+use Rattle.std.proofs.lemmas.List.{append-nil, get_or_default, get_or-set_same, get_or-set_other, get_or_append_left, get_or-append-add, length-set, length-take-le, take-append-le, take-set-le, take-take, set-append_left, set-append_right, take_more, take_all}
+use Rattle.std.proofs.lemmas.List.Edits.{get_or-insert_at, get_or-remove_below, length-insert, length-remove, insert-append_left, insert-append_right, remove-append_left, remove-append_right}
+use Rattle.std.proofs.lemmas.List.Elements.{All-append, All-cons, All-drop, All-set, All-take, Contains-append_cases, Contains-append_left, Contains-append_right}
+use Rattle.std.proofs.lemmas.List.Quantifiers.{all_pairs_remove}
 use Rattle.std.proofs.lemmas.Option.{slice_get-get_or}
 use Rattle.std.proofs.lemmas.List.Concat.{flat_map-append, get_or-flat_map}
 use Rattle.cc_bounds.specs.declared.span.Span.{Span}
@@ -13,7 +14,7 @@ use Rattle.cc_placer.specs.declared.gap_heads.Head.{Head}
 use Rattle.cc_placer.specs.PlacerState.{IsSomeBytes}
 use Rattle.cc_placer.specs.Gaps.{AreGaps, FitsGap, IsFirstFit}
 use Rattle.cc_placer.specs.GapRowState.{IsPlaceAt, gaps_of, index_at}
-use Rattle.cc_placer.specs.GapRow.{AreHeaded, HaveNoFit, IsAtMost, IsHead, IsLocated}
+use Rattle.cc_placer.specs.GapRow.{AreHeaded, HaveNoFit, IsAtMost, IsGapRow, IsHead, IsLocated}
 
 -- ---- Blocks and their heads.
 
@@ -349,3 +350,296 @@ gap_read blocks k at b x within inside is here =
     slice_get-get_or (gaps_of blocks) (index_at blocks k at) x (index_inside blocks k at [] within inside)
     ∙ ap Some (gap_at blocks k at [] x within inside
     ∙ (ap (λ (gs : List Span). get_or gs at x) (get_or_default blocks k [] b within ∙ sym is) ∙ sym here))
+
+-- ---- Heads after a change.
+
+pub headed_set : (blocks : List (List Span)) (heads : List Head) (k : ℕ) (b : List Span) (h : Head) → AreHeaded blocks heads
+    → k < length blocks → IsHead b h → AreHeaded (set blocks k b) (set heads k h)
+headed_set [] heads k b h are within is = absurd (omega arith)
+headed_set (x ∷ xs) [] k b h are within is = absurd are
+headed_set (x ∷ xs) (y ∷ ys) zero b h are within is = (is, are.1)
+headed_set (x ∷ xs) (y ∷ ys) (suc k) b h are within is = (are.0, headed_set xs ys k b h are.1 (omega (arith, within)) is)
+
+pub headed_insert : (blocks : List (List Span)) (heads : List Head) (k : ℕ) (b : List Span) (h : Head) → AreHeaded blocks heads
+    → k ≤ length blocks → IsHead b h → AreHeaded (insert blocks k b) (insert heads k h)
+headed_insert [] [] zero b h are within is = (is, tt)
+headed_insert [] [] (suc k) b h are within is = absurd (omega arith)
+headed_insert [] (y ∷ ys) k b h are within is = absurd are
+headed_insert (x ∷ xs) [] k b h are within is = absurd are
+headed_insert (x ∷ xs) (y ∷ ys) zero b h are within is = (is, are)
+headed_insert (x ∷ xs) (y ∷ ys) (suc k) b h are within is =
+    (are.0, headed_insert xs ys k b h are.1 (omega (arith, within)) is)
+
+pub headed_remove : (blocks : List (List Span)) (heads : List Head) (k : ℕ) → AreHeaded blocks heads → k < length blocks
+    → AreHeaded (remove blocks k) (remove heads k)
+headed_remove [] heads k are within = absurd (omega arith)
+headed_remove (x ∷ xs) [] k are within = absurd are
+headed_remove (x ∷ xs) (y ∷ ys) zero are within = are.1
+headed_remove (x ∷ xs) (y ∷ ys) (suc k) are within = (are.0, headed_remove xs ys k are.1 (omega (arith, within)))
+
+bound_more : (block : List Span) (bound added : ℕ) → All (IsAtMost bound) block → All (IsAtMost (max bound added)) block
+bound_more block bound added are k d within = let one = are k d within in omega (arith, one)
+
+pub bound_set : (block : List Span) (bound at added : ℕ) (gap : Span) → All (IsAtMost bound) block
+    → gap.base + added + 1 ≡ gap.top → All (IsAtMost (max bound added)) (set block at gap)
+bound_set block bound at added gap are is =
+    All-set (IsAtMost (max bound added)) block at gap (omega (arith, is)) (bound_more block bound added are)
+
+pub bound_insert : (block : List Span) (bound at added : ℕ) (gap : Span) → All (IsAtMost bound) block
+    → gap.base + added + 1 ≡ gap.top → All (IsAtMost (max bound added)) (insert block at gap)
+bound_insert block bound at added gap are is =
+    let more = bound_more block bound added are in
+    All-append (IsAtMost (max bound added)) (take at block) (gap ∷ drop at block)
+    (All-take (IsAtMost (max bound added)) at block more)
+    (All-cons (IsAtMost (max bound added)) gap (drop at block) (omega (arith, is)) (All-drop (IsAtMost (max bound added)) at block more))
+
+pub bound_remove : (block : List Span) (bound at : ℕ) → All (IsAtMost bound) block
+    → All (IsAtMost (max bound 0)) (remove block at)
+bound_remove block bound at are =
+    let more = bound_more block bound 0 are in
+    All-append (IsAtMost (max bound 0)) (take at block) (drop (suc at) block)
+    (All-take (IsAtMost (max bound 0)) at block more) (All-drop (IsAtMost (max bound 0)) (suc at) block more)
+
+-- ---- A gap changed in its block.
+
+pub gaps_set : (blocks : List (List Span)) (k at : ℕ) (gap : Span) → k < length blocks → at < length (get_or blocks k [])
+    → gaps_of (set blocks k (set (get_or blocks k []) at gap)) ≡ set (gaps_of blocks) (index_at blocks k at) gap
+gaps_set [] k at gap within inside = absurd (omega arith)
+gaps_set (x ∷ xs) zero at gap within inside =
+    let same : at ≡ 0 + at = omega arith in
+    sym (set-append_left x (gaps_of xs) at gap inside) ∙ ap (λ (n : ℕ). set (x ++ gaps_of xs) n gap) same
+gaps_set (x ∷ xs) (suc k) at gap within inside =
+    let long = length-append x (gaps_of (take k xs)) in
+    let same : index_at (x ∷ xs) (suc k) at - length x ≡ index_at xs k at = omega (arith, long) in
+    ap (λ (gs : List Span). x ++ gs) (gaps_set xs k at gap (omega (arith, within)) inside)
+    ∙ sym (set-append_right x (gaps_of xs) (length x) (index_at (x ∷ xs) (suc k) at) gap refl (omega (arith, long))
+    ∙ ap (λ (n : ℕ). x ++ set (gaps_of xs) n gap) same)
+
+pub gaps_insert : (blocks : List (List Span)) (k at : ℕ) (gap : Span) → k < length blocks → at ≤ length (get_or blocks k [])
+    → gaps_of (set blocks k (insert (get_or blocks k []) at gap)) ≡ insert (gaps_of blocks) (index_at blocks k at) gap
+gaps_insert [] k at gap within inside = absurd (omega arith)
+gaps_insert (x ∷ xs) zero at gap within inside =
+    let same : at ≡ 0 + at = omega arith in
+    sym (insert-append_left x (gaps_of xs) at gap inside) ∙ ap (λ (n : ℕ). insert (x ++ gaps_of xs) n gap) same
+gaps_insert (x ∷ xs) (suc k) at gap within inside =
+    let long = length-append x (gaps_of (take k xs)) in
+    let same : index_at (x ∷ xs) (suc k) at - length x ≡ index_at xs k at = omega (arith, long) in
+    ap (λ (gs : List Span). x ++ gs) (gaps_insert xs k at gap (omega (arith, within)) inside)
+    ∙ sym (insert-append_right x (gaps_of xs) (length x) (index_at (x ∷ xs) (suc k) at) gap refl (omega (arith, long))
+    ∙ ap (λ (n : ℕ). x ++ insert (gaps_of xs) n gap) same)
+
+pub gaps_remove : (blocks : List (List Span)) (k at : ℕ) → k < length blocks → at < length (get_or blocks k [])
+    → gaps_of (set blocks k (remove (get_or blocks k []) at)) ≡ remove (gaps_of blocks) (index_at blocks k at)
+gaps_remove [] k at within inside = absurd (omega arith)
+gaps_remove (x ∷ xs) zero at within inside =
+    let same : at ≡ 0 + at = omega arith in
+    sym (remove-append_left x (gaps_of xs) at inside) ∙ ap (λ (n : ℕ). remove (x ++ gaps_of xs) n) same
+gaps_remove (x ∷ xs) (suc k) at within inside =
+    let long = length-append x (gaps_of (take k xs)) in
+    let same : index_at (x ∷ xs) (suc k) at - length x ≡ index_at xs k at = omega (arith, long) in
+    ap (λ (gs : List Span). x ++ gs) (gaps_remove xs k at (omega (arith, within)) inside)
+    ∙ sym (remove-append_right x (gaps_of xs) (length x) (index_at (x ∷ xs) (suc k) at) refl (omega (arith, long))
+    ∙ ap (λ (n : ℕ). x ++ remove (gaps_of xs) n) same)
+
+-- a block of one gap taken away
+pub gaps_remove_block : (blocks : List (List Span)) (k : ℕ) → k < length blocks → length (get_or blocks k []) ≡ 1
+    → gaps_of (remove blocks k) ≡ remove (gaps_of blocks) (index_at blocks k 0)
+gaps_remove_block [] k within one = absurd (omega arith)
+gaps_remove_block ([] ∷ xs) zero within one = absurd (omega (arith, one))
+gaps_remove_block ((g ∷ []) ∷ xs) zero within one = refl
+gaps_remove_block ((g ∷ h ∷ gs) ∷ xs) zero within one = absurd (omega (arith, one))
+gaps_remove_block (x ∷ xs) (suc k) within one =
+    let long = length-append x (gaps_of (take k xs)) in
+    let same : index_at (x ∷ xs) (suc k) 0 - length x ≡ index_at xs k 0 = omega (arith, long) in
+    ap (λ (gs : List Span). x ++ gs) (gaps_remove_block xs k (omega (arith, within)) one)
+    ∙ sym (remove-append_right x (gaps_of xs) (length x) (index_at (x ∷ xs) (suc k) 0) refl (omega (arith, long))
+    ∙ ap (λ (n : ℕ). x ++ remove (gaps_of xs) n) same)
+
+-- a head that was read, with its block
+pub head_read : (blocks : List (List Span)) (heads : List Head) (k : ℕ) (b : List Span) (h : Head) → AreHeaded blocks heads
+    → k < length blocks → b ≡ get_or blocks k b → h ≡ get_or heads k h → IsHead b h
+head_read blocks heads k b h are within is here =
+    subst (λ (e : Head). IsHead b e) (sym here) (head_of_block blocks heads k b h are within is)
+
+-- ---- Places.
+
+index_mono : (blocks : List (List Span)) (i j : ℕ) → i ≤ j → length (gaps_of (take i blocks)) ≤ length (gaps_of (take j blocks))
+index_mono blocks zero j less = omega arith
+index_mono [] (suc i) j less = omega arith
+index_mono (x ∷ xs) (suc i) zero less = absurd (omega (arith, less))
+index_mono (x ∷ xs) (suc i) (suc j) less =
+    let rest = index_mono xs i j (omega (arith, less)) in
+    omega (arith, rest, length-append x (gaps_of (take i xs)), length-append x (gaps_of (take j xs)))
+
+-- a place before the end is that of a gap
+pub place_within : (blocks : List (List Span)) (k at : ℕ) → IsPlaceAt blocks k at
+    → index_at blocks k at < length (gaps_of blocks) → k < length blocks
+place_within blocks k at place inside =
+    elim (cases_lt k (length blocks)) [
+      | inl low ↦ low
+      | inr high ↦ absurd (omega (arith, inside, index_end blocks k high))
+    ]
+
+-- a lower place is in the same block or in one before it
+place_order : (blocks : List (List Span)) (k at ob oa : ℕ) → k < length blocks → at < length (get_or blocks k [])
+    → index_at blocks ob oa < index_at blocks k at → (ob < k) ⊎ ((ob ≡ k) × (oa < at))
+place_order blocks k at ob oa within inside less =
+    elim (cases_lt ob k) [
+      | inl low ↦ inl low
+      | inr high ↦ elim (cases_eq ob k) [
+        | inl same ↦ inr (same, (let same_index = ap (λ (n : ℕ). length (gaps_of (take n blocks))) same in omega (arith, less, same_index)))
+        | inr apart ↦ absurd (omega (
+          arith,
+          less,
+          index_mono blocks (k + 1) ob (omega (arith, high, apart)),
+          index_next blocks k [] within,
+          inside,
+        ))
+      ]
+    ]
+
+-- where a block has another in its place that is as long
+take_set_length : (blocks : List (List Span)) (k j : ℕ) (b : List Span) → length b ≡ length (get_or blocks k [])
+    → length (gaps_of (take j (set blocks k b))) ≡ length (gaps_of (take j blocks))
+take_set_length [] k j b long = refl
+take_set_length (x ∷ xs) k zero b long = refl
+take_set_length (x ∷ xs) zero (suc j) b long =
+    omega (arith, long, length-append b (gaps_of (take j xs)), length-append x (gaps_of (take j xs)))
+take_set_length (x ∷ xs) (suc k) (suc j) b long =
+    let rest = take_set_length xs k j b long in
+    omega (arith, rest, length-append x (gaps_of (take j (set xs k b))), length-append x (gaps_of (take j xs)))
+
+get_set_length : (blocks : List (List Span)) (k j : ℕ) (b : List Span) → k < length blocks
+    → length b ≡ length (get_or blocks k []) → length (get_or (set blocks k b) j []) ≡ length (get_or blocks j [])
+get_set_length blocks k j b within long =
+    elim (cases_eq j k) [
+      | inl same ↦ rw (same, get_or-set_same blocks k b [] within) long
+      | inr apart ↦ ap (λ (x : List Span). length x) (get_or-set_other blocks k j b [] apart)
+    ]
+
+pub places_set : (blocks : List (List Span)) (k ob oa : ℕ) (b : List Span) → k < length blocks
+    → length b ≡ length (get_or blocks k []) → IsPlaceAt blocks ob oa
+    → IsPlaceAt (set blocks k b) ob oa × (index_at (set blocks k b) ob oa ≡ index_at blocks ob oa)
+places_set blocks k ob oa b within long place =
+    let all = length-set blocks k b in (
+      record {
+        within = omega (arith, place.within, all);
+        inside = λ low. omega (arith, place.inside (omega (arith, low, all)), get_set_length blocks k ob b within long);
+        end = λ high. place.end (omega (arith, high, all));
+      },
+      omega (arith, take_set_length blocks k ob b long),
+    )
+
+-- where a gap was removed from a block
+pub places_removed : (blocks : List (List Span)) (k at ob oa : ℕ) → k < length blocks → at < length (get_or blocks k [])
+    → IsPlaceAt blocks ob oa → index_at blocks ob oa < index_at blocks k at
+    → IsPlaceAt (set blocks k (remove (get_or blocks k []) at)) ob oa
+    × (index_at (set blocks k (remove (get_or blocks k []) at)) ob oa ≡ index_at blocks ob oa)
+places_removed blocks k at ob oa within inside place less =
+    elim (place_order blocks k at ob oa within inside less) [
+      | inl low ↦ (
+        record {
+          within = omega (arith, place.within, all);
+          inside = λ _. rw (get_or-set_other blocks k ob b [] (λ e. omega (arith, low, e))) (place.inside (omega (arith, low, within)));
+          end = λ high. absurd (omega (arith, high, all, low, within));
+        },
+        ap (λ (bs : List (List Span)). length (gaps_of bs) + oa) (take-set-le ob blocks k b (omega (arith, low))),
+      )
+      | inr here ↦ (
+        record {
+          within = omega (arith, place.within, all);
+          inside = λ _. rw (here.0, get_or-set_same blocks k b [] within)
+              (omega (arith, here.1, inside, length-remove (get_or blocks k []) at inside));
+          end = λ high. absurd (omega (arith, high, all, here.0, within));
+        },
+        ap (λ (bs : List (List Span)). length (gaps_of bs) + oa) (take-set-le ob blocks k b (omega (arith, here.0))),
+      )
+    ]
+  where
+    b : List Span
+    b = remove (get_or blocks k []) at
+
+    all : length (set blocks k b) ≡ length blocks
+    all = length-set blocks k b
+
+-- where a block was removed
+pub places_without : (blocks : List (List Span)) (k at ob oa : ℕ) → k < length blocks → length (get_or blocks k []) ≡ 1
+    → at < length (get_or blocks k []) → IsPlaceAt blocks ob oa → index_at blocks ob oa < index_at blocks k at
+    → IsPlaceAt (remove blocks k) ob oa × (index_at (remove blocks k) ob oa ≡ index_at blocks ob oa)
+places_without blocks k at ob oa within one inside place less =
+    elim (place_order blocks k at ob oa within inside less) [
+      | inl low ↦ (
+        record {
+          within = omega (arith, low, within, short);
+          inside = λ _. rw (get_or-remove_below blocks k [] ob low within) (place.inside (omega (arith, low, within)));
+          end = λ high. absurd (omega (arith, high, low, within, short));
+        },
+        ap (λ (bs : List (List Span)). length (gaps_of bs) + oa)
+            (take-append-le ob (take k blocks) (drop (suc k) blocks) (omega (arith, low, within, length-take-le k blocks (omega (arith, within))))
+            ∙ take-take ob k blocks (omega (arith, low))),
+      )
+      | inr here ↦ absurd (omega (arith, here.1, inside, one))
+    ]
+  where
+    short : length (remove blocks k) + 1 ≡ length blocks
+    short = length-remove blocks k within
+
+-- ---- The row after a change.
+
+pub some_set : (gaps : List Span) (at : ℕ) (gap : Span) → AreGaps (set gaps at gap) → at < length gaps → IsSomeBytes gap
+some_set gaps at gap are within =
+    rw (get_or-set_same gaps at gap gap within) at (are.some at gap (omega (arith, within, length-set gaps at gap)))
+
+pub some_insert : (gaps : List Span) (at : ℕ) (gap : Span) → AreGaps (insert gaps at gap) → at ≤ length gaps → IsSomeBytes gap
+some_insert gaps at gap are within =
+    rw (get_or-insert_at gaps at gap gap within) at (are.some at gap (omega (arith, within, length-insert gaps at gap within)))
+
+gaps_without : (gaps : List Span) (at : ℕ) → AreGaps gaps → at < length gaps → AreGaps (remove gaps at)
+gaps_without gaps at are within = record {
+  some = All-append IsSomeBytes (take at gaps) (drop (suc at) gaps) (All-take IsSomeBytes at gaps are.some)
+      (All-drop IsSomeBytes (suc at) gaps are.some);
+  apart = all_pairs_remove (λ gap later. gap.top < later.base) gaps at within are.apart;
+}
+
+pub row_without : (blocks new : List (List Span)) (heads new_heads : List Head) (most block_room head_room at : ℕ)
+    → IsGapRow blocks heads most block_room head_room → AreHeaded new new_heads → length new ≤ length blocks
+    → at < length (gaps_of blocks) → gaps_of new ≡ remove (gaps_of blocks) at
+    → IsGapRow new new_heads most block_room head_room
+row_without blocks new heads new_heads most block_room head_room at row are fewer within is = record {
+  are_gaps = rw is (gaps_without (gaps_of blocks) at row.are_gaps within);
+  at_most = omega (arith, row.at_most, ap (λ (gs : List Span). length gs) is, length-remove (gaps_of blocks) at within);
+  few = row.few;
+  headed = are;
+  fits = omega (arith, fewer, row.fits);
+  reserved = row.reserved;
+  heads_reserved = row.heads_reserved;
+}
+
+pub row_set : (blocks new : List (List Span)) (heads new_heads : List Head) (most block_room head_room at : ℕ) (gap : Span)
+    → IsGapRow blocks heads most block_room head_room → AreHeaded new new_heads → length new ≡ length blocks
+    → AreGaps (set (gaps_of blocks) at gap) → gaps_of new ≡ set (gaps_of blocks) at gap
+    → IsGapRow new new_heads most block_room head_room
+row_set blocks new heads new_heads most block_room head_room at gap row are same order is = record {
+  are_gaps = rw is order;
+  at_most = omega (arith, row.at_most, ap (λ (gs : List Span). length gs) is, length-set (gaps_of blocks) at gap);
+  few = row.few;
+  headed = are;
+  fits = omega (arith, same, row.fits);
+  reserved = row.reserved;
+  heads_reserved = row.heads_reserved;
+}
+
+pub row_insert : (blocks new : List (List Span)) (heads new_heads : List Head) (most block_room head_room at : ℕ) (gap : Span)
+    → IsGapRow blocks heads most block_room head_room → AreHeaded new new_heads → length new ≤ block_room
+    → at ≤ length (gaps_of blocks) → length (gaps_of blocks) < most
+    → AreGaps (insert (gaps_of blocks) at gap) → gaps_of new ≡ insert (gaps_of blocks) at gap
+    → IsGapRow new new_heads most block_room head_room
+row_insert blocks new heads new_heads most block_room head_room at gap row are fits within more order is = record {
+  are_gaps = rw is order;
+  at_most = omega (arith, more, ap (λ (gs : List Span). length gs) is, length-insert (gaps_of blocks) at gap within);
+  few = row.few;
+  headed = are;
+  fits = fits;
+  reserved = row.reserved;
+  heads_reserved = row.heads_reserved;
+}

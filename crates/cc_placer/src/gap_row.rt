@@ -101,6 +101,42 @@ impl GapRow {
         place_before(&self.blocks, &self.heads, place)
     }
 
+    /// Replaces the gap at a place. Each place stays that of its gap.
+    pub(crate) fn set(&mut self, place: Place, gap: Span)
+        requires place { IsPlaceIn self.old place }
+        requires within { index_of self.old place < length (gaps_in self.old) }
+        requires order { AreGaps (slice_set (gaps_in self.old) (index_of self.old place) gap) }
+        ensures gaps { gaps_in self.new ≡ slice_set (gaps_in self.old) (index_of self.old place) gap }
+        ensures room { self.new.room ≡ self.old.room }
+        ensures places { (other : PlaceSpec) → IsPlaceIn self.old other
+            → IsPlaceIn self.new other × (index_of self.new other ≡ index_of self.old other) }
+    {
+        set_in(
+            &mut self.blocks,
+            &mut self.heads,
+            place.block,
+            place.at,
+            gap,
+        );
+    }
+
+    /// Removes the gap at a place. Each lower place stays that of its gap.
+    pub(crate) fn remove(&mut self, place: Place)
+        requires place { IsPlaceIn self.old place }
+        requires within { index_of self.old place < length (gaps_in self.old) }
+        ensures gaps { gaps_in self.new ≡ remove (gaps_in self.old) (index_of self.old place) }
+        ensures room { self.new.room ≡ self.old.room }
+        ensures places { (other : PlaceSpec) → IsPlaceIn self.old other → index_of self.old other < index_of self.old place
+            → IsPlaceIn self.new other × (index_of self.new other ≡ index_of self.old other) }
+    {
+        if self.blocks.at(place.block).len() == 1 {
+            self.blocks.remove(place.block);
+            self.heads.remove(place.block);
+        } else {
+            remove_in(&mut self.blocks, &mut self.heads, place.block, place.at);
+        }
+    }
+
     /// Returns the lowest start at a multiple of `align` of `len` bytes in a gap, or `None` if there
     /// is none.
     pub(crate) fn first_fit(&self, len: u128, align: u64) -> Option<u64>
@@ -198,4 +234,104 @@ fn fit_in_group(
         }
     }
     None
+}
+
+/// Replaces the gap at a position in a block.
+fn set_in(blocks: &mut GapBlocks, heads: &mut Heads, block: usize, at: usize, gap: Span)
+    requires headed { AreHeaded blocks.old.blocks heads.old.heads }
+    requires within { block < length blocks.old.blocks }
+    requires inside { at < length (slice_index_or blocks.old.blocks block []) }
+    requires some { IsSomeBytes gap }
+    ensures blocks { blocks.new.blocks
+        ≡ slice_set blocks.old.blocks block (slice_set (slice_index_or blocks.old.blocks block []) at gap) }
+    ensures headed { AreHeaded blocks.new.blocks heads.new.heads }
+    ensures room { blocks.new.room ≡ blocks.old.room }
+    ensures heads_room { heads.new.room ≡ heads.old.room }
+{
+    let changed = blocks.at_mut(block);
+    let before = changed.at(at);
+    changed.set(at, gap);
+    let head = head_after(changed, heads.at(block), less(before), less(gap));
+    heads.set(block, head);
+}
+
+/// Removes the gap at a position in a block that has others.
+fn remove_in(blocks: &mut GapBlocks, heads: &mut Heads, block: usize, at: usize)
+    requires headed { AreHeaded blocks.old.blocks heads.old.heads }
+    requires within { block < length blocks.old.blocks }
+    requires inside { at < length (slice_index_or blocks.old.blocks block []) }
+    requires others { 1 < length (slice_index_or blocks.old.blocks block []) }
+    ensures blocks { blocks.new.blocks
+        ≡ slice_set blocks.old.blocks block (remove (slice_index_or blocks.old.blocks block []) at) }
+    ensures headed { AreHeaded blocks.new.blocks heads.new.heads }
+    ensures room { blocks.new.room ≡ blocks.old.room }
+    ensures heads_room { heads.new.room ≡ heads.old.room }
+{
+    let changed = blocks.at_mut(block);
+    let before = changed.at(at);
+    changed.remove(at);
+    let head = head_after(changed, heads.at(block), less(before), 0);
+    heads.set(block, head);
+}
+
+/// Inserts a gap at a position in a block that is not full.
+fn insert_in(blocks: &mut GapBlocks, heads: &mut Heads, block: usize, at: usize, gap: Span)
+    requires headed { AreHeaded blocks.old.blocks heads.old.heads }
+    requires within { block < length blocks.old.blocks }
+    requires inside { at ≤ length (slice_index_or blocks.old.blocks block []) }
+    requires fewer { length (slice_index_or blocks.old.blocks block []) < 64 }
+    requires some { IsSomeBytes gap }
+    ensures blocks { blocks.new.blocks
+        ≡ slice_set blocks.old.blocks block (insert (slice_index_or blocks.old.blocks block []) at gap) }
+    ensures headed { AreHeaded blocks.new.blocks heads.new.heads }
+    ensures room { blocks.new.room ≡ blocks.old.room }
+    ensures heads_room { heads.new.room ≡ heads.old.room }
+{
+    let changed = blocks.at_mut(block);
+    changed.insert(at, gap);
+    let head = head_after(changed, heads.at(block), 0, less(gap));
+    heads.set(block, head);
+}
+
+/// Returns the head of a block after a change: a gap of `added` bytes more than one was added, one of
+/// `gone` bytes more than one removed. The bound is recomputed only if the widest gap is gone.
+fn head_after(block: &GapBlock, head: Head, gone: u64, added: u64) -> Head
+    requires some { 0 < length block.now }
+    requires bound { All (IsAtMost (max head.bound added)) block.now }
+    ensures { IsHead block.now result }
+{
+    Head {
+        last: last_byte(block),
+        bound: bound_after(block, head.bound, gone, added),
+    }
+}
+
+/// Returns a bound of a block after a change, as in [`head_after`].
+fn bound_after(block: &GapBlock, bound: u64, gone: u64, added: u64) -> u64
+    requires { All (IsAtMost (max bound added)) block.now }
+    ensures { All (IsAtMost result) block.now }
+{
+    if added < bound && gone == bound {
+        block.widest()
+    } else {
+        bound.max(added)
+    }
+}
+
+/// Returns the address of the last byte of a block.
+fn last_byte(block: &GapBlock) -> u64
+    requires { 0 < length block.now }
+    ensures last { (d : SpanSpec) → result + 1 ≡ (slice_index_or block.now (length block.now - 1) d).top }
+    ensures few { length block.now ≤ 64 }
+{
+    (block.at(block.len() - 1).top - 1) as u64
+}
+
+/// Returns the number of bytes of a gap, except one.
+#[inline(always)]
+fn less(gap: Span) -> u64
+    requires { IsSomeBytes gap }
+    ensures { gap.base + result + 1 ≡ gap.top }
+{
+    (gap.top - 1) as u64 - gap.base
 }
