@@ -3,7 +3,7 @@ use Rattle.std.proofs.Common.{ℕ, zero, suc, ◌≡◌, ◌+◌, ◌-◌, ◌*�
 use Rattle.std.specs.List.{AllZip}
 use Rattle.std.proofs.lemmas.Bool.{cases_eq, cases_lt}
 use Rattle.std.proofs.lemmas.List.{append-nil, get_or_default, get_or-set_same, get_or-set_other, get_or_append_left, get_or-append-add, length-set, length-take-le, take-append-le, take-set-le, take-take, set-append_left, set-append_right, take_more, take_all}
-use Rattle.std.proofs.lemmas.List.Edits.{get_or-insert_at, get_or-remove_below, length-insert, length-remove, insert-append_left, insert-append_right, remove-append_left, remove-append_right}
+use Rattle.std.proofs.lemmas.List.Edits.{get_or-insert_above, get_or-insert_at, get_or-insert_below, get_or-remove_below, length-insert, length-remove, insert-append_left, insert-append_right, remove-append_left, remove-append_right}
 use Rattle.std.proofs.lemmas.List.Elements.{All-append, All-cons, All-drop, All-set, All-take, Contains-append_cases, Contains-append_left, Contains-append_right}
 use Rattle.std.proofs.lemmas.List.Quantifiers.{all_pairs_remove}
 use Rattle.std.proofs.lemmas.Option.{slice_get-get_or}
@@ -14,7 +14,7 @@ use Rattle.cc_placer.specs.declared.gap_heads.Head.{Head}
 use Rattle.cc_placer.specs.PlacerState.{IsSomeBytes}
 use Rattle.cc_placer.specs.Gaps.{AreGaps, FitsGap, IsFirstFit}
 use Rattle.cc_placer.specs.GapRowState.{IsPlaceAt, gaps_of, index_at}
-use Rattle.cc_placer.specs.GapRow.{AreHeaded, HaveNoFit, IsAtMost, IsGapRow, IsHead, IsLocated}
+use Rattle.cc_placer.specs.GapRow.{AreHeaded, HaveNoFit, IsAtMost, IsGapRow, IsHead, IsLocated, IsSplit}
 
 -- ---- Blocks and their heads.
 
@@ -643,3 +643,129 @@ row_insert blocks new heads new_heads most block_room head_room at gap row are f
   reserved = row.reserved;
   heads_reserved = row.heads_reserved;
 }
+
+-- ---- Blocks split and joined.
+
+split_below : (blocks : List (List Span)) (k : ℕ) (lower upper : List Span) → k < length blocks
+    → lower ++ upper ≡ get_or blocks k [] → length lower ≡ 32 → length upper ≡ 32
+    → IsSplit blocks k (insert (set blocks k lower) (suc k) upper)
+split_below [] k lower upper within both low high = absurd (omega arith)
+split_below (x ∷ xs) zero lower upper within both low high = record {
+  gaps = sym (append_assoc lower upper (gaps_of xs)) ∙ ap (λ (gs : List Span). gs ++ gaps_of xs) both;
+  before = refl;
+  lower = low;
+  upper = high;
+}
+split_below (x ∷ xs) (suc k) lower upper within both low high =
+    let rest = split_below xs k lower upper (omega (arith, within)) both low high in
+    record {
+      gaps = ap (λ (gs : List Span). x ++ gs) rest.gaps;
+      before = ap (λ (bs : List (List Span)). x ∷ bs) rest.before;
+      lower = rest.lower;
+      upper = let one : suc k + 1 ≡ suc (k + 1) = omega arith in rw one rest.upper;
+    }
+
+pub split_is : (blocks : List (List Span)) (k : ℕ) (b lower upper : List Span) → k < length blocks → b ≡ get_or blocks k b
+    → b ≡ lower ++ upper → length lower ≡ 32 → length upper ≡ 32
+    → IsSplit blocks k (insert (set blocks k lower) (k + 1) upper)
+split_is blocks k b lower upper within is both low high =
+    let one : k + 1 ≡ suc k = omega arith in
+    rw one (split_below blocks k lower upper within (sym both ∙ (is ∙ get_or_default blocks k b [] within)) low high)
+
+joined : (blocks : List (List Span)) (k : ℕ) → suc k < length blocks
+    → gaps_of (set (remove blocks (suc k)) k (get_or blocks k [] ++ get_or blocks (suc k) [])) ≡ gaps_of blocks
+joined [] k within = absurd (omega arith)
+joined (x ∷ []) k within = absurd (omega (arith, within))
+joined (x ∷ y ∷ xs) zero within = append_assoc x y (gaps_of xs)
+joined (x ∷ y ∷ xs) (suc k) within = ap (λ (gs : List Span). x ++ gs) (joined (y ∷ xs) k (omega (arith, within)))
+
+pub joined_is : (blocks : List (List Span)) (k : ℕ) (b upper new : List Span) → k + 1 < length blocks
+    → b ≡ get_or (remove blocks (k + 1)) k b → upper ≡ get_or blocks (k + 1) upper → new ≡ b ++ upper
+    → gaps_of (set (remove blocks (k + 1)) k new) ≡ gaps_of blocks
+joined_is blocks k b upper new within is high both =
+    let one : k + 1 ≡ suc k = omega arith in
+    let low = is ∙ (get_or-remove_below blocks (k + 1) b k (omega arith) within ∙ get_or_default blocks k b [] (omega (arith, within))) in
+    let up = high ∙ get_or_default blocks (k + 1) upper [] within in
+    rw (both, low, up, one) (joined blocks k (omega (arith, within)))
+
+pub crowded : (blocks : List (List Span))
+    → ((k : ℕ) → k + 1 < length blocks → 49 ≤ length (get_or blocks k []) + length (get_or blocks (k + 1) []))
+    → 49 * (length blocks / 2) ≤ length (gaps_of blocks)
+crowded [] pairs = omega arith
+crowded (x ∷ []) pairs = omega arith
+crowded (x ∷ y ∷ ys) pairs =
+    let first = pairs 0 (omega arith) in
+    let rest = crowded ys (λ k within.
+    let one : suc (suc k) + 1 ≡ suc (suc (k + 1)) = omega arith in
+    rw one at (pairs (suc (suc k)) (omega (arith, within)))) in
+    omega (arith, first, rest, length-append x (y ++ gaps_of ys), length-append y (gaps_of ys))
+
+-- the place of a gap to be inserted is the one that its base locates
+pub same_place : (gaps : List Span) (gap : Span) (at other : ℕ) → AreGaps (insert gaps at gap) → at ≤ length gaps
+    → AreGaps gaps → IsLocated gaps gap.base other → other ≡ at
+same_place gaps gap at other order within are located =
+    elim (cases_lt other at) [
+      | inl low ↦
+          let apart = order.apart other at gap low (omega (arith, within, length-insert gaps at gap within)) in
+          let here = get_or-insert_at gaps at gap gap within in
+          let before = get_or-insert_below gaps at gap gap other low within in
+          absurd (omega (
+            arith,
+            apart,
+            ap (λ (s : Span). s.base) here,
+            ap (λ (s : Span). s.top) before,
+            located.above gap (omega (arith, low, within)),
+          ))
+      | inr high ↦ elim (cases_eq other at) [
+        | inl same ↦ same
+        | inr more ↦
+            let inside : at < length gaps = omega (arith, high, more, located.within) in
+            let apart = order.apart at (at + 1) gap (omega arith) (omega (arith, inside, length-insert gaps at gap within)) in
+            let here = get_or-insert_at gaps at gap gap within in
+            let after = get_or-insert_above gaps at gap gap at (omega arith) within in
+            let some = are.some at gap inside in
+            let own = some_insert gaps at gap order within in
+            absurd (omega (
+              arith,
+              apart,
+              ap (λ (s : Span). s.top) here,
+              ap (λ (s : Span). s.base) after,
+              some.not_empty,
+              own.not_empty,
+              located.below at gap (omega (arith, high, more)),
+            ))
+      ]
+    ]
+
+-- a gap inserted into one of the halves
+pub split_insert_lower : (blocks new : List (List Span)) (k at : ℕ) (gap : Span) → IsSplit blocks k new → k < length new
+    → at ≤ 32 → gaps_of (set new k (insert (get_or new k []) at gap)) ≡ insert (gaps_of blocks) (index_at blocks k at) gap
+split_insert_lower blocks new k at gap is within low =
+    gaps_insert new k at gap within (omega (arith, low, is.lower))
+    ∙ rw (is.gaps, is.before) refl
+
+pub split_insert_upper : (blocks new : List (List Span)) (k at : ℕ) (gap : Span) → IsSplit blocks k new → k + 1 < length new
+    → 32 < at → at ≤ 64
+    → gaps_of (set new (k + 1) (insert (get_or new (k + 1) []) (at - 32) gap)) ≡ insert (gaps_of blocks) (index_at blocks k at) gap
+split_insert_upper blocks new k at gap is within high low =
+    let next = index_next new k [] (omega (arith, within)) in
+    let before = ap (λ (bs : List (List Span)). length (gaps_of bs)) is.before in
+    let same : index_at new (k + 1) (at - 32) ≡ index_at blocks k at = omega (arith, next, before, is.lower, high) in
+    gaps_insert new (k + 1) (at - 32) gap within (omega (arith, low, is.upper)) ∙ rw (is.gaps, same) refl
+
+-- the lower of two neighbors has gaps
+pub joined_head : (blocks : List (List Span)) (heads : List Head) (k : ℕ) (b : List Span) → AreHeaded blocks heads
+    → k + 1 < length blocks → b ≡ get_or (remove blocks (k + 1)) k b → 0 < length b
+joined_head blocks heads k b are within is =
+    let inside : k < length blocks = omega (arith, within) in
+    let head = head_of_block blocks heads k b (record { last = 0; bound = 0 }) are inside
+    (is ∙ get_or-remove_below blocks (k + 1) b k (omega arith) within) in
+    head.some
+
+-- the index of a place is at most the number of gaps
+pub place_most : (blocks : List (List Span)) (k at : ℕ) → IsPlaceAt blocks k at → index_at blocks k at ≤ length (gaps_of blocks)
+place_most blocks k at place =
+    elim (cases_lt k (length blocks)) [
+      | inl low ↦ let inside = index_inside blocks k at [] low (place.inside low) in omega (arith, inside)
+      | inr high ↦ omega (arith, place.end high, index_end blocks k high)
+    ]

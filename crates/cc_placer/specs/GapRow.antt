@@ -1,5 +1,5 @@
 -- The invariant of a row of gaps. No public clause cites this file.
-use Rattle.std.specs.Prelude.{ℕ, ◌≡◌, ◌+◌, ◌-◌, ◌/◌, ◌<◌, ◌≤◌, ◌^◌, List, All, length}
+use Rattle.std.specs.Prelude.{ℕ, ◌≡◌, ◌+◌, ◌-◌, ◌/◌, ◌<◌, ◌≤◌, ◌^◌, List, [], All, length, take}
 use Rattle.std.specs.List.{AllZip, slice_index_or}
 use Rattle.cc_bounds.specs.declared.span.Span.{Span}
 use Rattle.cc_placer.specs.declared.gap_heads.Head.{Head}
@@ -49,3 +49,11 @@ abbrev pub HaveNoFit : List (List Span) → (to size align : ℕ) → Type 0
 HaveNoFit blocks to size align =
     (at : ℕ) (d : List Span) (start : ℕ) → at < to → at < length blocks
     → ¬ FitsGap (slice_index_or blocks at d) size align start
+
+-- IsSplit holds if `new` is `blocks` with the upper half of the full block at a position in a block
+-- of its own.
+pub record IsSplit (blocks : List (List Span)) (at : ℕ) (new : List (List Span)) : Type 0 where
+  pub gaps : gaps_of new ≡ gaps_of blocks
+  pub before : take at new ≡ take at blocks
+  pub lower : length (slice_index_or new at []) ≡ 32
+  pub upper : length (slice_index_or new (at + 1) []) ≡ 32

@@ -6,7 +6,7 @@ ghost use Rattle.cc_placer.specs.declared.gap_place.Place.{Place as PlaceSpec};
 ghost use Rattle.cc_placer.specs.PlacerState.{IsSomeBytes};
 ghost use Rattle.cc_placer.specs.Gaps.{AreGaps, IsFirstFit};
 ghost use Rattle.cc_placer.specs.GapRowState.{IsPlaceAt, IsPlaceIn, gaps_in, gaps_of, index_at, index_of};
-ghost use Rattle.cc_placer.specs.GapRow.{AreHeaded, HaveNoFit, IsAtMost, IsHead, IsLocated};
+ghost use Rattle.cc_placer.specs.GapRow.{AreHeaded, HaveNoFit, IsAtMost, IsHead, IsLocated, IsSplit};
 
 use crate::gap_block::{GapBlock, HALF, MOST_GAPS};
 use crate::gap_blocks::GapBlocks;
@@ -112,6 +112,37 @@ impl GapRow {
             → IsPlaceIn self.new other × (index_of self.new other ≡ index_of self.old other) }
     {
         set_in(
+            &mut self.blocks,
+            &mut self.heads,
+            place.block,
+            place.at,
+            gap,
+        );
+    }
+
+    /// Inserts a gap before the one at a place. No place stays valid.
+    ///
+    /// If no further block fits, two neighbors are joined first.
+    pub(crate) fn insert(&mut self, place: Place, gap: Span)
+        requires place { IsPlaceIn self.old place }
+        requires order { AreGaps (insert (gaps_in self.old) (index_of self.old place) gap) }
+        requires room { length (gaps_in self.old) < self.old.room }
+        ensures gaps { gaps_in self.new ≡ insert (gaps_in self.old) (index_of self.old place) gap }
+        ensures room { self.new.room ≡ self.old.room }
+    {
+        if !self.blocks.is_full() {
+            insert_with_room(
+                &mut self.blocks,
+                &mut self.heads,
+                place.block,
+                place.at,
+                gap,
+            );
+            return;
+        }
+        join_two(&mut self.blocks, &mut self.heads);
+        let place = locate_in(&self.blocks, &self.heads, gap.base);
+        insert_with_room(
             &mut self.blocks,
             &mut self.heads,
             place.block,
@@ -334,4 +365,129 @@ fn less(gap: Span) -> u64
     ensures { gap.base + result + 1 ≡ gap.top }
 {
     (gap.top - 1) as u64 - gap.base
+}
+
+/// Inserts a gap before the one at a place, given that one more block fits.
+fn insert_with_room(blocks: &mut GapBlocks, heads: &mut Heads, block: usize, at: usize, gap: Span)
+    requires headed { AreHeaded blocks.old.blocks heads.old.heads }
+    requires place { IsPlaceAt blocks.old.blocks block at }
+    requires room { length blocks.old.blocks < blocks.old.room }
+    requires few { blocks.old.room ≤ 2 ^ 20 }
+    requires heads_room { heads.old.room ≡ blocks.old.room }
+    requires some { IsSomeBytes gap }
+    ensures gaps { gaps_of blocks.new.blocks ≡ insert (gaps_of blocks.old.blocks) (index_at blocks.old.blocks block at) gap }
+    ensures headed { AreHeaded blocks.new.blocks heads.new.heads }
+    ensures fits { length blocks.new.blocks ≤ blocks.new.room }
+    ensures room { blocks.new.room ≡ blocks.old.room }
+    ensures heads_room { heads.new.room ≡ heads.old.room }
+{
+    if block < blocks.len() {
+        insert_at(blocks, heads, block, at, gap);
+    } else if block > 0 {
+        let last = blocks.at(block - 1).len();
+        insert_at(blocks, heads, block - 1, last, gap);
+    } else {
+        let first = GapBlock::with_gap(gap);
+        heads.insert(0, head_of(&first));
+        blocks.insert(0, first);
+    }
+}
+
+/// Inserts a gap at a position in a block, or after its last, given that one more block fits.
+fn insert_at(blocks: &mut GapBlocks, heads: &mut Heads, block: usize, at: usize, gap: Span)
+    requires headed { AreHeaded blocks.old.blocks heads.old.heads }
+    requires within { block < length blocks.old.blocks }
+    requires inside { at ≤ length (slice_index_or blocks.old.blocks block []) }
+    requires room { length blocks.old.blocks < blocks.old.room }
+    requires few { blocks.old.room ≤ 2 ^ 20 }
+    requires heads_room { heads.old.room ≡ blocks.old.room }
+    requires some { IsSomeBytes gap }
+    ensures gaps { gaps_of blocks.new.blocks ≡ insert (gaps_of blocks.old.blocks) (index_at blocks.old.blocks block at) gap }
+    ensures headed { AreHeaded blocks.new.blocks heads.new.heads }
+    ensures fits { length blocks.new.blocks ≤ blocks.new.room }
+    ensures room { blocks.new.room ≡ blocks.old.room }
+    ensures heads_room { heads.new.room ≡ heads.old.room }
+{
+    if blocks.at(block).len() < MOST_GAPS {
+        insert_in(blocks, heads, block, at, gap);
+        return;
+    }
+    split(blocks, heads, block);
+    if at <= HALF {
+        insert_in(blocks, heads, block, at, gap);
+    } else {
+        insert_in(blocks, heads, block + 1, at - HALF, gap);
+    }
+}
+
+/// Moves the upper half of a full block to a block of its own, given that one more block fits.
+fn split(blocks: &mut GapBlocks, heads: &mut Heads, block: usize)
+    requires headed { AreHeaded blocks.old.blocks heads.old.heads }
+    requires within { block < length blocks.old.blocks }
+    requires full { length (slice_index_or blocks.old.blocks block []) ≡ 64 }
+    requires room { length blocks.old.blocks < blocks.old.room }
+    requires few { blocks.old.room ≤ 2 ^ 20 }
+    requires heads_room { heads.old.room ≡ blocks.old.room }
+    ensures split { IsSplit blocks.old.blocks block blocks.new.blocks }
+    ensures headed { AreHeaded blocks.new.blocks heads.new.heads }
+    ensures len { length blocks.new.blocks ≡ length blocks.old.blocks + 1 }
+    ensures room { blocks.new.room ≡ blocks.old.room }
+    ensures heads_room { heads.new.room ≡ heads.old.room }
+{
+    let lower = blocks.at_mut(block);
+    let upper = lower.split();
+    heads.set(block, head_of(lower));
+    heads.insert(block + 1, head_of(&upper));
+    blocks.insert(block + 1, upper);
+}
+
+/// Joins the first two neighbors that have at most `JOINED_GAPS` gaps together.
+///
+/// Requires: so few gaps for the number of blocks that there are such neighbors.
+fn join_two(blocks: &mut GapBlocks, heads: &mut Heads)
+    requires headed { AreHeaded blocks.old.blocks heads.old.heads }
+    requires few { length blocks.old.blocks ≤ 2 ^ 20 }
+    requires many { length (gaps_of blocks.old.blocks) < 49 * (length blocks.old.blocks / 2) }
+    ensures gaps { gaps_of blocks.new.blocks ≡ gaps_of blocks.old.blocks }
+    ensures headed { AreHeaded blocks.new.blocks heads.new.heads }
+    ensures len { length blocks.new.blocks + 1 ≡ length blocks.old.blocks }
+    ensures room { blocks.new.room ≡ blocks.old.room }
+    ensures heads_room { heads.new.room ≡ heads.old.room }
+{
+    let Some(at) = small_pair(blocks) else {
+        unreachable!()
+    };
+    let upper = blocks.remove(at + 1);
+    heads.remove(at + 1);
+    let block = blocks.at_mut(at);
+    block.take_in(&upper);
+    heads.set(at, head_of(block));
+}
+
+/// Returns the position of the lower of the first two neighbors that have at most `JOINED_GAPS` gaps
+/// together.
+fn small_pair(blocks: &GapBlocks) -> Option<usize>
+    ensures some { IfSome result (λ at. at + 1 < length blocks.now.blocks) }
+    ensures few { IfSome result (λ at. length (slice_index_or blocks.now.blocks at [])
+        + length (slice_index_or blocks.now.blocks (at + 1) []) ≤ 48) }
+    ensures none { IfNone result ((k : ℕ) → k + 1 < length blocks.now.blocks
+        → 49 ≤ length (slice_index_or blocks.now.blocks k []) + length (slice_index_or blocks.now.blocks (k + 1) [])) }
+{
+    for upper in 1..blocks.len() {
+        if blocks.at(upper - 1).len() + blocks.at(upper).len() <= JOINED_GAPS {
+            return Some(upper - 1);
+        }
+    }
+    None
+}
+
+/// Returns the head of a block.
+fn head_of(block: &GapBlock) -> Head
+    requires { 0 < length block.now }
+    ensures { IsHead block.now result }
+{
+    Head {
+        last: last_byte(block),
+        bound: block.widest(),
+    }
 }
