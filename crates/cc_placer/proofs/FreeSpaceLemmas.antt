@@ -7,7 +7,7 @@ use Rattle.cc_bounds.specs.declared.span.Span.{Span}
 use Rattle.cc_bounds.specs.Span.{HasByte, IsWithin, span_from}
 use Rattle.cc_placer.specs.Placement.{IsApartFrom, IsPlace, IsRoom}
 use Rattle.cc_placer.specs.Gaps.{AreGaps, FitsGap, IsFirstFit}
-use Rattle.cc_placer.specs.FreeSpace.{AreGapsOf, bytes_at, count_at}
+use Rattle.cc_placer.specs.FreeSpace.{AreGapsOf, LiesInGap, bytes_at, count_at}
 use Rattle.cc_placer.proofs.PlacementLemmas.{at_most_unless_above}
 
 -- a span of a list that has a byte is counted there
@@ -102,13 +102,6 @@ free_byte pool held gaps span address are inside apart has =
       | inr none ↦ omega (arith, none)
     ] in
     omega (arith, are.each address, none, inside.from_base, inside.to_top, has.from_base, has.below_top)
-
--- a span lies within the gap at a position
-pub record LiesInGap (gaps : List Span) (span : Span) : Type 0 where
-  pub at : ℕ
-  pub within : at < length gaps
-  pub from_base : (d : Span) → (get_or gaps at d).base ≤ span.base
-  pub to_top : (d : Span) → span.top ≤ (get_or gaps at d).top
 
 -- a span in the pool that is apart from the held ones lies within one gap
 pub lies_in_gap : (pool : Span) (held gaps : List Span) (span : Span) → AreGapsOf pool held gaps → IsWithin span pool

@@ -2,7 +2,7 @@
 use Rattle.std.proofs.Common.{ℕ, zero, suc, ◌≡◌, ◌≢◌, ◌+◌, ◌-◌, ◌<◌, ◌≤◌, max, min, List, ◌∷◌, Some, None, Contains, length, get_or, slice_get, insert, remove, set, sum_by, arith, refl, ◌∙◌, sym, ap, inl, inr}
 use Rattle.std.proofs.lemmas.Bool.{cases_lt}
 use Rattle.std.proofs.lemmas.List.{get_or_default, get_or-set_same, get_or-set_other, length-set}
-use Rattle.std.proofs.lemmas.Option.{get_or_from_slice_get, slice_get-get_or}
+use Rattle.std.proofs.lemmas.Option.{get_or_from_slice_get, slice_get-get_or, slice_get_within}
 use Rattle.std.proofs.lemmas.List.Edits.{get_or-remove_above, get_or-remove_below, length-remove}
 use Rattle.std.proofs.lemmas.List.Elements.{All-cons, All-set, All-tail, Contains-get_or}
 use Rattle.std.proofs.lemmas.List.Quantifiers.{all_pairs_remove}
@@ -13,10 +13,10 @@ use Rattle.cc_bounds.specs.Span.{IsWithin}
 use Rattle.cc_placer.specs.Placement.{AddsSpan, IsApartFrom, RemovesSpan}
 use Rattle.cc_placer.specs.PlacerState.{IsSomeBytes}
 use Rattle.cc_placer.specs.Gaps.{AreGaps}
-use Rattle.cc_placer.specs.FreeSpace.{AddsBytes, AreGapsOf, bytes_at, count_at}
+use Rattle.cc_placer.specs.FreeSpace.{AddsBytes, AreGapsOf, LiesInGap, bytes_at, count_at}
 use Rattle.cc_placer.proofs.PlacementLemmas.{at_most_unless_above}
 use Rattle.cc_placer.proofs.SortedLemmas.{insert_related}
-use Rattle.cc_placer.proofs.FreeSpaceLemmas.{HasOne, LiesInGap, counted, counted_contained, gap_in_pool, never_both, none_at_top, one_counted}
+use Rattle.cc_placer.proofs.FreeSpaceLemmas.{HasOne, counted, counted_contained, gap_in_pool, never_both, none_at_top, one_counted}
 
 -- ---- Order.
 
@@ -268,6 +268,33 @@ gaps_split gaps i gap span lower upper are it low_from low_to high_from high_to 
           rw (same, get_or-set_same gaps i upper d it.within) (omega (arith, low_to, high_from, it.some))
     ])
 
+-- ---- The row after a change has the gaps that were said.
+
+pub gaps_after : (new gaps : List Span) → new ≡ gaps → AreGaps gaps → AreGaps new
+gaps_after new gaps is are = rw is are
+
+pub gaps_inserted_after : (new gaps : List Span) (i j : ℕ) (span : Span) → new ≡ gaps → j ≡ i
+    → AreGaps (insert gaps i span) → AreGaps (insert new j span)
+gaps_inserted_after new gaps i j span is at are = rw (is, at) are
+
+pub gaps_set_after : (new gaps : List Span) (i j : ℕ) (span : Span) → new ≡ gaps → j ≡ i
+    → AreGaps (set gaps i span) → AreGaps (set new j span)
+gaps_set_after new gaps i j span is at are = rw (is, at) are
+
+pub inserted_after : (last new gaps : List Span) (i j : ℕ) (span : Span) → last ≡ insert new j span → new ≡ gaps → j ≡ i
+    → last ≡ insert gaps i span
+inserted_after last new gaps i j span last_is is at = rw (← is, ← at) last_is
+
+pub set_after : (last new gaps : List Span) (i j : ℕ) (span : Span) → last ≡ set new j span → new ≡ gaps → j ≡ i
+    → last ≡ set gaps i span
+set_after last new gaps i j span last_is is at = rw (← is, ← at) last_is
+
+pub taken_after : (new gaps old : List Span) (span : Span) → new ≡ gaps → AddsBytes gaps span old → AddsBytes new span old
+taken_after new gaps old span is bytes = rw is bytes
+
+pub given_after : (new gaps old : List Span) (span : Span) → new ≡ gaps → AddsBytes old span gaps → AddsBytes old span new
+given_after new gaps old span is bytes = rw is bytes
+
 -- ---- A span comes back.
 
 -- the gaps before a position end at the base of a span or below, and the others begin at its top or above
@@ -459,6 +486,25 @@ given_both gaps b i base top span joined are next low high some from to address 
       from,
       to,
     )
+
+-- what was read of the gaps next to a place
+pub touches_none_below : (gaps : List Span) (i : ℕ) (span : Span) (top : ℕ) → top ≡ span.base → i ≤ length gaps
+    → ((k : ℕ) (gap : Span) → k + 1 ≡ i → slice_get gaps k ≡ Some gap → gap.top ≢ top)
+    → TouchesNoneBelow gaps i span
+touches_none_below gaps i span top top_is within none k d next touches =
+    none k (get_or gaps k d) next (slice_get-get_or gaps k d (omega arith)) (touches ∙ sym top_is)
+
+pub touches_none_above : (gaps : List Span) (i : ℕ) (span : Span)
+    → ((gap : Span) → slice_get gaps i ≡ Some gap → gap.base ≢ span.top) → TouchesNoneAbove gaps i span
+touches_none_above gaps i span none d within = none (get_or gaps i d) (slice_get-get_or gaps i d within)
+
+pub ends_read : (gaps : List Span) (i base top : ℕ) (gap : Span) → slice_get gaps i ≡ Some gap → gap.base ≡ base
+    → gap.top ≡ top → HasEnds gaps i base top
+ends_read gaps i base top gap read base_is top_is = record {
+  within = slice_get_within gaps i gap read;
+  base_is = λ d. ap (λ (s : Span). s.base) (get_or_from_slice_get gaps i gap d read) ∙ base_is;
+  top_is = λ d. ap (λ (s : Span). s.top) (get_or_from_slice_get gaps i gap d read) ∙ top_is;
+}
 
 -- ---- Held spans.
 

@@ -1,6 +1,5 @@
 -- A row of gaps: its blocks and heads, and its gaps one after another.
-use Rattle.std.proofs.Common.{ℕ, zero, suc, ◌≡◌, ◌+◌, ◌-◌, ◌*◌, ◌/◌, ◌%◌, ◌^◌, ◌<◌, ◌≤◌, max, ◌⊎◌, Option, Some, None, List, [], ◌∷◌, ◌++◌, All, Contains, slice_get, length, take, drop, get_or, set, insert, remove, arith, refl, sym, ap, subst, ◌∙◌, inl, inr, append_assoc, length-append}
-use Rattle.std.specs.List.{AllZip}
+use Rattle.std.proofs.Common.{ℕ, zero, suc, ◌≡◌, ◌+◌, ◌-◌, ◌*◌, ◌/◌, ◌^◌, ◌<◌, ◌≤◌, max, ◌⊎◌, Some, None, List, [], ◌∷◌, ◌++◌, All, Contains, slice_get, length, take, drop, get_or, set, insert, remove, arith, refl, sym, ap, subst, ◌∙◌, inl, inr, append_assoc, length-append}
 use Rattle.std.proofs.lemmas.Bool.{cases_eq, cases_lt}
 use Rattle.std.proofs.lemmas.List.{append-nil, get_or_default, get_or-set_same, get_or-set_other, get_or_append_left, get_or-append-add, length-set, length-take-le, take-append-le, take-set-le, take-take, set-append_left, set-append_right, take_more, take_all}
 use Rattle.std.proofs.lemmas.List.Edits.{get_or-insert_above, get_or-insert_at, get_or-insert_below, get_or-remove_below, length-insert, length-remove, insert-append_left, insert-append_right, remove-append_left, remove-append_right}
@@ -9,7 +8,6 @@ use Rattle.std.proofs.lemmas.List.Quantifiers.{all_pairs_remove}
 use Rattle.std.proofs.lemmas.Option.{slice_get-get_or}
 use Rattle.std.proofs.lemmas.List.Concat.{flat_map-append, get_or-flat_map}
 use Rattle.cc_bounds.specs.declared.span.Span.{Span}
-use Rattle.cc_bounds.specs.Span.{IsWithin, span_from}
 use Rattle.cc_placer.specs.declared.gap_heads.Head.{Head}
 use Rattle.cc_placer.specs.PlacerState.{IsSomeBytes}
 use Rattle.cc_placer.specs.Gaps.{AreGaps, FitsGap, IsFirstFit}

@@ -14,3 +14,4 @@ pub mod GapChangeLemmas
 pub mod GapBlocksLemmas
 pub mod GapFitLemmas
 pub mod GapRowLemmas
+pub mod GapPlacerLemmas

@@ -1,5 +1,6 @@
 -- The free space of a pool next to held spans. No public clause cites this file.
-use Rattle.std.specs.Prelude.{ℕ, ◌≡◌, ◌+◌, ◌-◌, ◌<◌, max, min, List, All, sum_by}
+use Rattle.std.specs.Prelude.{ℕ, ◌≡◌, ◌+◌, ◌-◌, ◌<◌, ◌≤◌, max, min, List, All, length, sum_by}
+use Rattle.std.specs.List.{slice_index_or}
 use Rattle.cc_bounds.specs.declared.span.Span.{Span}
 use Rattle.cc_placer.specs.Gaps.{AreGaps}
 
@@ -23,3 +24,10 @@ pub record AreGapsOf (pool : Span) (held gaps : List Span) : Type 0 where
 -- equally often.
 abbrev pub AddsBytes : (fewer : List Span) → Span → (more : List Span) → Type 0
 AddsBytes fewer span more = (address : ℕ) → count_at address more ≡ count_at address fewer + bytes_at address span
+
+-- LiesInGap holds if the span lies within the gap at position `at`.
+pub record LiesInGap (gaps : List Span) (span : Span) : Type 0 where
+  pub at : ℕ
+  pub within : at < length gaps
+  pub from_base : (d : Span) → (slice_index_or gaps at d).base ≤ span.base
+  pub to_top : (d : Span) → span.top ≤ (slice_index_or gaps at d).top

@@ -1,5 +1,5 @@
 -- The heads of blocks of gaps, in groups of 16 with a bound each. No public clause cites this file.
-use Rattle.std.specs.Prelude.{ℕ, ◌+◌, ◌*◌, ◌/◌, ◌<◌, ◌≤◌, List, length}
+use Rattle.std.specs.Prelude.{ℕ, ◌*◌, ◌/◌, ◌<◌, ◌≤◌, List, length}
 use Rattle.std.specs.List.{slice_index_or}
 use Rattle.cc_placer.specs.declared.gap_heads.Head.{Head}
 

@@ -20,3 +20,4 @@ pub mod GapLends
 pub mod GapHeadsState
 pub mod GapHeads
 pub mod GapRow
+pub mod GapPlacer

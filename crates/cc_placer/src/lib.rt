@@ -11,6 +11,7 @@ mod gap_blocks;
 mod gap_heads;
 mod gap_place;
 mod gap_row;
+mod gaps;
 mod groups;
 mod placer;
 mod position;
@@ -20,6 +21,7 @@ mod scan;
 mod sorted;
 
 pub use blocks::BlockPlacer;
+pub use gaps::GapPlacer;
 pub use placer::Placer;
 pub use rounding::round_up;
 pub use scan::ScanPlacer;

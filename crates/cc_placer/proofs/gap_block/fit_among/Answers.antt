@@ -1,6 +1,5 @@
-use Rattle.std.proofs.Common.{arith, ap, ◌+◌, ◌∙◌, ◌≡◌, get_or}
-use Rattle.cc_bounds.specs.declared.span.Span.{Span}
-use Rattle.cc_placer.proofs.GapFitLemmas.{first_at, none_fit}
+use Rattle.std.proofs.Common.{◌+◌}
+use Rattle.cc_placer.proofs.GapFitLemmas.{first_at}
 use Rattle.cc_placer.proofs.gap_block.fit_among.Goals as goal
 
 pub returns-in-Some : goal.returns-in-Some

@@ -1,4 +1,4 @@
-use Rattle.std.proofs.Common.{arith, ◌+◌, ◌*◌, ◌≡◌}
+use Rattle.std.proofs.Common.{arith, ◌*◌}
 use Rattle.cc_placer.proofs.GapRowLemmas.{headed_length, none_in, none_in_group}
 use Rattle.cc_placer.proofs.gap_row.fit_in.Goals.{then-group_bound-less+in_default, else-group_bound-less}
 use Rattle.cc_placer.proofs.gap_row.fit_in.Goals as goal

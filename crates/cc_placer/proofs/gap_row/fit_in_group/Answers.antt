@@ -1,4 +1,4 @@
-use Rattle.std.proofs.Common.{arith, length, ◌<◌, ◌≡◌}
+use Rattle.std.proofs.Common.{arith}
 use Rattle.cc_placer.proofs.GapRowLemmas.{found_read, gaps_of_read, headed_length, none_narrow, none_read}
 use Rattle.cc_placer.proofs.gap_row.fit_in_group.Goals.{then-at-less+in_default, else-at-less}
 use Rattle.cc_placer.proofs.gap_row.fit_in_group.Goals as goal

@@ -1,6 +1,4 @@
-use Rattle.std.proofs.Common.{arith, [], ap, ◌∙◌, ◌≡◌, ◌+◌, ◌-◌, ◌<◌, ◌≤◌, insert, length, get_or, List, sym}
-use Rattle.cc_bounds.specs.declared.span.Span.{Span}
-use Rattle.cc_placer.specs.GapRowState.{gaps_of, index_at}
+use Rattle.std.proofs.Common.{arith, []}
 use Rattle.cc_placer.proofs.GapRowLemmas.{gaps_insert, length_of_block, split_insert_lower, split_insert_upper}
 use Rattle.cc_placer.proofs.gap_row.insert_at.Goals as goal
 

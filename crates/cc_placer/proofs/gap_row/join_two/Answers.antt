@@ -1,6 +1,5 @@
-use Rattle.std.proofs.Common.{rules, arith, [], ap, ◌∙◌, ◌≡◌, ◌+◌, ◌<◌, ◌≤◌, get_or, length, length-append, remove}
-use Rattle.std.proofs.lemmas.List.{get_or_default}
-use Rattle.std.proofs.lemmas.List.Edits.{get_or-remove_below, length-remove}
+use Rattle.std.proofs.Common.{arith, ◌+◌, length-append, remove}
+use Rattle.std.proofs.lemmas.List.Edits.{length-remove}
 use Rattle.cc_placer.proofs.GapRowLemmas.{crowded, headed_length, headed_remove, headed_set, joined_head, joined_is}
 use Rattle.cc_placer.proofs.gap_row.join_two.Goals as goal
 

@@ -1,4 +1,4 @@
-use Rattle.std.proofs.Common.{arith, [], ◌+◌, length, set}
+use Rattle.std.proofs.Common.{arith, ◌+◌, set}
 use Rattle.std.proofs.lemmas.List.{length-set}
 use Rattle.cc_placer.proofs.GapRowLemmas.{headed_insert, headed_length, headed_set, split_is}
 use Rattle.cc_placer.proofs.gap_row.split.Goals as goal

@@ -1,5 +1,4 @@
-use Rattle.std.proofs.Common.{arith, ap, sym, ◌∙◌, ◌≡◌, drop, List, take-append-drop}
-use Rattle.cc_bounds.specs.declared.span.Span.{Span}
+use Rattle.std.proofs.Common.{sym, ◌∙◌, ◌≡◌, drop, take-append-drop}
 use Rattle.cc_placer.proofs.BlockLemmas.{upper_half}
 use Rattle.cc_placer.proofs.gap_block.GapBlock.split.Goals as goal
 

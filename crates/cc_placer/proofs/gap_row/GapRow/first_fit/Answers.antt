@@ -1,5 +1,4 @@
-use Rattle.std.proofs.Common.{rules, arith, ap, ◌+◌, ◌^◌, ◌<◌, ◌≡◌}
-use Rattle.cc_placer.specs.GapRowState.{GapRowState}
+use Rattle.std.proofs.Common.{rules, ◌+◌, ◌^◌, ◌<◌, ◌≡◌}
 use Rattle.cc_placer.proofs.GapRowLemmas.{too_long}
 use Rattle.cc_placer.proofs.gap_row.GapRow.first_fit.Goals as goal
 

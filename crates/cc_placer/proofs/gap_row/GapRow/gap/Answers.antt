@@ -1,6 +1,5 @@
-use Rattle.std.proofs.Common.{arith, ap, sym, [], ◌∙◌, ◌≡◌, ◌<◌, length, get_or}
-use Rattle.std.proofs.lemmas.Option.{slice_get-get_or}
-use Rattle.cc_placer.specs.GapRowState.{GapRowState, gaps_of, index_at}
+use Rattle.std.proofs.Common.{arith, ap, sym, length}
+use Rattle.cc_placer.specs.GapRowState.{GapRowState}
 use Rattle.cc_placer.proofs.GapRowLemmas.{gap_read}
 use Rattle.cc_placer.proofs.gap_row.GapRow.gap.Goals as goal
 

@@ -1,8 +1,5 @@
-use Rattle.std.proofs.Common.{arith, ap, ◌∙◌, ◌≡◌, ◌≤◌, sym, length, insert, subst, List}
-use Rattle.cc_bounds.specs.declared.span.Span.{Span}
+use Rattle.std.proofs.Common.{arith, ap, length}
 use Rattle.cc_placer.specs.GapRowState.{GapRowState, gaps_of, index_at}
-use Rattle.cc_placer.specs.Gaps.{AreGaps}
-use Rattle.cc_placer.specs.GapRow.{IsLocated}
 use Rattle.cc_placer.proofs.GapRowLemmas.{place_most, row_insert, same_place, some_insert}
 use Rattle.cc_placer.proofs.gap_row.GapRow.insert.Goals as goal
 

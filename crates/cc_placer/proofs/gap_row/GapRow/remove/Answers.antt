@@ -1,7 +1,7 @@
-use Rattle.std.proofs.Common.{arith, ap, length, remove, set, get_or, [], ◌<◌, ◌≡◌}
+use Rattle.std.proofs.Common.{arith, ap, length, remove, get_or, [], ◌≡◌}
 use Rattle.std.proofs.lemmas.List.{length-set}
 use Rattle.std.proofs.lemmas.List.Edits.{length-remove}
-use Rattle.cc_placer.specs.GapRowState.{GapRowState, gaps_of, index_at}
+use Rattle.cc_placer.specs.GapRowState.{GapRowState, index_at}
 use Rattle.cc_placer.proofs.GapRowLemmas.{gaps_remove, gaps_remove_block, headed_length, headed_remove, length_of_block, place_within, places_removed, places_without, row_without}
 use Rattle.cc_placer.proofs.gap_row.GapRow.remove.Goals as goal
 

@@ -1,6 +1,6 @@
-use Rattle.std.proofs.Common.{arith, ap, length, set, get_or, [], ◌<◌}
+use Rattle.std.proofs.Common.{ap}
 use Rattle.std.proofs.lemmas.List.{length-set}
-use Rattle.cc_placer.specs.GapRowState.{GapRowState, gaps_of, index_at}
+use Rattle.cc_placer.specs.GapRowState.{GapRowState, index_at}
 use Rattle.cc_placer.proofs.GapRowLemmas.{gaps_set, place_within, places_set, row_set, some_set}
 use Rattle.cc_placer.proofs.gap_row.GapRow.set.Goals as goal
 
