@@ -23,26 +23,24 @@ room_inside (Some pool) held size align place start some room is =
 
 pub hold-requires-clause-in_pool : goal.hold-requires-clause-in_pool
 hold-requires-clause-in_pool g c =
+    let (spans, may) = c.requires.held in
     rw (c.from-2.ensures, c.from-3.ensures)
-    (room_inside c.args.placer.now.pool c.args.placer.now.held c.args.len 1 c.room.result c.expect-start.result c.requires.pool
-    (rw c.from.ensures at c.room.ensures c.args.placer.now.held (IsPermutation-refl c.args.placer.now.held)) c.expect-start.ensures)
+    (room_inside c.args.placer.now.pool spans c.args.len c.max-align.result c.room.result c.expect-start.result c.requires.pool
+    (rw c.from.ensures at c.room.ensures spans may) c.expect-start.ensures)
 
 pub hold-requires-clause-apart : goal.hold-requires-clause-apart
-hold-requires-clause-apart g c = (
-  c.args.placer.now.held,
-  IsPermutation-refl c.args.placer.now.held,
-  rw (c.from-2.ensures, c.from-3.ensures)
-      (room_apart c.args.placer.now.pool c.args.placer.now.held c.args.len 1 c.room.result c.expect-start.result c.requires.pool
-      (rw c.from.ensures at c.room.ensures c.args.placer.now.held (IsPermutation-refl c.args.placer.now.held)) c.expect-start.ensures),
-  omega (arith, c.count.ensures c.args.placer.now.held (IsPermutation-refl c.args.placer.now.held), c.requires.limit),
-)
+hold-requires-clause-apart g c =
+    let (spans, may) = c.requires.held in (
+      spans,
+      may,
+      rw (c.from-2.ensures, c.from-3.ensures) (room_apart c.args.placer.now.pool spans c.args.len c.max-align.result c.room.result c.expect-start.result c.requires.pool
+          (rw c.from.ensures at c.room.ensures spans may) c.expect-start.ensures),
+      omega (arith, c.count.ensures spans may, c.requires.limit),
+    )
 
 pub returns-clause-held : goal.returns-clause-held
-returns-clause-held g c =
-    let apart : IsApartFrom c.args.placer.now.held (record { base = c.expect-start.result; top = c.from-2.result + c.from-3.result }) = rw (c.from-2.ensures, c.from-3.ensures)
-    (room_apart c.args.placer.now.pool c.args.placer.now.held c.args.len 1 c.room.result c.expect-start.result c.requires.pool
-    (rw c.from.ensures at c.room.ensures c.args.placer.now.held (IsPermutation-refl c.args.placer.now.held)) c.expect-start.ensures) in
-    IsPermutation-sym _ _ (c.hold.ensures.held c.args.placer.now.held _
-    (IsPermutation-refl c.args.placer.now.held) apart
-    (omega (arith, c.count.ensures c.args.placer.now.held (IsPermutation-refl c.args.placer.now.held), c.requires.limit))
-    (IsPermutation-refl _))
+returns-clause-held g c spans more may adds =
+    let apart : IsApartFrom spans (record { base = c.expect-start.result; top = c.from-2.result + c.from-3.result })
+    = rw (c.from-2.ensures, c.from-3.ensures) (room_apart c.args.placer.now.pool spans c.args.len c.max-align.result c.room.result c.expect-start.result c.requires.pool
+    (rw c.from.ensures at c.room.ensures spans may) c.expect-start.ensures) in
+    c.hold.ensures.held spans more may apart (omega (arith, c.count.ensures spans may, c.requires.limit)) adds
