@@ -9,7 +9,7 @@ use crate::slot::Slot;
 use cc_bounds::{Align, Len};
 use cc_cap::Cap;
 use cc_ops::{Op, Reply};
-use cc_plan::{BlockPlacer, ObjectId, Planner};
+use cc_plan::{GapPlacer, ObjectId, Planner};
 use cc_word::Refusal;
 use std::alloc::{AllocError, Global};
 use std::marker::Model;
@@ -29,7 +29,7 @@ pub struct Machine {
     limit: u32,
     slots: Vec<Slot>,
     pool: Option<u32>,
-    planner: Planner<BlockPlacer>,
+    planner: Planner<GapPlacer>,
     /// The slot of each object, in the order of their numbers.
     object_slots: Vec<u32>,
     /// The number of slots that belong to each object, at the object's number. At 0 it is the
@@ -178,7 +178,7 @@ impl Machine {
 
     /// Returns the planner. It has the pool and all objects with their bounds, and its placer holds
     /// the bounds of the held ones.
-    pub fn planner(&self) -> &Planner<BlockPlacer>
+    pub fn planner(&self) -> &Planner<GapPlacer>
         ensures plan { result.now ≡ plan_of self.now }
         ensures held { HaveSameSpans (planned_spans result.now.objects) (held_spans self.now) }
     {

@@ -1,10 +1,10 @@
 pub mod PlacementLemmas
+pub mod SameSpansLemmas
 pub mod SortedLemmas
-pub mod RoomLemmas
-pub mod ChainLemmas
-pub mod BlockLemmas
-pub mod BlockRowLemmas
-pub mod RowLemmas
-pub mod GapLemmas
-pub mod GroupLemmas
 pub mod SearchLemmas
+pub mod FreeSpaceLemmas
+pub mod GapChangeLemmas
+pub mod GapBlocksLemmas
+pub mod GapFitLemmas
+pub mod GapRowLemmas
+pub mod GapPlacerLemmas

@@ -1,5 +1,5 @@
 -- Spans in order: the gaps between them, and the position of a span among them.
-use Rattle.std.proofs.Common.{ℕ, ◌≡◌, ◌+◌, ◌-◌, ◌<◌, ◌≤◌, List, ◌∷◌, All, Contains, length, get_or, max, arith, ◌∙◌, sym, ap, inl, inr, insert, remove}
+use Rattle.std.proofs.Common.{ℕ, ◌≡◌, ◌+◌, ◌-◌, ◌<◌, ◌≤◌, List, ◌∷◌, All, AllPairs, Contains, length, get_or, max, arith, ◌∙◌, sym, ap, inl, inr, insert, remove}
 use Rattle.std.proofs.lemmas.Bool.{cases_lt}
 use Rattle.std.proofs.lemmas.List.{get_or_default}
 use Rattle.std.proofs.lemmas.List.Edits.{length-insert, get_or-insert_below, get_or-insert_at, get_or-insert_above}
@@ -108,20 +108,20 @@ beside one other =
       | inr most ↦ elim (cases_lt other one) [ inl less ↦ higher less | inr least ↦ same (omega arith) ]
     ]
 
--- spans stay in order if one is inserted after those that end at or below its base, and before
--- those that begin at or above its top
-pub insert_in_order : (spans : List Span) (position : ℕ) (span : Span) → AreInOrder spans → position ≤ length spans
-    → ((k : ℕ) (d : Span) → k < position → (get_or spans k d).top ≤ span.base)
-    → ((k : ℕ) (d : Span) → position ≤ k → k < length spans → span.top ≤ (get_or spans k d).base)
-    → AreInOrder (insert spans position span)
-insert_in_order spans position span order fits below above i j d less within = by_cases (beside i position)
+-- spans of which each stands in a relation to each later one still do with one more that does
+pub insert_related : (R : Span → Span → Type 0) (spans : List Span) (position : ℕ) (span : Span) → AllPairs R spans
+    → position ≤ length spans
+    → ((k : ℕ) (d : Span) → k < position → R (get_or spans k d) span)
+    → ((k : ℕ) (d : Span) → position ≤ k → k < length spans → R span (get_or spans k d))
+    → AllPairs R (insert spans position span)
+insert_related R spans position span order fits below above i j d less within = by_cases (beside i position)
     (beside j position)
   where
     long : j < length spans + 1
     long = rw (← length-insert spans position span fits) within
 
-    by_cases : Beside i position → Beside j position → (get_or (insert spans position span) i d).top ≤ (get_or
-        (insert spans position span) j d).base
+    by_cases : Beside i position → Beside j position → R (get_or (insert spans position span) i d) (get_or
+        (insert spans position span) j d)
     by_cases (lower first) (lower second) =
         rw (
           get_or-insert_below spans position span d i first fits,
@@ -151,6 +151,14 @@ insert_in_order spans position span order fits below above i j d less within = b
     by_cases (same first) (same second) = absurd (omega arith)
     by_cases (higher first) (lower second) = absurd (omega arith)
     by_cases (higher first) (same second) = absurd (omega arith)
+
+-- spans stay in order if one is inserted after those that end at or below its base, and before
+-- those that begin at or above its top
+pub insert_in_order : (spans : List Span) (position : ℕ) (span : Span) → AreInOrder spans → position ≤ length spans
+    → ((k : ℕ) (d : Span) → k < position → (get_or spans k d).top ≤ span.base)
+    → ((k : ℕ) (d : Span) → position ≤ k → k < length spans → span.top ≤ (get_or spans k d).base)
+    → AreInOrder (insert spans position span)
+insert_in_order = insert_related (λ span later. span.top ≤ later.base)
 
 -- what a sorted placer keeps of its spans
 pub record AreKept (spans : List Span) : Type 0 where

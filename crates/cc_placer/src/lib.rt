@@ -2,19 +2,19 @@
 //! to them.
 #![tactic(auto)]
 
-mod block;
-mod block_row;
-mod blocks;
-mod gap;
-mod groups;
+mod gap_block;
+mod gap_blocks;
+mod gap_heads;
+mod gap_place;
+mod gap_row;
+mod gaps;
 mod placer;
 mod position;
 mod rounding;
-mod row;
 mod scan;
 mod sorted;
 
-pub use blocks::BlockPlacer;
+pub use gaps::GapPlacer;
 pub use placer::Placer;
 pub use rounding::round_up;
 pub use scan::ScanPlacer;

@@ -5,7 +5,7 @@ ghost use Rattle.cc_plan.specs.Replay.{IsWithinLimit};
 use super::{Pool, with_pool};
 use PlanCall::{Alloc, Free, Sweep};
 use cc_plan::{
-    Align, BlockPlacer, ObjectId, Placer, PlanCall, PlanReply, Planner, ScanPlacer, SortedPlacer,
+    Align, GapPlacer, ObjectId, Placer, PlanCall, PlanReply, Planner, ScanPlacer, SortedPlacer,
     plan_run,
 };
 use cc_word::Refusal;
@@ -16,7 +16,7 @@ use std::alloc::Global;
 struct Planners {
     scanning: Planner<ScanPlacer>,
     sorted: Planner<SortedPlacer>,
-    blocks: Planner<BlockPlacer>,
+    gaps: Planner<GapPlacer>,
 }
 
 impl Planners {
@@ -24,7 +24,7 @@ impl Planners {
         Some(Planners {
             scanning: with_pool(alloc, 400, pool)?,
             sorted: with_pool(alloc, 400, pool)?,
-            blocks: with_pool(alloc, 400, pool)?,
+            gaps: with_pool(alloc, 400, pool)?,
         })
     }
 
@@ -34,8 +34,8 @@ impl Planners {
     {
         let scanned = reply(&mut self.scanning, call);
         let sorted = reply(&mut self.sorted, call);
-        let blocks = reply(&mut self.blocks, call);
-        if sorted == scanned && blocks == scanned && self.hold_alike() {
+        let gaps = reply(&mut self.gaps, call);
+        if sorted == scanned && gaps == scanned && self.hold_alike() {
             Some(scanned)
         } else {
             None
@@ -46,8 +46,8 @@ impl Planners {
     /// of spans.
     fn hold_alike(&self) -> bool {
         self.sorted.held_bytes() == self.scanning.held_bytes()
-            && self.blocks.held_bytes() == self.scanning.held_bytes()
-            && self.blocks.placer().count() == self.scanning.placer().count()
+            && self.gaps.held_bytes() == self.scanning.held_bytes()
+            && self.gaps.placer().count() == self.scanning.placer().count()
     }
 
     fn sweep(&mut self) -> bool {
@@ -190,5 +190,5 @@ fn runs<P: Placer>(alloc: Global) -> bool {
 fn run_of_calls(rt: HostRuntime) {
     assert!(rt; runs::<ScanPlacer>(rt.alloc()));
     assert!(rt; runs::<SortedPlacer>(rt.alloc()));
-    assert!(rt; runs::<BlockPlacer>(rt.alloc()));
+    assert!(rt; runs::<GapPlacer>(rt.alloc()));
 }

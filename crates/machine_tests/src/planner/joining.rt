@@ -1,23 +1,31 @@
-//! A placer without a planner: if no spare block is left, two blocks of one span are joined.
-ghost use Rattle.std.specs.Prelude.{◌≡◌, ◌<◌, IsSome};
+//! A placer without a planner: if no further block of gaps is available, two blocks of one gap are
+//! joined.
+ghost use Rattle.std.specs.Prelude.{◌≡◌, ◌<◌, List, IsSome};
+ghost use Rattle.cc_bounds.specs.declared.span.Span.{Span as SpanSpec};
 ghost use Rattle.cc_placer.specs.Placement.{AddsSpan};
+ghost use Rattle.cc_placer.specs.GapPlacer.{MayHold};
 
 use cc_bounds::Span;
-use cc_plan::{BlockPlacer, Placer};
+use cc_plan::{GapPlacer, Placer};
 use std::process::Abort;
 use std::test::Fail;
 
-/// Holds `len` bytes at the lowest place for them.
-fn hold_least(rt: &impl Abort, placer: &mut BlockPlacer, len: u64) -> Span
+/// Holds `len` bytes at the lowest place for them at a multiple of twice as many.
+fn hold_least(rt: &impl Abort, placer: &mut GapPlacer, len: u64) -> Span
     requires some { 0 < len }
     requires pool { IsSome placer.old.pool }
     requires limit { placer.old.limit ≡ 100 }
+    requires held { (spans : List SpanSpec) × MayHold placer.old spans }
     ensures pool { placer.new.pool ≡ placer.old.pool }
     ensures limit { placer.new.limit ≡ placer.old.limit }
-    ensures held { AddsSpan placer.old.held result placer.new.held }
+    ensures held { (spans more : List SpanSpec) → MayHold placer.old spans → AddsSpan spans result more
+        → MayHold placer.new more }
 {
     assert!(rt; placer.count() < 100);
-    let start = placer.room(u128::from(len), 1).expect(rt, "there is room");
+    let align = len.wrapping_mul(2).max(1);
+    let start = placer
+        .room(u128::from(len), align)
+        .expect(rt, "there is room");
     let span = Span {
         base: start,
         top: u128::from(start) + u128::from(len),
@@ -28,13 +36,15 @@ fn hold_least(rt: &impl Abort, placer: &mut BlockPlacer, len: u64) -> Span
 
 /// Holds a span and `more` above it, each of `len` bytes, then releases all except the last, and
 /// returns that.
-fn keep_last(rt: &impl Abort, placer: &mut BlockPlacer, len: u64, more: u32) -> Span
+fn keep_last(rt: &impl Abort, placer: &mut GapPlacer, len: u64, more: u32) -> Span
     requires some { 0 < len }
     requires pool { IsSome placer.old.pool }
     requires limit { placer.old.limit ≡ 100 }
+    requires held { (spans : List SpanSpec) × MayHold placer.old spans }
     ensures pool { placer.new.pool ≡ placer.old.pool }
     ensures limit { placer.new.limit ≡ placer.old.limit }
-    ensures held { AddsSpan placer.old.held result placer.new.held }
+    ensures held { (spans more : List SpanSpec) → MayHold placer.old spans → AddsSpan spans result more
+        → MayHold placer.new more }
 {
     let span = hold_least(rt, placer, len);
     if more == 0 {
@@ -45,24 +55,22 @@ fn keep_last(rt: &impl Abort, placer: &mut BlockPlacer, len: u64, more: u32) -> 
     kept
 }
 
-/// Lengths in bytes. Each is more than 56 times the one before, so no span of it has a place in a
-/// hole for 56 of those.
-const LENGTHS: [u64; 8] = [
-    1,
-    1 << 6,
-    1 << 12,
-    1 << 18,
-    1 << 24,
-    1 << 30,
-    1 << 36,
-    1 << 42,
-];
+/// Lengths in bytes. Each is 256 times the one before, so no span of it has a place in a hole that
+/// 69 spans of those leave.
+const LENGTHS: [u64; 7] = [1, 1 << 8, 1 << 16, 1 << 24, 1 << 32, 1 << 40, 1 << 48];
 
-/// Keeps one span of each length, above a hole for 56, which begins at the lowest place for such a
+/// Returns the lowest multiple of twice `len`, a power of two, that is at least `end`.
+fn first_start(end: u64, len: u64) -> u64 {
+    let mask = len.wrapping_mul(2).wrapping_sub(1);
+    end.wrapping_add(mask) & !mask
+}
+
+/// Keeps one span of each length, above a hole for 69, which begins at the lowest place for such a
 /// span.
-fn leaves_one_of_each(rt: &impl Abort, placer: &mut BlockPlacer) -> bool
+fn leaves_one_of_each(rt: &impl Abort, placer: &mut GapPlacer) -> bool
     requires pool { IsSome placer.old.pool }
     requires limit { placer.old.limit ≡ 100 }
+    requires held { (spans : List SpanSpec) × MayHold placer.old spans }
     ensures pool { IsSome placer.new.pool }
 {
     let mut end = 0u64;
@@ -70,10 +78,9 @@ fn leaves_one_of_each(rt: &impl Abort, placer: &mut BlockPlacer) -> bool
         if *len == 0 {
             return false;
         }
-        let kept = keep_last(rt, placer, *len, 56);
-        if kept.base != end.wrapping_add(len.wrapping_mul(56))
-            || placer.room(u128::from(*len), 1) != Some(end)
-        {
+        let first = first_start(end, *len);
+        let kept = keep_last(rt, placer, *len, 69);
+        if kept.base != first.wrapping_add(len.wrapping_mul(138)) {
             return false;
         }
         end = kept.base.wrapping_add(*len);
@@ -81,26 +88,31 @@ fn leaves_one_of_each(rt: &impl Abort, placer: &mut BlockPlacer) -> bool
     true
 }
 
-/// Each of these holes is the lowest place for a span of its length, and eight spans are held.
-fn has_holes(placer: &BlockPlacer) -> bool
+/// Each of these holes is the lowest place for a span of its length, and seven spans are held.
+fn has_holes(placer: &GapPlacer) -> bool
     requires pool { IsSome placer.now.pool }
 {
     let mut end = 0u64;
     for len in &LENGTHS {
-        let hole = len.wrapping_mul(56);
-        if hole == 0 || placer.room(u128::from(hole), 1) != Some(end) {
+        let align = len.wrapping_mul(2);
+        if *len == 0 || align == 0 {
             return false;
         }
-        end = end.wrapping_add(len.wrapping_mul(57));
+        let first = first_start(end, *len);
+        if placer.room(u128::from(*len), align) != Some(first) {
+            return false;
+        }
+        end = first.wrapping_add(len.wrapping_mul(139));
     }
-    placer.count() == 8
+    placer.count() == 7
 }
 
-/// There are six blocks for 100 spans, and each length leaves a block of one span. So the sixth
-/// length requires that two of them are joined.
+/// There are six blocks for the gaps of 100 spans. 70 spans of each length leave a gap after each,
+/// which needs one block more, and when all except the last are released, a block of one gap stays.
+/// So no block is left at the fifth length, and two of them are joined.
 #[test]
-fn blocks_of_one_span_are_joined(rt: HostRuntime) -> Result<(), Fail> {
-    let mut placer = BlockPlacer::with_limit(rt.alloc(), 100)?;
+fn blocks_of_one_gap_are_joined(rt: HostRuntime) -> Result<(), Fail> {
+    let mut placer = GapPlacer::with_limit(rt.alloc(), 100)?;
     placer.set_pool(Span {
         base: 0,
         top: 1 << 64,

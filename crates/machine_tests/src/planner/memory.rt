@@ -1,7 +1,7 @@
 //! Placers and planners are created at the second attempt if an allocation failed at the first. In
 //! an ordinary run none fails; `tests/opening` lets each allocation of these tests fail in turn.
 use super::pool;
-use cc_plan::{BlockPlacer, ObjectId, Placer, Planner, ScanPlacer, SortedPlacer};
+use cc_plan::{GapPlacer, ObjectId, Placer, Planner, ScanPlacer, SortedPlacer};
 use std::alloc::{AllocError, Global};
 use std::process::Abort;
 
@@ -59,6 +59,6 @@ fn sorted_placer_opens_again(rt: HostRuntime) {
 }
 
 #[test]
-fn block_placer_opens_again(rt: HostRuntime) {
-    check_opening::<BlockPlacer>(&rt, rt.alloc(), 16);
+fn gap_placer_opens_again(rt: HostRuntime) {
+    check_opening::<GapPlacer>(&rt, rt.alloc(), 16);
 }

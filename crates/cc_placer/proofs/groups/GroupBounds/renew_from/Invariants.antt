@@ -1,7 +1,0 @@
-use Rattle.std.proofs.Common.{◌*◌, length}
-use Rattle.cc_placer.specs.Groups.{AreCoveredBut}
-use Rattle.cc_placer.proofs.groups.GroupBounds.renew_from.Given as goal
-
--- the blocks of the groups so far are covered, and those below them
-abbrev pub invariant-loop-group : goal.invariant-loop-group
-invariant-loop-group l = AreCoveredBut (32 * l.group) (length l.row.blocks) l.row.blocks l.self
