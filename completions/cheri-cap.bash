@@ -13,7 +13,7 @@ _cheri_cap() {
     map) options+=' --slots --align --svg' ;;
     decode) options+=' --format --bytes' ;;
     show) options+=' --line' ;;
-    explain) options+=' --length --base' ;;
+    explain) options+=' --svg --length --base' ;;
     round) ;;
     *) return ;;
   esac

@@ -82,6 +82,9 @@ void check_bounds(const row &it, word cap)
         expect(cap.keeps_bounds(address) == (moved.base() == bounds.base() && moved.top() == bounds.top()), it.name,
                "keeps_bounds");
     }
+    expect(cap.length() == bounds.length(), it.name, "length");
+    expect(cap.granule() == (hexadecimal(it.ie) == 1 ? UINT64_C(8) << bounds.exponent() : 1), it.name, "granule");
+    expect(cap.is_canonical() == (cap.defect() == cheri::defect::none), it.name, "defect");
     if (!cap.is_canonical())
         return;
     const std::optional<cheri_cap_granted> granted = cheri::grant(bounds.base(), bounds.length());
@@ -95,6 +98,39 @@ void check_bounds(const row &it, word cap)
            "all its bytes");
     expect(bounds.top() == cheri::address_space || !bounds.contains(bounds.top().low), it.name, "the byte after them");
     expect(!bounds.contains(UINT64_MAX, 2), it.name, "an access that wraps around");
+}
+
+// Checks the ends of the window against the addresses that keep the bounds.
+void check_window(const row &it, word cap)
+{
+    const cheri::window window = cap.window();
+    const std::uint64_t first = window.first(), last = window.last();
+    const bool is_all = first == 0 && last == UINT64_MAX;
+    expect(window.raw().first == first && window.raw().last == last, it.name, "the window's ends");
+    expect(window.contains(first) && window.contains(last), it.name, "the window has its ends");
+    expect(window.contains(first - 1) == is_all && window.contains(last + 1) == is_all, it.name, "and no more");
+    for (const std::uint64_t address : {first, first - 1, last, last + 1, cap.address(), ~cap.address()})
+        expect(window.contains(address) == cap.keeps_bounds(address), it.name, "the window keeps the bounds");
+}
+
+// Checks the reasons why words are not canonical, and the bytes that requests lose.
+void check_measures()
+{
+    using cheri::defect;
+    cheri_cap_fields fields = word::root().fields();
+    fields.reserved = 1;
+    expect(word(fields).defect() == defect::reserved_bits, "defects", "reserved bits");
+    expect(word::root().with_type(CHERI_CAP_OTYPE_SENTRY).defect() == defect::type, "defects", "type");
+    constexpr std::pair<const char *, defect> rows[] = {
+        {"ffff0000000030070000000000000000", defect::order},
+        {"ffff00000441bf04ffffffffffffff00", defect::top},
+        {"ffff0000000000010000000000000000", defect::fields},
+    };
+    for (const auto &[digits, why] : rows)
+        expect(word::parse(digits)->defect() == why, digits, "defect");
+    const std::optional<cheri_cap_excess> lost = cheri::lost(1, 8184);
+    expect(lost && lost->before == 1 && lost->after == 7, "8184 bytes from 1", "lost");
+    expect(!cheri::lost(1, cheri::address_space) && !cheri::lost(0, u128(1, 1)), "above 2^64", "lost");
 }
 
 void check_text(const row &it, word cap)
@@ -277,13 +313,14 @@ int main(int argc, char **argv)
         const std::optional<word> read = word::parse(it.word);
         expect(read.has_value(), it.name, "a word");
         words.push_back(read.value_or(word()));
-        for (auto check : {check_fields, check_bounds, check_text, check_changed, check_rules})
+        for (auto check : {check_fields, check_bounds, check_window, check_text, check_changed, check_rules})
             check(it, words.back());
     }
     expect(words.size() >= 24, argv[1], "too few rows");
     check_many(words);
     check_lengths();
     check_results();
+    check_measures();
     std::printf("%zu rows, %u failures\n", words.size(), failures);
     return failures != 0;
 }

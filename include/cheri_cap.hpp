@@ -78,6 +78,16 @@ enum class refusal : std::uint8_t {
     return cheri_cap_refusal_name(static_cast<std::uint8_t>(why));
 }
 
+/* The reasons why a word is not canonical, and none. cheri_cap.h says what each means. */
+enum class defect : std::uint8_t {
+    none = CHERI_CAP_DEFECT_NONE,
+    reserved_bits = CHERI_CAP_DEFECT_RESERVED_BITS,
+    type = CHERI_CAP_DEFECT_TYPE,
+    order = CHERI_CAP_DEFECT_ORDER,
+    top = CHERI_CAP_DEFECT_TOP,
+    fields = CHERI_CAP_DEFECT_FIELDS,
+};
+
 /* The order of bytes in memory. */
 enum class byte_order : bool { little, big };
 
@@ -114,6 +124,27 @@ public:
 
 private:
     cheri_cap_bounds decoded_;
+};
+
+/* The window of a word: the addresses from the first up to the last, through 2^64 - 1 to 0 if the last is below. */
+class window {
+public:
+    explicit constexpr window(const cheri_cap_ends &ends) noexcept : ends_(ends) {}
+
+    [[nodiscard]] constexpr std::uint64_t first() const noexcept { return ends_.first; }
+    [[nodiscard]] constexpr std::uint64_t last() const noexcept { return ends_.last; }
+
+    /* Returns whether the address is in the window, as word::keeps_bounds does. */
+    [[nodiscard]] constexpr bool contains(std::uint64_t address) const noexcept
+    {
+        return address - ends_.first <= ends_.last - ends_.first;
+    }
+
+    /* The struct of C. */
+    [[nodiscard]] constexpr const cheri_cap_ends &raw() const noexcept { return ends_; }
+
+private:
+    cheri_cap_ends ends_;
 };
 
 /* The one-line form of a word, in a buffer of fixed size. */
@@ -213,10 +244,29 @@ public:
     /* Returns the base, the top and the exponent: cheri_cap_decode. */
     [[nodiscard]] cheri::bounds bounds() const noexcept { return cheri::bounds(cheri_cap_decode(high(), low())); }
 
+    /* Returns the top minus the base, modulo 2^128 if the top is below the base: cheri_cap_word_length. */
+    [[nodiscard]] u128 length() const noexcept
+    {
+        const cheri_cap_u128 length = cheri_cap_word_length(high(), low());
+        return {length.high, length.low};
+    }
+
+    /* Returns the granule in bytes, the unit in which the bounds are stored: cheri_cap_word_granule. */
+    [[nodiscard]] std::uint64_t granule() const noexcept { return cheri_cap_word_granule(high(), low()); }
+
+    /* Returns the window: the addresses for which keeps_bounds returns true. */
+    [[nodiscard]] cheri::window window() const noexcept { return cheri::window(cheri_cap_window(high(), low())); }
+
     /* Returns the address minus the base, modulo 2^64. */
     [[nodiscard]] std::uint64_t offset() const noexcept { return address() - bounds().base(); }
 
     [[nodiscard]] bool is_canonical() const noexcept { return cheri_cap_is_canonical(high(), low()); }
+
+    /* Returns the first reason why the word is not canonical, or `defect::none` if it is. */
+    [[nodiscard]] cheri::defect defect() const noexcept
+    {
+        return static_cast<cheri::defect>(cheri_cap_defect(high(), low()));
+    }
     [[nodiscard]] bool represents(std::uint64_t address) const noexcept
     {
         return cheri_cap_represents(high(), low(), address);
@@ -365,6 +415,13 @@ inline result word::rebuild(word untagged) const noexcept
 {
     const cheri_cap_granted granted = cheri_cap_set_bounds(base, length.high, length.low);
     return granted.in_range ? std::optional<cheri_cap_granted>(granted) : std::nullopt;
+}
+
+/* Returns the bytes that are granted before and after a request, or nothing if base + length is above 2^64. */
+[[nodiscard]] inline std::optional<cheri_cap_excess> lost(std::uint64_t base, u128 length) noexcept
+{
+    const cheri_cap_excess excess = cheri_cap_lost(base, length.high, length.low);
+    return excess.in_range ? std::optional<cheri_cap_excess>(excess) : std::nullopt;
 }
 
 /* Returns the granule of a length in bytes, or nothing above 2^64. */

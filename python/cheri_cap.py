@@ -51,6 +51,7 @@ from typing import (
     SupportsIndex,
     Tuple,
     Type,
+    TypeVar,
     Union,
     overload,
 )
@@ -59,6 +60,7 @@ if TYPE_CHECKING:
     from _typeshed import ReadableBuffer
 
 __all__ = [
+    "DEFECTS",
     "LAST_SEALING",
     "PERMISSIONS",
     "REFUSALS",
@@ -67,20 +69,25 @@ __all__ = [
     "VERSION",
     "Bounds",
     "Capability",
+    "Excess",
     "Fields",
     "Granted",
     "ManyBounds",
     "Refusal",
+    "Window",
     "alignment_mask",
     "decode_many",
     "find_holding",
     "grant",
     "granule",
     "is_canonical_many",
+    "lost",
     "mask_of",
     "represents_many",
     "round_length",
 ]
+
+_Results = TypeVar("_Results")
 
 #: The byte order of memory.
 ByteOrder = Literal["little", "big"]
@@ -121,6 +128,9 @@ REFUSALS = {
     15: "canonical",
     16: "exceeds",
 }
+
+#: The reasons why a word is not canonical: their codes and names. The header says what each means.
+DEFECTS = {1: "reserved_bits", 2: "type", 3: "order", 4: "top", 5: "fields"}
 
 #: The object type of a capability that is not sealed.
 UNSEALED = 0x3FFFF
@@ -172,6 +182,14 @@ class _Granted(ctypes.Structure):
     ]
 
 
+class _Ends(ctypes.Structure):
+    _fields_ = [("first", c_uint64), ("last", c_uint64)]
+
+
+class _Excess(ctypes.Structure):
+    _fields_ = [("before", c_uint64), ("after", c_uint64), ("in_range", c_bool)]
+
+
 class _Read(ctypes.Structure):
     _fields_ = [("high", c_uint64), ("low", c_uint64), ("found", c_bool)]
 
@@ -190,8 +208,13 @@ _CALLS: Dict[str, Tuple[Any, List[Any]]] = {
     "unpack": (_Fields, _WORD),
     "pack": (_Halves, [_Fields]),
     "is_canonical": (c_bool, _WORD),
+    "defect": (c_uint8, _WORD),
     "decode": (_Bounds, _WORD),
+    "word_length": (_Halves, _WORD),
+    "word_granule": (c_uint64, _WORD),
+    "window": (_Ends, _WORD),
     "set_bounds": (_Granted, [c_uint64, *_WORD]),
+    "lost": (_Excess, [c_uint64, *_WORD]),
     "represents": (c_bool, [*_WORD, c_uint64]),
     "keeps_bounds": (c_bool, [*_WORD, c_uint64]),
     "granule": (c_uint64, _WORD),
@@ -264,6 +287,11 @@ def _length(number: SupportsIndex) -> Tuple[int, int]:
     return _halves(number, 2**64, "a length")
 
 
+def _above(base: SupportsIndex, length: SupportsIndex) -> ValueError:
+    """Returns the error of a request that ends above 2**64."""
+    return ValueError(f"{index(length):#x} bytes from {index(base):#x} end above 2**64")
+
+
 class Refusal(Exception):
     """The refusal of a derivation: `code`, a number, and `name`, one of `REFUSALS`."""
 
@@ -323,6 +351,24 @@ class Granted(NamedTuple):
     ie: bool
     t: int
     b: int
+
+
+class Window(NamedTuple):
+    """The window of a word: the addresses from the first up to the last, through 2**64 - 1 to 0 if the last is below."""
+
+    #: the first address
+    first: int
+    #: the last address
+    last: int
+
+
+class Excess(NamedTuple):
+    """The numbers of bytes that a request is granted before and after its own."""
+
+    #: the granted bytes below the base of the request
+    before: int
+    #: the granted bytes from its top on
+    after: int
 
 
 class Capability:
@@ -471,12 +517,33 @@ class Capability:
         """The number of bytes in the bounds, 0 to 2**64.
 
         It is 0 if the top is below the base, which no canonical word has."""
-        return max(self.top - self.base, 0)
+        if self.top < self.base:
+            return 0
+        length = _calls["word_length"](*self._halves())
+        return int(length.high << 64 | length.low)
+
+    @property
+    def granule(self) -> int:
+        """The unit in bytes in which the word stores the ends of its bounds: 1, or 2**(exponent + 3) with the bit IE."""
+        return int(_calls["word_granule"](*self._halves()))
+
+    @property
+    def window(self) -> Window:
+        """The addresses at which the word decodes to the same bounds, those for which `keeps_bounds` returns True.
+
+        It is from 0 to 2**64 - 1 if that is every address."""
+        ends = _calls["window"](*self._halves())
+        return Window(ends.first, ends.last)
 
     @property
     def is_canonical(self) -> bool:
         """Whether the word is that of a capability which derivation creates, sealed or not."""
         return bool(_calls["is_canonical"](*self._halves()))
+
+    @property
+    def defect(self) -> Optional[str]:
+        """The first reason why the word is not canonical, one of the names of `DEFECTS`, or None if it is."""
+        return DEFECTS.get(_calls["defect"](*self._halves()))
 
     def holds(self, address: SupportsIndex) -> bool:
         """Returns whether the bounds contain the byte at the address. `ADDRESS in CAPABILITY` says the same."""
@@ -653,9 +720,19 @@ def grant(base: SupportsIndex, length: SupportsIndex) -> Granted:
     Errors: ValueError if these end above 2**64."""
     found = _calls["set_bounds"](_address(base), *_length(length))
     if not found.in_range:
-        raise ValueError(f"{index(length):#x} bytes from {index(base):#x} end above 2**64")
+        raise _above(base, length)
     top = found.top_high << 64 | found.top_low
     return Granted(found.base, top, found.exponent, found.exact, found.ie, found.t, found.b)
+
+
+def lost(base: SupportsIndex, length: SupportsIndex) -> Excess:
+    """Returns the numbers of bytes that a request for `length` bytes from `base` is granted before and after these.
+
+    Errors: ValueError if the request ends above 2**64."""
+    found = _calls["lost"](_address(base), *_length(length))
+    if not found.in_range:
+        raise _above(base, length)
+    return Excess(found.before, found.after)
 
 
 def granule(length: SupportsIndex) -> int:
@@ -764,26 +841,32 @@ def _empty_bounds(count: int) -> "array[int]":
     return array("Q", bytes(ctypes.sizeof(_Bounds))) * count
 
 
+def _filled(
+    words: "ReadableBuffer",
+    byteorder: ByteOrder,
+    empty: Callable[[int], _Results],
+    fill: Callable[[_Results, int, int, "array[int]"], None],
+) -> _Results:
+    """Returns the results for the words of a buffer: those of `empty`, into which `fill` writes piece by piece."""
+    data = _bytes_of(words)
+    results = empty(data.nbytes // _WORD_SIZE)
+    for piece in _pieces(data, byteorder):
+        fill(results, *piece)
+    return results
+
+
 def decode_many(words: "ReadableBuffer", byteorder: ByteOrder = "little") -> ManyBounds:
     """Returns the bounds of each word of a buffer, canonical or not.
 
     Errors: ValueError for a buffer whose size is not a multiple of 16 bytes."""
-    data = _bytes_of(words)
-    results = _empty_bounds(data.nbytes // _WORD_SIZE)
-    for piece in _pieces(data, byteorder):
-        _decode_into(results, *piece)
-    return ManyBounds(results)
+    return ManyBounds(_filled(words, byteorder, _empty_bounds, _decode_into))
 
 
 def is_canonical_many(words: "ReadableBuffer", byteorder: ByteOrder = "little") -> memoryview:
     """Returns whether each word of a buffer is canonical: a memoryview of bools, which numpy takes as a mask.
 
     Errors: ValueError for a buffer whose size is not a multiple of 16 bytes."""
-    data = _bytes_of(words)
-    results = bytearray(data.nbytes // _WORD_SIZE)
-    for piece in _pieces(data, byteorder):
-        _is_canonical_into(results, *piece)
-    return memoryview(results).cast("?")
+    return memoryview(_filled(words, byteorder, bytearray, _is_canonical_into)).cast("?")
 
 
 def represents_many(

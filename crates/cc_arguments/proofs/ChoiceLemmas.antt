@@ -13,16 +13,19 @@ use Rattle.cc_arguments.specs.Invocation.{choice_fault, choice_fault_in, faults_
 
 -- ---- the values of `explain`
 
--- WORD excludes the options.
-pub word_alone : (size base : Option Text) → choice_fault true (is_some size) (is_some base) ≡ None → (size ≡ None) × (base ≡ None)
-word_alone None None e = (refl, refl)
-word_alone None (Some text) e = cc e
-word_alone (Some text) base e = cc e
+-- WORD excludes the options of a length.
+pub word_alone : (size base : Option Text) (svg : Bool) → choice_fault true (is_some size) (is_some base) svg ≡ None
+    → (size ≡ None) × (base ≡ None)
+word_alone None None svg e = (refl, refl)
+word_alone None (Some text) svg e = cc e
+word_alone (Some text) base svg e = cc e
 
--- Without WORD, `--length` is required.
-pub length_wanted : (size base : Option Text) → choice_fault false (is_some size) (is_some base) ≡ None → (text : Text) × (size ≡ Some text)
-length_wanted None base e = cc e
-length_wanted (Some text) base e = (text, refl)
+-- Without WORD, `--length` is required, and excludes `--svg`.
+pub length_wanted : (size base : Option Text) (svg : Bool) → choice_fault false (is_some size) (is_some base) svg ≡ None
+    → ((text : Text) × (size ≡ Some text)) × (svg ≡ false)
+length_wanted None base svg e = cc e
+length_wanted (Some text) base true e = cc e
+length_wanted (Some text) base false e = ((text, refl), refl)
 
 -- The default of a text that is not given.
 pub text_or : (given : Option (Bor Text)) (other : Bor Text)

@@ -256,8 +256,14 @@ module _ (aligns : Bor (List (Bor Text))) (are : texts aligns.now ≡ codes "1" 
 
   explain_gives : GiveValues explain.rules explain.rules
   explain_gives = (
-    set_gives explain.rules _ refl refl refl refl,
-    (set_gives explain.rules _ refl refl refl refl, (set_gives explain.rules _ refl refl refl refl, (help_gives explain.rules, tt))),
+    flag_gives explain.rules _ refl refl refl refl refl,
+    (
+      set_gives explain.rules _ refl refl refl refl,
+      (
+        set_gives explain.rules _ refl refl refl refl,
+        (set_gives explain.rules _ refl refl refl refl, (help_gives explain.rules, tt)),
+      ),
+    ),
   )
 
   run_gives : GiveValues run.rules run.rules

@@ -1,5 +1,5 @@
 -- The command lines that are accepted, and the command that each asks for.
-use Rattle.std.specs.Prelude.{cond, ◌≡◌, ◌≤◌, ◌⊎◌, ◌↔◌, ◌&&◌, ◌||◌, ℕ, Bool, IsTrue, not, List, [], ◌∷◌, Option, Some, None, IfSome, IsSome, is_some, codes, option_map, unwrap_or, if◌then◌else◌}
+use Rattle.std.specs.Prelude.{cond, true, false, ◌≡◌, ◌≤◌, ◌⊎◌, ◌↔◌, ◌&&◌, ◌||◌, ℕ, Bool, IsTrue, not, List, [], ◌∷◌, Option, Some, None, IfSome, IsSome, is_some, codes, option_map, unwrap_or, if◌then◌else◌}
 use Rattle.std.specs.Borrow.{Bor}
 use Rattle.std.specs.Option.{option_map_or}
 use Rattle.std.specs.Str.{bytes_eq}
@@ -21,7 +21,7 @@ use Rattle.cc_decode.specs.declared.format.Format.TheVariants as format
 use Rattle.cc_arguments.specs.declared.invocation.Invocation.{Invocation}
 use Rattle.cc_arguments.specs.declared.invocation.Invocation.TheVariants.{Ask, Decode, Map, Plan, Run}
 use Rattle.cc_arguments.specs.declared.question.Question.{Question}
-use Rattle.cc_arguments.specs.declared.question.Question.TheVariants.{Explain, ExplainLength, Round, Show}
+use Rattle.cc_arguments.specs.declared.question.Question.TheVariants.{DrawWindow, Explain, ExplainLength, Round, Show}
 
 -- ---- the command and the values that clap found
 
@@ -60,10 +60,15 @@ input_named text = if bytes_eq text (codes "little") then Some (Bytes Little) el
 abbrev pub IsGiven : (value : Option Text) → Bool → Type 0
 IsGiven value given = IsTrue given ↔ (value ≡ Some (codes "true"))
 
+-- Whether the value of an option without one is `true`, which clap has if the option was given.
+abbrev pub is_on : (value : Option Text) → Bool
+is_on value = option_map_or (λ text. bytes_eq text (codes "true")) value false
+
 -- The name of the command that asks the question.
 abbrev pub question_command : Question → Text
 question_command (Show word as_line) = codes "show"
 question_command (Explain word) = codes "explain"
+question_command (DrawWindow word) = codes "explain"
 question_command (ExplainLength base size) = codes "explain"
 question_command (Round size) = codes "round"
 
@@ -83,15 +88,20 @@ HasPool rows pool = (first_of (codes "base") rows ≡ Some pool.base.now) × (fi
 abbrev pub HasFile : List Row → Option (Bor Text) → Type 0
 HasFile rows file = first_of (codes "file") rows ≡ option_map (λ text. text.now) file
 
+-- `HasWordAlone` holds if WORD has this value, and `--length` and `--base` have none.
+abbrev pub HasWordAlone : List Row → (word : Text) → Type 0
+HasWordAlone rows word =
+    (first_of (codes "word") rows ≡ Some word) × (first_of (codes "length") rows ≡ None) × (first_of (codes "base") rows ≡ None)
+
 -- `HasTexts` holds if the texts of the question are the values that clap found. The arguments of `explain` that the
 -- question has no text for have no value, and a missing `--base` is `0`.
 abbrev pub HasTexts : List Row → Question → Type 0
 HasTexts rows (Show word as_line) = (first_of (codes "word") rows ≡ Some word.now) × IsGiven (first_of (codes "line") rows) as_line
-HasTexts rows (Explain word) =
-    (first_of (codes "word") rows ≡ Some word.now) × (first_of (codes "length") rows ≡ None) × (first_of (codes "base") rows ≡ None)
+HasTexts rows (Explain word) = HasWordAlone rows word.now × (is_on (first_of (codes "svg") rows) ≡ false)
+HasTexts rows (DrawWindow word) = HasWordAlone rows word.now × (is_on (first_of (codes "svg") rows) ≡ true)
 HasTexts rows (ExplainLength base size) =
     (first_of (codes "word") rows ≡ None) × (first_of (codes "length") rows ≡ Some size.now)
-    × (base.now ≡ unwrap_or (first_of (codes "base") rows) (codes "0"))
+    × (base.now ≡ unwrap_or (first_of (codes "base") rows) (codes "0")) × (is_on (first_of (codes "svg") rows) ≡ false)
 HasTexts rows (Round size) = first_of (codes "length") rows ≡ Some size.now
 
 -- `HasValues` holds if the values of the command are those that clap found.
@@ -115,17 +125,19 @@ IsInvocation found invocation = (rows : List Row) × (found ≡ Some (command_na
 
 -- ---- the values of `explain` that are accepted together, which clap does not check
 
--- The kind of error of the given values, if there is one: WORD excludes `--length` and `--base`, and one of WORD and
--- `--length` is required.
-abbrev pub choice_fault : (has_word has_length has_base : Bool) → Option ErrorKind
-choice_fault has_word has_length has_base =
+-- The kind of error of the given values, if there is one: WORD excludes `--length` and `--base`, one of WORD and
+-- `--length` is required, and `--length` excludes `--svg`.
+abbrev pub choice_fault : (has_word has_length has_base has_svg : Bool) → Option ErrorKind
+choice_fault has_word has_length has_base has_svg =
     if has_word then (if has_length || has_base then Some ArgumentConflict else None)
-    else if has_length then None else Some MissingRequiredArgument
+    else if not has_length then Some MissingRequiredArgument
+    else if has_svg then Some ArgumentConflict else None
 
 -- The kind of error of the values of `explain` in these rows, if there is one.
 abbrev pub choice_fault_of : List Row → Option ErrorKind
 choice_fault_of rows =
     choice_fault (is_some (first_of (codes "word") rows)) (is_some (first_of (codes "length") rows)) (is_some (first_of (codes "base") rows))
+    (is_on (first_of (codes "svg") rows))
 
 -- The kind of error of the values of the command that clap found, if there is one: only `explain` has one.
 abbrev pub choice_fault_in : Option (Text × List Row) → Option ErrorKind

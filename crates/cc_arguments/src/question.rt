@@ -16,6 +16,11 @@ pub enum Question<'a> {
         /// The word.
         word: &'a str,
     },
+    /// `explain --svg WORD`: a drawing of its window.
+    DrawWindow {
+        /// The word.
+        word: &'a str,
+    },
     /// `explain --length N [--base B]`: the bounds that setting bounds grants.
     ExplainLength {
         /// The first of the requested bytes; `0` if `--base` was not given.

@@ -7,7 +7,8 @@ ghost use Rattle.cc_arguments.specs.Invocation.{HasChoice, HasFlag, HasItsTexts,
 use crate::invocation::Invocation;
 use crate::question::Question;
 use crate::values::{
-    align_of, base_of, format_of, input_of, is_given, limit_of, pool_texts, value_of, wanted_text,
+    align_of, base_of, format_of, input_of, is_given, is_on, limit_of, pool_texts, value_of,
+    wanted_text,
 };
 use cc_decode::Options;
 use cc_table::{EXPLAIN_CHOICE, explain_command, program};
@@ -68,7 +69,7 @@ fn chosen<'a>(alloc: Global, matches: &ArgMatches<'a>) -> Result<Invocation<'a>,
 }
 
 /// Returns the kind of error of the values of `explain`, if there is one: WORD excludes `--length` and `--base`, and
-/// without WORD `--length` is required.
+/// without WORD `--length` is required, which excludes `--svg`.
 fn choice_fault(matches: &ArgMatches<'_>) -> Option<ErrorKind>
     ensures { result ≡ choice_fault_in (subcommand_rows_of matches.now) }
 {
@@ -80,10 +81,12 @@ fn choice_fault(matches: &ArgMatches<'_>) -> Option<ErrorKind>
         } else {
             None
         }
-    } else if has_length {
-        None
-    } else {
+    } else if !has_length {
         Some(ErrorKind::MissingRequiredArgument)
+    } else if is_on(explain, "svg") {
+        Some(ErrorKind::ArgumentConflict)
+    } else {
+        None
     }
 }
 
@@ -208,6 +211,7 @@ fn read_explain<'a>(matches: &ArgMatches<'a>) -> Invocation<'a>
     ensures values { HasValues (rows_of (found_of matches.now)) result }
 {
     match value_of(matches, "word") {
+        Some(word) if is_on(matches, "svg") => Invocation::Ask(Question::DrawWindow { word }),
         Some(word) => Invocation::Ask(Question::Explain { word }),
         None => Invocation::Ask(Question::ExplainLength {
             base: base_of(matches),

@@ -1,7 +1,7 @@
 //! The values that clap found for arguments and options.
 ghost use Rattle.std.specs.Prelude.{◌≡◌, Some, codes, option_map, unwrap_or};
 ghost use Rattle.clap.specs.Words.{first_of, found_of, rows_of};
-ghost use Rattle.cc_arguments.specs.Invocation.{HasChoice, HasFlag, HasLimit, HasPool, HasPoolTexts, HasText, IsChosen, IsGiven, IsLimit, align_named, format_named, input_named};
+ghost use Rattle.cc_arguments.specs.Invocation.{HasChoice, HasFlag, HasLimit, HasPool, HasPoolTexts, HasText, IsChosen, IsGiven, IsLimit, align_named, format_named, input_named, is_on};
 
 use crate::invocation::PoolTexts;
 use cc_bounds::Align;
@@ -53,6 +53,16 @@ pub(crate) fn is_given(matches: &ArgMatches<'_>, name: &str) -> bool
     ensures { IsGiven (first_of name.now (rows_of (found_of matches.now))) result }
 {
     matches.get_flag(name)
+}
+
+/// Returns whether an option without a value was given, for any matches.
+pub(crate) fn is_on(matches: &ArgMatches<'_>, name: &str) -> bool
+    ensures { result ≡ is_on (first_of name.now (rows_of (found_of matches.now))) }
+{
+    match value_of(matches, name) {
+        Some("true") => true,
+        _ => false,
+    }
 }
 
 /// Returns the value of `--slots`, or 4,096.

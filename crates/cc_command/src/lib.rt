@@ -1,6 +1,7 @@
 //! The output of the commands, which they write to a sink:
 //!
-//! - for a word its listing, its one-line form, or the steps of decoding it (cc_explain)
+//! - for a word its listing, its one-line form, the steps of decoding it, or a drawing of its window
+//!   (cc_explain)
 //! - for a length its rounding, and for a request the bounds that it is granted
 //! - after a script a summary and hints
 //!
@@ -14,7 +15,7 @@ mod request;
 mod rounding;
 mod statistics;
 
-pub use cc_explain::{explain_word, show_line, show_word, write_refusal};
+pub use cc_explain::{draw_window, explain_word, show_line, show_word, write_refusal};
 pub use explaining_bounds::explain_length;
 pub use hints::{Hints, show_hints};
 pub use rounding::show_round;

@@ -8,4 +8,5 @@ pub mod Steps
 pub mod Standing
 pub mod Picture
 pub mod Explanation
+pub mod WindowDrawing
 pub mod Request

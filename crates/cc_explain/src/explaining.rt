@@ -2,7 +2,7 @@
 //! window.
 ghost use Rattle.std.specs.Prelude.{◌≡◌, ◌↔◌, [], false, true, IfOk, IsErr, IsTrue, OnErr, OnOk};
 ghost use Rattle.cc_explain.specs.Answer.{WritesAnswer};
-ghost use Rattle.cc_explain.specs.Explanation.{IsExplanation};
+ghost use Rattle.cc_explain.specs.Explanation.{IsExplanation, IsWordExplanation};
 ghost use Rattle.cc_explain.specs.Listing.{IsWordText};
 
 use crate::answers::{push_refusal, write_answer};
@@ -47,15 +47,7 @@ fn push_explanation(answer: &mut Text, text: &[u8]) -> Summary
 {
     match read_word(text) {
         Some(word) => {
-            let fields = unpack(word);
-            let steps = decoding_steps(&fields);
-            let bounds = decode(&fields);
-            let standing = standing_of(word, &fields, &bounds);
-            let rows = rows_of(&fields, &steps);
-            push_fields(answer, word, &fields);
-            push_mantissas(answer, &fields, &steps);
-            push_window_lines(answer, &fields, &steps, &bounds, standing);
-            push_picture(answer, &steps, &rows);
+            push_explained_word(answer, word);
             Summary { any_error: false }
         }
         None => {
@@ -63,4 +55,21 @@ fn push_explanation(answer: &mut Text, text: &[u8]) -> Summary
             Summary { any_error: true }
         }
     }
+}
+
+/// Puts the explanation of a word into an empty text: its fields, the steps of decoding it, its bounds, whether it is
+/// canonical, and a picture of its window.
+pub fn push_explained_word(text: &mut Text, word: u128)
+    requires { text.old ≡ [] }
+    ensures { IsWordExplanation word text.new }
+{
+    let fields = unpack(word);
+    let steps = decoding_steps(&fields);
+    let bounds = decode(&fields);
+    let standing = standing_of(word, &fields, &bounds);
+    let rows = rows_of(&fields, &steps);
+    push_fields(text, word, &fields);
+    push_mantissas(text, &fields, &steps);
+    push_window_lines(text, &fields, &steps, &bounds, standing);
+    push_picture(text, &steps, &rows);
 }

@@ -12,15 +12,17 @@ mod picture;
 mod request;
 mod standing;
 mod steps;
+mod window_drawing;
 mod word_line;
 
 pub use answers::{push_refusal, write_answer, write_refusal};
 pub use explained_request::push_explained_request;
 pub use explained_steps::{push_fields, push_mantissas, push_window_lines, push_word};
-pub use explaining::explain_word;
+pub use explaining::{explain_word, push_explained_word};
 pub use listing::show_word;
 pub use permissions::push_permissions;
 pub use picture::{CELLS, Rows, Stretch, push_picture, rows_of, shares_byte};
 pub use standing::{Standing, standing_of};
 pub use steps::{Steps, decoding_steps};
+pub use window_drawing::{draw_window, push_window_drawing};
 pub use word_line::show_line;

@@ -5,8 +5,8 @@ use Rattle.cc_bounds.specs.declared.span.Span.{Span}
 use Rattle.cc_bounds.specs.Decoding.{stored_exponent}
 use Rattle.cc_ffi.specs.declared.structs.Excess.{Excess}
 
--- The unit in which the bounds fields store the ends of bounds: 1 byte without IE, and with IE the
--- eight units of 2 ^ exponent bytes that the exponent's bits leave.
+-- The unit in which the bounds fields store the ends of bounds: 1 byte without IE, and with IE
+-- 2^(exponent + 3) bytes, since the exponent is stored in the low three bits of T and B.
 abbrev pub stored_granule : Fields → ℕ
 stored_granule fields = if fields.ie then 2 ^ (stored_exponent fields + 3) else 1
 

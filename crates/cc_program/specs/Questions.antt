@@ -4,16 +4,18 @@ use Rattle.cc_syntax.specs.Commands.{length_in}
 use Rattle.cc_explain.specs.Explanation.{IsExplanation}
 use Rattle.cc_explain.specs.LineAnswer.{IsLineAnswer}
 use Rattle.cc_explain.specs.Listing.{IsListing, IsWordText}
+use Rattle.cc_explain.specs.WindowDrawing.{IsWindowDrawing}
 use Rattle.cc_command.specs.Request.{IsLengthExplanation, request_in}
 use Rattle.cc_command.specs.Rounding.{IsRounding}
 use Rattle.cc_arguments.specs.declared.question.Question.{Question}
-use Rattle.cc_arguments.specs.declared.question.Question.TheVariants.{Explain, ExplainLength, Round, Show}
+use Rattle.cc_arguments.specs.declared.question.Question.TheVariants.{DrawWindow, Explain, ExplainLength, Round, Show}
 
 -- IsAnswerTo holds if the bytes are the output for the question.
 abbrev pub IsAnswerTo : Question → (answer : List ℕ) → Type 0
 IsAnswerTo (Show word false) answer = IsListing word.now answer
 IsAnswerTo (Show word true) answer = IsLineAnswer word.now answer
 IsAnswerTo (Explain word) answer = IsExplanation word.now answer
+IsAnswerTo (DrawWindow word) answer = IsWindowDrawing word.now answer
 IsAnswerTo (ExplainLength base size) answer = IsLengthExplanation base.now size.now answer
 IsAnswerTo (Round size) answer = IsRounding size.now answer
 
@@ -22,5 +24,6 @@ IsAnswerTo (Round size) answer = IsRounding size.now answer
 abbrev pub IsUnanswerable : Question → Type 0
 IsUnanswerable (Show word as_line) = ¬ IsWordText word.now
 IsUnanswerable (Explain word) = ¬ IsWordText word.now
+IsUnanswerable (DrawWindow word) = ¬ IsWordText word.now
 IsUnanswerable (ExplainLength base size) = IsErr (request_in base.now size.now)
 IsUnanswerable (Round size) = IsErr (length_in size.now)

@@ -4,10 +4,10 @@ ghost use Rattle.cc_explain.specs.Answer.{WritesAnswer};
 ghost use Rattle.cc_program.specs.Questions.{IsAnswerTo, IsUnanswerable};
 
 use cc_arguments::Question;
-use cc_command::{explain_length, explain_word, show_line, show_round, show_word};
+use cc_command::{draw_window, explain_length, explain_word, show_line, show_round, show_word};
 use cc_io::{IoError, Sink, Summary};
 
-/// Writes the listing, line, explanation or rounding that a question asks for.
+/// Writes the listing, line, explanation, drawing or rounding that a question asks for.
 ///
 /// The output is an error, and the summary says so, if a text is not that of a word or of a number, if a number is too
 /// large, or if the requested bytes end past 2^64.
@@ -32,6 +32,7 @@ pub fn answer_question<W: Sink>(question: Question<'_>, sink: &mut W) -> Result<
             as_line: true,
         } => show_line(word.as_bytes(), sink),
         Question::Explain { word } => explain_word(word.as_bytes(), sink),
+        Question::DrawWindow { word } => draw_window(word.as_bytes(), sink),
         Question::ExplainLength { base, length } => explain_length(base, length, sink),
         Question::Round { length } => show_round(length.as_bytes(), sink),
     }

@@ -39,10 +39,11 @@ flag_option name = record (new_rule name) { long = Some name; action = Some SetT
 abbrev pub show_command : App
 show_command = with_rule (with_rule (new_app (codes "show")) (flag_option (codes "line"))) (wanted_argument (codes "word"))
 
--- The command `explain [--length N] [--base B] [WORD]`.
+-- The command `explain [--svg] [--length N] [--base B] [WORD]`.
 abbrev pub explain_command : App
 explain_command =
-    let options = with_rule (with_rule (new_app (codes "explain")) (valued_option (codes "length"))) (valued_option (codes "base")) in
+    let drawn = with_rule (new_app (codes "explain")) (flag_option (codes "svg")) in
+    let options = with_rule (with_rule drawn (valued_option (codes "length"))) (valued_option (codes "base")) in
     with_rule options (optional_argument (codes "word"))
 
 -- The command `round N`.

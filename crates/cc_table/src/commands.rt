@@ -53,7 +53,7 @@ fn command<'a>(
     )
 }
 
-/// Returns the command `explain [--length N] [--base B] [WORD]`.
+/// Returns the command `explain [--svg] [--length N] [--base B] [WORD]`.
 ///
 /// Errors: `AllocError` if an allocation fails.
 pub fn explain_command<'a>(alloc: Global) -> Result<Command<'a>, AllocError>

@@ -39,11 +39,15 @@ pub(crate) const EXPLAIN_ABOUT: &str =
     "Explains how a capability word is decoded, step by step, or which bounds a request is granted";
 
 pub(crate) const EXPLAIN_USAGE: &str = "\
-cheri-cap explain <WORD>
+cheri-cap explain [--svg] <WORD>
        cheri-cap explain --length <N> [--base <B>]";
 
 /// The message if the values of `explain` do not go together.
-pub const EXPLAIN_CHOICE: &str = "give either WORD, or `--length N` and optionally `--base B`";
+pub const EXPLAIN_CHOICE: &str =
+    "give either WORD and optionally `--svg`, or `--length N` and optionally `--base B`";
+
+pub(crate) const WINDOW_SVG_HELP: &str =
+    "Draw the window of WORD, with its bounds and address, as an SVG document in place of the lines";
 
 pub(crate) const REQUEST_LENGTH_HELP: &str = "\
 Explain bounds of N bytes, at most 2^64: decimal digits, or 0x and hexadecimal digits of either case.
@@ -58,7 +62,8 @@ top, whether it is canonical, and if not the reason. A word from setting bounds 
 wherever in the window its address is. A picture of the window in 64 cells follows, eight for each
 of its eight sections: `#` marks the cells with bytes of the bounds, and B, T and A those of the
 base, of the top and of the address. Input that is not a word gets `error 1 syntax`, with exit
-status 1.
+status 1. With --svg the output is an SVG document instead: a drawing of the window, with its
+sections, the bounds and the address.
 
 For N bytes from B it has the granule in which their bounds are stored, and why half of it is not
 enough, the granted bounds, the bytes that they contain in addition to the N, the length and the

@@ -8,7 +8,7 @@ use crate::help::{
     LENGTH_HELP, LINE_HELP, MAP_ABOUT, MAP_AFTER_HELP, PLAN_ABOUT, PLAN_AFTER_HELP,
     POOL_LENGTH_HELP, REQUEST_BASE_HELP, REQUEST_LENGTH_HELP, ROUND_ABOUT, ROUND_AFTER_HELP,
     RUN_ABOUT, RUN_AFTER_HELP, SHOW_ABOUT, SHOW_AFTER_HELP, SLOTS_HELP, STATS_HELP, SVG_HELP,
-    WORD_HELP, WORDS_FILE_HELP,
+    WINDOW_SVG_HELP, WORD_HELP, WORDS_FILE_HELP,
 };
 
 /// The subject of the help of an argument.
@@ -40,6 +40,8 @@ pub(crate) enum Topic {
     Bytes,
     /// `WORDS_FILE_HELP`.
     WordsFile,
+    /// `WINDOW_SVG_HELP`.
+    WindowSvg,
     /// `REQUEST_LENGTH_HELP`.
     RequestLength,
     /// `REQUEST_BASE_HELP`.
@@ -79,6 +81,7 @@ pub(crate) fn help<'a>(topic: Topic) -> &'a str {
         Topic::Format => FORMAT_HELP,
         Topic::Bytes => BYTES_HELP,
         Topic::WordsFile => WORDS_FILE_HELP,
+        Topic::WindowSvg => WINDOW_SVG_HELP,
         Topic::RequestLength => REQUEST_LENGTH_HELP,
         Topic::RequestBase => REQUEST_BASE_HELP,
     }
@@ -320,6 +323,12 @@ const COMMANDS: &[CommandRow] = &[
 
 /// The arguments of `explain`.
 const EXPLAIN_ROWS: &[Row] = &[
+    Row {
+        kind: Kind::Flag,
+        name: "svg",
+        placeholder: "",
+        topic: Topic::WindowSvg,
+    },
     Row {
         kind: Kind::Valued,
         name: "length",

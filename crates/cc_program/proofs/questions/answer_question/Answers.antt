@@ -6,6 +6,7 @@ use Rattle.cc_io.specs.declared.summary.Summary.{Summary}
 use Rattle.cc_explain.specs.Answer.{WritesAnswer}
 use Rattle.cc_explain.specs.Explanation.{IsExplanation}
 use Rattle.cc_explain.specs.Listing.{IsWordText}
+use Rattle.cc_explain.specs.WindowDrawing.{IsWindowDrawing}
 use Rattle.cc_arguments.specs.declared.question.Question.{Question}
 use Rattle.cc_program.specs.Questions.{IsAnswerTo, IsUnanswerable}
 use Rattle.cc_program.proofs.questions.answer_question.Goals as goal
@@ -46,6 +47,17 @@ pub returns-in-Explain-clause-any_error : goal.returns-in-Explain-clause-any_err
 returns-in-Explain-clause-any_error g c =
     question_told c.explain_word.result c.args.question _ c.in-Explain.is
     (word_told c.explain_word.result c.as_bytes-in-Explain.result.now _ c.as_bytes-in-Explain.ensures.value c.explain_word.ensures.any_error)
+
+pub returns-in-DrawWindow-clause-answered : goal.returns-in-DrawWindow-clause-answered
+returns-in-DrawWindow-clause-answered g c =
+    subst (λ (q : Question). WritesAnswer (IsAnswerTo q) (g.W.Sink.taken_bytes c.args.sink.now) (g.W.Sink.taken_bytes c.draw_window.new.sink) c.draw_window.result) (sym c.in-DrawWindow.is)
+    (subst (λ (text : List ℕ). WritesAnswer (IsWindowDrawing text) (g.W.Sink.taken_bytes c.args.sink.now) (g.W.Sink.taken_bytes c.draw_window.new.sink) c.draw_window.result)
+    c.as_bytes-in-DrawWindow.ensures.value c.draw_window.ensures.shown)
+
+pub returns-in-DrawWindow-clause-any_error : goal.returns-in-DrawWindow-clause-any_error
+returns-in-DrawWindow-clause-any_error g c =
+    question_told c.draw_window.result c.args.question _ c.in-DrawWindow.is
+    (word_told c.draw_window.result c.as_bytes-in-DrawWindow.result.now _ c.as_bytes-in-DrawWindow.ensures.value c.draw_window.ensures.any_error)
 
 pub returns-in-ExplainLength-clause-any_error : goal.returns-in-ExplainLength-clause-any_error
 returns-in-ExplainLength-clause-any_error g c = question_told c.explain_length.result c.args.question _ c.in-ExplainLength.is c.explain_length.ensures.any_error
