@@ -1,5 +1,5 @@
 -- The command lines that are accepted, and the command that each asks for.
-use Rattle.std.specs.Prelude.{cond, ◌≡◌, ◌≤◌, ◌⊎◌, ◌↔◌, ◌&&◌, ◌||◌, ℕ, Bool, IsTrue, not, List, [], ◌∷◌, Option, Some, None, IfSome, IsSome, is_some, codes, option_map, unwrap_or, if◌then◌else◌}
+use Rattle.std.specs.Prelude.{cond, ⊤, ◌≡◌, ◌≤◌, ◌⊎◌, ◌↔◌, ◌&&◌, ◌||◌, ℕ, Bool, IsTrue, not, List, [], ◌∷◌, Option, Some, None, IfSome, IsSome, is_some, codes, option_map, unwrap_or, if◌then◌else◌}
 use Rattle.std.specs.Borrow.{Bor}
 use Rattle.std.specs.Option.{option_map_or}
 use Rattle.std.specs.Str.{bytes_eq}
@@ -19,7 +19,7 @@ use Rattle.cc_decode.specs.declared.format.Format.{Format}
 use Rattle.cc_decode.specs.declared.format.Format.TheVariants.{Columns, Csv}
 use Rattle.cc_decode.specs.declared.format.Format.TheVariants as format
 use Rattle.cc_arguments.specs.declared.invocation.Invocation.{Invocation}
-use Rattle.cc_arguments.specs.declared.invocation.Invocation.TheVariants.{Ask, Decode, Map, Plan, Run}
+use Rattle.cc_arguments.specs.declared.invocation.Invocation.TheVariants.{Annotate, Ask, Decode, Map, Plan, Run}
 use Rattle.cc_arguments.specs.declared.question.Question.{Question}
 use Rattle.cc_arguments.specs.declared.question.Question.TheVariants.{Explain, ExplainLength, Round, Show}
 
@@ -74,6 +74,7 @@ command_name_of (Run limit stats file) = codes "run"
 command_name_of (Plan limit pool align stats file) = codes "plan"
 command_name_of (Map limit pool align svg file) = codes "map"
 command_name_of (Decode options file) = codes "decode"
+command_name_of (Annotate file) = codes "annotate"
 
 -- `HasPool` holds if the texts of the pool are the values of BASE and LENGTH.
 abbrev pub HasPool : List Row → PoolTexts → Type 0
@@ -108,6 +109,7 @@ HasValues rows (Map limit pool align svg file) =
 HasValues rows (Decode options file) =
     IsChosen format_named Columns (first_of (codes "format") rows) options.format
     × IsChosen input_named Lines (first_of (codes "bytes") rows) options.input × HasFile rows file
+HasValues rows (Annotate file) = HasFile rows file
 
 -- `IsInvocation` holds if clap found this command, with these values.
 abbrev pub IsInvocation : Option (Text × List Row) → Invocation → Type 0
@@ -184,7 +186,8 @@ HasWanted name rows =
     (cond (bytes_eq name (codes "plan")) (HasPoolTexts rows × HasLimit rows × HasChoice align_named (codes "align") rows × HasFlag (codes "stats") rows)
     (cond (bytes_eq name (codes "map")) (HasPoolTexts rows × HasLimit rows × HasChoice align_named (codes "align") rows × HasFlag (codes "svg") rows)
     (cond (bytes_eq name (codes "decode")) (HasChoice format_named (codes "format") rows × HasChoice input_named (codes "bytes") rows)
-    (cond (bytes_eq name (codes "explain")) (choice_fault_of rows ≡ None) ⊥))))))
+    (cond (bytes_eq name (codes "annotate")) ⊤
+    (cond (bytes_eq name (codes "explain")) (choice_fault_of rows ≡ None) ⊥)))))))
 
 -- `HasItsTexts` holds if clap found a command of the program, with the values that it needs.
 abbrev pub HasItsTexts : Option (Text × List Row) → Type 0

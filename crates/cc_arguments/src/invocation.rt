@@ -59,4 +59,9 @@ pub enum Invocation<'a> {
         /// The words' file; `None` and `-` are standard input.
         file: Option<&'a str>,
     },
+    /// `annotate [FILE]`: copies a text, with the line of each word after the word.
+    Annotate {
+        /// The text's file; `None` and `-` are standard input.
+        file: Option<&'a str>,
+    },
 }

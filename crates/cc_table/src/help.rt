@@ -213,6 +213,24 @@ Examples:
   word,base,top,perms,flag,type,exponent,canonical,address,names
   02001fffc48190040000000000001000,0x1000,0x1200,0200,0,00007,0,yes,0x1000,UNSEAL";
 
+pub(crate) const ANNOTATE_ABOUT: &str = "Copies a text, with the line of each word after the word";
+
+pub(crate) const TEXT_FILE_HELP: &str = "File of text; standard input if `-` or omitted";
+
+pub(crate) const ANNOTATE_AFTER_HELP: &str = "\
+The output is the input, byte for byte, and after each word in it a space and the word's line, as
+`cheri-cap show --line` prints it. A word is 32 hexadecimal digits of either case, or two halves of
+16 digits with `_` or `:` between, with or without 0x before. No letter, digit or underscore comes
+right before it or right after it. Lines may have any length, and the input any bytes. Each line is
+that of a tagged word, and any 32 digits are a word: a checksum of 128 bits gets a line too.
+
+The exit status is 0, 2 for a command line that is not understood, and 3 if FILE cannot be opened,
+or the input or output failed.
+
+Example:
+  echo 'csp=0xffff0000000f803d0000000000010070 ok' | cheri-cap annotate
+  csp=0xffff0000000f803d0000000000010070 0x10070 [rwxRW,0x10070-0x12070] ok";
+
 pub(crate) const SLOTS_HELP: &str = "\
 Maximum number of slots, and of objects, from 1 to 65536 [default: 4096]";
 
