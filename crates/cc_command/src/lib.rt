@@ -1,7 +1,7 @@
 //! The output of the commands, which they write to a sink:
 //!
 //! - for a word its listing, its one-line form, or the steps of decoding it (cc_explain)
-//! - for a length its rounding, and for a request the bounds that it is granted
+//! - for a length, or for each of a list, its rounding, and for a request the bounds that it is granted
 //! - after a script a summary and hints
 //!
 //! The replies to a script are those of cc_script, and a map or a drawing is one of cc_draw. The
@@ -10,6 +10,7 @@
 
 mod explaining_bounds;
 mod hints;
+mod length_list;
 mod request;
 mod rounding;
 mod statistics;
@@ -17,5 +18,6 @@ mod statistics;
 pub use cc_explain::{explain_word, show_line, show_word, write_refusal};
 pub use explaining_bounds::explain_length;
 pub use hints::{Hints, show_hints};
+pub use length_list::round_list;
 pub use rounding::show_round;
 pub use statistics::show_statistics;
