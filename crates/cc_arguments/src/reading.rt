@@ -136,9 +136,12 @@ fn read_round<'a>(matches: &ArgMatches<'a>) -> Invocation<'a>
     ensures command { command_name_of result ≡ codes "round" }
     ensures values { HasValues (rows_of (found_of matches.now)) result }
 {
-    Invocation::Ask(Question::Round {
-        length: wanted_text(matches, "length"),
-    })
+    let length = wanted_text(matches, "length");
+    if length == "-" {
+        Invocation::RoundList
+    } else {
+        Invocation::Ask(Question::Round { length })
+    }
 }
 
 fn read_run<'a>(matches: &ArgMatches<'a>) -> Invocation<'a>

@@ -81,7 +81,8 @@ pub(crate) const ROUND_ABOUT: &str =
 
 pub(crate) const LENGTH_HELP: &str = "\
 The length in bytes, at most 2^64: decimal digits, or 0x and hexadecimal digits of either case. Put
-0x before a hexadecimal size that has none, as `nm -S` prints it";
+0x before a hexadecimal size that has none, as `nm -S` prints it. With `-` standard input has a list
+of lengths, one on each line";
 
 pub(crate) const ROUND_AFTER_HELP: &str = "\
 The output is one line, `round LENGTH GRANULE MASK`, with each number in hexadecimal:
@@ -90,12 +91,19 @@ The output is one line, `round LENGTH GRANULE MASK`, with each number in hexadec
   MASK     rounds an address down to such a multiple, as `address & MASK`
 A capability for bytes that are placed so grants them, and no others.
 
+For `-` the output has such a line for each line of standard input, in their order. A line of more
+than 128 bytes gets `error 3 long`, and an unterminated last line `error 2 unfinished`.
+
 Input that is not a number gets `error 1 syntax`, and a number above 2^64 gets `error 4 range`, both
 with exit status 1.
 
-Example:
+Examples:
   cheri-cap round 8191
-  round 0x2000 0x10 0xfffffffffffffff0";
+  round 0x2000 0x10 0xfffffffffffffff0
+
+  printf '8191\\n5000\\n' | cheri-cap round -
+  round 0x2000 0x10 0xfffffffffffffff0
+  round 0x1388 0x8 0xfffffffffffffff8";
 
 pub(crate) const RUN_ABOUT: &str =
     "Runs a script on a new machine, and prints a reply for each of its lines";

@@ -57,3 +57,16 @@ returns-in-Annotate-clause-executes g c =
     by_invocation _ _ c.in-Annotate.is c.args.terminals console c.annotate_words.result
     (subst (λ (input : InputName). OnDevices (FromInput input console AnnotatesWords) c.annotate_words.result) c.file_input-in-Annotate.ensures
     (c.annotate_words.ensures.annotates (g.E.Sink.taken_bytes c.args.errors.now) (g.E.Sink.taken_bytes c.args.errors.now) (g.E.Sink.has_failed c.args.errors.now)))
+
+pub returns-in-RoundList-clause-executes : goal.returns-in-RoundList-clause-executes
+returns-in-RoundList-clause-executes g c =
+    let console : Console = record {
+      input = g.I.Inputs.bytes_of c.args.inputs.now;
+      output = g.W.Sink.taken_bytes c.args.sink.now;
+      output_now = g.W.Sink.taken_bytes c.round_lengths.new.sink;
+      errors = g.E.Sink.taken_bytes c.args.errors.now;
+      errors_now = g.E.Sink.taken_bytes c.args.errors.now;
+      errors_failed = g.E.Sink.has_failed c.args.errors.now;
+    } in
+    by_invocation _ _ c.in-RoundList.is c.args.terminals console c.round_lengths.result
+    (c.round_lengths.ensures.rounds (g.E.Sink.taken_bytes c.args.errors.now) (g.E.Sink.taken_bytes c.args.errors.now) (g.E.Sink.has_failed c.args.errors.now))
