@@ -4,7 +4,7 @@ _cheri_cap() {
   local word=${COMP_WORDS[COMP_CWORD]} before=${COMP_WORDS[COMP_CWORD - 1]} command=${COMP_WORDS[1]} options='-h --help'
   COMPREPLY=()
   if ((COMP_CWORD == 1)); then
-    mapfile -t COMPREPLY < <(compgen -W 'show round run plan map decode explain -h --help -V --version' -- "$word")
+    mapfile -t COMPREPLY < <(compgen -W 'show round run plan map decode annotate explain -h --help -V --version' -- "$word")
     return
   fi
   case $command in
@@ -14,6 +14,7 @@ _cheri_cap() {
     decode) options+=' --format --bytes' ;;
     show) options+=' --line' ;;
     explain) options+=' --svg --length --base' ;;
+    annotate) ;;
     round) ;;
     *) return ;;
   esac
@@ -25,7 +26,7 @@ _cheri_cap() {
     *)
       if [[ $word == -* ]]; then
         mapfile -t COMPREPLY < <(compgen -W "$options" -- "$word")
-      elif [[ $command == run || $command == plan || $command == map || $command == decode ]]; then
+      elif [[ $command == run || $command == plan || $command == map || $command == decode || $command == annotate ]]; then
         compopt -o filenames 2>/dev/null
         mapfile -t COMPREPLY < <(compgen -f -- "$word")
       fi

@@ -9,6 +9,7 @@ complete -c cheri-cap -n __fish_use_subcommand -a run -d 'Run a script on a new 
 complete -c cheri-cap -n __fish_use_subcommand -a plan -d 'Run a script on a machine with a pool'
 complete -c cheri-cap -n __fish_use_subcommand -a map -d 'Draw a pool at the end of a script'
 complete -c cheri-cap -n __fish_use_subcommand -a decode -d 'Decode one word per line'
+complete -c cheri-cap -n __fish_use_subcommand -a annotate -d 'Copy a text with the line of each word'
 complete -c cheri-cap -n __fish_use_subcommand -a explain -d 'Explain how a capability word is decoded'
 complete -c cheri-cap -n '__fish_seen_subcommand_from show' -l line -d 'Show the word on one line'
 complete -c cheri-cap -n '__fish_seen_subcommand_from explain' -l length -x -d 'Explain bounds of N bytes'
@@ -19,4 +20,4 @@ complete -c cheri-cap -n '__fish_seen_subcommand_from map explain' -l svg -d 'Dr
 complete -c cheri-cap -n '__fish_seen_subcommand_from plan map' -l align -x -a '1 16' -d 'Minimum alignment of objects'
 complete -c cheri-cap -n '__fish_seen_subcommand_from decode' -l format -x -a 'columns text csv' -d 'Format of the output'
 complete -c cheri-cap -n '__fish_seen_subcommand_from decode' -l bytes -x -a 'little big' -d 'Read raw words of 16 bytes'
-complete -c cheri-cap -n '__fish_seen_subcommand_from run plan map decode' -F
+complete -c cheri-cap -n '__fish_seen_subcommand_from run plan map decode annotate' -F

@@ -241,8 +241,11 @@ module _ (aligns : Bor (List (Bor Text))) (are : texts aligns.now ≡ codes "1" 
   abbrev decode : Shape
   decode = get_or (built (program aligns formats orders)).subs 5 help_shape
 
+  abbrev annotate : Shape
+  annotate = get_or (built (program aligns formats orders)).subs 6 help_shape
+
   abbrev explain : Shape
-  explain = get_or (built (program aligns formats orders)).subs 6 help_shape
+  explain = get_or (built (program aligns formats orders)).subs 7 help_shape
 
   -- A call for help is an error, and changes no row.
   help_gives : (c : List Rule) → GivesValue c (filled help_rule)
@@ -337,6 +340,9 @@ module _ (aligns : Bor (List (Bor Text))) (are : texts aligns.now ≡ codes "1" 
       let rows = rows_after round.rules [] words in
       (codes "round", rows, refl, (required_given round words round_gives e).0 refl)
 
+  annotate_serves : Serves annotate
+  annotate_serves words e choice = (codes "annotate", rows_after annotate.rules [] words, refl, tt)
+
   explain_serves : Serves explain
   explain_serves words e choice =
       let rows = rows_after explain.rules [] words in
@@ -384,7 +390,7 @@ module _ (aligns : Bor (List (Bor Text))) (are : texts aligns.now ≡ codes "1" 
   AllServe (s ∷ rest) = Serves s × AllServe rest
 
   all_serve : AllServe (built (program aligns formats orders)).subs
-  all_serve = (show_serves, (round_serves, (run_serves, (plan_serves, (map_serves, (decode_serves, (explain_serves, tt)))))))
+  all_serve = (show_serves, (round_serves, (run_serves, (plan_serves, (map_serves, (decode_serves, (annotate_serves, (explain_serves, tt))))))))
 
   -- ---- the program
 
@@ -464,7 +470,7 @@ pub command_wanted : (m : ArgMatches) (name : Text) (rows : List Row) → Some n
 command_wanted m name rows named told has = wanted_of (subcommand_rows_of m) name rows (command_is m name rows named told) has
 
 abbrev command_names : List Text
-command_names = codes "show" ∷ codes "round" ∷ codes "run" ∷ codes "plan" ∷ codes "map" ∷ codes "decode" ∷ codes "explain" ∷ []
+command_names = codes "show" ∷ codes "round" ∷ codes "run" ∷ codes "plan" ∷ codes "map" ∷ codes "decode" ∷ codes "annotate" ∷ codes "explain" ∷ []
 
 -- `IsNone` holds if the text is not one of these names.
 abbrev pub IsNone : (names : List Text) (text : Text) → Type 0
@@ -484,7 +490,8 @@ none_wanted name rows others =
     (not_this _ _ _ (λ e. others.1.1.1.0 ((bytes_eq-Decides name (codes "plan")).0 e))
     (not_this _ _ _ (λ e. others.1.1.1.1.0 ((bytes_eq-Decides name (codes "map")).0 e))
     (not_this _ _ _ (λ e. others.1.1.1.1.1.0 ((bytes_eq-Decides name (codes "decode")).0 e))
-    (not_this _ _ _ (λ e. others.1.1.1.1.1.1.0 ((bytes_eq-Decides name (codes "explain")).0 e)) (λ none. none)))))))
+    (not_this _ _ _ (λ e. others.1.1.1.1.1.1.0 ((bytes_eq-Decides name (codes "annotate")).0 e))
+    (not_this _ _ _ (λ e. others.1.1.1.1.1.1.1.0 ((bytes_eq-Decides name (codes "explain")).0 e)) (λ none. none))))))))
 
 -- The command that was found is one of the program's.
 pub known : (met : Option (Text × List Row)) (name : Text) → HasItsTexts met → Some name ≡ option_map (λ p. p.0) met → IsNone command_names name → ⊥

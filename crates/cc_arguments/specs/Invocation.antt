@@ -1,5 +1,5 @@
 -- The command lines that are accepted, and the command that each asks for.
-use Rattle.std.specs.Prelude.{cond, true, false, ◌≡◌, ◌≤◌, ◌⊎◌, ◌↔◌, ◌&&◌, ◌||◌, ℕ, Bool, IsTrue, not, List, [], ◌∷◌, Option, Some, None, IfSome, IsSome, is_some, codes, option_map, unwrap_or, if◌then◌else◌}
+use Rattle.std.specs.Prelude.{cond, ⊤, true, false, ◌≡◌, ◌≢◌, ◌≤◌, ◌⊎◌, ◌↔◌, ◌&&◌, ◌||◌, ℕ, Bool, IsTrue, not, List, [], ◌∷◌, Option, Some, None, IfSome, IsSome, is_some, codes, option_map, unwrap_or, if◌then◌else◌}
 use Rattle.std.specs.Borrow.{Bor}
 use Rattle.std.specs.Option.{option_map_or}
 use Rattle.std.specs.Str.{bytes_eq}
@@ -19,7 +19,7 @@ use Rattle.cc_decode.specs.declared.format.Format.{Format}
 use Rattle.cc_decode.specs.declared.format.Format.TheVariants.{Columns, Csv}
 use Rattle.cc_decode.specs.declared.format.Format.TheVariants as format
 use Rattle.cc_arguments.specs.declared.invocation.Invocation.{Invocation}
-use Rattle.cc_arguments.specs.declared.invocation.Invocation.TheVariants.{Ask, Decode, Map, Plan, Run}
+use Rattle.cc_arguments.specs.declared.invocation.Invocation.TheVariants.{Annotate, Ask, Decode, Map, Plan, RoundList, Run}
 use Rattle.cc_arguments.specs.declared.question.Question.{Question}
 use Rattle.cc_arguments.specs.declared.question.Question.TheVariants.{DrawWindow, Explain, ExplainLength, Round, Show}
 
@@ -79,6 +79,8 @@ command_name_of (Run limit stats file) = codes "run"
 command_name_of (Plan limit pool align stats file) = codes "plan"
 command_name_of (Map limit pool align svg file) = codes "map"
 command_name_of (Decode options file) = codes "decode"
+command_name_of (Annotate file) = codes "annotate"
+command_name_of RoundList = codes "round"
 
 -- `HasPool` holds if the texts of the pool are the values of BASE and LENGTH.
 abbrev pub HasPool : List Row → PoolTexts → Type 0
@@ -94,7 +96,7 @@ HasWordAlone rows word =
     (first_of (codes "word") rows ≡ Some word) × (first_of (codes "length") rows ≡ None) × (first_of (codes "base") rows ≡ None)
 
 -- `HasTexts` holds if the texts of the question are the values that clap found. The arguments of `explain` that the
--- question has no text for have no value, and a missing `--base` is `0`.
+-- question has no text for have no value, and a missing `--base` is `0`. The N of `round` is not `-`, which is a list.
 abbrev pub HasTexts : List Row → Question → Type 0
 HasTexts rows (Show word as_line) = (first_of (codes "word") rows ≡ Some word.now) × IsGiven (first_of (codes "line") rows) as_line
 HasTexts rows (Explain word) = HasWordAlone rows word.now × (is_on (first_of (codes "svg") rows) ≡ false)
@@ -102,7 +104,7 @@ HasTexts rows (DrawWindow word) = HasWordAlone rows word.now × (is_on (first_of
 HasTexts rows (ExplainLength base size) =
     (first_of (codes "word") rows ≡ None) × (first_of (codes "length") rows ≡ Some size.now)
     × (base.now ≡ unwrap_or (first_of (codes "base") rows) (codes "0")) × (is_on (first_of (codes "svg") rows) ≡ false)
-HasTexts rows (Round size) = first_of (codes "length") rows ≡ Some size.now
+HasTexts rows (Round size) = (first_of (codes "length") rows ≡ Some size.now) × (size.now ≢ codes "-")
 
 -- `HasValues` holds if the values of the command are those that clap found.
 abbrev pub HasValues : List Row → Invocation → Type 0
@@ -118,6 +120,8 @@ HasValues rows (Map limit pool align svg file) =
 HasValues rows (Decode options file) =
     IsChosen format_named Columns (first_of (codes "format") rows) options.format
     × IsChosen input_named Lines (first_of (codes "bytes") rows) options.input × HasFile rows file
+HasValues rows (Annotate file) = HasFile rows file
+HasValues rows RoundList = first_of (codes "length") rows ≡ Some (codes "-")
 
 -- `IsInvocation` holds if clap found this command, with these values.
 abbrev pub IsInvocation : Option (Text × List Row) → Invocation → Type 0
@@ -196,7 +200,8 @@ HasWanted name rows =
     (cond (bytes_eq name (codes "plan")) (HasPoolTexts rows × HasLimit rows × HasChoice align_named (codes "align") rows × HasFlag (codes "stats") rows)
     (cond (bytes_eq name (codes "map")) (HasPoolTexts rows × HasLimit rows × HasChoice align_named (codes "align") rows × HasFlag (codes "svg") rows)
     (cond (bytes_eq name (codes "decode")) (HasChoice format_named (codes "format") rows × HasChoice input_named (codes "bytes") rows)
-    (cond (bytes_eq name (codes "explain")) (choice_fault_of rows ≡ None) ⊥))))))
+    (cond (bytes_eq name (codes "annotate")) ⊤
+    (cond (bytes_eq name (codes "explain")) (choice_fault_of rows ≡ None) ⊥)))))))
 
 -- `HasItsTexts` holds if clap found a command of the program, with the values that it needs.
 abbrev pub HasItsTexts : Option (Text × List Row) → Type 0

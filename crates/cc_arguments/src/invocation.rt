@@ -59,4 +59,11 @@ pub enum Invocation<'a> {
         /// The words' file; `None` and `-` are standard input.
         file: Option<&'a str>,
     },
+    /// `round -`: rounds each length of a list that standard input gives.
+    RoundList,
+    /// `annotate [FILE]`: copies a text, with the line of each word after the word.
+    Annotate {
+        /// The text's file; `None` and `-` are standard input.
+        file: Option<&'a str>,
+    },
 }

@@ -28,7 +28,7 @@ pub enum Question<'a> {
         /// The number of requested bytes.
         length: &'a str,
     },
-    /// `round N`: the length that bounds of `N` bytes take, and its alignment.
+    /// `round N`: the length that bounds of `N` bytes take, and its alignment. N is not `-`.
     Round {
         /// The length, `N`.
         length: &'a str,

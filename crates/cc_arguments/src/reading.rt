@@ -116,6 +116,7 @@ fn invocation_of<'a>(matches: &ArgMatches<'a>) -> Invocation<'a>
         Some(("plan", plan)) => read_plan(plan),
         Some(("map", map)) => read_map(map),
         Some(("decode", decode)) => read_decode(decode),
+        Some(("annotate", annotate)) => read_annotate(annotate),
         Some(("explain", explain)) => read_explain(explain),
         _ => unreachable!(),
     }
@@ -138,9 +139,12 @@ fn read_round<'a>(matches: &ArgMatches<'a>) -> Invocation<'a>
     ensures command { command_name_of result ≡ codes "round" }
     ensures values { HasValues (rows_of (found_of matches.now)) result }
 {
-    Invocation::Ask(Question::Round {
-        length: wanted_text(matches, "length"),
-    })
+    let length = wanted_text(matches, "length");
+    if length == "-" {
+        Invocation::RoundList
+    } else {
+        Invocation::Ask(Question::Round { length })
+    }
 }
 
 fn read_run<'a>(matches: &ArgMatches<'a>) -> Invocation<'a>
@@ -201,6 +205,15 @@ fn read_decode<'a>(matches: &ArgMatches<'a>) -> Invocation<'a>
             input: input_of(matches),
             format: format_of(matches),
         },
+        file: value_of(matches, "file"),
+    }
+}
+
+fn read_annotate<'a>(matches: &ArgMatches<'a>) -> Invocation<'a>
+    ensures command { command_name_of result ≡ codes "annotate" }
+    ensures values { HasValues (rows_of (found_of matches.now)) result }
+{
+    Invocation::Annotate {
         file: value_of(matches, "file"),
     }
 }

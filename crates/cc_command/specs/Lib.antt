@@ -1,5 +1,6 @@
 -- In reading order.
 pub mod Rounding
+pub mod RoundList
 pub mod Request
 pub mod Statistics
 pub mod Hints

@@ -2,7 +2,7 @@
 //!
 //! - for a word its listing, its one-line form, the steps of decoding it, or a drawing of its window
 //!   (cc_explain)
-//! - for a length its rounding, and for a request the bounds that it is granted
+//! - for a length, or for each of a list, its rounding, and for a request the bounds that it is granted
 //! - after a script a summary and hints
 //!
 //! The replies to a script are those of cc_script, and a map or a drawing is one of cc_draw. The
@@ -11,6 +11,7 @@
 
 mod explaining_bounds;
 mod hints;
+mod length_list;
 mod request;
 mod rounding;
 mod statistics;
@@ -18,5 +19,6 @@ mod statistics;
 pub use cc_explain::{draw_window, explain_word, show_line, show_word, write_refusal};
 pub use explaining_bounds::explain_length;
 pub use hints::{Hints, show_hints};
+pub use length_list::round_list;
 pub use rounding::show_round;
 pub use statistics::show_statistics;

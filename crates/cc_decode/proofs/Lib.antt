@@ -3,3 +3,7 @@ mod AnswerLemmas
 mod ListLemmas
 mod ListingLemmas
 mod PartLemmas
+mod RunLemmas
+mod AnnotateLemmas
+mod AnnotatorLemmas
+mod AnnotatedLemmas

@@ -5,3 +5,6 @@ pub mod Output
 pub mod Parts
 pub mod Correct
 pub mod Decoder
+pub mod Annotate
+pub mod Runs
+pub mod Annotator

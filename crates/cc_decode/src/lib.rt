@@ -1,6 +1,9 @@
-//! Decodes many words: the reply to each word, of text or of raw bytes, is its row.
+//! Decodes many words: the reply to each word, of text or of raw bytes, is its row. Also copies a
+//! text with the line of each word after the word.
 #![tactic(auto)]
 
+mod annotating;
+mod annotator;
 mod decoder;
 mod decoding;
 mod entries;
@@ -9,8 +12,10 @@ mod input;
 mod laws;
 mod options;
 mod rows;
+mod runs;
 mod writers;
 
+pub use annotating::annotate;
 pub use decoding::decode_words;
 pub use format::Format;
 pub use input::{ByteOrder, InputForm};

@@ -15,18 +15,21 @@ use Rattle.cc_draw.specs.Map.{IsMap}
 use Rattle.cc_syntax.specs.Planning.{plan_opening, pool_of}
 use Rattle.cc_script.specs.Session.{AnswersSession, SessionState}
 use Rattle.cc_command.specs.Statistics.{statistics_text}
+use Rattle.cc_command.specs.RoundList.{RoundsList}
 use Rattle.cc_syntax.specs.Tally.{Exchange, IsTally}
 use Rattle.cc_draw.specs.Usage.{IsUsage}
 use Rattle.cc_ops.specs.declared.usage.Usage.{Usage}
 use Rattle.cc_arguments.specs.declared.invocation.PoolTexts.{PoolTexts}
 use Rattle.cc_decode.specs.declared.options.Options.{Options}
 use Rattle.cc_decode.specs.Correct.{Lists, ListsWhole}
+use Rattle.cc_decode.specs.Annotate.{AnnotatesGiven}
 use Rattle.cc_program.specs.Input.{file_input}
 use Rattle.cc_program.specs.Questions.{IsAnswerTo, IsUnanswerable}
 use Rattle.cc_program.specs.Report.{WritesReport, report_of}
 use Rattle.cc_arguments.specs.declared.invocation.Invocation.{Invocation}
-use Rattle.cc_arguments.specs.declared.invocation.Invocation.TheVariants.{Ask, Decode, Map, Plan, Run}
+use Rattle.cc_arguments.specs.declared.invocation.Invocation.TheVariants.{Annotate, Ask, Decode, Map, Plan, RoundList, Run}
 use Rattle.cc_program.specs.declared.input.InputName.{InputName}
+use Rattle.cc_program.specs.declared.input.InputName.TheVariants.{Standard}
 use Rattle.cc_program.specs.declared.outcome.Fault.{Fault}
 use Rattle.cc_program.specs.declared.outcome.Fault.TheVariants as fault
 use Rattle.cc_arguments.specs.declared.question.Question.{Question}
@@ -141,6 +144,14 @@ pub record ListsWords (options : Options) (traffic : Traffic) (result : Result S
   pub lists : Lists options traffic.unread traffic.left traffic.output traffic.output_now result
   pub whole : IfSome traffic.unread (λ text. ListsWhole options text traffic.left traffic.output traffic.output_now result)
 
+-- AnnotatesWords holds if the text that the input gave was written, with the line of each word after the word, up to a failure.
+abbrev pub AnnotatesWords : Traffic → Result Summary IoError → Type 0
+AnnotatesWords traffic result = AnnotatesGiven traffic.unread traffic.left traffic.output traffic.output_now result
+
+-- RoundsLengths holds if the output of `round` for each length of the list that the input gave was written, up to a failure.
+abbrev pub RoundsLengths : Traffic → Result Summary IoError → Type 0
+RoundsLengths traffic result = RoundsList traffic.unread traffic.left traffic.output traffic.output_now result
+
 -- WithPool holds if `Does` holds for BASE and LENGTH, or if they are not numbers that a pool can have and are refused.
 abbrev pub WithPool : (pool : PoolTexts) → Console → (Does : (base size : ℕ) → Result Summary IoError → Type 0) → Result Summary IoError → Type 0
 WithPool pool console Does result =
@@ -158,3 +169,5 @@ Executes (Plan limit pool align stats file) terminals console result =
 Executes (Map limit pool align svg file) terminals console result =
     WithPool pool console (λ base size. FromInput (file_input file) console (DrawsRun svg (plan_opening base size align) (initial_state limit))) result
 Executes (Decode options file) terminals console result = FromInput (file_input file) console (ListsWords options) result
+Executes (Annotate file) terminals console result = FromInput (file_input file) console AnnotatesWords result
+Executes RoundList terminals console result = FromInput Standard console RoundsLengths result

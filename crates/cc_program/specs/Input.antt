@@ -5,7 +5,7 @@ use Rattle.std.specs.Str.{bytes_eq}
 use Rattle.clap.specs.Words.{Text}
 use Rattle.cc_syntax.specs.Planning.{pool_of}
 use Rattle.cc_arguments.specs.declared.invocation.Invocation.{Invocation}
-use Rattle.cc_arguments.specs.declared.invocation.Invocation.TheVariants.{Ask, Decode, Map, Plan, Run}
+use Rattle.cc_arguments.specs.declared.invocation.Invocation.TheVariants.{Annotate, Ask, Decode, Map, Plan, RoundList, Run}
 use Rattle.cc_program.specs.declared.input.InputName.{InputName}
 use Rattle.cc_program.specs.declared.input.InputName.TheVariants.{Standard, File}
 
@@ -26,6 +26,8 @@ ReadsFile (Run limit stats file) = IsFile (file_input file)
 ReadsFile (Plan limit pool align stats file) = IsOk (pool_of pool.base.now pool.length.now) × IsFile (file_input file)
 ReadsFile (Map limit pool align svg file) = IsOk (pool_of pool.base.now pool.length.now) × IsFile (file_input file)
 ReadsFile (Decode options file) = IsFile (file_input file)
+ReadsFile (Annotate file) = IsFile (file_input file)
+ReadsFile RoundList = ⊥
 
 -- RunsMachine holds if the command creates a machine: `run`, and `plan` and `map` if BASE and LENGTH are those of a pool.
 abbrev pub RunsMachine : Invocation → Type 0
@@ -34,6 +36,8 @@ RunsMachine (Run limit stats file) = ⊤
 RunsMachine (Plan limit pool align stats file) = IsOk (pool_of pool.base.now pool.length.now)
 RunsMachine (Map limit pool align svg file) = IsOk (pool_of pool.base.now pool.length.now)
 RunsMachine (Decode options file) = ⊥
+RunsMachine (Annotate file) = ⊥
+RunsMachine RoundList = ⊥
 
 -- IsRunOrPlan holds of `run` and `plan`, which write the replies to a script.
 abbrev pub IsRunOrPlan : Invocation → Type 0

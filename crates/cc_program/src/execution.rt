@@ -4,7 +4,7 @@ ghost use Rattle.clap.specs.Words.{Row, Text};
 ghost use Rattle.cc_machine.specs.State.{initial_state};
 ghost use Rattle.cc_syntax.specs.Tally.{IsTally};
 ghost use Rattle.cc_arguments.specs.Invocation.{IsInvocation};
-ghost use Rattle.cc_program.specs.Execution.{DrawsRun, Executes, FromInput, ListsWords, OnDevices, ReportsRun, Traffic};
+ghost use Rattle.cc_program.specs.Execution.{AnnotatesWords, DrawsRun, Executes, FromInput, ListsWords, OnDevices, ReportsRun, RoundsLengths, Traffic};
 ghost use Rattle.cc_program.specs.Input.{IsFile, IsReported, ReadsFile, RunsMachine};
 
 use crate::discard::Discard;
@@ -13,8 +13,8 @@ use crate::outcome::Fault;
 use crate::questions::answer_question;
 use crate::report::{Report, Terminals, write_report};
 use cc_arguments::Invocation;
-use cc_command::{show_statistics, write_refusal};
-use cc_decode::{Options, decode_words};
+use cc_command::{round_list, show_statistics, write_refusal};
+use cc_decode::{Options, annotate, decode_words};
 use cc_draw::{show_drawing, show_map, usage_of};
 use cc_io::{FromReader, Sink, Source, Summary};
 use cc_machine::{Len, Machine, Op};
@@ -23,7 +23,7 @@ use cc_syntax::{plan_numbers, plan_opening};
 use cc_text::Waiting;
 use std::alloc::{AllocError, Global};
 
-/// The limit of the input of `decode` in bytes, more than any file or pipe gives.
+/// The limit of the input of `decode`, of `annotate` and of `round -` in bytes, more than any file or pipe gives.
 const MOST_DECODED: usize = 1 << 62;
 
 /// Executes a command: reads its input, writes its output to `sink`, and reports a run on `errors`.
@@ -117,6 +117,8 @@ pub fn execute<R: AllocGlobal, I: Inputs, W: Sink, E: Sink>(
             Err(refusal) => Ok(write_refusal(refusal, sink)?),
         },
         Invocation::Decode { options, file } => list_words(options, inputs, file_input(file), sink),
+        Invocation::Annotate { file } => annotate_words(inputs, file_input(file), sink),
+        Invocation::RoundList => round_lengths(inputs, InputName::Standard, sink),
     }
 }
 
@@ -310,4 +312,54 @@ fn list_words<I: Inputs, W: Sink>(
 {
     let mut source = FromReader::with_limit(inputs.open(input)?, MOST_DECODED);
     Ok(decode_words(options, &mut source, sink)?)
+}
+
+/// Copies an input, with the line of each word after the word.
+fn annotate_words<I: Inputs, W: Sink>(
+    inputs: &I,
+    input: InputName<'_>,
+    sink: &mut W,
+) -> Result<Summary, Fault>
+    requires { W.has_failed sink.old ≡ false }
+    ensures annotates { (errors errors_now : Option (List ℕ)) (errors_failed : Bool) → OnDevices (FromInput input.entry (record {
+      input = I.bytes_of inputs.now;
+      output = W.taken_bytes sink.old;
+      output_now = W.taken_bytes sink.new;
+      errors = errors;
+      errors_now = errors_now;
+      errors_failed = errors_failed;
+    }) AnnotatesWords) result }
+    ensures open { result ≡ Err Fault.Open → IsFile input.entry }
+    ensures untouched { result ≡ Err Fault.Open → W.taken_bytes sink.new ≡ W.taken_bytes sink.old }
+    ensures memory { result ≢ Err Fault.Memory }
+    ensures write { (result ≡ Err Fault.Write) ↔ (W.has_failed sink.new ≡ true) }
+    ensures flushed { OnOk result (W.is_flushed sink.new ≡ true) }
+{
+    let mut source = FromReader::with_limit(inputs.open(input)?, MOST_DECODED);
+    Ok(annotate(&mut source, sink)?)
+}
+
+/// Writes the output of `round` for each length of a list.
+fn round_lengths<I: Inputs, W: Sink>(
+    inputs: &I,
+    input: InputName<'_>,
+    sink: &mut W,
+) -> Result<Summary, Fault>
+    requires { W.has_failed sink.old ≡ false }
+    ensures rounds { (errors errors_now : Option (List ℕ)) (errors_failed : Bool) → OnDevices (FromInput input.entry (record {
+      input = I.bytes_of inputs.now;
+      output = W.taken_bytes sink.old;
+      output_now = W.taken_bytes sink.new;
+      errors = errors;
+      errors_now = errors_now;
+      errors_failed = errors_failed;
+    }) RoundsLengths) result }
+    ensures open { result ≡ Err Fault.Open → IsFile input.entry }
+    ensures untouched { result ≡ Err Fault.Open → W.taken_bytes sink.new ≡ W.taken_bytes sink.old }
+    ensures memory { result ≢ Err Fault.Memory }
+    ensures write { (result ≡ Err Fault.Write) ↔ (W.has_failed sink.new ≡ true) }
+    ensures flushed { OnOk result (W.is_flushed sink.new ≡ true) }
+{
+    let mut source = FromReader::with_limit(inputs.open(input)?, MOST_DECODED);
+    Ok(round_list(&mut source, sink)?)
 }

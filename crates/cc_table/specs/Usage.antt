@@ -88,6 +88,10 @@ decode_command formats orders =
     let options = with_rule (with_rule (new_app (codes "decode")) (choice_option (codes "format") formats)) (choice_option (codes "bytes") orders) in
     with_rule options (optional_argument (codes "file"))
 
+-- The command `annotate [FILE]`.
+abbrev pub annotate_command : App
+annotate_command = with_rule (new_app (codes "annotate")) (optional_argument (codes "file"))
+
 -- The program before its commands are added. It requires one of them, and has a version.
 abbrev pub bare_program : App
 bare_program = let bare = new_app (codes "cheri-cap") in record bare {
@@ -111,7 +115,9 @@ with_scripts program aligns =
 
 -- The program with all commands except `explain`.
 abbrev pub listed_commands : (aligns formats orders : Bor (List (Bor Text))) → App
-listed_commands aligns formats orders = with_subcommand (with_scripts (with_words bare_program) aligns) (decode_command formats orders).top
+listed_commands aligns formats orders =
+    let words = with_subcommand (with_scripts (with_words bare_program) aligns) (decode_command formats orders).top in
+    with_subcommand words annotate_command.top
 
 -- The whole program, if `--align`, `--format` and `--bytes` accept these strings.
 abbrev pub program : (aligns formats orders : Bor (List (Bor Text))) → App

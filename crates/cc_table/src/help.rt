@@ -86,7 +86,8 @@ pub(crate) const ROUND_ABOUT: &str =
 
 pub(crate) const LENGTH_HELP: &str = "\
 The length in bytes, at most 2^64: decimal digits, or 0x and hexadecimal digits of either case. Put
-0x before a hexadecimal size that has none, as `nm -S` prints it";
+0x before a hexadecimal size that has none, as `nm -S` prints it. With `-` standard input has a list
+of lengths, one on each line";
 
 pub(crate) const ROUND_AFTER_HELP: &str = "\
 The output is one line, `round LENGTH GRANULE MASK`, with each number in hexadecimal:
@@ -95,12 +96,19 @@ The output is one line, `round LENGTH GRANULE MASK`, with each number in hexadec
   MASK     rounds an address down to such a multiple, as `address & MASK`
 A capability for bytes that are placed so grants them, and no others.
 
+For `-` the output has such a line for each line of standard input, in their order. A line of more
+than 128 bytes gets `error 3 long`, and an unterminated last line `error 2 unfinished`.
+
 Input that is not a number gets `error 1 syntax`, and a number above 2^64 gets `error 4 range`, both
 with exit status 1.
 
-Example:
+Examples:
   cheri-cap round 8191
-  round 0x2000 0x10 0xfffffffffffffff0";
+  round 0x2000 0x10 0xfffffffffffffff0
+
+  printf '8191\\n5000\\n' | cheri-cap round -
+  round 0x2000 0x10 0xfffffffffffffff0
+  round 0x1388 0x8 0xfffffffffffffff8";
 
 pub(crate) const RUN_ABOUT: &str =
     "Runs a script on a new machine, and prints a reply for each of its lines";
@@ -217,6 +225,24 @@ Examples:
   echo 02001fffc48190040000000000001000 | cheri-cap decode --format csv
   word,base,top,perms,flag,type,exponent,canonical,address,names
   02001fffc48190040000000000001000,0x1000,0x1200,0200,0,00007,0,yes,0x1000,UNSEAL";
+
+pub(crate) const ANNOTATE_ABOUT: &str = "Copies a text, with the line of each word after the word";
+
+pub(crate) const TEXT_FILE_HELP: &str = "File of text; standard input if `-` or omitted";
+
+pub(crate) const ANNOTATE_AFTER_HELP: &str = "\
+The output is the input, byte for byte, and after each word in it a space and the word's line, as
+`cheri-cap show --line` prints it. A word is 32 hexadecimal digits of either case, or two halves of
+16 digits with `_` or `:` between, with or without 0x before. No letter, digit or underscore comes
+right before it or right after it. Lines may have any length, and the input any bytes. Each line is
+that of a tagged word, and any 32 digits are a word: a checksum of 128 bits gets a line too.
+
+The exit status is 0, 2 for a command line that is not understood, and 3 if FILE cannot be opened,
+or the input or output failed.
+
+Example:
+  echo 'csp=0xffff0000000f803d0000000000010070 ok' | cheri-cap annotate
+  csp=0xffff0000000f803d0000000000010070 0x10070 [rwxRW,0x10070-0x12070] ok";
 
 pub(crate) const SLOTS_HELP: &str = "\
 Maximum number of slots, and of objects, from 1 to 65536 [default: 4096]";

@@ -4,11 +4,11 @@ ghost use Rattle.clap.specs.Words.{new_app};
 ghost use Rattle.cc_table.specs.Usage.{bare_program, explain_command, listed_commands, with_arguments, with_commands};
 
 use crate::help::{
-    ALIGN_HELP, BASE_HELP, BYTES_HELP, DECODE_ABOUT, DECODE_AFTER_HELP, FILE_HELP, FORMAT_HELP,
-    LENGTH_HELP, LINE_HELP, MAP_ABOUT, MAP_AFTER_HELP, PLAN_ABOUT, PLAN_AFTER_HELP,
-    POOL_LENGTH_HELP, REQUEST_BASE_HELP, REQUEST_LENGTH_HELP, ROUND_ABOUT, ROUND_AFTER_HELP,
-    RUN_ABOUT, RUN_AFTER_HELP, SHOW_ABOUT, SHOW_AFTER_HELP, SLOTS_HELP, STATS_HELP, SVG_HELP,
-    WINDOW_SVG_HELP, WORD_HELP, WORDS_FILE_HELP,
+    ALIGN_HELP, ANNOTATE_ABOUT, ANNOTATE_AFTER_HELP, BASE_HELP, BYTES_HELP, DECODE_ABOUT,
+    DECODE_AFTER_HELP, FILE_HELP, FORMAT_HELP, LENGTH_HELP, LINE_HELP, MAP_ABOUT, MAP_AFTER_HELP,
+    PLAN_ABOUT, PLAN_AFTER_HELP, POOL_LENGTH_HELP, REQUEST_BASE_HELP, REQUEST_LENGTH_HELP,
+    ROUND_ABOUT, ROUND_AFTER_HELP, RUN_ABOUT, RUN_AFTER_HELP, SHOW_ABOUT, SHOW_AFTER_HELP,
+    SLOTS_HELP, STATS_HELP, SVG_HELP, TEXT_FILE_HELP, WINDOW_SVG_HELP, WORD_HELP, WORDS_FILE_HELP,
 };
 
 /// The subject of the help of an argument.
@@ -42,6 +42,8 @@ pub(crate) enum Topic {
     WordsFile,
     /// `WINDOW_SVG_HELP`.
     WindowSvg,
+    /// `TEXT_FILE_HELP`.
+    TextFile,
     /// `REQUEST_LENGTH_HELP`.
     RequestLength,
     /// `REQUEST_BASE_HELP`.
@@ -63,6 +65,8 @@ pub(crate) enum Page {
     Map,
     /// The command `decode`.
     Decode,
+    /// The command `annotate`.
+    Annotate,
 }
 
 /// Returns the help of an argument.
@@ -82,6 +86,7 @@ pub(crate) fn help<'a>(topic: Topic) -> &'a str {
         Topic::Bytes => BYTES_HELP,
         Topic::WordsFile => WORDS_FILE_HELP,
         Topic::WindowSvg => WINDOW_SVG_HELP,
+        Topic::TextFile => TEXT_FILE_HELP,
         Topic::RequestLength => REQUEST_LENGTH_HELP,
         Topic::RequestBase => REQUEST_BASE_HELP,
     }
@@ -96,6 +101,7 @@ pub(crate) fn about<'a>(page: Page) -> &'a str {
         Page::Plan => PLAN_ABOUT,
         Page::Map => MAP_ABOUT,
         Page::Decode => DECODE_ABOUT,
+        Page::Annotate => ANNOTATE_ABOUT,
     }
 }
 
@@ -108,6 +114,7 @@ pub(crate) fn after_help<'a>(page: Page) -> &'a str {
         Page::Plan => PLAN_AFTER_HELP,
         Page::Map => MAP_AFTER_HELP,
         Page::Decode => DECODE_AFTER_HELP,
+        Page::Annotate => ANNOTATE_AFTER_HELP,
     }
 }
 
@@ -318,6 +325,16 @@ const COMMANDS: &[CommandRow] = &[
                 topic: Topic::WordsFile,
             },
         ],
+    },
+    CommandRow {
+        name: "annotate",
+        page: Page::Annotate,
+        rows: &[Row {
+            kind: Kind::Free,
+            name: "file",
+            placeholder: "FILE",
+            topic: Topic::TextFile,
+        }],
     },
 ];
 

@@ -130,6 +130,12 @@ returns-in-Some-decode-default c =
     let rows = rows_of (found_of here.decode.now) in
     invocation_is c.args.matches.now (codes "decode") rows c.read_decode.result (sym (ap Some here.is-decode) ∙ here.ensures.name) here.ensures.rows c.read_decode.ensures.command c.read_decode.ensures.values
 
+pub returns-in-Some-annotate-default : goal.returns-in-Some-annotate-default
+returns-in-Some-annotate-default c =
+    let here = c.in-Some-annotate-default in
+    let rows = rows_of (found_of here.annotate.now) in
+    invocation_is c.args.matches.now (codes "annotate") rows c.read_annotate.result (sym (ap Some here.is-annotate) ∙ here.ensures.name) here.ensures.rows c.read_annotate.ensures.command c.read_annotate.ensures.values
+
 pub read_explain-requires : goal.read_explain-requires
 read_explain-requires c =
     let here = c.in-Some-explain-default in
@@ -148,6 +154,6 @@ unreachable-requires c = elim c.in_default.branch [
       let d = w.in_default in
       known _ d.field-0.0.now c.requires
       (found_name c.args.matches.now d.field-0.0.now (sym (ap (option_map (λ found. found.0.now)) d.is) ∙ c.subcommand.ensures.name))
-      (λ same. search rules, (λ same. search rules, (λ same. search rules, (λ same. search rules, (λ same. search rules, (λ same. search rules, (λ same. search rules, tt)))))))
+      (λ same. search rules, (λ same. search rules, (λ same. search rules, (λ same. search rules, (λ same. search rules, (λ same. search rules, (λ same. search rules, (λ same. search rules, tt))))))))
   | in_default-via-in_default w ↦ search rules
 ]

@@ -1,6 +1,6 @@
 use Rattle.std.proofs.Common.{◌≡◌, ◌∙◌, Ok, rules, subst}
 use Rattle.cc_syntax.specs.Planning.{plan_opening, pool_of}
-use Rattle.cc_program.specs.Execution.{Console, FromInput, ListsWords, OnDevices}
+use Rattle.cc_program.specs.Execution.{AnnotatesWords, Console, FromInput, ListsWords, OnDevices}
 use Rattle.cc_program.specs.declared.input.InputName.{InputName}
 use Rattle.cc_program.proofs.ExecutionLemmas.{by_invocation, map_executes}
 use Rattle.cc_program.proofs.execution.execute.Goals as goal
@@ -43,3 +43,30 @@ returns-in-Decode-clause-executes g c =
     by_invocation _ _ c.in-Decode.is c.args.terminals console c.list_words.result
     (subst (λ (input : InputName). OnDevices (FromInput input console (ListsWords c.in-Decode.options)) c.list_words.result) c.file_input-in-Decode.ensures
     (c.list_words.ensures.lists (g.E.Sink.taken_bytes c.args.errors.now) (g.E.Sink.taken_bytes c.args.errors.now) (g.E.Sink.has_failed c.args.errors.now)))
+
+pub returns-in-Annotate-clause-executes : goal.returns-in-Annotate-clause-executes
+returns-in-Annotate-clause-executes g c =
+    let console : Console = record {
+      input = g.I.Inputs.bytes_of c.args.inputs.now;
+      output = g.W.Sink.taken_bytes c.args.sink.now;
+      output_now = g.W.Sink.taken_bytes c.annotate_words.new.sink;
+      errors = g.E.Sink.taken_bytes c.args.errors.now;
+      errors_now = g.E.Sink.taken_bytes c.args.errors.now;
+      errors_failed = g.E.Sink.has_failed c.args.errors.now;
+    } in
+    by_invocation _ _ c.in-Annotate.is c.args.terminals console c.annotate_words.result
+    (subst (λ (input : InputName). OnDevices (FromInput input console AnnotatesWords) c.annotate_words.result) c.file_input-in-Annotate.ensures
+    (c.annotate_words.ensures.annotates (g.E.Sink.taken_bytes c.args.errors.now) (g.E.Sink.taken_bytes c.args.errors.now) (g.E.Sink.has_failed c.args.errors.now)))
+
+pub returns-in-RoundList-clause-executes : goal.returns-in-RoundList-clause-executes
+returns-in-RoundList-clause-executes g c =
+    let console : Console = record {
+      input = g.I.Inputs.bytes_of c.args.inputs.now;
+      output = g.W.Sink.taken_bytes c.args.sink.now;
+      output_now = g.W.Sink.taken_bytes c.round_lengths.new.sink;
+      errors = g.E.Sink.taken_bytes c.args.errors.now;
+      errors_now = g.E.Sink.taken_bytes c.args.errors.now;
+      errors_failed = g.E.Sink.has_failed c.args.errors.now;
+    } in
+    by_invocation _ _ c.in-RoundList.is c.args.terminals console c.round_lengths.result
+    (c.round_lengths.ensures.rounds (g.E.Sink.taken_bytes c.args.errors.now) (g.E.Sink.taken_bytes c.args.errors.now) (g.E.Sink.has_failed c.args.errors.now))
