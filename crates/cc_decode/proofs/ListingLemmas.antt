@@ -14,9 +14,9 @@ use Rattle.cc_explain.specs.WordTelling.{TellsWord}
 use Rattle.cc_decode.specs.Correct.{WritesListing}
 use Rattle.cc_decode.specs.Input.{entries_of, left_of, word_of_entry}
 use Rattle.cc_decode.specs.Output.{IsAnswer, IsRowLine, AreAnswers}
-use Rattle.cc_decode.specs.Row.{IsWordRow, columns_text, csv_text, header_text}
+use Rattle.cc_decode.specs.Row.{IsWordRow, columns_text, csv_text, fixed_text, header_text}
 use Rattle.cc_decode.specs.declared.format.Format.{Format}
-use Rattle.cc_decode.specs.declared.format.Format.TheVariants.{Columns, Csv, Text}
+use Rattle.cc_decode.specs.declared.format.Format.TheVariants.{Columns, Csv, Fixed, Text}
 use Rattle.cc_decode.specs.declared.options.Options.{Options}
 
 -- two tests of one fact have the same result
@@ -46,6 +46,7 @@ one_line word one other p q =
 one_word_row : (format : Format) (word : ℕ) (one other : List ℕ) → IsWordRow format word one → IsWordRow format word other → one ≡ other
 one_word_row Columns word one other p q = one_row columns_text word one other p q
 one_word_row Text word one other p q = one_line word one other p q
+one_word_row Fixed word one other p q = one_row fixed_text word one other p q
 one_word_row Csv word one other p q = one_row csv_text word one other p q
 
 one_row_line : (format : Format) (word : ℕ) (one other : List ℕ) → IsRowLine format word one → IsRowLine format word other → one ≡ other

@@ -52,7 +52,7 @@ fn header(format: Format) -> &'static [u8]
     ensures fits { length result.now ≤ 100 }
 {
     match format {
-        Format::Columns | Format::Text => b"",
+        Format::Columns | Format::Text | Format::Fixed => b"",
         Format::Csv => b"word,base,top,perms,flag,type,exponent,canonical,address,names\n",
     }
 }
