@@ -197,6 +197,8 @@ fn read_decode<'a>(matches: &ArgMatches<'a>) -> Invocation<'a>
         options: Options {
             input: input_of(matches),
             format: format_of(matches),
+            at: None,
+            search: None,
         },
         file: value_of(matches, "file"),
     }

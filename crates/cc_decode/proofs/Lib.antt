@@ -1,5 +1,6 @@
 mod DigitLemmas
 mod AnswerLemmas
 mod ListLemmas
+mod SkipLemmas
 mod ListingLemmas
 mod PartLemmas

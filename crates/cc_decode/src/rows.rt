@@ -19,11 +19,11 @@ use cc_explain::push_permissions;
 use cc_text::Line;
 use cc_word::{Fields, Perms, SENTRY_TYPE, UNSEALED_TYPE, unpack};
 
-/// Appends the reply to a word in this format, without a line feed: at most 500 bytes.
+/// Appends the reply to a word in this format, without a line feed: at most 450 bytes.
 pub(crate) fn push_row(batch: &mut Batch, format: Format, word: u128)
-    requires { length batch.old + 500 ≤ 32768 }
+    requires { length batch.old + 450 ≤ 32768 }
     ensures row { AppendsRow format word batch.old batch.new }
-    ensures fits { length batch.new ≤ length batch.old + 500 }
+    ensures fits { length batch.new ≤ length batch.old + 450 }
 {
     match format {
         Format::Columns => push_columns(batch, word),
@@ -35,9 +35,9 @@ pub(crate) fn push_row(batch: &mut Batch, format: Format, word: u128)
 
 /// Appends the columns of a word.
 fn push_columns(batch: &mut Batch, word: u128)
-    requires { length batch.old + 500 ≤ 32768 }
+    requires { length batch.old + 450 ≤ 32768 }
     ensures row { AppendsRow Format.Columns word batch.old batch.new }
-    ensures fits { length batch.new ≤ length batch.old + 500 }
+    ensures fits { length batch.new ≤ length batch.old + 450 }
 {
     let fields = unpack(word);
     let bounds = decode(&fields);
@@ -47,9 +47,9 @@ fn push_columns(batch: &mut Batch, word: u128)
 
 /// Appends the line that a tagged word has.
 fn push_line(batch: &mut Batch, word: u128)
-    requires { length batch.old + 500 ≤ 32768 }
+    requires { length batch.old + 450 ≤ 32768 }
     ensures row { AppendsRow Format.Text word batch.old batch.new }
-    ensures fits { length batch.new ≤ length batch.old + 500 }
+    ensures fits { length batch.new ≤ length batch.old + 450 }
 {
     let fields = unpack(word);
     let bounds = decode(&fields);
@@ -58,9 +58,9 @@ fn push_line(batch: &mut Batch, word: u128)
 
 /// Appends the line of a tagged word with these fields and bounds.
 fn push_line_of(batch: &mut Batch, fields: &Fields, bounds: &Span)
-    requires { length batch.old + 500 ≤ 32768 }
+    requires { length batch.old + 450 ≤ 32768 }
     ensures value { batch.new ≡ batch.old ++ word_line_of fields.now bounds.now true }
-    ensures fits { length batch.new ≤ length batch.old + 500 }
+    ensures fits { length batch.new ≤ length batch.old + 450 }
 {
     push_address_and_letters(batch, fields);
     push_bounds_and_mark(batch, fields, bounds);
@@ -128,9 +128,9 @@ fn push_mark(batch: &mut Batch, otype: u32)
 
 /// Appends the columns of a word in one width each.
 fn push_fixed(batch: &mut Batch, word: u128)
-    requires { length batch.old + 500 ≤ 32768 }
+    requires { length batch.old + 450 ≤ 32768 }
     ensures row { AppendsRow Format.Fixed word batch.old batch.new }
-    ensures fits { length batch.new ≤ length batch.old + 500 }
+    ensures fits { length batch.new ≤ length batch.old + 450 }
 {
     let fields = unpack(word);
     let bounds = decode(&fields);
@@ -140,7 +140,7 @@ fn push_fixed(batch: &mut Batch, word: u128)
 
 /// Appends the columns in one width each of a word with these fields and bounds.
 fn push_fixed_values(batch: &mut Batch, word: u128, fields: &Fields, bounds: &Span, canonical: bool)
-    requires { length batch.old + 500 ≤ 32768 }
+    requires { length batch.old + 450 ≤ 32768 }
     ensures value { batch.new ≡ batch.old ++ fixed_text word fields.now bounds.now canonical }
     ensures fits { length batch.new ≤ length batch.old + 92 }
 {
@@ -177,9 +177,9 @@ fn push_fixed_encoding(batch: &mut Batch, exponent: u8, canonical: bool)
 
 /// Appends the comma-separated values of a word.
 fn push_csv(batch: &mut Batch, word: u128)
-    requires { length batch.old + 500 ≤ 32768 }
+    requires { length batch.old + 450 ≤ 32768 }
     ensures row { AppendsRow Format.Csv word batch.old batch.new }
-    ensures fits { length batch.new ≤ length batch.old + 500 }
+    ensures fits { length batch.new ≤ length batch.old + 450 }
 {
     let fields = unpack(word);
     let bounds = decode(&fields);
@@ -189,9 +189,9 @@ fn push_csv(batch: &mut Batch, word: u128)
 
 /// Appends the comma-separated values of a word with these fields and bounds.
 fn push_csv_values(batch: &mut Batch, word: u128, fields: &Fields, bounds: &Span, canonical: bool)
-    requires { length batch.old + 500 ≤ 32768 }
+    requires { length batch.old + 450 ≤ 32768 }
     ensures value { batch.new ≡ batch.old ++ csv_text word fields.now bounds.now canonical }
-    ensures fits { length batch.new ≤ length batch.old + 500 }
+    ensures fits { length batch.new ≤ length batch.old + 450 }
 {
     push_values(batch, b',', word, fields, bounds, canonical);
     push_address_and_names(batch, fields.address, fields.perms);

@@ -1,4 +1,4 @@
-use Rattle.std.proofs.Common.{◌≡◌, ◌∙◌, ap, sym, ℕ, List, [], ◌∷◌, ◌++◌, ◌/◌, ◌%◌, ◌^◌, append_assoc}
+use Rattle.std.proofs.Common.{◌∙◌, ap, sym, ℕ, List, [], ◌∷◌, ◌++◌, ◌/◌, ◌%◌, ◌^◌, append_assoc}
 use Rattle.cc_word.specs.WordText.{digits_of}
 use Rattle.cc_decode.proofs.DigitLemmas.{seventeen_digits}
 use Rattle.cc_decode.proofs.writers.push_padded.Goals as goal
