@@ -11,12 +11,13 @@ use Rattle.clap.specs.declared.error.kind.ErrorKind.{ErrorKind}
 use Rattle.clap.specs.declared.error.kind.ErrorKind.TheVariants.{ArgumentConflict, MissingRequiredArgument}
 use Rattle.cc_bounds.specs.declared.align.Align.{Align}
 use Rattle.cc_bounds.specs.declared.align.Align.TheVariants.{One, Sixteen}
+use Rattle.cc_arguments.specs.declared.invocation.DecodeTexts.{DecodeTexts}
 use Rattle.cc_arguments.specs.declared.invocation.PoolTexts.{PoolTexts}
 use Rattle.cc_decode.specs.declared.input.ByteOrder.TheVariants.{Little, Big}
 use Rattle.cc_decode.specs.declared.input.InputForm.{InputForm}
 use Rattle.cc_decode.specs.declared.input.InputForm.TheVariants.{Lines, Bytes}
 use Rattle.cc_decode.specs.declared.format.Format.{Format}
-use Rattle.cc_decode.specs.declared.format.Format.TheVariants.{Columns, Csv}
+use Rattle.cc_decode.specs.declared.format.Format.TheVariants.{Columns, Csv, Fixed}
 use Rattle.cc_decode.specs.declared.format.Format.TheVariants as format
 use Rattle.cc_arguments.specs.declared.invocation.Invocation.{Invocation}
 use Rattle.cc_arguments.specs.declared.invocation.Invocation.TheVariants.{Ask, Decode, Map, Plan, Run}
@@ -49,6 +50,7 @@ abbrev pub format_named : Text → Option Format
 format_named text =
     if bytes_eq text (codes "columns") then Some Columns
     else if bytes_eq text (codes "text") then Some format.Text
+    else if bytes_eq text (codes "fixed") then Some Fixed
     else if bytes_eq text (codes "csv") then Some Csv
     else None
 
@@ -73,7 +75,7 @@ command_name_of (Ask question) = question_command question
 command_name_of (Run limit stats file) = codes "run"
 command_name_of (Plan limit pool align stats file) = codes "plan"
 command_name_of (Map limit pool align svg file) = codes "map"
-command_name_of (Decode options file) = codes "decode"
+command_name_of (Decode input format texts file) = codes "decode"
 
 -- `HasPool` holds if the texts of the pool are the values of BASE and LENGTH.
 abbrev pub HasPool : List Row → PoolTexts → Type 0
@@ -82,6 +84,13 @@ HasPool rows pool = (first_of (codes "base") rows ≡ Some pool.base.now) × (fi
 -- `HasFile` holds if the file is the value of FILE, or `None` if FILE is not given.
 abbrev pub HasFile : List Row → Option (Bor Text) → Type 0
 HasFile rows file = first_of (codes "file") rows ≡ option_map (λ text. text.now) file
+
+-- `HasDecodeTexts` holds if the texts are the values of these options, or `None` for those that are not given.
+pub record HasDecodeTexts (rows : List Row) (texts : DecodeTexts) : Type 0 where
+  pub skip : first_of (codes "skip") rows ≡ option_map (λ text. text.now) texts.skip
+  pub at : first_of (codes "at") rows ≡ option_map (λ text. text.now) texts.at
+  pub holds : first_of (codes "holds") rows ≡ option_map (λ text. text.now) texts.holds
+  pub perms : first_of (codes "perms") rows ≡ option_map (λ text. text.now) texts.perms
 
 -- `HasTexts` holds if the texts of the question are the values that clap found. The arguments of `explain` that the
 -- question has no text for have no value, and a missing `--base` is `0`.
@@ -105,9 +114,9 @@ HasValues rows (Plan limit pool align stats file) =
 HasValues rows (Map limit pool align svg file) =
     IsLimit (first_of (codes "slots") rows) limit × IsChosen align_named One (first_of (codes "align") rows) align
     × IsGiven (first_of (codes "svg") rows) svg × HasPool rows pool × HasFile rows file
-HasValues rows (Decode options file) =
-    IsChosen format_named Columns (first_of (codes "format") rows) options.format
-    × IsChosen input_named Lines (first_of (codes "bytes") rows) options.input × HasFile rows file
+HasValues rows (Decode input format texts file) =
+    IsChosen format_named Columns (first_of (codes "format") rows) format
+    × IsChosen input_named Lines (first_of (codes "bytes") rows) input × HasDecodeTexts rows texts × HasFile rows file
 
 -- `IsInvocation` holds if clap found this command, with these values.
 abbrev pub IsInvocation : Option (Text × List Row) → Invocation → Type 0

@@ -1,5 +1,7 @@
 //! The replies to entries, and the refusal of trailing bytes.
-ghost use Rattle.std.specs.Prelude.{◌≤◌, ◌+◌, ℕ, length};
+ghost use Rattle.std.specs.Prelude.{◌≡◌, ◌≤◌, ◌+◌, ◌++◌, ℕ, length, true};
+ghost use Rattle.cc_text.specs.Text.{refusal_text, with_line_feed};
+ghost use Rattle.cc_word.specs.declared.refusal.Refusal.TheVariants as RefusalSpec;
 ghost use Rattle.cc_decode.specs.Decoder.{AnswersEntry, AnswersPlainly, AppendsReply, AppendsWord, RefusesRest};
 
 use crate::entries::read_entry;
@@ -52,8 +54,7 @@ impl Answerer<ROOM> for PlainDecoder {
     }
 
     fn end(&mut self, _rest: &[u8], out: &mut Batch) -> bool {
-        out.push(refusal_bytes(Refusal::Unfinished));
-        true
+        push_unfinished(out)
     }
 }
 
@@ -85,9 +86,18 @@ impl Answerer<ROOM> for Decoder {
     }
 
     fn end(&mut self, _rest: &[u8], out: &mut Batch) -> bool {
-        out.push(refusal_bytes(Refusal::Unfinished));
-        true
+        push_unfinished(out)
     }
+}
+
+/// Appends the refusal of trailing bytes, and returns that it is an error.
+fn push_unfinished(out: &mut Batch) -> bool
+    requires { length out.old + 512 ≤ 32768 }
+    ensures text { out.new ≡ out.old ++ with_line_feed (refusal_text RefusalSpec.Unfinished) }
+    ensures is_error { result ≡ true }
+{
+    out.push(refusal_bytes(Refusal::Unfinished));
+    true
 }
 
 /// Appends the reply to an entry, which is this word, if it is one. Returns whether it is an error.
