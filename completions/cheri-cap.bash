@@ -11,7 +11,7 @@ _cheri_cap() {
     run) options+=' --slots --stats' ;;
     plan) options+=' --slots --align --stats' ;;
     map) options+=' --slots --align --svg' ;;
-    decode) options+=' --format --bytes' ;;
+    decode) options+=' --format --bytes --skip --at --holds --perms' ;;
     show) options+=' --line' ;;
     explain) options+=' --svg --length --base' ;;
     annotate) ;;
@@ -19,8 +19,8 @@ _cheri_cap() {
     *) return ;;
   esac
   case $before in
-    --slots | --length | --base) ;;
-    --format) mapfile -t COMPREPLY < <(compgen -W 'columns text csv' -- "$word") ;;
+    --slots | --length | --base | --skip | --at | --holds | --perms) ;;
+    --format) mapfile -t COMPREPLY < <(compgen -W 'columns text fixed csv' -- "$word") ;;
     --bytes) mapfile -t COMPREPLY < <(compgen -W 'little big' -- "$word") ;;
     --align) mapfile -t COMPREPLY < <(compgen -W '1 16' -- "$word") ;;
     *)

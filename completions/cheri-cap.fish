@@ -18,6 +18,10 @@ complete -c cheri-cap -n '__fish_seen_subcommand_from run plan map' -l slots -x 
 complete -c cheri-cap -n '__fish_seen_subcommand_from run plan' -l stats -d 'Print a summary and hints on standard error'
 complete -c cheri-cap -n '__fish_seen_subcommand_from map explain' -l svg -d 'Draw a picture for a page'
 complete -c cheri-cap -n '__fish_seen_subcommand_from plan map' -l align -x -a '1 16' -d 'Minimum alignment of objects'
-complete -c cheri-cap -n '__fish_seen_subcommand_from decode' -l format -x -a 'columns text csv' -d 'Format of the output'
+complete -c cheri-cap -n '__fish_seen_subcommand_from decode' -l format -x -a 'columns text fixed csv' -d 'Format of the output'
 complete -c cheri-cap -n '__fish_seen_subcommand_from decode' -l bytes -x -a 'little big' -d 'Read raw words of 16 bytes'
+complete -c cheri-cap -n '__fish_seen_subcommand_from decode' -l skip -x -d 'Number of bytes that are not decoded'
+complete -c cheri-cap -n '__fish_seen_subcommand_from decode' -l at -x -d 'Print addresses from START'
+complete -c cheri-cap -n '__fish_seen_subcommand_from decode' -l holds -x -d 'List capabilities to ADDRESS'
+complete -c cheri-cap -n '__fish_seen_subcommand_from decode' -l perms -x -d 'List capabilities with permissions'
 complete -c cheri-cap -n '__fish_seen_subcommand_from run plan map decode annotate' -F

@@ -130,31 +130,38 @@ align_one (Some text) read other =
 
 -- Each name of a format names one.
 format_read : (text : Text) → list_any (λ name. bytes_eq name text) format_names ≡ true → IsSome (format_named text)
-format_read text among = go (bytes_eq (codes "columns") text) (bytes_eq (codes "text") text) (bytes_eq (codes "csv") text) refl refl refl among
+format_read text among =
+    go (bytes_eq (codes "columns") text) (bytes_eq (codes "text") text) (bytes_eq (codes "fixed") text) (bytes_eq (codes "csv") text) refl refl refl refl among
   where
-    go : (columns line csv : Bool) → bytes_eq (codes "columns") text ≡ columns → bytes_eq (codes "text") text ≡ line → bytes_eq (codes "csv") text ≡ csv
-        → (columns || (line || (csv || false))) ≡ true → IsSome (format_named text)
-    go true line csv is one two e = subst (λ (t : Text). IsSome (format_named t)) ((bytes_eq-Decides (codes "columns") text).0 is) refl
-    go false true csv one is two e = subst (λ (t : Text). IsSome (format_named t)) ((bytes_eq-Decides (codes "text") text).0 is) refl
-    go false false true one two is e = subst (λ (t : Text). IsSome (format_named t)) ((bytes_eq-Decides (codes "csv") text).0 is) refl
-    go false false false one two three e = cc e
+    go : (columns line fixed csv : Bool) → bytes_eq (codes "columns") text ≡ columns → bytes_eq (codes "text") text ≡ line
+        → bytes_eq (codes "fixed") text ≡ fixed → bytes_eq (codes "csv") text ≡ csv
+        → (columns || (line || (fixed || (csv || false)))) ≡ true → IsSome (format_named text)
+    go true line fixed csv is one two three e = subst (λ (t : Text). IsSome (format_named t)) ((bytes_eq-Decides (codes "columns") text).0 is) refl
+    go false true fixed csv one is two three e = subst (λ (t : Text). IsSome (format_named t)) ((bytes_eq-Decides (codes "text") text).0 is) refl
+    go false false true csv one two is three e = subst (λ (t : Text). IsSome (format_named t)) ((bytes_eq-Decides (codes "fixed") text).0 is) refl
+    go false false false true one two three is e = subst (λ (t : Text). IsSome (format_named t)) ((bytes_eq-Decides (codes "csv") text).0 is) refl
+    go false false false false one two three four e = cc e
 
--- A format that is neither of the others is columns.
-pub format_columns : (given : Option Text) → IfSome given (λ text. IsSome (format_named text)) → (given ≡ Some (codes "text") → ⊥) → (given ≡ Some (codes "csv") → ⊥)
-    → IsChosen format_named Columns given Columns
-format_columns None read not_line not_csv = refl
-format_columns (Some text) read not_line not_csv =
-    go (bytes_eq text (codes "columns")) (bytes_eq text (codes "text")) (bytes_eq text (codes "csv"))
-    (λ is. not_line (ap Some ((bytes_eq-Decides text (codes "text")).0 is))) (λ is. not_csv (ap Some ((bytes_eq-Decides text (codes "csv")).0 is))) read
+-- A format that is none of the others is columns.
+pub format_columns : (given : Option Text) → IfSome given (λ text. IsSome (format_named text)) → (given ≡ Some (codes "text") → ⊥) → (given ≡ Some (codes "fixed") → ⊥)
+    → (given ≡ Some (codes "csv") → ⊥) → IsChosen format_named Columns given Columns
+format_columns None read not_line not_fixed not_csv = refl
+format_columns (Some text) read not_line not_fixed not_csv =
+    go (bytes_eq text (codes "columns")) (bytes_eq text (codes "text")) (bytes_eq text (codes "fixed")) (bytes_eq text (codes "csv"))
+    (λ is. not_line (ap Some ((bytes_eq-Decides text (codes "text")).0 is))) (λ is. not_fixed (ap Some ((bytes_eq-Decides text (codes "fixed")).0 is)))
+    (λ is. not_csv (ap Some ((bytes_eq-Decides text (codes "csv")).0 is))) read
   where
-    named : (columns line csv : Bool) → Option Format
-    named columns line csv = if columns then Some Columns else if line then Some format.Text else if csv then Some format.Csv else None
+    named : (columns line fixed csv : Bool) → Option Format
+    named columns line fixed csv =
+        if columns then Some Columns else if line then Some format.Text else if fixed then Some format.Fixed else if csv then Some format.Csv else None
 
-    go : (columns line csv : Bool) → (line ≡ true → ⊥) → (csv ≡ true → ⊥) → IsSome (named columns line csv) → named columns line csv ≡ Some Columns
-    go true line csv no_line no_csv read = refl
-    go false true csv no_line no_csv read = absurd (no_line refl)
-    go false false true no_line no_csv read = absurd (no_csv refl)
-    go false false false no_line no_csv read = cc read
+    go : (columns line fixed csv : Bool) → (line ≡ true → ⊥) → (fixed ≡ true → ⊥) → (csv ≡ true → ⊥) → IsSome (named columns line fixed csv)
+        → named columns line fixed csv ≡ Some Columns
+    go true line fixed csv no_line no_fixed no_csv read = refl
+    go false true fixed csv no_line no_fixed no_csv read = absurd (no_line refl)
+    go false false true csv no_line no_fixed no_csv read = absurd (no_fixed refl)
+    go false false false true no_line no_fixed no_csv read = absurd (no_csv refl)
+    go false false false false no_line no_fixed no_csv read = cc read
 
 -- ---- orders of bytes
 
@@ -314,7 +321,22 @@ module _ (aligns : Bor (List (Bor Text))) (are : texts aligns.now ≡ codes "1" 
   decode_gives : GiveValues decode.rules decode.rules
   decode_gives = (
     set_gives decode.rules _ refl refl refl refl,
-    (set_gives decode.rules _ refl refl refl refl, (set_gives decode.rules _ refl refl refl refl, (help_gives decode.rules, tt))),
+    (
+      set_gives decode.rules _ refl refl refl refl,
+      (
+        set_gives decode.rules _ refl refl refl refl,
+        (
+          set_gives decode.rules _ refl refl refl refl,
+          (
+            set_gives decode.rules _ refl refl refl refl,
+            (
+              set_gives decode.rules _ refl refl refl refl,
+              (set_gives decode.rules _ refl refl refl refl, (help_gives decode.rules, tt)),
+            ),
+          ),
+        ),
+      ),
+    ),
   )
 
   -- `Serves` holds if the command has the values that it needs whenever its arguments have no error.

@@ -11,12 +11,13 @@ use Rattle.clap.specs.declared.error.kind.ErrorKind.{ErrorKind}
 use Rattle.clap.specs.declared.error.kind.ErrorKind.TheVariants.{ArgumentConflict, MissingRequiredArgument}
 use Rattle.cc_bounds.specs.declared.align.Align.{Align}
 use Rattle.cc_bounds.specs.declared.align.Align.TheVariants.{One, Sixteen}
+use Rattle.cc_arguments.specs.declared.invocation.DecodeTexts.{DecodeTexts}
 use Rattle.cc_arguments.specs.declared.invocation.PoolTexts.{PoolTexts}
 use Rattle.cc_decode.specs.declared.input.ByteOrder.TheVariants.{Little, Big}
 use Rattle.cc_decode.specs.declared.input.InputForm.{InputForm}
 use Rattle.cc_decode.specs.declared.input.InputForm.TheVariants.{Lines, Bytes}
 use Rattle.cc_decode.specs.declared.format.Format.{Format}
-use Rattle.cc_decode.specs.declared.format.Format.TheVariants.{Columns, Csv}
+use Rattle.cc_decode.specs.declared.format.Format.TheVariants.{Columns, Csv, Fixed}
 use Rattle.cc_decode.specs.declared.format.Format.TheVariants as format
 use Rattle.cc_arguments.specs.declared.invocation.Invocation.{Invocation}
 use Rattle.cc_arguments.specs.declared.invocation.Invocation.TheVariants.{Annotate, Ask, Decode, Map, Plan, RoundList, Run}
@@ -49,6 +50,7 @@ abbrev pub format_named : Text → Option Format
 format_named text =
     if bytes_eq text (codes "columns") then Some Columns
     else if bytes_eq text (codes "text") then Some format.Text
+    else if bytes_eq text (codes "fixed") then Some Fixed
     else if bytes_eq text (codes "csv") then Some Csv
     else None
 
@@ -78,7 +80,7 @@ command_name_of (Ask question) = question_command question
 command_name_of (Run limit stats file) = codes "run"
 command_name_of (Plan limit pool align stats file) = codes "plan"
 command_name_of (Map limit pool align svg file) = codes "map"
-command_name_of (Decode options file) = codes "decode"
+command_name_of (Decode input format texts file) = codes "decode"
 command_name_of (Annotate file) = codes "annotate"
 command_name_of RoundList = codes "round"
 
@@ -94,6 +96,13 @@ HasFile rows file = first_of (codes "file") rows ≡ option_map (λ text. text.n
 abbrev pub HasWordAlone : List Row → (word : Text) → Type 0
 HasWordAlone rows word =
     (first_of (codes "word") rows ≡ Some word) × (first_of (codes "length") rows ≡ None) × (first_of (codes "base") rows ≡ None)
+
+-- `HasDecodeTexts` holds if the texts are the values of these options, or `None` for those that are not given.
+pub record HasDecodeTexts (rows : List Row) (texts : DecodeTexts) : Type 0 where
+  pub skip : first_of (codes "skip") rows ≡ option_map (λ text. text.now) texts.skip
+  pub at : first_of (codes "at") rows ≡ option_map (λ text. text.now) texts.at
+  pub holds : first_of (codes "holds") rows ≡ option_map (λ text. text.now) texts.holds
+  pub perms : first_of (codes "perms") rows ≡ option_map (λ text. text.now) texts.perms
 
 -- `HasTexts` holds if the texts of the question are the values that clap found. The arguments of `explain` that the
 -- question has no text for have no value, and a missing `--base` is `0`. The N of `round` is not `-`, which is a list.
@@ -117,9 +126,9 @@ HasValues rows (Plan limit pool align stats file) =
 HasValues rows (Map limit pool align svg file) =
     IsLimit (first_of (codes "slots") rows) limit × IsChosen align_named One (first_of (codes "align") rows) align
     × IsGiven (first_of (codes "svg") rows) svg × HasPool rows pool × HasFile rows file
-HasValues rows (Decode options file) =
-    IsChosen format_named Columns (first_of (codes "format") rows) options.format
-    × IsChosen input_named Lines (first_of (codes "bytes") rows) options.input × HasFile rows file
+HasValues rows (Decode input format texts file) =
+    IsChosen format_named Columns (first_of (codes "format") rows) format
+    × IsChosen input_named Lines (first_of (codes "bytes") rows) input × HasDecodeTexts rows texts × HasFile rows file
 HasValues rows (Annotate file) = HasFile rows file
 HasValues rows RoundList = first_of (codes "length") rows ≡ Some (codes "-")
 

@@ -1,7 +1,7 @@
 //! The command that a command line asks for.
 use crate::question::Question;
 use cc_bounds::Align;
-use cc_decode::Options;
+use cc_decode::{Format, InputForm};
 
 /// The bounds of a pool, as they were typed.
 #[derive(Clone, Copy, Debug, PartialEq, Eq)]
@@ -10,6 +10,19 @@ pub struct PoolTexts<'a> {
     pub base: &'a str,
     /// The length.
     pub length: &'a str,
+}
+
+/// The values of the options of `decode` that are numbers or names, as they were typed.
+#[derive(Clone, Copy, Debug, PartialEq, Eq)]
+pub struct DecodeTexts<'a> {
+    /// The number of bytes to skip.
+    pub skip: Option<&'a str>,
+    /// The address of the first word.
+    pub at: Option<&'a str>,
+    /// The address that bounds contain.
+    pub holds: Option<&'a str>,
+    /// The names of permissions.
+    pub perms: Option<&'a str>,
 }
 
 /// A command and its values.
@@ -52,10 +65,15 @@ pub enum Invocation<'a> {
         /// The script's file; `None` and `-` are standard input.
         file: Option<&'a str>,
     },
-    /// `decode [--format FORMAT] [--bytes ORDER] [FILE]`: lists the content of each word of a text, or of raw bytes.
+    /// `decode [--format FORMAT] [--bytes ORDER] [--skip N] [--at START] [--holds ADDRESS] [--perms NAMES] [FILE]`: lists
+    /// the content of each word of a text, or of raw bytes, or of those that a search finds.
     Decode {
-        /// The form of the words in the input, and the format of the output.
-        options: Options,
+        /// The form of the words in the input.
+        input: InputForm,
+        /// The format of the output.
+        format: Format,
+        /// The values of the other options, as they were typed.
+        texts: DecodeTexts<'a>,
         /// The words' file; `None` and `-` are standard input.
         file: Option<&'a str>,
     },

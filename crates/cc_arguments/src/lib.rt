@@ -6,6 +6,6 @@ mod question;
 mod reading;
 mod values;
 
-pub use invocation::{Invocation, PoolTexts};
+pub use invocation::{DecodeTexts, Invocation, PoolTexts};
 pub use question::Question;
 pub use reading::read_words;

@@ -7,10 +7,9 @@ ghost use Rattle.cc_arguments.specs.Invocation.{HasChoice, HasFlag, HasItsTexts,
 use crate::invocation::Invocation;
 use crate::question::Question;
 use crate::values::{
-    align_of, base_of, format_of, input_of, is_given, is_on, limit_of, pool_texts, value_of,
-    wanted_text,
+    align_of, base_of, decode_texts, format_of, input_of, is_given, is_on, limit_of, pool_texts,
+    value_of, wanted_text,
 };
-use cc_decode::Options;
 use cc_table::{EXPLAIN_CHOICE, explain_command, program};
 use clap::error::ErrorKind;
 use clap::{ArgMatches, Error};
@@ -45,7 +44,7 @@ fn aligns<'a>() -> &'a [&'a str]
 fn formats<'a>() -> &'a [&'a str]
     ensures { texts result.now ≡ format_names }
 {
-    &["columns", "text", "csv"]
+    &["columns", "text", "fixed", "csv"]
 }
 
 /// Returns the values that `--bytes` accepts.
@@ -201,10 +200,9 @@ fn read_decode<'a>(matches: &ArgMatches<'a>) -> Invocation<'a>
     ensures values { HasValues (rows_of (found_of matches.now)) result }
 {
     Invocation::Decode {
-        options: Options {
-            input: input_of(matches),
-            format: format_of(matches),
-        },
+        input: input_of(matches),
+        format: format_of(matches),
+        texts: decode_texts(matches),
         file: value_of(matches, "file"),
     }
 }

@@ -1,9 +1,9 @@
 //! The values that clap found for arguments and options.
 ghost use Rattle.std.specs.Prelude.{◌≡◌, Some, codes, option_map, unwrap_or};
 ghost use Rattle.clap.specs.Words.{first_of, found_of, rows_of};
-ghost use Rattle.cc_arguments.specs.Invocation.{HasChoice, HasFlag, HasLimit, HasPool, HasPoolTexts, HasText, IsChosen, IsGiven, IsLimit, align_named, format_named, input_named, is_on};
+ghost use Rattle.cc_arguments.specs.Invocation.{HasChoice, HasDecodeTexts, HasFlag, HasLimit, HasPool, HasPoolTexts, HasText, IsChosen, IsGiven, IsLimit, align_named, format_named, input_named, is_on};
 
-use crate::invocation::PoolTexts;
+use crate::invocation::{DecodeTexts, PoolTexts};
 use cc_bounds::Align;
 use cc_decode::{ByteOrder, Format, InputForm};
 use clap::ArgMatches;
@@ -44,6 +44,18 @@ pub(crate) fn pool_texts<'a>(matches: &ArgMatches<'a>) -> PoolTexts<'a>
     PoolTexts {
         base: wanted_text(matches, "base"),
         length: wanted_text(matches, "length"),
+    }
+}
+
+/// Returns the values of the options of `decode` that are numbers or names.
+pub(crate) fn decode_texts<'a>(matches: &ArgMatches<'a>) -> DecodeTexts<'a>
+    ensures { HasDecodeTexts (rows_of (found_of matches.now)) result }
+{
+    DecodeTexts {
+        skip: value_of(matches, "skip"),
+        at: value_of(matches, "at"),
+        holds: value_of(matches, "holds"),
+        perms: value_of(matches, "perms"),
     }
 }
 
@@ -91,6 +103,7 @@ pub(crate) fn format_of(matches: &ArgMatches<'_>) -> Format
 {
     match value_of(matches, "format") {
         Some("text") => Format::Text,
+        Some("fixed") => Format::Fixed,
         Some("csv") => Format::Csv,
         _ => Format::Columns,
     }

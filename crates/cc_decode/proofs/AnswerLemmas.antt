@@ -1,13 +1,15 @@
 -- The replies of a decoder are those to the whole entries.
-use Rattle.std.proofs.Common.{◌≡◌, ℕ, ◌<◌, List, [], ◌∷◌, length, take, sym, ◌∙◌, ap, subst, not, ◌==◌, arith, length-take, inl, inr}
+use Rattle.std.proofs.Common.{◌≡◌, ◌↔◌, ℕ, ◌<◌, Bool, List, [], ◌∷◌, length, take, refl, sym, ◌∙◌, ap, subst, not, ◌==◌, arith, length-take, inl, inr, Option, None, Some, IfSome}
+use Rattle.std.specs.Prelude.{IsSome}
 use Rattle.std.proofs.lemmas.Bool.{cases_lt}
 use Rattle.std.proofs.lemmas.List.{take_all}
 use Rattle.std.proofs.Math.Dec.{eqb-suc-zero}
 use Rattle.cc_text.specs.Text.{rest_text}
-use Rattle.cc_io.specs.Answers.{Answer, AnswersAll, EndsWith, seen}
-use Rattle.cc_decode.specs.Input.{IsWordEntry}
-use Rattle.cc_decode.specs.Output.{IsAnswer, AreAnswers}
-use Rattle.cc_decode.specs.Decoder.{AnswersEntry, RefusesRest}
+use Rattle.cc_io.specs.Answers.{Answer, AnswersAll, EndsWith, Relation, seen}
+use Rattle.cc_decode.specs.Input.{IsWordEntry, word_of_entry}
+use Rattle.cc_decode.specs.Output.{IsAnswer, IsWordAnswer, AreAnswers}
+use Rattle.cc_decode.specs.Place.{after_entry, options_after}
+use Rattle.cc_decode.specs.Decoder.{AnswersEntry, AnswersPlainly, IsReply, RefusesRest, plain_options}
 use Rattle.cc_decode.specs.declared.decoder.Decoder.{Decoder}
 use Rattle.cc_decode.specs.declared.input.InputForm.{InputForm}
 use Rattle.cc_decode.specs.declared.input.InputForm.TheVariants.{Lines, Bytes}
@@ -30,28 +32,53 @@ start_enough options entry answer is = elim (cases_lt (length entry) 129) [
       ]
 ]
 
--- a decoder has no state
-pub unchanged : (old new : Decoder) (entries : List (List ℕ)) (answers : List Answer) → AnswersAll AnswersEntry old entries answers new → new ≡ old
-unchanged old new [] [] t = t
-unchanged old new (entry ∷ entries) (answer ∷ answers) t = unchanged t.0 new entries answers t.2 ∙ t.1.1
-unchanged old new [] (answer ∷ answers) t = absurd t
-unchanged old new (entry ∷ entries) [] t = absurd t
+-- the reply to a word that was read, or to an entry that is no word, is that to the entry
+pub is_answer : (options : Options) (entry : List ℕ) (word : Option ℕ) (text : List ℕ) (is_error : Bool) → (IsSome word ↔ IsWordEntry options.input entry)
+    → IfSome word (λ found. found ≡ word_of_entry options.input entry) → IsReply options word text is_error → IsAnswer options entry (record { text = text; is_error = is_error })
+is_answer options entry None text is_error is_word value reply = inr (λ word. cc (is_word.1 word), reply.0, reply.1)
+is_answer options entry (Some word) text is_error is_word value reply =
+    inl (is_word.0 refl, subst (λ (found : ℕ). IsWordAnswer options found text) value reply.0, reply.1)
 
-pub are_answers : (old new : Decoder) (entries : List (List ℕ)) (answers : List Answer)
-    → AnswersAll AnswersEntry old (seen entries) answers new → AreAnswers old.options entries answers
-are_answers old new [] [] t = tt
-are_answers old new (entry ∷ entries) (answer ∷ answers) t = (
-  start_enough old.options entry answer t.1.0,
-  are_answers old new entries answers (subst (λ (mid : Decoder). AnswersAll AnswersEntry mid (seen entries) answers new) t.1.1 t.2),
-)
-are_answers old new [] (answer ∷ answers) t = absurd t
-are_answers old new (entry ∷ entries) [] t = absurd t
+-- what the reply of a decoder says of its options
+abbrev pub Answers : {S : Type 0} → (options_of : S → Options) → Relation S → Type 0
+Answers {S} options_of Answered =
+    (old : S) (entry text : List ℕ) (is_error : Bool) (new : S) → Answered old entry text is_error new
+    → IsAnswer (options_of old) entry (record { text = text; is_error = is_error }) × (options_of new ≡ after_entry (options_of old))
+
+pub answers_plainly : Answers plain_options AnswersPlainly
+answers_plainly old entry text is_error new t = (t.0, ap plain_options t.1)
+
+pub answers_entry : Answers (λ (decoder : Decoder). decoder.options) AnswersEntry
+answers_entry old entry text is_error new t = t
+
+module _ {S : Type 0} (options_of : S → Options) (Answered : Relation S) (answers : Answers options_of Answered) where
+  -- the options that a decoder has after its replies
+  pub reached : (old new : S) (entries : List (List ℕ)) (replies : List Answer) → AnswersAll Answered old (seen entries) replies new
+      → options_of new ≡ options_after (options_of old) (length entries)
+  reached old new [] [] t = ap options_of t
+  reached old new (entry ∷ entries) (reply ∷ replies) t =
+      reached t.0 new entries replies t.2
+      ∙ ap (λ (options : Options). options_after options (length entries)) (answers old (take 129 entry) reply.text reply.is_error t.0 t.1).1
+  reached old new [] (reply ∷ replies) t = absurd t
+  reached old new (entry ∷ entries) [] t = absurd t
+
+  pub are_answers : (old new : S) (entries : List (List ℕ)) (replies : List Answer) → AnswersAll Answered old (seen entries) replies new
+      → AreAnswers (options_of old) entries replies
+  are_answers old new [] [] t = tt
+  are_answers old new (entry ∷ entries) (reply ∷ replies) t =
+      let one = answers old (take 129 entry) reply.text reply.is_error t.0 t.1 in (
+        start_enough (options_of old) entry reply one.0,
+        subst (λ (options : Options). AreAnswers options entries replies) one.1 (are_answers t.0 new entries replies t.2),
+      )
+  are_answers old new [] (reply ∷ replies) t = absurd t
+  are_answers old new (entry ∷ entries) [] t = absurd t
 
 -- trailing bytes are refused, and without them there is no reply
-pub rest_refused : (old new : Decoder) (rest : List ℕ) (ending : Answer) → EndsWith RefusesRest old (take 129 rest) ending new → ending.text ≡ rest_text rest
+pub rest_refused : {S : Type 0} (old new : S) (rest : List ℕ) (ending : Answer) → EndsWith RefusesRest old (take 129 rest) ending new → ending.text ≡ rest_text rest
 rest_refused old new [] ending e = e.0
 rest_refused old new (byte ∷ rest) ending e = e.0
 
-pub rest_is_error : (old new : Decoder) (rest : List ℕ) (ending : Answer) → EndsWith RefusesRest old (take 129 rest) ending new → ending.is_error ≡ not (length rest == 0)
+pub rest_is_error : {S : Type 0} (old new : S) (rest : List ℕ) (ending : Answer) → EndsWith RefusesRest old (take 129 rest) ending new
+    → ending.is_error ≡ not (length rest == 0)
 rest_is_error old new [] ending e = e.1
 rest_is_error old new (byte ∷ rest) ending e = e.1 ∙ sym (ap not (eqb-suc-zero (length rest)))

@@ -1,6 +1,7 @@
 mod DigitLemmas
 mod AnswerLemmas
 mod ListLemmas
+mod SkipLemmas
 mod ListingLemmas
 mod PartLemmas
 mod RunLemmas

@@ -13,10 +13,11 @@ use Rattle.cc_io.specs.Answers.{Answer, answers_text}
 use Rattle.cc_explain.specs.WordTelling.{TellsWord}
 use Rattle.cc_decode.specs.Correct.{WritesListing}
 use Rattle.cc_decode.specs.Input.{entries_of, left_of, word_of_entry}
-use Rattle.cc_decode.specs.Output.{IsAnswer, IsRowLine, AreAnswers}
-use Rattle.cc_decode.specs.Row.{IsWordRow, columns_text, csv_text, header_text}
+use Rattle.cc_decode.specs.Output.{IsAnswer, IsRowLine, IsWordAnswer, AreAnswers}
+use Rattle.cc_decode.specs.Place.{after_entry, header_of, place_text}
+use Rattle.cc_decode.specs.Row.{IsWordRow, columns_text, csv_text, fixed_text}
 use Rattle.cc_decode.specs.declared.format.Format.{Format}
-use Rattle.cc_decode.specs.declared.format.Format.TheVariants.{Columns, Csv, Text}
+use Rattle.cc_decode.specs.declared.format.Format.TheVariants.{Columns, Csv, Fixed, Text}
 use Rattle.cc_decode.specs.declared.options.Options.{Options}
 
 -- two tests of one fact have the same result
@@ -46,17 +47,25 @@ one_line word one other p q =
 one_word_row : (format : Format) (word : ℕ) (one other : List ℕ) → IsWordRow format word one → IsWordRow format word other → one ≡ other
 one_word_row Columns word one other p q = one_row columns_text word one other p q
 one_word_row Text word one other p q = one_line word one other p q
+one_word_row Fixed word one other p q = one_row fixed_text word one other p q
 one_word_row Csv word one other p q = one_row csv_text word one other p q
 
-one_row_line : (format : Format) (word : ℕ) (one other : List ℕ) → IsRowLine format word one → IsRowLine format word other → one ≡ other
-one_row_line format word one other p q = p.text_is ∙ ap with_line_feed (one_word_row format word p.row q.row p.is_row q.is_row) ∙ sym q.text_is
+one_row_line : (format : Format) (at : Option ℕ) (word : ℕ) (one other : List ℕ) → IsRowLine format at word one → IsRowLine format at word other → one ≡ other
+one_row_line format at word one other p q =
+    p.text_is ∙ ap (λ (row : List ℕ). with_line_feed (place_text format at ++ row)) (one_word_row format word p.row q.row p.is_row q.is_row) ∙ sym q.text_is
+
+one_word_answer : (options : Options) (word : ℕ) (one other : List ℕ) → IsWordAnswer options word one → IsWordAnswer options word other → one ≡ other
+one_word_answer options word one other (inl p) (inl q) = one_row_line options.format options.at word one other p.1 q.1
+one_word_answer options word one other (inl p) (inr q) = absurd (q.0 p.0)
+one_word_answer options word one other (inr p) (inl q) = absurd (p.0 q.0)
+one_word_answer options word one other (inr p) (inr q) = p.1 ∙ sym q.1
 
 same_answer : (one other : Answer) → one.text ≡ other.text → one.is_error ≡ other.is_error → one ≡ other
 same_answer one other p q = ap₂ (λ (t : List ℕ) (b : Bool). record { text = t; is_error = b }) p q
 
 one_answer : (options : Options) (entry : List ℕ) (one other : Answer) → IsAnswer options entry one → IsAnswer options entry other → one ≡ other
 one_answer options entry one other (inl p) (inl q) =
-    same_answer one other (one_row_line options.format (word_of_entry options.input entry) one.text other.text p.1 q.1) (p.2 ∙ sym q.2)
+    same_answer one other (one_word_answer options (word_of_entry options.input entry) one.text other.text p.1 q.1) (p.2 ∙ sym q.2)
 one_answer options entry one other (inl p) (inr q) = absurd (q.0 p.0)
 one_answer options entry one other (inr p) (inl q) = absurd (p.0 q.0)
 one_answer options entry one other (inr p) (inr q) = same_answer one other (p.1 ∙ sym q.1) (p.2 ∙ sym q.2)
@@ -69,7 +78,7 @@ one_answers options [] (a ∷ rest) bs p q = absurd p
 one_answers options (entry ∷ entries) [] bs p q = absurd p
 one_answers options (entry ∷ entries) (a ∷ rest) [] p q = absurd q
 one_answers options (entry ∷ entries) (a ∷ rest) (b ∷ bs) p q =
-    ap₂ (λ (x : Answer) (xs : List Answer). x ∷ xs) (one_answer options entry a b p.0 q.0) (one_answers options entries rest bs p.1 q.1)
+    ap₂ (λ (x : Answer) (xs : List Answer). x ∷ xs) (one_answer options entry a b p.0 q.0) (one_answers (after_entry options) entries rest bs p.1 q.1)
 
 appended : (xs bs cs : List ℕ) (u v : Option (List ℕ)) → Appends (Some xs) u bs → Appends (Some xs) v cs → bs ≡ cs → u ≡ v
 appended xs bs cs None v p q same = absurd p
@@ -82,6 +91,6 @@ pub one_listing : (options : Options) (text taken : List ℕ) (one other : Optio
 one_listing options text taken one other any_error other_error p q =
     let rest : List ℕ = left_of options.input text in
     let same : p.answers ≡ q.answers = one_answers options (entries_of options.input text) p.answers q.answers p.are_answers q.are_answers in (
-      appended taken _ _ one other p.written q.written (ap (λ (l : List Answer). header_text options.format ++ answers_text l ++ rest_text rest) same),
+      appended taken _ _ one other p.written q.written (ap (λ (l : List Answer). header_of options ++ answers_text l ++ rest_text rest) same),
       p.error_is ∙ ap (λ (l : List Answer). list_any (λ (answer : Answer). answer.is_error) l || not (length rest == 0)) same ∙ sym q.error_is,
     )

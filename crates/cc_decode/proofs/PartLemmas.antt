@@ -1,5 +1,5 @@
 -- The listing of an input and of more input after it, if the first has no trailing bytes.
-use Rattle.std.proofs.Common.{◌≡◌, ℕ, ◌+◌, ◌*◌, ◌%◌, ◌<◌, Bool, true, false, List, [], ◌∷◌, ◌++◌, length, refl, sym, ◌∙◌, ap, subst, append_assoc, append-nil, arith, inl, inr, not, ◌||◌, ◌==◌, Option, if◌then◌else◌}
+use Rattle.std.proofs.Common.{◌≡◌, ℕ, zero, suc, ◌+◌, ◌*◌, ◌%◌, ◌<◌, Bool, true, false, List, [], ◌∷◌, ◌++◌, length, refl, sym, ◌∙◌, ap, subst, append_assoc, append-nil, arith, inl, inr, not, ◌||◌, ◌==◌, Option, if◌then◌else◌}
 use Rattle.std.proofs.lemmas.Bool.{cases_lt, eqb-true, eqb-false}
 use Rattle.std.proofs.lemmas.List.{length-append, nil_from_length}
 use Rattle.std.specs.Prelude.{◌↔◌}
@@ -14,7 +14,7 @@ use Rattle.cc_io.specs.Frames.{IsFrame}
 use Rattle.cc_decode.specs.Correct.{WritesListing}
 use Rattle.cc_decode.specs.Input.{frame_of, entries_of, left_of}
 use Rattle.cc_decode.specs.Output.{AreAnswers}
-use Rattle.cc_decode.specs.Row.{header_text}
+use Rattle.cc_decode.specs.Place.{after_entry, header_of, options_after}
 use Rattle.cc_decode.specs.Parts.{AreListingRows, RowsInParts}
 use Rattle.cc_decode.specs.declared.input.ByteOrder.{ByteOrder}
 use Rattle.cc_decode.specs.declared.input.InputForm.{InputForm}
@@ -67,11 +67,16 @@ replies_further [] ss = refl
 replies_further (r ∷ rs) ss =
     ap (λ (l : List ℕ). r.text ++ l) (replies_further rs ss) ∙ sym (append_assoc r.text (answers_text rs) (answers_text ss))
 
+-- The options for the rest of an input have its form.
+same_input : (options : Options) (count : ℕ) → (options_after options count).input ≡ options.input
+same_input options zero = refl
+same_input options (suc count) = same_input (after_entry options) count
+
 -- The replies to two lists of entries, joined.
-answers_join : (options : Options) (xs ys : List (List ℕ)) (rs ss : List Answer) → AreAnswers options xs rs → AreAnswers options ys ss
+answers_join : (options : Options) (xs ys : List (List ℕ)) (rs ss : List Answer) → AreAnswers options xs rs → AreAnswers (options_after options (length xs)) ys ss
     → AreAnswers options (xs ++ ys) (rs ++ ss)
 answers_join options [] ys [] ss one two = two
-answers_join options (x ∷ xs) ys (r ∷ rs) ss one two = (one.0, answers_join options xs ys rs ss one.1 two)
+answers_join options (x ∷ xs) ys (r ∷ rs) ss one two = (one.0, answers_join (after_entry options) xs ys rs ss one.1 two)
 answers_join options [] ys (r ∷ rs) ss one two = absurd one
 answers_join options (x ∷ xs) ys [] ss one two = absurd one
 
@@ -81,13 +86,13 @@ record AnswersCut (options : Options) (xs ys : List (List ℕ)) (answers : List 
   second : List Answer
   answers_are : answers ≡ first ++ second
   of_first : AreAnswers options xs first
-  of_second : AreAnswers options ys second
+  of_second : AreAnswers (options_after options (length xs)) ys second
 
 answers_cut : (options : Options) (xs ys : List (List ℕ)) (answers : List Answer) → AreAnswers options (xs ++ ys) answers → AnswersCut options xs ys answers
 answers_cut options [] ys answers are = record { first = []; second = answers; answers_are = refl; of_first = tt; of_second = are }
 answers_cut options (x ∷ xs) ys [] are = absurd are
 answers_cut options (x ∷ xs) ys (r ∷ answers) are =
-    let rest = answers_cut options xs ys answers are.1 in
+    let rest = answers_cut (after_entry options) xs ys answers are.1 in
     record {
       first = r ∷ rest.first;
       second = rest.second;
@@ -96,7 +101,26 @@ answers_cut options (x ∷ xs) ys (r ∷ answers) are =
       of_second = rest.of_second;
     }
 
+-- The rows of an input of this form, whatever form the options have.
+record RowsOf (input : InputForm) (options : Options) (text rows : List ℕ) (any_error : Bool) : Type 0 where
+  answers : List Answer
+  are_answers : AreAnswers options (entries_of input text) answers
+  rows_are : rows ≡ answers_text answers ++ rest_text (left_of input text)
+  error_is : any_error ≡ (list_any (λ answer. answer.is_error) answers || not (length (left_of input text) == 0))
+
+rows_of : (options : Options) (text rows : List ℕ) (any_error : Bool) → AreListingRows options text rows any_error → RowsOf options.input options text rows any_error
+rows_of options text rows any_error are = record { answers = are.answers; are_answers = are.are_answers; rows_are = are.rows_are; error_is = are.error_is }
+
+listing_of : (options : Options) (text rows : List ℕ) (any_error : Bool) → RowsOf options.input options text rows any_error → AreListingRows options text rows any_error
+listing_of options text rows any_error of = record { answers = of.answers; are_answers = of.are_answers; rows_are = of.rows_are; error_is = of.error_is }
+
 module _ (options : Options) (text more : List ℕ) (ends : left_of options.input text ≡ []) where
+  abbrev count : ℕ
+  count = length (entries_of options.input text)
+
+  abbrev after : Options
+  after = options_after options count
+
   entries : entries_of options.input (text ++ more) ≡ entries_of options.input text ++ entries_of options.input more
   entries =
       (is_frame options.input).entries_further [] text more
@@ -129,7 +153,8 @@ module _ (options : Options) (text more : List ℕ) (ends : left_of options.inpu
   join : (rows : List ℕ) (any_error : Bool) → RowsInParts options text more rows any_error → AreListingRows options (text ++ more) rows any_error
   join rows any_error parts =
       let a = parts.of_text in
-      let b = parts.of_more in
+      let b : RowsOf options.input after more parts.second parts.second_error =
+      subst (λ (input : InputForm). RowsOf input after more parts.second parts.second_error) (same_input options count) (rows_of after more parts.second parts.second_error parts.of_more) in
       record {
         answers = a.answers ++ b.answers;
         are_answers =
@@ -156,7 +181,11 @@ module _ (options : Options) (text more : List ℕ) (ends : left_of options.inpu
         first_error = list_any (λ a. a.is_error) parts.first || not (length (left_of options.input text) == 0);
         second_error = list_any (λ a. a.is_error) parts.second || not (length (left_of options.input more) == 0);
         of_text = record { answers = parts.first; are_answers = parts.of_first; rows_are = refl; error_is = refl };
-        of_more = record { answers = parts.second; are_answers = parts.of_second; rows_are = refl; error_is = refl };
+        of_more =
+            listing_of after more _ _
+            (subst (λ (input : InputForm). RowsOf input after more (answers_text parts.second ++ rest_text (left_of options.input more))
+            (list_any (λ a. a.is_error) parts.second || not (length (left_of options.input more) == 0))) (sym (same_input options count))
+            (record { answers = parts.second; are_answers = parts.of_second; rows_are = refl; error_is = refl }));
         rows_are =
             whole.rows_are ∙ ap (λ (l : List Answer). answers_text l ++ rest_text (left_of options.input (text ++ more))) parts.answers_are
             ∙ written parts.first parts.second;
@@ -173,13 +202,13 @@ rows_in_parts options text more rows any_error ends = (part options text more en
 -- A listing is the header and then the rows.
 pub listing_rows : (options : Options) (text : List ℕ) (taken taken_now : Option (List ℕ)) (any_error : Bool)
     → WritesListing options text taken taken_now any_error
-    ↔ ((rows : List ℕ) × AreListingRows options text rows any_error × Appends taken taken_now (header_text options.format ++ rows))
+    ↔ ((rows : List ℕ) × AreListingRows options text rows any_error × Appends taken taken_now (header_of options ++ rows))
 listing_rows options text taken taken_now any_error = (
   λ listing. (
     answers_text listing.answers ++ rest_text (left_of options.input text),
     record { answers = listing.answers; are_answers = listing.are_answers; rows_are = refl; error_is = listing.error_is },
     subst (λ (l : List ℕ). Appends taken taken_now l)
-        (append_assoc (header_text options.format) (answers_text listing.answers) (rest_text (left_of options.input text)))
+        (append_assoc (header_of options) (answers_text listing.answers) (rest_text (left_of options.input text)))
         listing.written,
   ),
   λ parts. record {
@@ -187,8 +216,8 @@ listing_rows options text taken taken_now any_error = (
     are_answers = parts.1.are_answers;
     written =
         subst (λ (l : List ℕ). Appends taken taken_now l)
-        (ap (λ (l : List ℕ). header_text options.format ++ l) parts.1.rows_are
-        ∙ sym (append_assoc (header_text options.format) (answers_text parts.1.answers) (rest_text (left_of options.input text))))
+        (ap (λ (l : List ℕ). header_of options ++ l) parts.1.rows_are
+        ∙ sym (append_assoc (header_of options) (answers_text parts.1.answers) (rest_text (left_of options.input text))))
         parts.2;
     error_is = parts.1.error_is;
   },

@@ -11,7 +11,7 @@ use Rattle.cc_io.specs.declared.summary.IoError.TheVariants.{Read, Write}
 use Rattle.cc_io.specs.declared.summary.Summary.{Summary}
 use Rattle.cc_decode.specs.Input.{entries_of, left_of}
 use Rattle.cc_decode.specs.Output.{AreAnswers}
-use Rattle.cc_decode.specs.Row.{header_text}
+use Rattle.cc_decode.specs.Place.{header_of, options_after}
 use Rattle.cc_decode.specs.declared.options.Options.{Options}
 
 -- WritesListing holds if the sink took the whole listing of `text`: the header of the format, the
@@ -20,7 +20,7 @@ use Rattle.cc_decode.specs.declared.options.Options.{Options}
 pub record WritesListing (options : Options) (text : List ℕ) (taken taken_now : Option (List ℕ)) (any_error : Bool) : Type 0 where
   pub answers : List Answer
   pub are_answers : AreAnswers options (entries_of options.input text) answers
-  pub written : Appends taken taken_now (header_text options.format ++ answers_text answers ++ rest_text (left_of options.input text))
+  pub written : Appends taken taken_now (header_of options ++ answers_text answers ++ rest_text (left_of options.input text))
   pub error_is : any_error ≡ (list_any (λ answer. answer.is_error) answers || not (length (left_of options.input text) == 0))
 
 -- WritesAnswers holds if the sink took the header and the replies to these entries.
@@ -40,7 +40,7 @@ pub record StopsOnPage (options : Options) (header : List ℕ) (entries : List (
   pub before : List Answer
   pub are_before : AreAnswers options earlier before
   pub page : List Answer
-  pub are_page : AreAnswers options on_page page
+  pub are_page : AreAnswers (options_after options (length earlier)) on_page page
   pub fits : LastFits 32768 512 page
   pub count : ℕ
   pub within : count ≤ length (answers_text page)
@@ -53,7 +53,7 @@ pub record StopsAfterAnswers (options : Options) (text : List ℕ) (taken taken_
   pub are_answers : AreAnswers options (entries_of options.input text) answers
   pub count : ℕ
   pub within : count ≤ length (rest_text (left_of options.input text))
-  pub written : Appends taken taken_now (header_text options.format ++ answers_text answers ++ take count (rest_text (left_of options.input text)))
+  pub written : Appends taken taken_now (header_of options ++ answers_text answers ++ take count (rest_text (left_of options.input text)))
 
 -- ListsText holds if the bytes written are those for `text`, which the source gave. By the result
 -- they are its whole listing, or the part before the failure of the source or of the sink.
@@ -61,10 +61,10 @@ abbrev pub ListsText : Options → (text : List ℕ) (left taken taken_now : Opt
 ListsText options text left taken taken_now (Ok summary) =
     IsAtEnd left × WritesListing options text taken taken_now summary.any_error
 ListsText options text left taken taken_now (Err Read) =
-    WritesAnswers options (header_text options.format) (entries_of options.input text) taken taken_now
+    WritesAnswers options (header_of options) (entries_of options.input text) taken taken_now
 ListsText options text left taken taken_now (Err Write) =
-    ((text ≡ []) × TakesBeginning taken taken_now (header_text options.format))
-    ⊎ (StopsOnPage options (header_text options.format) (entries_of options.input text) taken taken_now
+    ((text ≡ []) × TakesBeginning taken taken_now (header_of options))
+    ⊎ (StopsOnPage options (header_of options) (entries_of options.input text) taken taken_now
     ⊎ (IsAtEnd left × StopsAfterAnswers options text taken taken_now))
 
 -- Lists holds if the bytes written are those for some text that the source gave. If the source says
@@ -81,7 +81,7 @@ pub record GivesBeginning (options : Options) (text : List ℕ) (left taken take
   pub rest : List ℕ
   pub text_is : text ≡ given ++ rest
   pub left_is : left ≡ Some rest
-  pub writes : WritesAnswers options (header_text options.format) (entries_of options.input given) taken taken_now
+  pub writes : WritesAnswers options (header_of options) (entries_of options.input given) taken taken_now
 
 -- ListsWhole holds if the bytes written are those for `text`, which is all that was unread. By the
 -- result they are its whole listing, or the part before the failure of the source or of the sink.
@@ -90,6 +90,6 @@ ListsWhole options text left taken taken_now (Ok summary) =
     (left ≡ Some []) × WritesListing options text taken taken_now summary.any_error
 ListsWhole options text left taken taken_now (Err Read) = GivesBeginning options text left taken taken_now
 ListsWhole options text left taken taken_now (Err Write) =
-    TakesBeginning taken taken_now (header_text options.format)
-    ⊎ (StopsOnPage options (header_text options.format) (entries_of options.input text) taken taken_now
+    TakesBeginning taken taken_now (header_of options)
+    ⊎ (StopsOnPage options (header_of options) (entries_of options.input text) taken taken_now
     ⊎ StopsAfterAnswers options text taken taken_now)

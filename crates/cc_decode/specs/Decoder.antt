@@ -1,23 +1,54 @@
 -- The replies of a decoder. No public clause cites this file.
-use Rattle.std.specs.Prelude.{◌≡◌, ℕ, true, List, ◌++◌}
+use Rattle.std.specs.Prelude.{◌≡◌, ℕ, Bool, true, false, List, ◌++◌, Option, None, Some}
 use Rattle.cc_word.specs.declared.refusal.Refusal.TheVariants.{Unfinished}
 use Rattle.cc_text.specs.Text.{with_line_feed, refusal_text}
 use Rattle.cc_io.specs.Answers.{Relation}
+use Rattle.cc_decode.specs.Place.{after_entry}
 use Rattle.cc_decode.specs.Row.{IsWordRow}
-use Rattle.cc_decode.specs.Output.{IsAnswer}
+use Rattle.cc_decode.specs.Output.{IsAnswer, IsWordAnswer, refused_text}
 use Rattle.cc_decode.specs.declared.decoder.Decoder.{Decoder}
+use Rattle.cc_decode.specs.declared.decoder.PlainDecoder.{PlainDecoder}
 use Rattle.cc_decode.specs.declared.format.Format.{Format}
+use Rattle.cc_decode.specs.declared.options.Options.{Options}
 
--- AnswersEntry holds if `text` is the reply to the entry, and the decoder is unchanged.
+-- The options of a plain decoder: no addresses, and no search.
+abbrev pub plain_options : PlainDecoder → Options
+plain_options decoder = record { input = decoder.input; format = decoder.format; at = None; search = None }
+
+-- AnswersPlainly holds if `text` is the reply to the entry, and the decoder is unchanged.
+abbrev pub AnswersPlainly : Relation PlainDecoder
+AnswersPlainly old entry text is_error new = IsAnswer (plain_options old) entry (record { text = text; is_error = is_error }) × (new ≡ old)
+
+-- AnswersEntry holds if `text` is the reply to the entry, and the decoder goes on with the options
+-- for the rest of the input.
 abbrev pub AnswersEntry : Relation Decoder
-AnswersEntry old entry text is_error new = IsAnswer old.options entry (record { text = text; is_error = is_error }) × (new ≡ old)
+AnswersEntry old entry text is_error new =
+    IsAnswer old.options entry (record { text = text; is_error = is_error }) × (new.options ≡ after_entry old.options)
 
--- RefusesRest holds if `text` is `error 2 unfinished`, and the decoder is unchanged.
-abbrev pub RefusesRest : Relation Decoder
-RefusesRest old rest text is_error new = (text ≡ with_line_feed (refusal_text Unfinished)) × (is_error ≡ true) × (new ≡ old)
+-- RefusesRest holds if `text` is `error 2 unfinished`.
+abbrev pub RefusesRest : {S : Type 0} → Relation S
+RefusesRest {S} old rest text is_error new = (text ≡ with_line_feed (refusal_text Unfinished)) × (is_error ≡ true)
 
 -- AppendsRow holds if the row of the word was appended.
 pub record AppendsRow (format : Format) (word : ℕ) (old new : List ℕ) : Type 0 where
   pub row : List ℕ
   pub is_row : IsWordRow format word row
   pub written : new ≡ old ++ row
+
+-- AppendsWord holds if the reply to the word was appended.
+pub record AppendsWord (options : Options) (word : ℕ) (old new : List ℕ) : Type 0 where
+  pub text : List ℕ
+  pub is_answer : IsWordAnswer options word text
+  pub written : new ≡ old ++ text
+
+-- IsReply holds if `text` is the reply to a word, or that to an entry that is not one, which is an
+-- error.
+abbrev pub IsReply : Options → (word : Option ℕ) (text : List ℕ) (is_error : Bool) → Type 0
+IsReply options None text is_error = (text ≡ refused_text options.search) × (is_error ≡ true)
+IsReply options (Some word) text is_error = IsWordAnswer options word text × (is_error ≡ false)
+
+-- AppendsReply holds if the reply to an entry was appended, which is this word, if it is one.
+pub record AppendsReply (options : Options) (word : Option ℕ) (old new : List ℕ) (is_error : Bool) : Type 0 where
+  pub text : List ℕ
+  pub is_reply : IsReply options word text is_error
+  pub written : new ≡ old ++ text

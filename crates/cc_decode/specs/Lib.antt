@@ -1,9 +1,12 @@
 -- In reading order.
 pub mod Input
 pub mod Row
+pub mod Place
+pub mod Search
 pub mod Output
 pub mod Parts
 pub mod Correct
+pub mod Skip
 pub mod Decoder
 pub mod Annotate
 pub mod Runs

@@ -5,6 +5,7 @@ use Rattle.cc_text.specs.Text.{rest_text}
 use Rattle.cc_io.specs.Answers.{Answer, answers_text}
 use Rattle.cc_decode.specs.Input.{entries_of, left_of}
 use Rattle.cc_decode.specs.Output.{AreAnswers}
+use Rattle.cc_decode.specs.Place.{options_after}
 use Rattle.cc_decode.specs.declared.options.Options.{Options}
 
 -- AreListingRows holds if `rows` is the listing of `text` without its header: the reply to each
@@ -16,7 +17,8 @@ pub record AreListingRows (options : Options) (text rows : List ℕ) (any_error 
   pub rows_are : rows ≡ answers_text answers ++ rest_text (left_of options.input text)
   pub error_is : any_error ≡ (list_any (λ answer. answer.is_error) answers || not (length (left_of options.input text) == 0))
 
--- RowsInParts holds if the rows are those of `text`, and then those of `more`. `any_error` says
+-- RowsInParts holds if the rows are those of `text`, and then those of `more`, whose first entry has
+-- the address after those of the entries of `text`. `any_error` says
 -- whether either part has an error.
 pub record RowsInParts (options : Options) (text more rows : List ℕ) (any_error : Bool) : Type 0 where
   pub first : List ℕ
@@ -24,6 +26,6 @@ pub record RowsInParts (options : Options) (text more rows : List ℕ) (any_erro
   pub first_error : Bool
   pub second_error : Bool
   pub of_text : AreListingRows options text first first_error
-  pub of_more : AreListingRows options more second second_error
+  pub of_more : AreListingRows (options_after options (length (entries_of options.input text))) more second second_error
   pub rows_are : rows ≡ first ++ second
   pub error_is : any_error ≡ (first_error || second_error)

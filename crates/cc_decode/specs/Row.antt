@@ -10,7 +10,7 @@ use Rattle.cc_text.specs.Text.{with_line_feed}
 use Rattle.cc_explain.specs.WordTelling.{TellsWord}
 use Rattle.cc_explain.specs.Permissions.{permissions_text}
 use Rattle.cc_decode.specs.declared.format.Format.{Format}
-use Rattle.cc_decode.specs.declared.format.Format.TheVariants.{Columns, Csv, Text}
+use Rattle.cc_decode.specs.declared.format.Format.TheVariants.{Columns, Csv, Fixed, Text}
 
 -- The word, base, top, permissions, flag, type and exponent, and whether the word is canonical,
 -- with the separator between.
@@ -30,11 +30,24 @@ csv_text word fields bounds canonical =
     values_text (codes ",") word fields bounds canonical
     ++ codes "," ++ hexadecimal fields.address ++ codes "," ++ permissions_text fields.perms
 
--- IsWordRow holds if `row` is the reply to the word: its columns, the line of a tagged word, or its
--- comma-separated values.
+-- `0x` and 17 hexadecimal digits, which every top of bounds has.
+abbrev pub padded : ℕ → List ℕ
+padded number = codes "0x" ++ digits_of 17 number
+
+-- The values of the columns with one space between, in one width each: base and top as 17 digits,
+-- the exponent as two hexadecimal digits, and 1 for a canonical word.
+abbrev pub fixed_text : (word : ℕ) (fields : Fields) (bounds : Span) (canonical : Bool) → List ℕ
+fixed_text word fields bounds canonical =
+    digits_of 32 word ++ codes " " ++ padded bounds.base ++ codes " " ++ padded bounds.top
+    ++ codes " " ++ digits_of 4 fields.perms ++ codes " " ++ decimal (bit_of fields.flag) ++ codes " " ++ digits_of 5 fields.otype
+    ++ codes " " ++ digits_of 2 (stored_exponent fields) ++ codes " " ++ decimal (bit_of canonical)
+
+-- IsWordRow holds if `row` is the reply to the word: its columns, the line of a tagged word, its
+-- columns in one width each, or its comma-separated values.
 abbrev pub IsWordRow : Format → (word : ℕ) (row : List ℕ) → Type 0
 IsWordRow Columns word row = TellsWord columns_text word row
 IsWordRow Text word row = IsWordLine word true row
+IsWordRow Fixed word row = TellsWord fixed_text word row
 IsWordRow Csv word row = TellsWord csv_text word row
 
 -- The header of a format: the names of the columns for comma-separated values, and otherwise
@@ -42,4 +55,5 @@ IsWordRow Csv word row = TellsWord csv_text word row
 abbrev pub header_text : Format → List ℕ
 header_text Columns = []
 header_text Text = []
+header_text Fixed = []
 header_text Csv = with_line_feed (codes "word,base,top,perms,flag,type,exponent,canonical,address,names")

@@ -1,21 +1,29 @@
 //! Replies to all entries of the input that a source gives.
-ghost use Rattle.std.specs.Prelude.{◌≡◌, ◌≤◌, ◌↔◌, true, false, length, Err, IfSome, OnOk};
+ghost use Rattle.std.specs.Prelude.{◌≡◌, ◌≤◌, ◌↔◌, [], true, false, length, Err, IfSome, OnOk};
+ghost use Rattle.cc_io.specs.Correct.{Pumps};
 ghost use Rattle.cc_decode.specs.Correct.{Lists, ListsWhole};
+ghost use Rattle.cc_decode.specs.Decoder.{plain_options};
+ghost use Rattle.cc_decode.specs.Input.{frame_of};
+ghost use Rattle.cc_decode.specs.Place.{header_of, place_name};
 ghost use Rattle.cc_decode.specs.Row.{header_text};
+ghost use Rattle.cc_decode.specs.Skip.{ListsAfter, ListsWholeAfter};
 
-use crate::decoder::Decoder;
+use crate::decoder::{Decoder, PlainDecoder};
 use crate::format::Format;
 use crate::input::InputForm;
 use crate::options::Options;
-use crate::writers::Batch;
-use cc_io::{Blocks, IoError, Lines, Sink, Source, Summary, pump};
+use crate::skipping::skip;
+use crate::writers::{Batch, ROOM};
+use cc_io::{Answerer, Blocks, Failed, IoError, Lines, Sink, Source, Summary, pump};
 
 /// Writes the header of the format, and then the reply to each entry of the input that the source
 /// gives. An entry is a line, or a block of 16 bytes.
 ///
-/// The reply to a word is its row in the format, and the reply to a line that is not 32 hexadecimal
-/// digits is `error 1 syntax`. Bytes after the last entry get the reply `error 2 unfinished`,
-/// unless there are none. The source is read in chunks of up to 16 KiB. Before each read, all
+/// The reply to a word is its row in the format, with its address in front if the options have the
+/// address of the first entry. In a search, only the words that it finds get a reply. The reply to a
+/// line that is not 32 hexadecimal digits is `error 1 syntax`, or nothing in a search; it is an error
+/// in both cases. Bytes after the last entry get the reply `error 2 unfinished`, unless there are
+/// none. The source is read in chunks of up to 16 KiB. Before each read, all
 /// replies to earlier entries are written. The sink is flushed once, at the end. Allocates nothing.
 ///
 /// Requires: neither the source nor the sink has failed.
@@ -37,11 +45,100 @@ pub fn decode_words<R: Source, W: Sink>(
     ensures flushed { OnOk result (W.is_flushed sink.new ≡ true) }
 {
     let mut page = Batch::new();
+    push_header(&mut page, &options);
+    match plain_decoder(options) {
+        Some(mut decoder) => list_entries(options.input, &mut decoder, source, sink, &mut page),
+        None => {
+            let mut decoder = Decoder { options };
+            list_entries(options.input, &mut decoder, source, sink, &mut page)
+        }
+    }
+}
+
+/// Skips the first `count` bytes of the input, or all if there are fewer, and then writes the listing
+/// of the others as [`decode_words`] does. The first entry begins after the skipped bytes.
+///
+/// Requires: neither the source nor the sink has failed.
+/// Errors: those of `decode_words`. If the source failed among the skipped bytes, nothing is written.
+pub fn decode_words_after<R: Source, W: Sink>(
+    count: u64,
+    options: Options,
+    source: &mut R,
+    sink: &mut W,
+) -> Result<Summary, IoError>
+    requires source { R.has_failed source.old ≡ false }
+    requires sink { W.has_failed sink.old ≡ false }
+    ensures whole { IfSome (R.to_come source.old) (λ text.
+        ListsWholeAfter count options text (R.to_come source.new) (W.taken_bytes sink.old) (W.taken_bytes sink.new) result) }
+    ensures lists { ListsAfter count options (R.to_come source.old) (R.to_come source.new) (W.taken_bytes sink.old) (W.taken_bytes sink.new) result }
+    ensures read { (result ≡ Err IoError.Read) ↔ (R.has_failed source.new ≡ true) }
+    ensures write { (result ≡ Err IoError.Write) ↔ (W.has_failed sink.new ≡ true) }
+    ensures flushed { OnOk result (W.is_flushed sink.new ≡ true) }
+{
+    match skip(count, source) {
+        Ok(()) => {}
+        Err(Failed) => return Err(IoError::Read),
+    }
+    decode_words(options, source, sink)
+}
+
+/// Returns the decoder of all words without addresses, if that is what the options ask for.
+fn plain_decoder(options: Options) -> Option<PlainDecoder>
+    ensures { IfSome result (λ decoder. plain_options decoder ≡ options) }
+{
+    match options {
+        Options {
+            input,
+            format,
+            at: None,
+            search: None,
+        } => Some(PlainDecoder { input, format }),
+        _ => None,
+    }
+}
+
+/// Writes the page, and then the replies of a decoder to all entries of the input.
+fn list_entries<A: Answerer<ROOM>, R: Source, W: Sink>(
+    input: InputForm,
+    decoder: &mut A,
+    source: &mut R,
+    sink: &mut W,
+    page: &mut Batch,
+) -> Result<Summary, IoError>
+    requires source { R.has_failed source.old ≡ false }
+    requires sink { W.has_failed sink.old ≡ false }
+    requires room { A.MOST ≤ 32768 }
+    ensures pumps { Pumps A.Answered A.Ended (frame_of input) 32768 A.MOST decoder.old page.old
+        (R.to_come source.old) (R.to_come source.new) (W.taken_bytes sink.old) (W.taken_bytes sink.new) result decoder.new }
+    ensures read { (result ≡ Err IoError.Read) ↔ (R.has_failed source.new ≡ true) }
+    ensures write { (result ≡ Err IoError.Write) ↔ (W.has_failed sink.new ≡ true) }
+    ensures flushed { OnOk result (W.is_flushed sink.new ≡ true) }
+{
+    match input {
+        InputForm::Lines => pump(&Lines, decoder, source, sink, page),
+        InputForm::Bytes(_) => pump(&Blocks, decoder, source, sink, page),
+    }
+}
+
+/// Appends the header of a listing.
+fn push_header(page: &mut Batch, options: &Options)
+    requires { page.old ≡ [] }
+    ensures { page.new ≡ header_of options.now }
+{
+    if options.at.is_some() {
+        page.push(place_name(options.format));
+    }
     page.push(header(options.format));
-    let mut decoder = Decoder { options };
-    match options.input {
-        InputForm::Lines => pump(&Lines, &mut decoder, source, sink, &mut page),
-        InputForm::Bytes(_) => pump(&Blocks, &mut decoder, source, sink, &mut page),
+}
+
+/// Returns the name of the column of addresses in the header of a format, and a comma.
+fn place_name(format: Format) -> &'static [u8]
+    ensures value { result.now ≡ place_name format }
+    ensures fits { length result.now ≤ 10 }
+{
+    match format {
+        Format::Columns | Format::Text | Format::Fixed => b"",
+        Format::Csv => b"at,",
     }
 }
 
@@ -52,7 +149,7 @@ fn header(format: Format) -> &'static [u8]
     ensures fits { length result.now ≤ 100 }
 {
     match format {
-        Format::Columns | Format::Text => b"",
+        Format::Columns | Format::Text | Format::Fixed => b"",
         Format::Csv => b"word,base,top,perms,flag,type,exponent,canonical,address,names\n",
     }
 }

@@ -8,6 +8,10 @@ pub enum Format {
     Columns,
     /// The line of a tagged word, as debuggers show it: `0x10070 [rwxRW,0x10070-0x12070]`.
     Text,
+    /// The columns in one width each, so that `sort` and `awk` compare them as strings: BASE and TOP
+    /// have 17 digits, EXPONENT has two hexadecimal digits, and CANONICAL is 1 or 0. A row has 90
+    /// bytes.
+    Fixed,
     /// A header, and then the values of the columns, the address and the names of the permissions,
     /// with commas between.
     Csv,

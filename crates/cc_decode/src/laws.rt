@@ -3,8 +3,8 @@ ghost use Rattle.std.specs.Prelude.{◌≡◌, ◌↔◌, ◌%◌, ◌++◌, [],
 ghost use Rattle.std.specs.Io.KnownBytes.{Appends};
 ghost use Rattle.cc_decode.specs.Correct.{WritesListing};
 ghost use Rattle.cc_decode.specs.Input.{left_of};
+ghost use Rattle.cc_decode.specs.Place.{header_of};
 ghost use Rattle.cc_decode.specs.Parts.{AreListingRows, RowsInParts};
-ghost use Rattle.cc_decode.specs.Row.{header_text};
 ghost use Rattle.cc_decode.specs.declared.input.ByteOrder.{ByteOrder as ByteOrderSpec};
 ghost use Rattle.cc_decode.specs.declared.input.InputForm.TheVariants as form;
 ghost use Rattle.cc_decode.specs.declared.options.Options.{Options as OptionsSpec};
@@ -22,11 +22,12 @@ pub fn one_listing()
 ///
 /// The first part has to have no trailing bytes: it ends in a line feed, or, if the input is raw
 /// bytes, its length is a multiple of 16. So parts of an input can be decoded separately, and their
-/// listings joined, if the header is kept only once.
+/// listings joined, if the header is kept only once. With addresses, the second part begins at the
+/// address after the entries of the first.
 pub fn listing_in_parts()
     ensures rows { (options : OptionsSpec) (text : List ℕ) (taken taken_now : Option (List ℕ)) (any_error : Bool)
         → (WritesListing options text taken taken_now any_error
-        ↔ ((rows : List ℕ) × AreListingRows options text rows any_error × Appends taken taken_now (header_text options.format ++ rows))) }
+        ↔ ((rows : List ℕ) × AreListingRows options text rows any_error × Appends taken taken_now (header_of options ++ rows))) }
     ensures parts { (options : OptionsSpec) (text more rows : List ℕ) (any_error : Bool) → left_of options.input text ≡ []
         → (AreListingRows options (text ++ more) rows any_error ↔ RowsInParts options text more rows any_error) }
     ensures line_feed { (text : List ℕ) → left_of form.Lines (text ++ 10 ∷ []) ≡ [] }

@@ -11,13 +11,16 @@ mod format;
 mod input;
 mod laws;
 mod options;
+mod places;
 mod rows;
 mod runs;
+mod search;
+mod skipping;
 mod writers;
 
 pub use annotating::annotate;
-pub use decoding::decode_words;
+pub use decoding::{decode_words, decode_words_after};
 pub use format::Format;
 pub use input::{ByteOrder, InputForm};
 pub use laws::{listing_in_parts, one_listing};
-pub use options::Options;
+pub use options::{Options, Search};

@@ -1,12 +1,27 @@
 //! The choices of a caller of [`decode_words`](crate::decode_words).
 use crate::format::Format;
 use crate::input::InputForm;
+use cc_word::Perms;
 
-/// The form of the input, and the format of the replies.
+/// The form of the input, the format of the replies, and the words that get a reply.
 #[derive(Clone, Copy, Debug, PartialEq, Eq)]
 pub struct Options {
     /// The form of words in the input.
     pub input: InputForm,
     /// The format of the reply to a word.
     pub format: Format,
+    /// The address of the first entry, if rows begin with the address of their word. Each further
+    /// entry is 16 bytes above the one before, modulo 2^64.
+    pub at: Option<u64>,
+    /// The search whose words are listed; all words are if there is none.
+    pub search: Option<Search>,
+}
+
+/// A search for words that could be capabilities: they are canonical and have a permission.
+#[derive(Clone, Copy, Debug, PartialEq, Eq)]
+pub struct Search {
+    /// The address of a byte that the bounds contain, if one is searched for.
+    pub holds: Option<u64>,
+    /// The permissions that the words have at least.
+    pub perms: Perms,
 }

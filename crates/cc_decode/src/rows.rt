@@ -6,10 +6,12 @@ ghost use Rattle.cc_cap.specs.LineText.{letter_of, letters_of, word_line_of, mar
 ghost use Rattle.cc_word.specs.Permissions.{bits_of};
 ghost use Rattle.cc_explain.specs.Permissions.{permissions_text};
 ghost use Rattle.cc_decode.specs.Decoder.{AppendsRow};
-ghost use Rattle.cc_decode.specs.Row.{columns_text, csv_text, values_text};
+ghost use Rattle.cc_decode.specs.Row.{columns_text, csv_text, fixed_text, padded, values_text};
 
 use crate::format::Format;
-use crate::writers::{Batch, push_byte, push_byte_if, push_decimal, push_digits, push_hexadecimal};
+use crate::writers::{
+    Batch, push_byte, push_byte_if, push_decimal, push_digits, push_hexadecimal, push_padded,
+};
 use bitflags::Flags;
 use cc_bounds::{Span, decode, exponent};
 use cc_cap::is_canonical;
@@ -17,24 +19,25 @@ use cc_explain::push_permissions;
 use cc_text::Line;
 use cc_word::{Fields, Perms, SENTRY_TYPE, UNSEALED_TYPE, unpack};
 
-/// Appends the reply to a word in this format, without a line feed: at most 500 bytes.
+/// Appends the reply to a word in this format, without a line feed: at most 450 bytes.
 pub(crate) fn push_row(batch: &mut Batch, format: Format, word: u128)
-    requires { length batch.old + 500 ≤ 32768 }
+    requires { length batch.old + 450 ≤ 32768 }
     ensures row { AppendsRow format word batch.old batch.new }
-    ensures fits { length batch.new ≤ length batch.old + 500 }
+    ensures fits { length batch.new ≤ length batch.old + 450 }
 {
     match format {
         Format::Columns => push_columns(batch, word),
         Format::Text => push_line(batch, word),
+        Format::Fixed => push_fixed(batch, word),
         Format::Csv => push_csv(batch, word),
     }
 }
 
 /// Appends the columns of a word.
 fn push_columns(batch: &mut Batch, word: u128)
-    requires { length batch.old + 500 ≤ 32768 }
+    requires { length batch.old + 450 ≤ 32768 }
     ensures row { AppendsRow Format.Columns word batch.old batch.new }
-    ensures fits { length batch.new ≤ length batch.old + 500 }
+    ensures fits { length batch.new ≤ length batch.old + 450 }
 {
     let fields = unpack(word);
     let bounds = decode(&fields);
@@ -44,9 +47,9 @@ fn push_columns(batch: &mut Batch, word: u128)
 
 /// Appends the line that a tagged word has.
 fn push_line(batch: &mut Batch, word: u128)
-    requires { length batch.old + 500 ≤ 32768 }
+    requires { length batch.old + 450 ≤ 32768 }
     ensures row { AppendsRow Format.Text word batch.old batch.new }
-    ensures fits { length batch.new ≤ length batch.old + 500 }
+    ensures fits { length batch.new ≤ length batch.old + 450 }
 {
     let fields = unpack(word);
     let bounds = decode(&fields);
@@ -55,9 +58,9 @@ fn push_line(batch: &mut Batch, word: u128)
 
 /// Appends the line of a tagged word with these fields and bounds.
 fn push_line_of(batch: &mut Batch, fields: &Fields, bounds: &Span)
-    requires { length batch.old + 500 ≤ 32768 }
+    requires { length batch.old + 450 ≤ 32768 }
     ensures value { batch.new ≡ batch.old ++ word_line_of fields.now bounds.now true }
-    ensures fits { length batch.new ≤ length batch.old + 500 }
+    ensures fits { length batch.new ≤ length batch.old + 450 }
 {
     push_address_and_letters(batch, fields);
     push_bounds_and_mark(batch, fields, bounds);
@@ -123,11 +126,60 @@ fn push_mark(batch: &mut Batch, otype: u32)
     }
 }
 
+/// Appends the columns of a word in one width each.
+fn push_fixed(batch: &mut Batch, word: u128)
+    requires { length batch.old + 450 ≤ 32768 }
+    ensures row { AppendsRow Format.Fixed word batch.old batch.new }
+    ensures fits { length batch.new ≤ length batch.old + 450 }
+{
+    let fields = unpack(word);
+    let bounds = decode(&fields);
+    let canonical = is_canonical(word);
+    push_fixed_values(batch, word, &fields, &bounds, canonical);
+}
+
+/// Appends the columns in one width each of a word with these fields and bounds.
+fn push_fixed_values(batch: &mut Batch, word: u128, fields: &Fields, bounds: &Span, canonical: bool)
+    requires { length batch.old + 450 ≤ 32768 }
+    ensures value { batch.new ≡ batch.old ++ fixed_text word fields.now bounds.now canonical }
+    ensures fits { length batch.new ≤ length batch.old + 92 }
+{
+    push_fixed_bounds(batch, word, bounds);
+    push_rights(batch, b' ', fields);
+    push_fixed_encoding(batch, exponent(fields), canonical);
+}
+
+/// Appends the word, its base and its top in one width each.
+fn push_fixed_bounds(batch: &mut Batch, word: u128, bounds: &Span)
+    requires { length batch.old + 72 ≤ 32768 }
+    ensures value { batch.new ≡ batch.old ++ digits_of 32 word ++ codes " " ++ padded bounds.now.base ++ codes " " ++ padded bounds.now.top }
+    ensures fits { length batch.new ≤ length batch.old + 72 }
+{
+    batch.push_word(word);
+    push_byte(batch, b' ');
+    push_padded(batch, u128::from(bounds.base));
+    push_byte(batch, b' ');
+    push_padded(batch, bounds.top);
+}
+
+/// Appends the exponent as two hexadecimal digits, and 1 for a canonical word or 0, with a space
+/// before each.
+fn push_fixed_encoding(batch: &mut Batch, exponent: u8, canonical: bool)
+    requires { length batch.old + 6 ≤ 32768 }
+    ensures value { batch.new ≡ batch.old ++ codes " " ++ digits_of 2 exponent ++ codes " " ++ decimal (bit_of canonical) }
+    ensures fits { length batch.new ≤ length batch.old + 6 }
+{
+    push_byte(batch, b' ');
+    push_digits(batch, u64::from(exponent), 2);
+    push_byte(batch, b' ');
+    push_decimal(batch, u8::from(canonical));
+}
+
 /// Appends the comma-separated values of a word.
 fn push_csv(batch: &mut Batch, word: u128)
-    requires { length batch.old + 500 ≤ 32768 }
+    requires { length batch.old + 450 ≤ 32768 }
     ensures row { AppendsRow Format.Csv word batch.old batch.new }
-    ensures fits { length batch.new ≤ length batch.old + 500 }
+    ensures fits { length batch.new ≤ length batch.old + 450 }
 {
     let fields = unpack(word);
     let bounds = decode(&fields);
@@ -137,9 +189,9 @@ fn push_csv(batch: &mut Batch, word: u128)
 
 /// Appends the comma-separated values of a word with these fields and bounds.
 fn push_csv_values(batch: &mut Batch, word: u128, fields: &Fields, bounds: &Span, canonical: bool)
-    requires { length batch.old + 500 ≤ 32768 }
+    requires { length batch.old + 450 ≤ 32768 }
     ensures value { batch.new ≡ batch.old ++ csv_text word fields.now bounds.now canonical }
-    ensures fits { length batch.new ≤ length batch.old + 500 }
+    ensures fits { length batch.new ≤ length batch.old + 450 }
 {
     push_values(batch, b',', word, fields, bounds, canonical);
     push_address_and_names(batch, fields.address, fields.perms);

@@ -2,6 +2,7 @@
 ghost use Rattle.std.specs.Prelude.{◌≡◌, ◌+◌, ◌≤◌, ◌<◌, ◌++◌, ◌∷◌, [], decimal, false, length, if◌then◌else◌};
 ghost use Rattle.std.specs.Fmt.{digits};
 ghost use Rattle.cc_word.specs.WordText.{digits_of, hexadecimal};
+ghost use Rattle.cc_decode.specs.Row.{padded};
 ghost use Rattle.cc_text.proofs.DigitLemmas.{HasDigits};
 
 use cc_io::Page;
@@ -76,6 +77,18 @@ pub(crate) fn push_hexadecimal(batch: &mut Batch, number: u128)
         push_significant(batch, (number >> 64) as u64);
         batch.push(&write_half((number % (1 << 64)) as u64));
     }
+}
+
+/// Appends `0x` and the last 17 hexadecimal digits of a number.
+#[inline(always)]
+pub(crate) fn push_padded(batch: &mut Batch, number: u128)
+    requires { length batch.old + 19 ≤ 32768 }
+    ensures value { batch.new ≡ batch.old ++ padded number }
+    ensures fits { length batch.new ≡ length batch.old + 19 }
+{
+    batch.push(b"0x");
+    push_digits(batch, (number >> 64) as u64, 1);
+    batch.push(&write_half((number % (1 << 64)) as u64));
 }
 
 /// Appends a number's hexadecimal digits without `0x` and leading zeros.

@@ -15,9 +15,14 @@ use Rattle.cc_machine.specs.State.{State, initial_state}
 use Rattle.cc_syntax.specs.Planning.{plan_opening, pool_of}
 use Rattle.cc_script.specs.Session.{AnswersSession, SessionState}
 use Rattle.cc_arguments.specs.declared.invocation.Invocation.{Invocation}
-use Rattle.cc_arguments.specs.declared.invocation.Invocation.TheVariants.{Map}
+use Rattle.cc_arguments.specs.declared.invocation.Invocation.TheVariants.{Decode, Map}
+use Rattle.cc_arguments.specs.declared.invocation.DecodeTexts.{DecodeTexts}
 use Rattle.cc_arguments.specs.declared.invocation.PoolTexts.{PoolTexts}
-use Rattle.cc_program.specs.Execution.{Console, DrawsEnd, DrawsMap, DrawsPage, DrawsPool, DrawsRun, Executes, FromInput, OnDevices, WritesRefusal, ReportsRun, Traffic, traffic_of}
+use Rattle.cc_decode.specs.declared.format.Format.{Format}
+use Rattle.cc_decode.specs.declared.input.InputForm.{InputForm}
+use Rattle.cc_decode.specs.declared.options.Options.{Options}
+use Rattle.cc_program.specs.Listing.{listing_in}
+use Rattle.cc_program.specs.Execution.{Console, DrawsEnd, DrawsMap, DrawsPage, DrawsPool, DrawsRun, Executes, FromInput, ListsWords, OnDevices, WritesRefusal, ReportsRun, Traffic, traffic_of}
 use Rattle.cc_program.specs.Input.{file_input}
 use Rattle.cc_program.specs.Outcome.{fault_of}
 use Rattle.cc_program.specs.declared.input.InputName.{InputName}
@@ -130,6 +135,18 @@ map_executes limit pool align svg file terminals console numbers opening input r
     (subst (λ (name : InputName). FromInput name console (DrawsRun svg (plan_opening numbers.0 numbers.1 align) (initial_state limit)) io) is_input
     (subst (λ (ops : List Op). FromInput input console (DrawsRun svg ops (initial_state limit)) io) is_opening holds)))
     result draws
+
+pub decode_executes : (input : InputForm) (format : Format) (texts : DecodeTexts) (file : Option (Bor Text)) (terminals : Terminals) (console : Console)
+    (listing : ℕ × Options) (name : InputName) (result : Result Summary Fault) → listing_in input format texts ≡ Ok listing → name ≡ file_input file
+    → OnDevices (FromInput name console (ListsWords listing.0 listing.1)) result → OnDevices (Executes (Decode input format texts file) terminals console) result
+decode_executes input format texts file terminals console listing name result is_listing is_input lists =
+    on_devices-map (FromInput name console (ListsWords listing.0 listing.1)) (Executes (Decode input format texts file) terminals console)
+    (λ io holds.
+    subst (λ (found : Result (ℕ × Options) Refusal). MatchResult found
+    (λ pair. FromInput (file_input file) console (ListsWords pair.0 pair.1) io)
+    (λ refusal. WritesRefusal console.output console.output_now refusal io)) (sym is_listing)
+    (subst (λ (given : InputName). FromInput given console (ListsWords listing.0 listing.1) io) is_input holds))
+    result lists
 
 -- A run that read an input.
 pub runs_input : (report : Report) (opening : List Op) (pool : Option ℕ) (start new : State) (input : InputName) (console : Console)

@@ -1,3 +1,4 @@
 mod OutcomeLemmas
 mod ReportLemmas
+mod ListingLemmas
 mod ExecutionLemmas

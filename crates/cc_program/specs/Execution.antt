@@ -21,8 +21,12 @@ use Rattle.cc_draw.specs.Usage.{IsUsage}
 use Rattle.cc_ops.specs.declared.usage.Usage.{Usage}
 use Rattle.cc_arguments.specs.declared.invocation.PoolTexts.{PoolTexts}
 use Rattle.cc_decode.specs.declared.options.Options.{Options}
-use Rattle.cc_decode.specs.Correct.{Lists, ListsWhole}
 use Rattle.cc_decode.specs.Annotate.{AnnotatesGiven}
+use Rattle.cc_decode.specs.Skip.{ListsAfter, ListsWholeAfter}
+use Rattle.cc_decode.specs.declared.format.Format.{Format}
+use Rattle.cc_decode.specs.declared.input.InputForm.{InputForm}
+use Rattle.cc_arguments.specs.declared.invocation.DecodeTexts.{DecodeTexts}
+use Rattle.cc_program.specs.Listing.{listing_in}
 use Rattle.cc_program.specs.Input.{file_input}
 use Rattle.cc_program.specs.Questions.{IsAnswerTo, IsUnanswerable}
 use Rattle.cc_program.specs.Report.{WritesReport, report_of}
@@ -139,10 +143,10 @@ DrawsRun svg opening start traffic (Ok summary) = DrawsEnd svg opening start tra
 DrawsRun svg opening start traffic (Err Read) = traffic.output_now ≡ traffic.output
 DrawsRun svg opening start traffic (Err Write) = ⊤
 
--- ListsWords holds if the rows of the words that the input gave were written, up to a failure.
-pub record ListsWords (options : Options) (traffic : Traffic) (result : Result Summary IoError) : Type 0 where
-  pub lists : Lists options traffic.unread traffic.left traffic.output traffic.output_now result
-  pub whole : IfSome traffic.unread (λ text. ListsWhole options text traffic.left traffic.output traffic.output_now result)
+-- ListsWords holds if the rows of the words that the input gave after the skipped bytes were written, up to a failure.
+pub record ListsWords (skipped : ℕ) (options : Options) (traffic : Traffic) (result : Result Summary IoError) : Type 0 where
+  pub lists : ListsAfter skipped options traffic.unread traffic.left traffic.output traffic.output_now result
+  pub whole : IfSome traffic.unread (λ text. ListsWholeAfter skipped options text traffic.left traffic.output traffic.output_now result)
 
 -- AnnotatesWords holds if the text that the input gave was written, with the line of each word after the word, up to a failure.
 abbrev pub AnnotatesWords : Traffic → Result Summary IoError → Type 0
@@ -158,6 +162,13 @@ WithPool pool console Does result =
     MatchResult (pool_of pool.base.now pool.length.now) (λ numbers. Does numbers.0 numbers.1 result)
     (λ refusal. WritesRefusal console.output console.output_now refusal result)
 
+-- WithListing holds if `Does` holds for the bytes to skip and the options of a listing, or if their texts are refused.
+abbrev pub WithListing : InputForm → Format → DecodeTexts → Console → (Does : (skipped : ℕ) (options : Options) → Result Summary IoError → Type 0)
+    → Result Summary IoError → Type 0
+WithListing input format texts console Does result =
+    MatchResult (listing_in input format texts) (λ listing. Does listing.0 listing.1 result)
+    (λ refusal. WritesRefusal console.output console.output_now refusal result)
+
 -- Executes holds if the bytes written and the summary are those of the command for its input, up to a failure.
 abbrev pub Executes : Invocation → Terminals → Console → Result Summary IoError → Type 0
 Executes (Ask question) terminals console result = AnswersQuestion question console.output console.output_now result
@@ -168,6 +179,7 @@ Executes (Plan limit pool align stats file) terminals console result =
     (λ base size. FromInput (file_input file) console (ReportsRun (report_of stats terminals) (plan_opening base size align) (Some size) (initial_state limit))) result
 Executes (Map limit pool align svg file) terminals console result =
     WithPool pool console (λ base size. FromInput (file_input file) console (DrawsRun svg (plan_opening base size align) (initial_state limit))) result
-Executes (Decode options file) terminals console result = FromInput (file_input file) console (ListsWords options) result
+Executes (Decode input format texts file) terminals console result =
+    WithListing input format texts console (λ skipped options. FromInput (file_input file) console (ListsWords skipped options)) result
 Executes (Annotate file) terminals console result = FromInput (file_input file) console AnnotatesWords result
 Executes RoundList terminals console result = FromInput Standard console RoundsLengths result

@@ -6,6 +6,7 @@ use Rattle.clap.specs.Words.{Text}
 use Rattle.cc_syntax.specs.Planning.{pool_of}
 use Rattle.cc_arguments.specs.declared.invocation.Invocation.{Invocation}
 use Rattle.cc_arguments.specs.declared.invocation.Invocation.TheVariants.{Annotate, Ask, Decode, Map, Plan, RoundList, Run}
+use Rattle.cc_program.specs.Listing.{listing_in}
 use Rattle.cc_program.specs.declared.input.InputName.{InputName}
 use Rattle.cc_program.specs.declared.input.InputName.TheVariants.{Standard, File}
 
@@ -19,13 +20,14 @@ abbrev pub IsFile : InputName → Type 0
 IsFile Standard = ⊥
 IsFile (File path) = ⊤
 
--- ReadsFile holds if the command reads a file: FILE names one, and BASE and LENGTH of `plan` and `map` are those of a pool.
+-- ReadsFile holds if the command reads a file: FILE names one, BASE and LENGTH of `plan` and `map` are those of a pool, and the
+-- numbers and names of `decode` are such.
 abbrev pub ReadsFile : Invocation → Type 0
 ReadsFile (Ask question) = ⊥
 ReadsFile (Run limit stats file) = IsFile (file_input file)
 ReadsFile (Plan limit pool align stats file) = IsOk (pool_of pool.base.now pool.length.now) × IsFile (file_input file)
 ReadsFile (Map limit pool align svg file) = IsOk (pool_of pool.base.now pool.length.now) × IsFile (file_input file)
-ReadsFile (Decode options file) = IsFile (file_input file)
+ReadsFile (Decode input format texts file) = IsOk (listing_in input format texts) × IsFile (file_input file)
 ReadsFile (Annotate file) = IsFile (file_input file)
 ReadsFile RoundList = ⊥
 
@@ -35,7 +37,7 @@ RunsMachine (Ask question) = ⊥
 RunsMachine (Run limit stats file) = ⊤
 RunsMachine (Plan limit pool align stats file) = IsOk (pool_of pool.base.now pool.length.now)
 RunsMachine (Map limit pool align svg file) = IsOk (pool_of pool.base.now pool.length.now)
-RunsMachine (Decode options file) = ⊥
+RunsMachine (Decode input format texts file) = ⊥
 RunsMachine (Annotate file) = ⊥
 RunsMachine RoundList = ⊥
 

@@ -1,5 +1,6 @@
 -- In reading order.
 pub mod Outcome
+pub mod Listing
 pub mod Input
 pub mod Questions
 pub mod Report

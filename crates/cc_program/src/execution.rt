@@ -9,12 +9,13 @@ ghost use Rattle.cc_program.specs.Input.{IsFile, IsReported, ReadsFile, RunsMach
 
 use crate::discard::Discard;
 use crate::input::{InputName, Inputs, file_input};
+use crate::listing::listing_of;
 use crate::outcome::Fault;
 use crate::questions::answer_question;
 use crate::report::{Report, Terminals, write_report};
 use cc_arguments::Invocation;
 use cc_command::{round_list, show_statistics, write_refusal};
-use cc_decode::{Options, annotate, decode_words};
+use cc_decode::{Options, annotate, decode_words_after};
 use cc_draw::{show_drawing, show_map, usage_of};
 use cc_io::{FromReader, Sink, Source, Summary};
 use cc_machine::{Len, Machine, Op};
@@ -28,7 +29,8 @@ const MOST_DECODED: usize = 1 << 62;
 
 /// Executes a command: reads its input, writes its output to `sink`, and reports a run on `errors`.
 ///
-/// BASE and LENGTH of `plan` and `map` are read first. If one is refused, the output is that refusal, and nothing is read.
+/// BASE and LENGTH of `plan` and `map`, and the numbers and names of `decode`, are read first. If one is refused, the output
+/// is that refusal, and nothing is read.
 /// The machine is created next, and then the input is opened.
 ///
 /// Requires: no device has failed.
@@ -116,7 +118,15 @@ pub fn execute<R: AllocGlobal, I: Inputs, W: Sink, E: Sink>(
             }
             Err(refusal) => Ok(write_refusal(refusal, sink)?),
         },
-        Invocation::Decode { options, file } => list_words(options, inputs, file_input(file), sink),
+        Invocation::Decode {
+            input,
+            format,
+            texts,
+            file,
+        } => match listing_of(input, format, texts) {
+            Ok((skipped, options)) => list_words(skipped, options, inputs, file_input(file), sink),
+            Err(refusal) => Ok(write_refusal(refusal, sink)?),
+        },
         Invocation::Annotate { file } => annotate_words(inputs, file_input(file), sink),
         Invocation::RoundList => round_lengths(inputs, InputName::Standard, sink),
     }
@@ -286,10 +296,11 @@ fn draw_end<R: AllocGlobal, S: Source, W: Sink>(
     Ok(summary)
 }
 
-/// Writes a row for each word of an input.
+/// Writes a row for each listed word of an input after its first bytes.
 // not inlined, so that other commands do not touch the pages of its buffers on the stack
 #[inline(never)]
 fn list_words<I: Inputs, W: Sink>(
+    skipped: u64,
     options: Options,
     inputs: &I,
     input: InputName<'_>,
@@ -303,7 +314,7 @@ fn list_words<I: Inputs, W: Sink>(
       errors = errors;
       errors_now = errors_now;
       errors_failed = errors_failed;
-    }) (ListsWords options)) result }
+    }) (ListsWords skipped options)) result }
     ensures open { result ≡ Err Fault.Open → IsFile input.entry }
     ensures untouched { result ≡ Err Fault.Open → W.taken_bytes sink.new ≡ W.taken_bytes sink.old }
     ensures memory { result ≢ Err Fault.Memory }
@@ -311,7 +322,7 @@ fn list_words<I: Inputs, W: Sink>(
     ensures flushed { OnOk result (W.is_flushed sink.new ≡ true) }
 {
     let mut source = FromReader::with_limit(inputs.open(input)?, MOST_DECODED);
-    Ok(decode_words(options, &mut source, sink)?)
+    Ok(decode_words_after(skipped, options, &mut source, sink)?)
 }
 
 /// Copies an input, with the line of each word after the word.

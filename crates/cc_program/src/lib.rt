@@ -5,12 +5,13 @@ mod discard;
 mod error_writer;
 mod execution;
 mod input;
+mod listing;
 mod outcome;
 mod program;
 mod questions;
 mod report;
 
-pub use cc_arguments::{Invocation, PoolTexts, Question, read_words};
+pub use cc_arguments::{DecodeTexts, Invocation, PoolTexts, Question, read_words};
 pub use execution::execute;
 pub use input::{InputName, Inputs, file_input};
 pub use outcome::{Ending, Fault, status};

@@ -18,4 +18,4 @@ pub use parsing::{MOST_BYTES, Taker, parse_line, take_command};
 pub use planning::{plan_numbers, plan_opening};
 pub use printing::{push_any_reply, push_reply, reply_line};
 pub use tally::{Count, Tally};
-pub use values::both;
+pub use values::{both, read_permissions};

@@ -76,17 +76,24 @@ map_command aligns = with_pool (with_rule (with_pool_options (new_app (codes "ma
 
 -- The names of the formats.
 abbrev pub format_names : List Text
-format_names = codes "columns" ∷ codes "text" ∷ codes "csv" ∷ []
+format_names = codes "columns" ∷ codes "text" ∷ codes "fixed" ∷ codes "csv" ∷ []
 
 -- The names of the byte orders.
 abbrev pub order_names : List Text
 order_names = codes "little" ∷ codes "big" ∷ []
 
--- The command `decode [--format FORMAT] [--bytes ORDER] [FILE]`.
+-- A command with `[--skip N] [--at START] [--holds ADDRESS] [--perms NAMES]` added.
+abbrev pub with_search : App → App
+with_search command =
+    let places = with_rule (with_rule command (valued_option (codes "skip"))) (valued_option (codes "at")) in
+    with_rule (with_rule places (valued_option (codes "holds"))) (valued_option (codes "perms"))
+
+-- The command `decode [--format FORMAT] [--bytes ORDER] [--skip N] [--at START] [--holds ADDRESS]
+-- [--perms NAMES] [FILE]`.
 abbrev pub decode_command : (formats orders : Bor (List (Bor Text))) → App
 decode_command formats orders =
     let options = with_rule (with_rule (new_app (codes "decode")) (choice_option (codes "format") formats)) (choice_option (codes "bytes") orders) in
-    with_rule options (optional_argument (codes "file"))
+    with_rule (with_search options) (optional_argument (codes "file"))
 
 -- The command `annotate [FILE]`.
 abbrev pub annotate_command : App

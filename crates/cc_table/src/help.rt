@@ -191,12 +191,23 @@ Examples:
 pub(crate) const DECODE_ABOUT: &str = "Decodes words, one on each line";
 
 pub(crate) const FORMAT_HELP: &str = "\
-Format of the line for a word: its values in columns, the line that debuggers show, or its values
-with commas [default: columns]";
+Format of the line for a word: its values in columns, the line that debuggers show, its values in
+columns of one width each, or with commas [default: columns]";
 
 pub(crate) const BYTES_HELP: &str = "\
 Read raw words of 16 bytes, the lowest byte first or the highest
 [default: lines of digits]";
+
+pub(crate) const SKIP_HELP: &str =
+    "Number of bytes at the start of the input that are not decoded [default: 0]";
+
+pub(crate) const AT_HELP: &str =
+    "Print the address of each word, which is START for the first and 16 more for each further one";
+
+pub(crate) const HOLDS_HELP: &str = "List only words that could be capabilities to ADDRESS";
+
+pub(crate) const PERMISSIONS_HELP: &str =
+    "List only words that could be capabilities with these permissions, joined by `+`";
 
 pub(crate) const WORDS_FILE_HELP: &str = "File of words; standard input if `-` or omitted";
 
@@ -206,10 +217,19 @@ Each line is a word: 32 hexadecimal digits of either case, as a trace or a dump 
 The output has a line for each word, in their order:
   columns   WORD BASE TOP PERMS FLAG TYPE EXPONENT CANONICAL, as `cheri-cap show` prints them
   text      ADDRESS [LETTERS,BASE-TOP], and `(sealed)` or `(sentry)`
+  fixed     the columns in one width each, so that `sort` and `awk` compare them as numbers: BASE and
+            TOP have 17 digits, EXPONENT 2 hexadecimal digits, and CANONICAL is 1 or 0
   csv       a header, and then the values of the columns, ADDRESS and NAMES with commas between
 A line that is not a word gets `error 1 syntax`. An unterminated last line, or fewer than 16 trailing
 bytes, get `error 2 unfinished`. Each word is decoded independently, so parts of the input can be
 decoded separately; but with `--format csv` the output of each part begins with the header.
+
+With --at the address of a word comes first, as a column of its own. START is the address of the
+first word after those N bytes that --skip omits. In a core file, a segment need not begin at a
+multiple of 16: `readelf -lW` prints the Offset of each, for --skip, and its VirtAddr, for --at.
+With --holds or --perms only words that could be capabilities get a line: they are canonical, their
+bounds contain ADDRESS, and they have a permission, and all those of NAMES. Null has none. A line
+that is not a word then gets no line, but the exit status is 1.
 
 The exit status is 0, or 1 if a line of output is an error, 2 for a command line that is not
 understood, and 3 if FILE cannot be opened, or the input or output failed.
@@ -224,7 +244,10 @@ Examples:
 
   echo 02001fffc48190040000000000001000 | cheri-cap decode --format csv
   word,base,top,perms,flag,type,exponent,canonical,address,names
-  02001fffc48190040000000000001000,0x1000,0x1200,0200,0,00007,0,yes,0x1000,UNSEAL";
+  02001fffc48190040000000000001000,0x1000,0x1200,0200,0,00007,0,yes,0x1000,UNSEAL
+
+  printf 'no word\\n\\0\\0\\0\\0\\0\\0\\0\\0\\0\\0\\0\\0\\0\\0\\0\\0p\\0\\1\\0\\0\\0\\0\\0=\\200\\17\\0\\0\\0\\377\\377' | cheri-cap decode --bytes little --skip 8 --at 0x4000 --holds 0x10100
+  0x4010 ffff0000000f803d0000000000010070 0x10070 0x12070 ffff 0 3ffff 1 yes";
 
 pub(crate) const ANNOTATE_ABOUT: &str = "Copies a text, with the line of each word after the word";
 

@@ -4,11 +4,12 @@ ghost use Rattle.clap.specs.Words.{new_app};
 ghost use Rattle.cc_table.specs.Usage.{bare_program, explain_command, listed_commands, with_arguments, with_commands};
 
 use crate::help::{
-    ALIGN_HELP, ANNOTATE_ABOUT, ANNOTATE_AFTER_HELP, BASE_HELP, BYTES_HELP, DECODE_ABOUT,
-    DECODE_AFTER_HELP, FILE_HELP, FORMAT_HELP, LENGTH_HELP, LINE_HELP, MAP_ABOUT, MAP_AFTER_HELP,
-    PLAN_ABOUT, PLAN_AFTER_HELP, POOL_LENGTH_HELP, REQUEST_BASE_HELP, REQUEST_LENGTH_HELP,
-    ROUND_ABOUT, ROUND_AFTER_HELP, RUN_ABOUT, RUN_AFTER_HELP, SHOW_ABOUT, SHOW_AFTER_HELP,
-    SLOTS_HELP, STATS_HELP, SVG_HELP, TEXT_FILE_HELP, WINDOW_SVG_HELP, WORD_HELP, WORDS_FILE_HELP,
+    ALIGN_HELP, ANNOTATE_ABOUT, ANNOTATE_AFTER_HELP, AT_HELP, BASE_HELP, BYTES_HELP, DECODE_ABOUT,
+    DECODE_AFTER_HELP, FILE_HELP, FORMAT_HELP, HOLDS_HELP, LENGTH_HELP, LINE_HELP, MAP_ABOUT,
+    MAP_AFTER_HELP, PERMISSIONS_HELP, PLAN_ABOUT, PLAN_AFTER_HELP, POOL_LENGTH_HELP,
+    REQUEST_BASE_HELP, REQUEST_LENGTH_HELP, ROUND_ABOUT, ROUND_AFTER_HELP, RUN_ABOUT,
+    RUN_AFTER_HELP, SHOW_ABOUT, SHOW_AFTER_HELP, SKIP_HELP, SLOTS_HELP, STATS_HELP, SVG_HELP,
+    TEXT_FILE_HELP, WINDOW_SVG_HELP, WORD_HELP, WORDS_FILE_HELP,
 };
 
 /// The subject of the help of an argument.
@@ -38,6 +39,14 @@ pub(crate) enum Topic {
     Format,
     /// `BYTES_HELP`.
     Bytes,
+    /// `SKIP_HELP`.
+    Skip,
+    /// `AT_HELP`.
+    At,
+    /// `HOLDS_HELP`.
+    Holds,
+    /// `PERMISSIONS_HELP`.
+    Permissions,
     /// `WORDS_FILE_HELP`.
     WordsFile,
     /// `WINDOW_SVG_HELP`.
@@ -84,6 +93,10 @@ pub(crate) fn help<'a>(topic: Topic) -> &'a str {
         Topic::Svg => SVG_HELP,
         Topic::Format => FORMAT_HELP,
         Topic::Bytes => BYTES_HELP,
+        Topic::Skip => SKIP_HELP,
+        Topic::At => AT_HELP,
+        Topic::Holds => HOLDS_HELP,
+        Topic::Permissions => PERMISSIONS_HELP,
         Topic::WordsFile => WORDS_FILE_HELP,
         Topic::WindowSvg => WINDOW_SVG_HELP,
         Topic::TextFile => TEXT_FILE_HELP,
@@ -317,6 +330,30 @@ const COMMANDS: &[CommandRow] = &[
                 name: "bytes",
                 placeholder: "ORDER",
                 topic: Topic::Bytes,
+            },
+            Row {
+                kind: Kind::Valued,
+                name: "skip",
+                placeholder: "N",
+                topic: Topic::Skip,
+            },
+            Row {
+                kind: Kind::Valued,
+                name: "at",
+                placeholder: "START",
+                topic: Topic::At,
+            },
+            Row {
+                kind: Kind::Valued,
+                name: "holds",
+                placeholder: "ADDRESS",
+                topic: Topic::Holds,
+            },
+            Row {
+                kind: Kind::Valued,
+                name: "perms",
+                placeholder: "NAMES",
+                topic: Topic::Permissions,
             },
             Row {
                 kind: Kind::Free,

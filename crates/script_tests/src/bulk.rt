@@ -1,6 +1,7 @@
 //! Many words between a source and a sink that fail.
-use cc_decode::{Format, InputForm, Options, decode_words};
+use cc_decode::{Format, InputForm, Options, Search, decode_words, decode_words_after};
 use cc_io::{IoError, SliceSink, SliceSource, Summary};
+use cc_word::Perms;
 
 /// Two words, lines that are not words, and trailing bytes.
 const TEXT: &[u8] = b"\
@@ -32,6 +33,8 @@ fn decode(
     let options = Options {
         input: InputForm::Lines,
         format: Format::Columns,
+        at: None,
+        search: None,
     };
     let mut room = [0; 512];
     let mut source = SliceSource::new(TEXT, pieces.0.max(1), fails.0);
@@ -89,4 +92,54 @@ fn each_write_and_the_flush_fail_in_turn(rt: HostRuntime) {
     for call in 1..30u32 {
         assert!(rt; write_fails(call), "call {call}");
     }
+}
+
+/// The replies to a search of all but the first line.
+const FOUND: &[u8] = b"\
+0x10 02001fffc48190040000000000001000 0x1000 0x1200 0200 0 00007 0 yes
+error 2 unfinished
+";
+
+/// Returns how a search of the input without its first line ends, and the number of bytes of the
+/// replies that were then taken, or `None` if other bytes were. This call of the source fails, if
+/// one does.
+fn search(fails: Option<u32>) -> Option<(Result<Summary, IoError>, usize)> {
+    let options = Options {
+        input: InputForm::Lines,
+        format: Format::Columns,
+        at: Some(0x10),
+        search: Some(Search {
+            holds: Some(0x1000),
+            perms: Perms::UNSEAL,
+        }),
+    };
+    let mut room = [0; 512];
+    let mut source = SliceSource::new(TEXT, 13, fails);
+    let mut sink = SliceSink::new(&mut room, 4096, None);
+    let end = decode_words_after(33, options, &mut source, &mut sink);
+    let taken = sink.taken();
+    if room.get(..taken) == FOUND.get(..taken) {
+        Some((end, taken))
+    } else {
+        None
+    }
+}
+
+/// Returns whether the words that a search finds get a reply, and whether nothing is written if a
+/// read among the skipped bytes fails.
+fn finds_after_skipped_bytes() -> bool {
+    let whole = match search(None) {
+        Some((Ok(summary), taken)) => summary.any_error && taken == FOUND.len(),
+        _ => false,
+    };
+    let failed = match search(Some(2)) {
+        Some((Err(IoError::Read), taken)) => taken == 0,
+        _ => false,
+    };
+    whole && failed
+}
+
+#[test]
+fn words_are_found_after_skipped_bytes(rt: HostRuntime) {
+    assert!(rt; finds_after_skipped_bytes());
 }

@@ -14,6 +14,14 @@ returns-in-Some-text c =
     c.value_of.ensures ∙ ap (option_map (λ s. s.now)) here.is ∙ ap Some here.is-text in
     subst (λ (o : Option Text). IsChosen format_named format.Columns o format.Text) (sym given) refl
 
+pub returns-in-Some-fixed : goal.returns-in-Some-fixed
+returns-in-Some-fixed c =
+    let f = found_of c.args.matches.now in
+    let here = c.in-Some-fixed in
+    let given : first_of (codes "format") (rows_of f) ≡ Some (codes "fixed") =
+    c.value_of.ensures ∙ ap (option_map (λ s. s.now)) here.is ∙ ap Some here.is-fixed in
+    subst (λ (o : Option Text). IsChosen format_named format.Columns o format.Fixed) (sym given) refl
+
 pub returns-in-Some-csv : goal.returns-in-Some-csv
 returns-in-Some-csv c =
     let f = found_of c.args.matches.now in
@@ -27,10 +35,11 @@ returns-in_default c =
     let f = found_of c.args.matches.now in
     let here = c.in_default in
     let given = c.value_of.ensures ∙ ap (option_map (λ s. s.now)) here.is in
-    format_columns (first_of (codes "format") (rows_of f)) c.requires (λ is. here.not-text (cc (sym given ∙ is))) (λ is. here.not-csv (cc (sym given ∙ is)))
+    format_columns (first_of (codes "format") (rows_of f)) c.requires (λ is. here.not-text (cc (sym given ∙ is))) (λ is. here.not-fixed (cc (sym given ∙ is)))
+    (λ is. here.not-csv (cc (sym given ∙ is)))
 
 pub returns-in_default-2 : goal.returns-in_default-2
 returns-in_default-2 c =
     let f = found_of c.args.matches.now in
     let given = c.value_of.ensures ∙ ap (option_map (λ s. s.now)) c.in_default.is in
-    format_columns (first_of (codes "format") (rows_of f)) c.requires (λ is. cc (sym given ∙ is)) (λ is. cc (sym given ∙ is))
+    format_columns (first_of (codes "format") (rows_of f)) c.requires (λ is. cc (sym given ∙ is)) (λ is. cc (sym given ∙ is)) (λ is. cc (sym given ∙ is))

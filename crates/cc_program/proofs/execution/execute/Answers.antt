@@ -1,8 +1,8 @@
-use Rattle.std.proofs.Common.{◌≡◌, ◌∙◌, Ok, rules, subst}
+use Rattle.std.proofs.Common.{◌≡◌, ◌∙◌, Ok, rules, sym}
 use Rattle.cc_syntax.specs.Planning.{plan_opening, pool_of}
-use Rattle.cc_program.specs.Execution.{AnnotatesWords, Console, FromInput, ListsWords, OnDevices}
+use Rattle.cc_program.specs.Execution.{AnnotatesWords, Console, FromInput, OnDevices}
 use Rattle.cc_program.specs.declared.input.InputName.{InputName}
-use Rattle.cc_program.proofs.ExecutionLemmas.{by_invocation, map_executes}
+use Rattle.cc_program.proofs.ExecutionLemmas.{by_invocation, decode_executes, map_executes}
 use Rattle.cc_program.proofs.execution.execute.Goals as goal
 
 pub returns-in_ok-answer_question-in-Ask-clause-executes :
@@ -30,8 +30,8 @@ returns-in-Ok-plan_numbers-clause-executes g c =
     (texts ∙ c.in-Ok-plan_numbers.is) is_opening c.file_input-in-Ok-plan_numbers.ensures
     (c.draw.ensures.draws (g.E.Sink.taken_bytes c.args.errors.now) (g.E.Sink.taken_bytes c.args.errors.now) (g.E.Sink.has_failed c.args.errors.now)))
 
-pub returns-in-Decode-clause-executes : goal.returns-in-Decode-clause-executes
-returns-in-Decode-clause-executes g c =
+pub returns-in-Ok-listing_of-clause-executes : goal.returns-in-Ok-listing_of-clause-executes
+returns-in-Ok-listing_of-clause-executes g c =
     let console : Console = record {
       input = g.I.Inputs.bytes_of c.args.inputs.now;
       output = g.W.Sink.taken_bytes c.args.sink.now;
@@ -41,7 +41,8 @@ returns-in-Decode-clause-executes g c =
       errors_failed = g.E.Sink.has_failed c.args.errors.now;
     } in
     by_invocation _ _ c.in-Decode.is c.args.terminals console c.list_words.result
-    (subst (λ (input : InputName). OnDevices (FromInput input console (ListsWords c.in-Decode.options)) c.list_words.result) c.file_input-in-Decode.ensures
+    (decode_executes c.in-Decode.input c.in-Decode.format c.in-Decode.texts c.in-Decode.file c.args.terminals console _ _ _
+    (sym c.listing_of.ensures ∙ c.in-Ok-listing_of.is) c.file_input-in-Ok-listing_of.ensures
     (c.list_words.ensures.lists (g.E.Sink.taken_bytes c.args.errors.now) (g.E.Sink.taken_bytes c.args.errors.now) (g.E.Sink.has_failed c.args.errors.now)))
 
 pub returns-in-Annotate-clause-executes : goal.returns-in-Annotate-clause-executes

@@ -1,0 +1,58 @@
+//! The column of addresses.
+ghost use Rattle.std.specs.Prelude.{◌≡◌, ◌≤◌, ◌+◌, ◌++◌, length, option_map};
+ghost use Rattle.cc_decode.specs.Place.{next_address, place_of, place_text};
+
+use crate::format::Format;
+use crate::writers::{Batch, push_byte, push_hexadecimal, push_padded};
+
+/// The number of bytes of an entry in memory.
+const WORD_BYTES: u64 = 16;
+
+/// Returns the address of the entry after the one at this address, if there is one.
+pub(crate) fn next_place(at: Option<u64>) -> Option<u64>
+    ensures { result ≡ option_map next_address at }
+{
+    match at {
+        Some(address) => Some(address.wrapping_add(WORD_BYTES)),
+        None => None,
+    }
+}
+
+/// Appends the column of an address, if there is one.
+pub(crate) fn push_place(batch: &mut Batch, format: Format, at: Option<u64>)
+    requires { length batch.old + 40 ≤ 32768 }
+    ensures value { batch.new ≡ batch.old ++ place_text format at }
+    ensures fits { length batch.new ≤ length batch.old + 40 }
+{
+    match at {
+        Some(address) => push_place_of(batch, format, address),
+        None => batch.push(b""),
+    }
+}
+
+/// Appends the column of an address.
+fn push_place_of(batch: &mut Batch, format: Format, address: u64)
+    requires { length batch.old + 40 ≤ 32768 }
+    ensures value { batch.new ≡ batch.old ++ place_of format address }
+    ensures fits { length batch.new ≤ length batch.old + 40 }
+{
+    let address = u128::from(address);
+    match format {
+        Format::Columns => {
+            push_hexadecimal(batch, address);
+            push_byte(batch, b' ');
+        }
+        Format::Text => {
+            push_hexadecimal(batch, address);
+            batch.push(b": ");
+        }
+        Format::Fixed => {
+            push_padded(batch, address);
+            push_byte(batch, b' ');
+        }
+        Format::Csv => {
+            push_hexadecimal(batch, address);
+            push_byte(batch, b',');
+        }
+    }
+}

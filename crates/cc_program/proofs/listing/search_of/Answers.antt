@@ -1,0 +1,11 @@
+use Rattle.std.proofs.Common.{◌≡◌, Err}
+use Rattle.cc_syntax.specs.Commands.{both}
+use Rattle.cc_program.specs.Listing.{named_in, place_in}
+use Rattle.cc_program.proofs.ListingLemmas.{search_refused}
+use Rattle.cc_program.proofs.listing.search_of.Goals as goal
+
+pub returns-in-Err : goal.returns-in-Err
+returns-in-Err c =
+    let told : both (place_in c.args.holds) (named_in c.args.perms) ≡ Err c.in-Err.refusal =
+    cc (c.both.ensures, c.place_of.ensures, c.named.ensures, c.in-Err.is) in
+    search_refused c.args.holds c.args.perms c.in-Err.refusal told
