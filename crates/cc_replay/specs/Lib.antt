@@ -1,0 +1,1 @@
+-- In reading order.
