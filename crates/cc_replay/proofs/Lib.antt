@@ -1,0 +1,4 @@
+pub mod MemoryLemmas
+pub mod PlaceLemmas
+pub mod HeapLemmas
+pub mod StepLemmas

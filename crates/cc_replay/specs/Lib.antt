@@ -1,1 +1,7 @@
 -- In reading order.
+pub mod Policy
+pub mod Memory
+pub mod Totals
+pub mod Heap
+pub mod Events
+pub mod HeapState

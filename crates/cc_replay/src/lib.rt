@@ -3,5 +3,22 @@
 #![tactic(auto)]
 
 mod event;
+mod heap;
+mod making;
+mod object;
+mod outcome;
+mod placing;
+mod policy;
+mod settings;
+mod totals;
+mod usage;
 
 pub use event::Event;
+pub use heap::Heap;
+pub use making::Making;
+pub use object::Object;
+pub use outcome::Outcome;
+pub use policy::{Policy, Share};
+pub use settings::Settings;
+pub use totals::Totals;
+pub use usage::Usage;
