@@ -1,4 +1,5 @@
 pub mod PlacementLemmas
+pub mod SameSpansLemmas
 pub mod SortedLemmas
 pub mod RoomLemmas
 pub mod ChainLemmas

@@ -1,5 +1,5 @@
 -- The invariant of a placer with its spans in blocks. No public clause cites this file.
-use Rattle.std.specs.Prelude.{ℕ, ◌≡◌, ◌+◌, ◌/◌, ◌≤◌, List, [], Option, Some, None, IfSome, length}
+use Rattle.std.specs.Prelude.{ℕ, ◌≡◌, ◌+◌, ◌*◌, ◌/◌, ◌^◌, ◌≤◌, List, [], Option, Some, None, IfSome, length}
 use Rattle.cc_bounds.specs.declared.span.Span.{Span}
 use Rattle.cc_placer.specs.BlockState.{BlockState}
 use Rattle.cc_placer.specs.Blocks.{AreBlocks, blocks_end, spans_in}
@@ -21,9 +21,10 @@ AreBlocksIn (Some pool) blocks = AreBlocks pool.base blocks × (blocks_end pool.
 pub record IsBlockPlacer (limit count : ℕ) (pool : Option Span) (row : RowState) (groups : List ℕ) : Type 0 where
   pub counted : count ≡ length (spans_in row.blocks)
   pub at_most : count ≤ limit
-  pub few : limit ≤ 65536
+  pub few : limit ≤ 2 ^ 24
   pub room : row.room ≡ block_count limit
   pub fits : length row.blocks ≤ row.room
   pub is_pool : IfSome pool IsPoolSpan
   pub are_blocks : AreBlocksIn pool row.blocks
   pub covered : AreCovered row.blocks groups
+  pub enough : row.room ≤ 32 * length groups

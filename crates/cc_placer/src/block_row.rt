@@ -28,7 +28,8 @@ const JOINED_SPANS: usize = 48;
 pub(crate) fn put(row: &mut Row, groups: &mut GroupBounds, end: u64, span: Span)
     requires blocks { AreBlocks end row.old.blocks }
     requires covered { AreCovered row.old.blocks groups.old }
-    requires few { row.old.room ≤ 2752 }
+    requires few { row.old.room ≤ 2 ^ 20 }
+    requires enough { row.old.room ≤ 32 * length groups.old }
     requires many { length row.old.blocks ≡ row.old.room
         → length (spans_in row.old.blocks) < 49 * (length row.old.blocks / 2) }
     requires fits { length row.old.blocks ≤ row.old.room }
@@ -38,6 +39,7 @@ pub(crate) fn put(row: &mut Row, groups: &mut GroupBounds, end: u64, span: Span)
     ensures spans { IsOneMore (spans_in row.old.blocks) span (spans_in row.new.blocks) }
     ensures blocks { AreBlocks end row.new.blocks }
     ensures covered { AreCovered row.new.blocks groups.new }
+    ensures enough { length groups.new ≡ length groups.old }
     ensures end { blocks_end end row.new.blocks ≤ max (blocks_end end row.old.blocks) span.top }
     ensures fits { length row.new.blocks ≤ row.new.room }
     ensures room { row.new.room ≡ row.old.room }
@@ -55,7 +57,8 @@ pub(crate) fn put(row: &mut Row, groups: &mut GroupBounds, end: u64, span: Span)
 fn put_with_room(row: &mut Row, groups: &mut GroupBounds, end: u64, span: Span)
     requires blocks { AreBlocks end row.old.blocks }
     requires covered { AreCovered row.old.blocks groups.old }
-    requires few { row.old.room ≤ 2752 }
+    requires few { row.old.room ≤ 2 ^ 20 }
+    requires enough { row.old.room ≤ 32 * length groups.old }
     requires room { length row.old.blocks < row.old.room }
     requires some { IsSomeBytes span }
     requires apart { IsApartFrom (spans_in row.old.blocks) span }
@@ -63,6 +66,7 @@ fn put_with_room(row: &mut Row, groups: &mut GroupBounds, end: u64, span: Span)
     ensures spans { IsOneMore (spans_in row.old.blocks) span (spans_in row.new.blocks) }
     ensures blocks { AreBlocks end row.new.blocks }
     ensures covered { AreCovered row.new.blocks groups.new }
+    ensures enough { length groups.new ≡ length groups.old }
     ensures end { blocks_end end row.new.blocks ≤ max (blocks_end end row.old.blocks) span.top }
     ensures fits { length row.new.blocks ≤ row.new.room }
     ensures room { row.new.room ≡ row.old.room }
@@ -80,7 +84,8 @@ fn put_with_room(row: &mut Row, groups: &mut GroupBounds, end: u64, span: Span)
 fn put_inside(row: &mut Row, groups: &mut GroupBounds, end: u64, at: usize, span: Span)
     requires blocks { AreBlocks end row.old.blocks }
     requires covered { AreCovered row.old.blocks groups.old }
-    requires few { row.old.room ≤ 2752 }
+    requires few { row.old.room ≤ 2 ^ 20 }
+    requires enough { row.old.room ≤ 32 * length groups.old }
     requires room { length row.old.blocks < row.old.room }
     requires some { IsSomeBytes span }
     requires apart { IsApartFrom (spans_in row.old.blocks) span }
@@ -90,6 +95,7 @@ fn put_inside(row: &mut Row, groups: &mut GroupBounds, end: u64, at: usize, span
     ensures spans { IsOneMore (spans_in row.old.blocks) span (spans_in row.new.blocks) }
     ensures blocks { AreBlocks end row.new.blocks }
     ensures covered { AreCovered row.new.blocks groups.new }
+    ensures enough { length groups.new ≡ length groups.old }
     ensures end { blocks_end end row.new.blocks ≡ blocks_end end row.old.blocks }
     ensures fits { length row.new.blocks ≤ row.new.room }
     ensures room { row.new.room ≡ row.old.room }
@@ -112,7 +118,8 @@ fn put_inside(row: &mut Row, groups: &mut GroupBounds, end: u64, at: usize, span
 fn put_splitting(row: &mut Row, groups: &mut GroupBounds, end: u64, at: usize, span: Span)
     requires blocks { AreBlocks end row.old.blocks }
     requires covered { AreCovered row.old.blocks groups.old }
-    requires few { row.old.room ≤ 2752 }
+    requires few { row.old.room ≤ 2 ^ 20 }
+    requires enough { row.old.room ≤ 32 * length groups.old }
     requires room { length row.old.blocks < row.old.room }
     requires some { IsSomeBytes span }
     requires apart { IsApartFrom (spans_in row.old.blocks) span }
@@ -123,6 +130,7 @@ fn put_splitting(row: &mut Row, groups: &mut GroupBounds, end: u64, at: usize, s
     ensures spans { IsOneMore (spans_in row.old.blocks) span (spans_in row.new.blocks) }
     ensures blocks { AreBlocks end row.new.blocks }
     ensures covered { AreCovered row.new.blocks groups.new }
+    ensures enough { length groups.new ≡ length groups.old }
     ensures end { blocks_end end row.new.blocks ≡ blocks_end end row.old.blocks }
     ensures fits { length row.new.blocks ≤ row.new.room }
     ensures room { row.new.room ≡ row.old.room }
@@ -138,13 +146,15 @@ fn put_splitting(row: &mut Row, groups: &mut GroupBounds, end: u64, at: usize, s
 fn put_behind(row: &mut Row, groups: &mut GroupBounds, end: u64, span: Span)
     requires blocks { AreBlocks end row.old.blocks }
     requires covered { AreCovered row.old.blocks groups.old }
-    requires few { row.old.room ≤ 2752 }
+    requires few { row.old.room ≤ 2 ^ 20 }
+    requires enough { row.old.room ≤ 32 * length groups.old }
     requires room { length row.old.blocks < row.old.room }
     requires some { IsSomeBytes span }
     requires above { blocks_end end row.old.blocks ≤ span.base }
     ensures spans { spans_in row.new.blocks ≡ spans_in row.old.blocks ++ span ∷ [] }
     ensures blocks { AreBlocks end row.new.blocks }
     ensures covered { AreCovered row.new.blocks groups.new }
+    ensures enough { length groups.new ≡ length groups.old }
     ensures end { blocks_end end row.new.blocks ≡ span.top }
     ensures fits { length row.new.blocks ≤ row.new.room }
     ensures room { row.new.room ≡ row.old.room }
@@ -165,12 +175,14 @@ fn put_behind(row: &mut Row, groups: &mut GroupBounds, end: u64, span: Span)
 pub(crate) fn take_out(row: &mut Row, groups: &mut GroupBounds, end: u64, span: Span)
     requires blocks { AreBlocks end row.old.blocks }
     requires covered { AreCovered row.old.blocks groups.old }
-    requires few { row.old.room ≤ 2752 }
+    requires few { row.old.room ≤ 2 ^ 20 }
+    requires enough { row.old.room ≤ 32 * length groups.old }
     requires fits { length row.old.blocks ≤ row.old.room }
     requires held { Contains (spans_in row.old.blocks) span }
     ensures spans { IsOneMore (spans_in row.new.blocks) span (spans_in row.old.blocks) }
     ensures blocks { AreBlocks end row.new.blocks }
     ensures covered { AreCovered row.new.blocks groups.new }
+    ensures enough { length groups.new ≡ length groups.old }
     ensures end { blocks_end end row.new.blocks ≤ blocks_end end row.old.blocks }
     ensures fits { length row.new.blocks ≤ row.new.room }
     ensures room { row.new.room ≡ row.old.room }
@@ -217,7 +229,7 @@ fn widen_at(row: &mut Row, at: usize, end: u64)
 ///
 /// Requires: so few spans for the number of blocks that there are such neighbors.
 pub(crate) fn join_two(row: &mut Row)
-    requires few { length row.old.blocks ≤ 2752 }
+    requires few { length row.old.blocks ≤ 2 ^ 20 }
     requires many { length (spans_in row.old.blocks) < 49 * (length row.old.blocks / 2) }
     ensures blocks { (end : ℕ) → AreBlocks end row.old.blocks → AreBlocks end row.new.blocks }
     ensures end { (end : ℕ) → AreBlocks end row.old.blocks
@@ -264,7 +276,8 @@ pub(crate) fn place_among(
 ) -> Option<u64>
     requires blocks { AreBlocks end row.now.blocks }
     requires covered { AreCovered row.now.blocks groups.now }
-    requires few { length row.now.blocks ≤ 2752 }
+    requires few { length row.now.blocks ≤ 2 ^ 20 }
+    requires enough { length row.now.blocks ≤ 32 * length groups.now }
     requires some { 0 < len }
     requires aligned { 0 < align }
     requires needed { IsNeeded len align needed }
@@ -293,7 +306,8 @@ fn place_in_group(
 ) -> Option<u64>
     requires blocks { AreBlocks end row.now.blocks }
     requires covered { AreCovered row.now.blocks groups.now }
-    requires few { length row.now.blocks ≤ 2752 }
+    requires few { length row.now.blocks ≤ 2 ^ 20 }
+    requires enough { length row.now.blocks ≤ 32 * length groups.now }
     requires within { 32 * group < length row.now.blocks }
     requires some { 0 < len }
     requires aligned { 0 < align }

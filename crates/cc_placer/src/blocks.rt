@@ -1,8 +1,8 @@
 //! A placer that keeps its spans in blocks.
-ghost use Rattle.std.specs.Prelude.{◌<◌, ◌≤◌, ◌^◌, length};
+ghost use Rattle.std.specs.Prelude.{◌*◌, ◌<◌, ◌≤◌, ◌^◌, length};
 ghost use Rattle.cc_placer.specs.Blocks.{AreBlocks, blocks_end, spans_in};
 ghost use Rattle.cc_placer.specs.Groups.{AreCovered};
-ghost use Rattle.cc_placer.specs.Placement.{IsRoom};
+ghost use Rattle.cc_placer.specs.Placement.{HaveSameSpans, IsRoom};
 
 use crate::block_row::{place_among, put, row_end, take_out};
 use crate::gap::needed;
@@ -50,7 +50,7 @@ impl Placer for BlockPlacer {
 
     ghost pool = { λ placer. placer.pool };
 
-    ghost held = { λ placer. placer.held };
+    ghost holds = { λ placer spans. HaveSameSpans placer.held spans };
 
     fn with_limit(alloc: Global, n: u32) -> Result<Self, AllocError> {
         let room = (n / SPANS_A_BLOCK + 2) as usize;
@@ -59,7 +59,7 @@ impl Placer for BlockPlacer {
             count: 0,
             pool: None,
             row: Row::with_room(alloc, room)?,
-            groups: GroupBounds::new(),
+            groups: GroupBounds::for_blocks(alloc, room)?,
         })
     }
 
@@ -98,7 +98,8 @@ impl Placer for BlockPlacer {
 fn room_in(row: &Row, groups: &GroupBounds, pool: Span, len: u128, align: u64) -> Option<u64>
     requires blocks { AreBlocks pool.base row.now.blocks }
     requires covered { AreCovered row.now.blocks groups.now }
-    requires few { length row.now.blocks ≤ 2752 }
+    requires few { length row.now.blocks ≤ 2 ^ 20 }
+    requires enough { length row.now.blocks ≤ 32 * length groups.now }
     requires within { blocks_end pool.base row.now.blocks ≤ pool.top }
     requires fits { pool.top ≤ 2 ^ 64 }
     requires some { 0 < len }

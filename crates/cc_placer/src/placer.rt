@@ -10,7 +10,10 @@ use std::alloc::{AllocError, Global};
 /// A free-space index: holds spans of a pool, and finds free space next to them.
 ///
 /// Three values describe a placer to its caller: the maximum number of spans that it holds, its
-/// pool or none, and the spans that it holds. It may hold them in any order.
+/// pool or none, and the lists of spans that it may be holding.
+///
+/// A placer need not be able to list its spans, since several lists can leave the same free space.
+/// So each function says what it does for every list that the placer may be holding.
 pub trait Placer: Drop {
     /// The maximum number of spans that it holds.
     ghost limit: { Self → ℕ };
@@ -18,21 +21,21 @@ pub trait Placer: Drop {
     /// The span in which it finds free space, or none before a pool is set.
     ghost pool: { Self → Option SpanSpec };
 
-    /// The spans that it holds. Their order has no meaning.
-    ghost held: { Self → List SpanSpec };
+    /// The lists of spans that it may be holding.
+    ghost holds: { Self → List SpanSpec → Type 0 };
 
     /// Creates a placer for at most `n` spans, with no pool and no span.
     ///
     /// Allocates all the memory that the placer needs.
     ///
-    /// Requires: `1 <= n <= 65536`.
+    /// Requires: `1 <= n <= 2^24`.
     /// Errors: `AllocError` if an allocation fails.
     fn with_limit(alloc: Global, n: u32) -> Result<Self, AllocError>
         requires some { 1 ≤ n }
-        requires few { n ≤ 65536 }
+        requires few { n ≤ 2 ^ 24 }
         ensures limit { IfOk result (λ placer. limit placer ≡ n) }
         ensures no_pool { IfOk result (λ placer. pool placer ≡ None) }
-        ensures nothing_held { IfOk result (λ placer. held placer ≡ []) };
+        ensures nothing_held { IfOk result (λ placer. holds placer []) };
 
     /// Makes the span the pool.
     ///
@@ -43,7 +46,7 @@ pub trait Placer: Drop {
         requires fits { span.top ≤ 2 ^ 64 }
         ensures limit { limit self.new ≡ limit self.old }
         ensures pool { pool self.new ≡ Some span }
-        ensures held { held self.new ≡ held self.old };
+        ensures held { (spans : List SpanSpec) → holds self.old spans → holds self.new spans };
 
     /// Returns the lowest place for `len` bytes at a multiple of `align`, or `None` if there is
     /// none.
@@ -56,7 +59,8 @@ pub trait Placer: Drop {
         requires pool { IsSome (pool self.now) }
         requires some { 0 < len }
         requires aligned { 0 < align }
-        ensures { IfSome (pool self.now) (λ pool. IsRoom pool (held self.now) len align result) };
+        ensures { (spans : List SpanSpec) → holds self.now spans
+            → IfSome (pool self.now) (λ pool. IsRoom pool spans len align result) };
 
     /// Adds a span to the held ones.
     ///
@@ -65,22 +69,24 @@ pub trait Placer: Drop {
     fn hold(&mut self, span: Span)
         requires not_empty { span.base < span.top }
         requires in_pool { IsSomeAnd (pool self.old) (IsWithin span) }
-        requires apart { IsApartFrom (held self.old) span }
-        requires below_limit { length (held self.old) < limit self.old }
+        requires apart { (spans : List SpanSpec) × holds self.old spans × IsApartFrom spans span
+            × (length spans < limit self.old) }
         ensures limit { limit self.new ≡ limit self.old }
         ensures pool { pool self.new ≡ pool self.old }
-        ensures held { AddsSpan (held self.old) span (held self.new) };
+        ensures held { (spans more : List SpanSpec) → holds self.old spans → IsApartFrom spans span
+            → length spans < limit self.old → AddsSpan spans span more → holds self.new more };
 
     /// Removes a span from the held ones.
     ///
     /// Requires: the span is held.
     fn give_back(&mut self, span: Span)
-        requires is_held { Contains (held self.old) span }
+        requires is_held { (spans : List SpanSpec) × holds self.old spans × Contains spans span }
         ensures limit { limit self.new ≡ limit self.old }
         ensures pool { pool self.new ≡ pool self.old }
-        ensures held { RemovesSpan (held self.old) span (held self.new) };
+        ensures held { (spans fewer : List SpanSpec) → holds self.old spans → Contains spans span
+            → RemovesSpan spans span fewer → holds self.new fewer };
 
     /// Returns the number of held spans.
     fn count(&self) -> u32
-        ensures { result ≡ length (held self.now) };
+        ensures { (spans : List SpanSpec) → holds self.now spans → result ≡ length spans };
 }

@@ -1,7 +1,7 @@
 //! A placer that searches all its spans.
 ghost use Rattle.std.specs.Prelude.{◌≡◌, ◌↔◌, ◌<◌, ◌≤◌, ◌^◌, IfSome, IfNone, All, Contains, IsTrue, length, slice_get, Some};
 ghost use Rattle.cc_bounds.specs.Span.{SharesByte};
-ghost use Rattle.cc_placer.specs.Placement.{IsApartFrom, IsRoom};
+ghost use Rattle.cc_placer.specs.Placement.{HaveSameSpans, IsApartFrom, IsRoom};
 ghost use Rattle.cc_placer.specs.PlacerState.{IsSomeBytes};
 
 use crate::placer::Placer;
@@ -38,7 +38,7 @@ impl Placer for ScanPlacer {
 
     ghost pool = { λ placer. placer.pool };
 
-    ghost held = { λ placer. placer.held };
+    ghost holds = { λ placer spans. HaveSameSpans placer.held spans };
 
     fn with_limit(alloc: Global, n: u32) -> Result<Self, AllocError> {
         Ok(ScanPlacer {

@@ -1,7 +1,7 @@
 //! A placer that keeps its spans in order.
 ghost use Rattle.std.specs.Prelude.{◌≡◌, ◌+◌, ◌%◌, ◌<◌, ◌≤◌, ◌^◌, ℕ, All};
 ghost use Rattle.cc_bounds.specs.Span.{span_from};
-ghost use Rattle.cc_placer.specs.Placement.{IsApartFrom, IsRoom};
+ghost use Rattle.cc_placer.specs.Placement.{HaveSameSpans, IsApartFrom, IsRoom};
 ghost use Rattle.cc_placer.specs.PlacerState.{AreInOrder, IsSomeBytes};
 
 use crate::placer::Placer;
@@ -39,7 +39,7 @@ impl Placer for SortedPlacer {
 
     ghost pool = { λ placer. placer.pool };
 
-    ghost held = { λ placer. placer.held };
+    ghost holds = { λ placer spans. HaveSameSpans placer.held spans };
 
     fn with_limit(alloc: Global, n: u32) -> Result<Self, AllocError> {
         Ok(SortedPlacer {

@@ -1,6 +1,6 @@
 -- With alignment 1, each sound span of at least `size` bytes that lies in the pool and shares no byte
 -- with a held span begins at a place for an object of `size` bytes.
-use Rattle.std.proofs.Common.{ℕ, ◌≡◌, ◌+◌, ◌≤◌, ◌^◌, ◌∙◌, List, arith, subst, sym}
+use Rattle.std.proofs.Common.{ℕ, ◌≡◌, ◌+◌, ◌≤◌, ◌∙◌, List, arith, subst, sym}
 use Rattle.cc_bounds.specs.declared.span.Span.{Span}
 use Rattle.cc_bounds.specs.Span.{IsSpan, IsWithin, from_zero, length_of}
 use Rattle.cc_bounds.specs.Granule.{IsSound, granule_of, padded_size}

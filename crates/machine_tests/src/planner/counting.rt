@@ -16,7 +16,7 @@ impl<P: Placer> Placer for CountingPlacer<P> {
 
     ghost pool = { λ placer. P.pool placer.inner };
 
-    ghost held = { λ placer. P.held placer.inner };
+    ghost holds = { λ placer spans. P.holds placer.inner spans };
 
     fn with_limit(alloc: Global, n: u32) -> Result<Self, AllocError> {
         Ok(CountingPlacer {

@@ -65,7 +65,7 @@ returns-clause-end c =
 
 pub returns-then-len-lt-LAST_SPANS-clause-covered : goal.returns-then-len-lt-LAST_SPANS-clause-covered
 returns-then-len-lt-LAST_SPANS-clause-covered c k d e inside =
-    c.raise.ensures (c.len-count.result - 1 + 1)
+    c.raise.ensures.covered (c.len-count.result - 1 + 1)
     (covered_set c.args.row.now.blocks (c.len-count.result - 1) c.push.new.self c.args.groups.now c.requires.covered) k d e inside
     (λ low. low)
 

@@ -136,8 +136,8 @@ pub returns-then-last-clause-covered : goal.returns-then-last-clause-covered
 returns-then-last-clause-covered c k d e inside =
     let but = covered_but_two c.args.row.now.blocks c.widen_at-then-last.new.row.blocks c.position_for-at.result c.remove.new.self
     c.args.groups.now c.requires.covered c.widen_at-then-last.ensures.others (search rules) in
-    c.raise-then-last.ensures (c.position_for-at.result + 1 + 1)
-    (c.raise.ensures (c.position_for-at.result + 1 + 1) but) k d e inside
+    c.raise-then-last.ensures.covered (c.position_for-at.result + 1 + 1)
+    (c.raise.ensures.covered (c.position_for-at.result + 1 + 1) but) k d e inside
     (λ low. low)
 
 pub returns-else-last-clause-spans : goal.returns-else-last-clause-spans
@@ -183,6 +183,6 @@ returns-else-last-clause-blocks c =
 
 pub returns-else-last-clause-covered : goal.returns-else-last-clause-covered
 returns-else-last-clause-covered c k d e inside =
-    c.raise-else-last.ensures (c.position_for-at.result + 1)
+    c.raise-else-last.ensures.covered (c.position_for-at.result + 1)
     (covered_set c.args.row.now.blocks c.position_for-at.result c.remove.new.self c.args.groups.now c.requires.covered) k d e inside
     (λ low. low)
