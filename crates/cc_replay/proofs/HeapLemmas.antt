@@ -10,16 +10,16 @@ use Rattle.std.proofs.lemmas.List.Sorted.{All-permutation, Contains-permutation,
 use Rattle.cc_bounds.specs.declared.align.Align.{Align}
 use Rattle.cc_bounds.specs.declared.span.Span.{Span}
 use Rattle.cc_bounds.specs.Span.{IsSpan, length_of}
-use Rattle.cc_placer.specs.Placement.{AddsSpan, HaveSameSpans, IsApartFrom, RemovesSpan}
+use Rattle.cc_placer.specs.Placement.{AddsSpan, IsApartFrom, RemovesSpan}
 use Rattle.cc_replay.specs.declared.object.Object.{Object}
 use Rattle.cc_replay.specs.declared.settings.Settings.{Settings}
 use Rattle.cc_replay.specs.declared.totals.Totals.{Totals}
 use Rattle.cc_replay.specs.declared.usage.Usage.{Usage}
 use Rattle.cc_replay.specs.Memory.{IsExact, IsExactEntry, IsSound, Memory, ShareNoByte, held_spans, span_of, usage_of}
 use Rattle.cc_replay.specs.Heap.{Heap}
-use Rattle.cc_replay.specs.HeapState.{HoldsSpans, IsHeap}
+use Rattle.cc_replay.specs.HeapState.{IsHeap}
 use Rattle.cc_replay.proofs.PlaceLemmas.{IsFound}
-use Rattle.cc_replay.proofs.MemoryLemmas.{found_first, held_made, held_retired, held_swept, once_along, once_fewer, once_more, same_fewer, same_more, set_first}
+use Rattle.cc_replay.proofs.MemoryLemmas.{found_first, held_made, held_retired, held_swept, once_along, once_fewer, once_more, set_first}
 
 -- a memory and a heap of these parts
 abbrev pub memory_of : List (ℕ × Object) → List Span → Memory
@@ -128,9 +128,9 @@ pub record IsSmall (usage : Usage) : Type 0 where
   pub asked : usage.asked ≤ 2 ^ 88
   pub held : usage.live + usage.quarantine ≤ 2 ^ 88
 
-pub small : (heap : Heap) (usage : Usage) (capacity placer_limit : ℕ) (placer_pool : Option Span) (placer_held : List Span)
-    → IsHeap heap usage capacity placer_limit placer_pool placer_held → IsSmall usage
-small heap usage capacity placer_limit placer_pool placer_held kept =
+pub small : (heap : Heap) (usage : Usage) (capacity placer_limit : ℕ) (placer_pool : Option Span) (placer_holds : List Span → Type 0)
+    → IsHeap heap usage capacity placer_limit placer_pool placer_holds → IsSmall usage
+small heap usage capacity placer_limit placer_pool placer_holds kept =
     let one = sum_by-le length_of_entry (2 ^ 64) heap.memory.live (λ k d within.
     let top = (kept.sound.exact k d within).bounds.is_span.top_fits in omega (arith, top)) in
     let other = sum_by-le length_of (2 ^ 64) heap.memory.quarantined (λ k d within.
@@ -163,11 +163,12 @@ held_length memory = omega (arith, joined (map span_of memory.live) memory.quara
     mapped [] = refl
     mapped (e ∷ es) = let rest = mapped es in omega (arith, rest)
 
-pub held_count : (heap : Heap) (usage : Usage) (capacity placer_limit : ℕ) (placer_pool : Option Span)
-    (placer_held : List Span) → IsHeap heap usage capacity placer_limit placer_pool placer_held
-    → length placer_held ≡ length heap.memory.live + length heap.memory.quarantined
-held_count heap usage capacity placer_limit placer_pool placer_held kept =
-    omega (arith, length_permutation placer_held (held_spans heap.memory) kept.held_is, held_length heap.memory)
+pub below_limit : (heap : Heap) (usage : Usage) (capacity placer_limit : ℕ) (placer_pool : Option Span)
+    (holds : List Span → Type 0) → IsHeap heap usage capacity placer_limit placer_pool holds
+    → length heap.memory.live + length heap.memory.quarantined < heap.settings.limit
+    → length (held_spans heap.memory) < placer_limit
+below_limit heap usage capacity placer_limit placer_pool holds kept below =
+    omega (arith, kept.limit_is, held_length heap.memory)
 
 -- ---- what a memory is except for its ids
 
@@ -224,17 +225,17 @@ fit_released align live waiting fewer span kept is =
 
 pub kept_made : (settings : Settings) (totals new_totals : Totals) (live more : List (ℕ × Object))
     (waiting new_waiting : List Span) (usage new_usage : Usage) (capacity new_capacity placer_limit new_limit : ℕ)
-    (placer_pool new_pool : Option Span) (held new_held : List Span) (id : ℕ) (object : Object)
-    → IsHeap (heap_of settings live waiting totals) usage capacity placer_limit placer_pool held
+    (placer_pool new_pool : Option Span) (holds new_holds : List Span → Type 0) (id : ℕ) (object : Object)
+    → IsHeap (heap_of settings live waiting totals) usage capacity placer_limit placer_pool holds
     → IsFound settings.align settings.pool (map span_of live ++ waiting) object.align object.size object.span
-    → AddsSpan held object.span new_held → length live + length waiting < settings.limit
+    → ((others : List Span) → AddsSpan (map span_of live ++ waiting) object.span others → new_holds others) → length live + length waiting < settings.limit
     → IsPermutation ((id, object) ∷ live) more → IsDistinct nat_eq (keys_of more)
     → new_usage ≡ usage_with usage object → length waiting + (length live + 1) ≤ new_capacity
     → new_limit ≡ placer_limit → new_pool ≡ placer_pool → new_waiting ≡ waiting
     → new_totals.high ≡ max totals.high (object.span.top - settings.pool.base)
-    → IsHeap (heap_of settings more new_waiting new_totals) new_usage new_capacity new_limit new_pool new_held
+    → IsHeap (heap_of settings more new_waiting new_totals) new_usage new_capacity new_limit new_pool new_holds
 kept_made settings totals new_totals live more waiting new_waiting usage new_usage capacity new_capacity placer_limit
-    new_limit placer_pool new_pool held new_held id object kept found adds below more_is distinct usage_is room limit_is
+    new_limit placer_pool new_pool holds new_holds id object kept found adds below more_is distinct usage_is room limit_is
     pool_is waiting_is high_is =
     let before = fit settings.align (memory_of live waiting) kept.sound in
     let after = fit_made settings.align live more waiting id object before found.exact found.apart more_is in
@@ -249,20 +250,21 @@ kept_made settings totals new_totals live more waiting new_waiting usage new_usa
       high_fits = omega (arith, high_is, kept.high_fits, found.end_fits);
       limit_is = limit_is ∙ kept.limit_is;
       pool_is = pool_is ∙ kept.pool_is;
-      held_is = same_more held new_held (map span_of live ++ waiting) (map span_of more ++ waiting) object.span
-          kept.held_is adds (held_made (id, object) live more waiting more_is);
+      held_is = λ others same.
+          adds others (IsPermutation-trans (object.span ∷ (map span_of live ++ waiting)) (map span_of more ++ waiting)
+          others (held_made (id, object) live more waiting more_is) same);
     })
 
 pub kept_retired : (settings : Settings) (totals new_totals : Totals) (live fewer : List (ℕ × Object))
     (waiting new_waiting : List Span) (usage new_usage : Usage) (capacity new_capacity placer_limit : ℕ)
-    (placer_pool : Option Span) (held : List Span) (id : ℕ) (object : Object)
-    → IsHeap (heap_of settings live waiting totals) usage capacity placer_limit placer_pool held
+    (placer_pool : Option Span) (holds : List Span → Type 0) (id : ℕ) (object : Object)
+    → IsHeap (heap_of settings live waiting totals) usage capacity placer_limit placer_pool holds
     → IsPermutation live ((id, object) ∷ fewer) → IsDistinct nat_eq (keys_of fewer)
     → new_usage ≡ usage_without usage object → new_capacity ≡ capacity → new_waiting ≡ waiting ++ object.span ∷ []
     → new_totals.high ≡ totals.high
-    → IsHeap (heap_of settings fewer new_waiting new_totals) new_usage new_capacity placer_limit placer_pool held
+    → IsHeap (heap_of settings fewer new_waiting new_totals) new_usage new_capacity placer_limit placer_pool holds
 kept_retired settings totals new_totals live fewer waiting new_waiting usage new_usage capacity new_capacity placer_limit
-    placer_pool held id object kept takes distinct usage_is capacity_is waiting_is high_is =
+    placer_pool holds id object kept takes distinct usage_is capacity_is waiting_is high_is =
     let before = fit settings.align (memory_of live waiting) kept.sound in
     let after = fit_retired settings.align live fewer waiting id object before takes in
     let shorter = length_permutation live ((id, object) ∷ fewer) takes in
@@ -277,27 +279,28 @@ kept_retired settings totals new_totals live fewer waiting new_waiting usage new
       high_fits = omega (arith, high_is, kept.high_fits);
       limit_is = kept.limit_is;
       pool_is = kept.pool_is;
-      held_is = IsPermutation-trans held (map span_of live ++ waiting)
-          (map span_of fewer ++ (waiting ++ object.span ∷ [])) kept.held_is
-          (held_retired (id, object) live fewer waiting takes);
+      held_is = λ others same.
+          kept.held_is others (IsPermutation-trans (map span_of live ++ waiting)
+          (map span_of fewer ++ (waiting ++ object.span ∷ [])) others
+          (held_retired (id, object) live fewer waiting takes) same);
     })
 
 -- when a live object is replaced
 pub kept_replaced : (settings : Settings) (totals new_totals : Totals) (live more : List (ℕ × Object))
     (waiting new_waiting : List Span) (usage between new_usage : Usage)
-    (capacity new_capacity placer_limit new_limit : ℕ) (placer_pool new_pool : Option Span) (held new_held : List Span)
+    (capacity new_capacity placer_limit new_limit : ℕ) (placer_pool new_pool : Option Span) (holds new_holds : List Span → Type 0)
     (id : ℕ) (object before : Object)
-    → IsHeap (heap_of settings live waiting totals) usage capacity placer_limit placer_pool held
+    → IsHeap (heap_of settings live waiting totals) usage capacity placer_limit placer_pool holds
     → IsFound settings.align settings.pool (map span_of live ++ waiting) object.align object.size object.span
-    → AddsSpan held object.span new_held → length live + length waiting < settings.limit
+    → ((others : List Span) → AddsSpan (map span_of live ++ waiting) object.span others → new_holds others) → length live + length waiting < settings.limit
     → IsPermutation ((id, object) ∷ live) ((id, before) ∷ more) → IsDistinct nat_eq (keys_of more)
     → between ≡ usage_with usage object → new_usage ≡ usage_without between before
     → length waiting + (length live + 1) ≤ new_capacity
     → new_limit ≡ placer_limit → new_pool ≡ placer_pool → new_waiting ≡ waiting ++ before.span ∷ []
     → new_totals.high ≡ max totals.high (object.span.top - settings.pool.base)
-    → IsHeap (heap_of settings more new_waiting new_totals) new_usage new_capacity new_limit new_pool new_held
+    → IsHeap (heap_of settings more new_waiting new_totals) new_usage new_capacity new_limit new_pool new_holds
 kept_replaced settings totals new_totals live more waiting new_waiting usage between new_usage capacity new_capacity
-    placer_limit new_limit placer_pool new_pool held new_held id object before kept found adds below takes distinct
+    placer_limit new_limit placer_pool new_pool holds new_holds id object before kept found adds below takes distinct
     between_is usage_is room limit_is pool_is waiting_is high_is =
     let entries : List (ℕ × Object) = (id, object) ∷ live in
     let fit_before = fit settings.align (memory_of live waiting) kept.sound in
@@ -318,12 +321,10 @@ kept_replaced settings totals new_totals live more waiting new_waiting usage bet
       high_fits = omega (arith, high_is, kept.high_fits, found.end_fits);
       limit_is = limit_is ∙ kept.limit_is;
       pool_is = pool_is ∙ kept.pool_is;
-      held_is = same_more held new_held (map span_of live ++ waiting)
-          (map span_of more ++ (waiting ++ before.span ∷ [])) object.span kept.held_is adds
-          (IsPermutation-trans (object.span ∷ (map span_of live ++ waiting)) (map span_of entries ++ waiting)
-          (map span_of more ++ (waiting ++ before.span ∷ []))
-          (IsPermutation-refl (object.span ∷ (map span_of live ++ waiting)))
-          (held_retired (id, before) entries more waiting takes));
+      held_is = λ others same.
+          adds others (IsPermutation-trans (object.span ∷ (map span_of live ++ waiting))
+          (map span_of more ++ (waiting ++ before.span ∷ [])) others
+          (held_retired (id, before) entries more waiting takes) same);
     })
 
 -- the object that is freed is one of the live ones
@@ -362,26 +363,25 @@ live_object align live fewer waiting usage id object kept takes usage_is =
 
 -- ---- the span that is released
 
-pub record IsLast (usage : Usage) (held : List Span) (span : Span) : Type 0 where
-  pub is_held : Contains held span
+pub record IsLast (usage : Usage) (spans : List Span) (span : Span) : Type 0 where
+  pub is_held : Contains spans span
   pub is_span : IsSpan span
   pub counted : length_of span ≤ usage.quarantine
 
 pub last_quarantined : (settings : Settings) (totals : Totals) (live : List (ℕ × Object)) (waiting fewer : List Span)
-    (usage : Usage) (capacity placer_limit : ℕ) (placer_pool : Option Span) (held : List Span) (span : Span)
-    → IsHeap (heap_of settings live waiting totals) usage capacity placer_limit placer_pool held
-    → waiting ≡ fewer ++ span ∷ [] → IsLast usage held span
-last_quarantined settings totals live waiting fewer usage capacity placer_limit placer_pool held span kept is =
-    let same : HaveSameSpans held (map span_of live ++ (fewer ++ span ∷ [])) =
-    subst (λ (w : List Span). HaveSameSpans held (map span_of live ++ w)) is kept.held_is in
+    (usage : Usage) (capacity placer_limit : ℕ) (placer_pool : Option Span) (holds : List Span → Type 0) (span : Span)
+    → IsHeap (heap_of settings live waiting totals) usage capacity placer_limit placer_pool holds
+    → waiting ≡ fewer ++ span ∷ [] → IsLast usage (map span_of live ++ waiting) span
+last_quarantined settings totals live waiting fewer usage capacity placer_limit placer_pool holds span kept is =
     let all : All IsSpan (fewer ++ span ∷ []) = subst (λ (w : List Span). All IsSpan w) is kept.sound.spans in
     let sums : sum_by length_of waiting ≡ sum_by length_of (fewer ++ span ∷ []) =
     ap (λ (w : List Span). sum_by length_of w) is in
+    let held : Contains (map span_of live ++ (fewer ++ span ∷ [])) span =
+    Contains-permutation (span ∷ (map span_of live ++ fewer)) (map span_of live ++ (fewer ++ span ∷ [])) span
+    (IsPermutation-sym (map span_of live ++ (fewer ++ span ∷ [])) (span ∷ (map span_of live ++ fewer))
+    (held_swept (map span_of live) fewer span)) (0, omega arith, refl) in
     record {
-      is_held = Contains-permutation (span ∷ (map span_of live ++ fewer)) held span
-          (IsPermutation-sym held (span ∷ (map span_of live ++ fewer))
-          (IsPermutation-trans held (map span_of live ++ (fewer ++ span ∷ [])) (span ∷ (map span_of live ++ fewer)) same
-          (held_swept (map span_of live) fewer span))) (0, omega arith, refl);
+      is_held = subst (λ (w : List Span). Contains (map span_of live ++ w) span) (sym is) held;
       is_span = subst IsSpan (get_or_push fewer span span (length fewer) refl)
           (all (length fewer) span (omega (arith, length_push fewer span)));
       counted = omega (arith, ap (λ (u : Usage). u.quarantine) kept.usage_is, sums, sum_by_push length_of fewer span);
@@ -389,19 +389,21 @@ last_quarantined settings totals live waiting fewer usage capacity placer_limit 
 
 pub kept_released : (settings : Settings) (totals : Totals) (live : List (ℕ × Object)) (waiting fewer : List Span)
     (usage new_usage : Usage) (capacity new_capacity placer_limit new_limit : ℕ) (placer_pool new_pool : Option Span)
-    (held new_held : List Span) (span : Span)
-    → IsHeap (heap_of settings live waiting totals) usage capacity placer_limit placer_pool held
-    → waiting ≡ fewer ++ span ∷ [] → RemovesSpan held span new_held → new_usage ≡ usage_less usage (length_of span)
+    (holds new_holds : List Span → Type 0) (span : Span)
+    → IsHeap (heap_of settings live waiting totals) usage capacity placer_limit placer_pool holds
+    → waiting ≡ fewer ++ span ∷ [] → ((others : List Span) → RemovesSpan (map span_of live ++ waiting) span others → new_holds others) → new_usage ≡ usage_less usage (length_of span)
     → new_capacity ≡ capacity → new_limit ≡ placer_limit → new_pool ≡ placer_pool
-    → IsHeap (heap_of settings live fewer totals) new_usage new_capacity new_limit new_pool new_held
+    → IsHeap (heap_of settings live fewer totals) new_usage new_capacity new_limit new_pool new_holds
 kept_released settings totals live waiting fewer usage new_usage capacity new_capacity placer_limit new_limit placer_pool
-    new_pool held new_held span kept is removes usage_is capacity_is limit_is pool_is =
+    new_pool holds new_holds span kept is removes usage_is capacity_is limit_is pool_is =
     let before = fit settings.align (memory_of live waiting) kept.sound in
     let after = fit_released settings.align live waiting fewer span before is in
     let longer = length_push fewer span in
     let count : length waiting ≡ length (fewer ++ span ∷ []) = ap (λ (w : List Span). length w) is in
-    let same : HaveSameSpans held (map span_of live ++ (fewer ++ span ∷ [])) =
-    subst (λ (w : List Span). HaveSameSpans held (map span_of live ++ w)) is kept.held_is in
+    let rest : IsPermutation (span ∷ (map span_of live ++ fewer)) (map span_of live ++ waiting) =
+    subst (λ (w : List Span). IsPermutation (span ∷ (map span_of live ++ fewer)) (map span_of live ++ w)) (sym is)
+    (IsPermutation-sym (map span_of live ++ (fewer ++ span ∷ [])) (span ∷ (map span_of live ++ fewer))
+    (held_swept (map span_of live) fewer span)) in
     record {
       sound = record { exact = after.exact; spans = after.spans; ids = kept.sound.ids; apart = after.apart };
       usage_is = usage_released live waiting fewer span usage new_usage kept.usage_is usage_is is;
@@ -412,8 +414,10 @@ kept_released settings totals live waiting fewer usage new_usage capacity new_ca
       high_fits = kept.high_fits;
       limit_is = limit_is ∙ kept.limit_is;
       pool_is = pool_is ∙ kept.pool_is;
-      held_is = same_fewer held new_held (map span_of live ++ (fewer ++ span ∷ [])) (map span_of live ++ fewer) span same
-          removes (held_swept (map span_of live) fewer span);
+      held_is = λ others same.
+          removes others (IsPermutation-trans (span ∷ others) (span ∷ (map span_of live ++ fewer))
+          (map span_of live ++ waiting) (IsPermutation-cons span others (map span_of live ++ fewer)
+          (IsPermutation-sym (map span_of live ++ fewer) others same)) rest);
     }
 
 -- ---- what the calls of the containers give

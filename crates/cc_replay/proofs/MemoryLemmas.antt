@@ -7,7 +7,7 @@ use Rattle.std.proofs.lemmas.Bool.Decides.{nat_tests}
 use Rattle.cc_bounds.specs.declared.span.Span.{Span}
 use Rattle.cc_bounds.specs.Span.{IsSpan, SharesByte, length_of}
 use Rattle.cc_placer.specs.Placement.{AddsSpan, HaveSameSpans, IsApartFrom, RemovesSpan}
-use Rattle.cc_plan.proofs.HeldSpanLemmas.{permutation_from_sums}
+use Rattle.cc_placer.proofs.SameSpansLemmas.{permutation_from_sums}
 use Rattle.cc_replay.specs.declared.object.Object.{Object}
 use Rattle.cc_replay.specs.Memory.{ShareNoByte, has_byte, span_of}
 
@@ -69,11 +69,6 @@ once_fewer spans span once byte =
     let before = once byte in
     omega (arith, sum_by-cons (weight_of byte) span spans, before)
 
-pub apart_along : (spans others : List Span) (span : Span) → HaveSameSpans spans others → IsApartFrom spans span
-    → IsApartFrom others span
-apart_along spans others span same apart other at =
-    apart other (Contains-permutation others spans other (IsPermutation-sym spans others same) at)
-
 -- ---- spans in two lists
 
 append_assoc : (xs ys zs : List Span) → (xs ++ ys) ++ zs ≡ xs ++ (ys ++ zs)
@@ -118,26 +113,6 @@ held_swept xs ys span =
       sum_by-append weight xs ys,
       sum_by-append weight xs (ys ++ span ∷ []),
       sum_by_push weight ys span,
-    ))
-
--- a placer that held the same spans as a list still does, once both have one more
-pub same_more : (held more spans others : List Span) (span : Span) → HaveSameSpans held spans → AddsSpan held span more
-    → IsPermutation (span ∷ spans) others → HaveSameSpans more others
-same_more held more spans others span same adds also =
-    IsPermutation-trans more (span ∷ held) others (IsPermutation-sym (span ∷ held) more adds)
-    (IsPermutation-trans (span ∷ held) (span ∷ spans) others (IsPermutation-cons span held spans same) also)
-
--- and once both have one fewer
-pub same_fewer : (held fewer spans others : List Span) (span : Span) → HaveSameSpans held spans → RemovesSpan held span fewer
-    → IsPermutation spans (span ∷ others) → HaveSameSpans fewer others
-same_fewer held fewer spans others span same removes also =
-    permutation_from_sums fewer others (λ weight. omega (
-      arith,
-      sum_by-IsPermutation weight (span ∷ fewer) held removes,
-      sum_by-cons weight span fewer,
-      sum_by-IsPermutation weight held spans same,
-      sum_by-IsPermutation weight spans (span ∷ others) also,
-      sum_by-cons weight span others,
     ))
 
 -- ---- entries under ids

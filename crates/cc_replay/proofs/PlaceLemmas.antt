@@ -12,14 +12,13 @@ use Rattle.cc_bounds.specs.Align.{align_bytes}
 use Rattle.cc_bounds.specs.Span.{IsSpan, IsWithin, from_zero, length_of, span_from}
 use Rattle.cc_bounds.specs.Granule.{IsSound as IsSoundSpan, exponent_of, granule_of}
 use Rattle.cc_bounds.proofs.ComputingLemmas.{granule_of-long, granule_of-short}
-use Rattle.cc_placer.specs.Placement.{HaveSameSpans, HasNoPlace, IsApartFrom, IsPlacement}
+use Rattle.cc_placer.specs.Placement.{HasNoPlace, IsApartFrom, IsPlacement}
 use Rattle.cc_placer.specs.PlacerState.{IsPoolSpan}
 use Rattle.cc_plan.specs.PlannerState.{padded_size_for, unit_of}
 use Rattle.cc_plan.proofs.AlignLemmas.{ends_at_unit, padded_for-sound, padded_for_law}
-use Rattle.cc_plan.proofs.PlannerLemmas.{no_place_along, placement_along}
 use Rattle.cc_plan.proofs.UnitLemmas.{IsUnit-unit_of}
 use Rattle.cc_replay.specs.Memory.{IsExact, start_unit}
-use Rattle.cc_replay.specs.HeapState.{HoldsSpans, IsRoomFor}
+use Rattle.cc_replay.specs.HeapState.{IsRoomFor}
 
 -- ---- powers of two
 
@@ -130,25 +129,20 @@ found_at align pool spans requested size span is_pool power some fits placement 
       end_fits = omega (arith, within.to_top, is_pool.fits, top);
     }
 
-pub found : (placer_pool : Option Span) (align : Align) (pool : Span) (held spans : List Span) (requested size : ℕ)
+pub found : (placer_pool : Option Span) (align : Align) (pool : Span) (spans : List Span) (requested size : ℕ)
     (result : Option Span) (span : Span)
     → placer_pool ≡ Some pool → IsPoolSpan pool → result ≡ Some span
-    → IfSome placer_pool (λ p. IsRoomFor align requested p held size result) → HoldsSpans held spans
+    → IfSome placer_pool (λ p. IsRoomFor align requested p spans size result)
     → IsPowerOfTwo requested → 0 < size → size < 2 ^ 64
     → IsFound align pool spans requested size span
-found placer_pool align pool held spans requested size result span pool_is is_pool result_is room same power some fits =
-    let (placement, top) : IsRoomFor align requested pool held size (Some span) = rw (pool_is, result_is) at room in
-    found_at align pool spans requested size span is_pool power some fits
-    (placement_along pool held spans (padded_size_for align size) (start_unit align requested size) span.base same
-    placement) top
+found placer_pool align pool spans requested size result span pool_is is_pool result_is room power some fits =
+    let (placement, top) : IsRoomFor align requested pool spans size (Some span) = rw (pool_is, result_is) at room in
+    found_at align pool spans requested size span is_pool power some fits placement top
 
 -- and none
-pub no_room : (placer_pool : Option Span) (align : Align) (pool : Span) (held spans : List Span) (requested size : ℕ)
+pub no_room : (placer_pool : Option Span) (align : Align) (pool : Span) (spans : List Span) (requested size : ℕ)
     (result : Option Span)
     → placer_pool ≡ Some pool → result ≡ None
-    → IfSome placer_pool (λ p. IsRoomFor align requested p held size result) → HoldsSpans held spans
+    → IfSome placer_pool (λ p. IsRoomFor align requested p spans size result)
     → HasNoPlace pool spans (padded_size_for align size) (start_unit align requested size)
-no_room placer_pool align pool held spans requested size result pool_is result_is room same =
-    let none : HasNoPlace pool held (padded_size_for align size) (start_unit align requested size) =
-    rw (pool_is, result_is) at room in
-    no_place_along pool held spans (padded_size_for align size) (start_unit align requested size) same none
+no_room placer_pool align pool spans requested size result pool_is result_is room = rw (pool_is, result_is) at room

@@ -24,14 +24,15 @@ IsRoomFor align requested pool spans size (Some span) =
 IsRoomFor align requested pool spans size None =
     HasNoPlace pool spans (padded_size_for align size) (start_unit align requested size)
 
--- HoldsSpans holds if a placer that holds these spans holds the spans of the list, in whatever order.
-abbrev pub HoldsSpans : (placer_held : List Span) → List Span → Type 0
-HoldsSpans placer_held spans = HaveSameSpans placer_held spans
+-- HoldsSpans holds if the placer may be holding these spans, in whatever order.
+abbrev pub HoldsSpans : (holds : List Span → Type 0) → List Span → Type 0
+HoldsSpans holds spans = (others : List Span) → HaveSameSpans spans others → holds others
 
 -- IsHeap holds if these are the fields of a heap: its usage, the number of spans for which its
--- quarantine has memory, and a placer of this limit, pool and held spans.
+-- quarantine has memory, and a placer of this limit and pool, which
+-- may be holding these lists of spans.
 pub record IsHeap (heap : Heap) (usage : Usage) (capacity placer_limit : ℕ) (placer_pool : Option Span)
-    (placer_held : List Span) : Type 0 where
+    (holds : List Span → Type 0) : Type 0 where
   pub sound : IsSound heap.settings.align heap.memory
   pub usage_is : usage ≡ usage_of heap.memory
   pub reserved : length heap.memory.live + length heap.memory.quarantined ≤ capacity
@@ -41,7 +42,7 @@ pub record IsHeap (heap : Heap) (usage : Usage) (capacity placer_limit : ℕ) (p
   pub high_fits : heap.totals.high ≤ 2 ^ 64
   pub limit_is : placer_limit ≡ heap.settings.limit
   pub pool_is : placer_pool ≡ Some heap.settings.pool
-  pub held_is : HoldsSpans placer_held (held_spans heap.memory)
+  pub held_is : HoldsSpans holds (held_spans heap.memory)
 
 -- IsQuarantined holds if the object under the id joined the quarantine, and no state is counted yet.
 pub record IsQuarantined (old : Heap) (id : ℕ) (object : Object) (new : Heap) : Type 0 where

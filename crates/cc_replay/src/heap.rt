@@ -55,18 +55,18 @@ impl<P: Placer> Model for Heap<P> {
       memory = record { live = h.objects.entries; quarantined = h.quarantine.items };
       totals = h.totals;
     })
-        h.usage (vec_capacity h.quarantine) (P.limit h.placer) (P.pool h.placer) (P.held h.placer) };
+        h.usage (vec_capacity h.quarantine) (P.limit h.placer) (P.pool h.placer) (P.holds h.placer) };
 }
 
 impl<P: Placer> Heap<P> {
     /// Creates a heap that holds nothing.
     ///
-    /// Requires: `1 <= settings.limit <= 65536`; the pool's base is at most its top, and that at
+    /// Requires: `1 <= settings.limit <= 2^24`; the pool's base is at most its top, and that at
     /// most 2^64.
     /// Errors: `AllocError` if an allocation fails.
     pub fn new(alloc: Global, settings: Settings) -> Result<Self, AllocError>
         requires some { 1 ≤ settings.limit }
-        requires few { settings.limit ≤ 65536 }
+        requires few { settings.limit ≤ 2 ^ 24 }
         requires in_order { settings.pool.base ≤ settings.pool.top }
         requires fits { settings.pool.top ≤ 2 ^ 64 }
         ensures { IfOk result (λ heap. heap ≡ empty_heap settings) }

@@ -1,5 +1,6 @@
 //! The place of an object.
-ghost use Rattle.std.specs.Prelude.{◌≡◌, ◌<◌, IfSome, IsSome};
+ghost use Rattle.std.specs.Prelude.{◌<◌, List, IfSome, IsSome};
+ghost use Rattle.cc_bounds.specs.declared.span.Span.{Span as SpanSpec};
 ghost use Rattle.cc_replay.specs.HeapState.{IsRoomFor};
 
 use cc_bounds::{Align, Span, granule};
@@ -13,7 +14,8 @@ use cc_placer::{Placer, round_up};
 pub(crate) fn place<P: Placer>(placer: &P, align: Align, requested: u64, size: u64) -> Option<Span>
     requires pool { IsSome (P.pool placer.now) }
     requires some { 0 < size }
-    ensures { IfSome (P.pool placer.now) (λ pool. IsRoomFor align requested pool (P.held placer.now) size result) }
+    ensures { (spans : List SpanSpec) → P.holds placer.now spans
+        → IfSome (P.pool placer.now) (λ pool. IsRoomFor align requested pool spans size result) }
 {
     let size = u128::from(size);
     let unit = granule(size).max(align.bytes());

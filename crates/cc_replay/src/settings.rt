@@ -5,7 +5,7 @@ use cc_bounds::{Align, Span};
 /// The settings of a heap, which no event changes.
 #[derive(Clone, Copy, PartialEq, Eq, Debug)]
 pub struct Settings {
-    /// The maximum number of held spans, from 1 to 65,536.
+    /// The maximum number of held spans, from 1 to 2^24.
     pub limit: u32,
     /// The bytes in which objects are placed.
     pub pool: Span,

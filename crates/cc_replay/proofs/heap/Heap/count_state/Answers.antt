@@ -4,5 +4,5 @@ use Rattle.cc_replay.proofs.heap.Heap.count_state.Goals as goal
 
 pub with_usage-self-inside-requires : goal.with_usage-self-inside-requires
 with_usage-self-inside-requires g c =
-    let few = small _ c.self.inside.usage _ _ _ (g.P.Placer.held c.self.inside.placer) c.self.invariant in
+    let few = small _ c.self.inside.usage _ _ _ (g.P.Placer.holds c.self.inside.placer) c.self.invariant in
     omega (arith, few.held)

@@ -32,7 +32,7 @@ with_quarantined-self-inside-requires-clause-live_is g c =
 
 pub with_quarantined-self-inside-requires-clause-fits : goal.with_quarantined-self-inside-requires-clause-fits
 with_quarantined-self-inside-requires-clause-fits g c =
-    let few = small _ c.self.inside.usage _ _ _ (g.P.Placer.held c.self.inside.placer) c.self.invariant in
+    let few = small _ c.self.inside.usage _ _ _ (g.P.Placer.holds c.self.inside.placer) c.self.invariant in
     omega (arith, few.held)
 
 pub invariant_of-self-2 : goal.invariant_of-self-2
@@ -41,7 +41,7 @@ invariant_of-self-2 g c =
     c.remove.ensures.value c.in-Some.is c.remove.ensures.entries in
     kept_retired c.self.inside.settings c.self.inside.totals c.self.inside.totals c.self.inside.objects.entries
     c.remove.new.self.entries c.self.inside.quarantine.items c.push_reserved.new.self.items c.self.inside.usage _ _ _ _ _
-    (g.P.Placer.held c.self.inside.placer) c.args.id c.in-Some.object c.self.invariant takes c.remove.ensures.unique
+    (g.P.Placer.holds c.self.inside.placer) c.args.id c.in-Some.object c.self.invariant takes c.remove.ensures.unique
     c.with_quarantined-self-inside.ensures c.push_reserved.ensures.capacity c.push_reserved.ensures.items refl
 
 pub returns-clause-quarantined : goal.returns-clause-quarantined
