@@ -4,4 +4,5 @@ pub mod Memory
 pub mod Totals
 pub mod Heap
 pub mod Events
+pub mod Run
 pub mod HeapState

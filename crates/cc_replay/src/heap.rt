@@ -1,11 +1,12 @@
 //! The heap.
-ghost use Rattle.std.specs.Prelude.{◌≡◌, ℕ, false, None, nat_eq, ◌+◌, ◌<◌, ◌≤◌, ◌^◌, ◌↔◌, length, Some, IfOk, OnErr, OnOk, IsNone, IsSome, IsTrue};
+ghost use Rattle.std.specs.Prelude.{◌≡◌, ℕ, false, None, nat_eq, ◌+◌, ◌<◌, ◌≤◌, ◌^◌, ◌↔◌, length, All, IfOk, OnErr, OnOk, IsNone, IsSome, IsTrue};
 ghost use Rattle.std.specs.Bool.{OnFalse, OnTrue};
 ghost use Rattle.std.specs.Int.{IsPowerOfTwo};
 ghost use Rattle.cc_replay.specs.Memory.{IsSound, usage_of};
 ghost use Rattle.cc_replay.specs.Totals.{with_usage};
 ghost use Rattle.cc_replay.specs.Heap.{Attempts, MustSweep, empty_heap, object_under, swept, swept_memory};
 ghost use Rattle.cc_replay.specs.Events.{Allocates, AttemptsToReplace, FollowsPolicy, FollowsReplacing, FreesIfLive, FreesOrNot, HasAlignment, IsEvent, Moves, Reallocates, ReplacesLive, Tries, TriesToReplace, outcome_of, swept_if_asked};
+ghost use Rattle.cc_replay.specs.Run.{Runs};
 ghost use Rattle.cc_replay.specs.HeapState.{PutsOver, QuarantinesLive, ReleasesLast, Settles};
 
 use crate::event::Event;
@@ -40,6 +41,7 @@ pub struct Heap<P: Placer> {
 impl<P: Placer> Model for Heap<P> {
     ghost use Rattle.std.specs.Prelude.{vec_capacity};
     ghost use Rattle.cc_replay.specs.Heap.{Heap};
+    ghost use Rattle.cc_replay.specs.Run.{Runs};
     ghost use Rattle.cc_replay.specs.HeapState.{IsHeap};
 
     ghost Value = { Heap };
@@ -148,6 +150,22 @@ impl<P: Placer> Heap<P> {
                 making: None,
             }),
         }
+    }
+
+    /// Takes events in order, up to the first for which an allocation fails.
+    ///
+    /// Requires: each alignment that an event asks for is a power of two.
+    /// Errors: `AllocError` if an allocation fails. The events before that one have been taken.
+    pub fn run(&mut self, events: &[Event]) -> Result<(), AllocError>
+        requires aligned { All HasAlignment events.now }
+        ensures runs { OnOk result (Runs self.old events.now self.new) }
+        ensures sound { IsSound self.new.settings.align self.new.memory }
+    {
+        let _ = &self.settings;
+        for i in 0..events.len() {
+            self.event(events[i])?;
+        }
+        Ok(())
     }
 
     /// Frees the object under an id, if that is live.

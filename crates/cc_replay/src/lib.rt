@@ -4,6 +4,7 @@
 
 mod event;
 mod heap;
+mod laws;
 mod making;
 mod object;
 mod outcome;
@@ -15,6 +16,7 @@ mod usage;
 
 pub use event::Event;
 pub use heap::Heap;
+pub use laws::totals_are_of_all_states;
 pub use making::Making;
 pub use object::Object;
 pub use outcome::Outcome;
