@@ -10,6 +10,7 @@ use Rattle.std.proofs.lemmas.List.Sorted.{All-permutation, Contains-permutation,
 use Rattle.cc_bounds.specs.declared.align.Align.{Align}
 use Rattle.cc_bounds.specs.declared.span.Span.{Span}
 use Rattle.cc_bounds.specs.Span.{IsSpan, length_of}
+use Rattle.cc_placer.specs.PlacerState.{IsPoolSpan}
 use Rattle.cc_placer.specs.Placement.{AddsSpan, IsApartFrom, RemovesSpan}
 use Rattle.cc_replay.specs.declared.object.Object.{Object}
 use Rattle.cc_replay.specs.declared.settings.Settings.{Settings}
@@ -17,7 +18,7 @@ use Rattle.cc_replay.specs.declared.totals.Totals.{Totals}
 use Rattle.cc_replay.specs.declared.usage.Usage.{Usage}
 use Rattle.cc_replay.specs.Memory.{IsExact, IsExactEntry, IsSound, Memory, ShareNoByte, held_spans, span_of, usage_of}
 use Rattle.cc_replay.specs.Heap.{Heap}
-use Rattle.cc_replay.specs.HeapState.{IsHeap}
+use Rattle.cc_replay.specs.HeapState.{HoldsSpans, IsHeap}
 use Rattle.cc_replay.proofs.PlaceLemmas.{IsFound}
 use Rattle.cc_replay.proofs.MemoryLemmas.{found_first, held_made, held_retired, held_swept, once_along, once_fewer, once_more, set_first}
 
@@ -462,3 +463,35 @@ popped spans rest last span was is = was ∙ ap (λ (l : Option Span). rest ++ o
 pub empty : (spans : List Span) → length spans ≡ 0 → spans ≡ []
 empty [] is = refl
 empty (span ∷ spans) is = absurd (omega (arith, is))
+
+-- a placer that may be holding nothing
+pub holds_nothing : (holds : List Span → Type 0) → holds [] → HoldsSpans holds []
+holds_nothing holds nothing others same =
+    subst holds (sym (empty others (omega (arith, length_permutation [] others same)))) nothing
+
+-- a heap that holds nothing
+pub kept_new : (settings : Settings) (totals : Totals) (live : List (ℕ × Object)) (waiting : List Span)
+    (capacity placer_limit : ℕ) (placer_pool : Option Span) (holds : List Span → Type 0)
+    → live ≡ [] → waiting ≡ [] → IsDistinct nat_eq (keys_of live) → settings.limit ≤ 2 ^ 24 → IsPoolSpan settings.pool
+    → totals.high ≡ 0 → placer_limit ≡ settings.limit → placer_pool ≡ Some settings.pool → holds []
+    → IsHeap (heap_of settings live waiting totals) (record { objects = 0; asked = 0; live = 0; quarantine = 0 })
+    capacity placer_limit placer_pool holds
+kept_new settings totals live waiting capacity placer_limit placer_pool holds live_is waiting_is distinct few is_pool
+    high_is limit_is pool_is nothing =
+    rw waiting_is (record {
+      sound = record {
+        exact = λ k d within. absurd (omega (arith, within, ap (λ (l : List (ℕ × Object)). length l) live_is));
+        spans = λ k d within. absurd (omega (arith, within));
+        ids = distinct;
+        apart = λ byte. rw live_is (omega arith);
+      };
+      usage_is = λ i. usage_of (memory_of (sym live_is i) []);
+      reserved = omega (arith, ap (λ (l : List (ℕ × Object)). length l) live_is);
+      at_most = omega (arith, ap (λ (l : List (ℕ × Object)). length l) live_is);
+      few = few;
+      is_pool = is_pool;
+      high_fits = omega (arith, high_is);
+      limit_is = limit_is;
+      pool_is = pool_is;
+      held_is = rw live_is (holds_nothing holds nothing);
+    })
