@@ -5,4 +5,5 @@ pub mod Totals
 pub mod Heap
 pub mod Events
 pub mod Run
+pub mod Lost
 pub mod HeapState
