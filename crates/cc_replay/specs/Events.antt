@@ -1,4 +1,4 @@
--- What an event does to a heap.
+-- The effect of an event on a heap.
 use Rattle.std.specs.Prelude.{ℕ, Bool, true, false, ◌≡◌, ◌≢◌, ◌⊎◌, ◌≤◌, max, Option, Some, None, IsSome, IsNone, length, if◌then◌else◌}
 use Rattle.std.specs.Int.{IsPowerOfTwo}
 use Rattle.cc_placer.specs.Placement.{HasNoPlace}
@@ -83,7 +83,7 @@ pub record Replaces (old : Heap) (id requested size : ℕ) (new : Heap) : Type 0
   pub makes : MakesObject old id requested size made
   pub frees : FreesObject made id before new
 
--- AttemptsToReplace holds if the object under the id is replaced, or there is no room, and nothing
+-- AttemptsToReplace holds if the object under the id is replaced, or the new one has no place, and nothing
 -- changes.
 abbrev pub AttemptsToReplace : Heap → (id requested size : ℕ) → Making → Heap → Type 0
 AttemptsToReplace old id requested size Made new = Replaces old id requested size new

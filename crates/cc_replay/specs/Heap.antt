@@ -122,7 +122,7 @@ swept heap = record heap {
   totals = with_sweep heap.totals (usage_of heap.memory).quarantine (usage_of (swept_memory heap.memory));
 }
 
--- What the policy of a heap looks at.
+-- The numbers that the policy of a heap compares.
 abbrev pub gauge_of : Heap → Gauge
 gauge_of heap = record {
   live = (usage_of heap.memory).live;

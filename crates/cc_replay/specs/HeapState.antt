@@ -67,7 +67,8 @@ pub record IsReplaced (old : Heap) (id requested size : ℕ) (new : Heap) : Type
   pub makes : MakesObject old id requested size made
   pub quarantines : IsQuarantined made id before new
 
--- PutsOver holds if the object under the id is replaced, or there is no room, and nothing changes.
+-- PutsOver holds if the object under the id is replaced, or the new one has no place, and nothing
+-- changes.
 abbrev pub PutsOver : Heap → (id requested size : ℕ) → Making → Heap → Type 0
 PutsOver old id requested size Made new = IsReplaced old id requested size new
 PutsOver old id requested size making new = Attempts old id requested size making new

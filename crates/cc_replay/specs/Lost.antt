@@ -54,7 +54,8 @@ with_lost told was_lost = record told {
 }
 
 -- IsRunEvent holds if the event is taken by the heap, an id that it frees is lost no more, and the id of
--- an object that it could not make is. An id that it frees is told as lost, and not as unknown, if it was.
+-- an object that it could not make is. The outcome says of an id that it frees that
+-- it was lost, and not unknown.
 pub record IsRunEvent (old : RunState) (event : Event) (outcome : Outcome) (new : RunState) : Type 0 where
   pub told : Outcome
   pub is_event : IsEvent old.heap event told new.heap

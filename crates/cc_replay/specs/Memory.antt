@@ -1,4 +1,4 @@
--- What a heap holds: live objects under ids, and the spans of objects that were freed and not swept.
+-- The contents of a heap: live objects under ids, and the spans of objects that were freed and not swept.
 -- The order of the live objects has no meaning.
 use Rattle.std.specs.Prelude.{ℕ, Bool, ◌≡◌, ◌%◌, ◌^◌, ◌<◌, ◌≤◌, nat_eq, nat_le, nat_lt, max, ◌&&◌, List, ◌++◌, All, length, map, sum_by, count_by}
 use Rattle.std.specs.List.{IsDistinct}

@@ -15,7 +15,7 @@ abbrev pub is_of_the_trace : Policy → Bool
 is_of_the_trace Trace = true
 is_of_the_trace _ = false
 
--- What a policy looks at, in bytes: those of live objects, the quarantined ones, and those up to the
+-- The numbers that a policy compares. In bytes: those of live objects, the quarantined ones, and those up to the
 -- highest end of an object; and the number of quarantined objects.
 pub record Gauge : Type 0 where
   pub live : ℕ

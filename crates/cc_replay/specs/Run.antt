@@ -1,4 +1,4 @@
--- What a list of events does to a heap, the states that the heap passes, and its totals as numbers of
+-- The effect of a list of events on a heap, the states that the heap passes, and its totals as numbers of
 -- all these states.
 use Rattle.std.specs.Prelude.{ℕ, ◌≡◌, ◌⊎◌, ◌+◌, ◌-◌, max, List, [], ◌∷◌, Option, Some, None, sum_by}
 use Rattle.cc_bounds.specs.declared.span.Span.{Span}

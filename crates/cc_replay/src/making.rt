@@ -1,8 +1,8 @@
-//! What comes of an attempt to make an object.
+//! The result of an attempt to make an object.
 ghost use Rattle.std.specs.Prelude.{◌≡◌};
 ghost use Rattle.cc_replay.specs.Heap.{is_made};
 
-/// What comes of an attempt to make an object.
+/// The result of an attempt to make an object.
 #[derive(Clone, Copy, PartialEq, Eq, Debug)]
 pub enum Making {
     /// The object is made.

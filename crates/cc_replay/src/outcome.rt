@@ -1,7 +1,7 @@
-//! What comes of an event.
+//! The outcome of an event.
 use crate::making::Making;
 
-/// What comes of an event.
+/// The outcome of an event.
 #[derive(Clone, Copy, PartialEq, Eq, Debug)]
 pub struct Outcome {
     /// Whether the id of the object that the event makes was live. The object under it was freed
@@ -13,6 +13,6 @@ pub struct Outcome {
     /// Whether the event frees an id, or makes an object in place of one, whose own object was not
     /// made: there was no place for it.
     pub lost: bool,
-    /// What came of the object that the event makes, or `None` if it makes none.
+    /// Whether the object that the event makes is made, or `None` if it makes none.
     pub making: Option<Making>,
 }

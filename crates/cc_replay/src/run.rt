@@ -16,8 +16,8 @@ use std::alloc::{AllocError, Global};
 use std::collections::HashSet;
 use std::marker::Model;
 
-/// A heap over a trace. It also has the ids whose objects were not made since they had no room, so
-/// that a free of such an id is told from one of an id that names nothing.
+/// A heap over a trace. It also has the ids whose objects were not made since there was no place for
+/// them, so that a free of such an id is not one of an id that names nothing.
 #[derive(Drop)]
 pub struct Run<P: Placer> {
     heap: Heap<P>,
@@ -43,7 +43,7 @@ impl<P: Placer> Run<P> {
         }
     }
 
-    /// Takes one event, and tells also whether an id that it frees is lost.
+    /// Takes one event, and also returns whether an id that it frees is lost.
     ///
     /// Requires: an alignment that the event asks for is a power of two.
     /// Errors: `AllocError` if an allocation fails.
