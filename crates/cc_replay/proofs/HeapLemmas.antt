@@ -1,11 +1,11 @@
 -- What a heap keeps when an object is made, when one is freed and when a span is released.
-use Rattle.std.proofs.Common.{ℕ, max, Bool, true, false, ◌≡◌, ◌+◌, ◌-◌, ◌*◌, ◌<◌, ◌≤◌, ◌^◌, nat_eq, List, [], ◌∷◌, ◌++◌, Option, Some, None, All, Contains, map, sum_by, length, get_or, arith, refl, subst, ◌∙◌, sym, ap, IsPermutation}
+use Rattle.std.proofs.Common.{ℕ, max, ◌≡◌, ◌+◌, ◌-◌, ◌<◌, ◌≤◌, ◌^◌, nat_eq, List, [], ◌∷◌, ◌++◌, Option, Some, None, All, Contains, map, sum_by, length, arith, refl, subst, ◌∙◌, sym, ap, IsPermutation}
 use Rattle.std.specs.List.{IsDistinct}
 use Rattle.std.specs.Map.{keys_of, lookup, remove_entry, set_value}
 use Rattle.std.specs.Option.{MatchOption, IsNone, option_to_list}
 use Rattle.std.proofs.lemmas.List.{get_or_append_left, get_or_push, length_push}
 use Rattle.std.proofs.lemmas.List.Elements.{All-cons, All-push, All-tail}
-use Rattle.std.proofs.lemmas.List.Sums.{sum_by-append, sum_by-cons, sum_by-le, sum_by_push}
+use Rattle.std.proofs.lemmas.List.Sums.{sum_by-cons, sum_by-le, sum_by_push}
 use Rattle.std.proofs.lemmas.List.Sorted.{All-permutation, Contains-permutation, IsPermutation-cons, IsPermutation-refl, IsPermutation-sym, IsPermutation-trans, length_permutation, sum_by-IsPermutation}
 use Rattle.cc_bounds.specs.declared.align.Align.{Align}
 use Rattle.cc_bounds.specs.declared.span.Span.{Span}

@@ -1,5 +1,5 @@
 -- Every event is a number of changes, and the totals are those of the states after each.
-use Rattle.std.proofs.Common.{ℕ, zero, suc, max, min, Bool, true, false, ◌≡◌, ◌⊎◌, ◌+◌, ◌-◌, ◌<◌, ◌≤◌, ◌^◌, if◌then◌else◌, List, [], ◌∷◌, ◌++◌, Option, Some, None, sum_by, arith, refl, subst, ◌∙◌, sym, ap, inl, inr}
+use Rattle.std.proofs.Common.{ℕ, max, min, Bool, true, false, ◌≡◌, ◌⊎◌, ◌+◌, ◌-◌, ◌≤◌, ◌^◌, if◌then◌else◌, List, [], ◌∷◌, ◌++◌, Some, None, sum_by, arith, refl, subst, ◌∙◌, sym, ap, inl, inr}
 use Rattle.std.proofs.lemmas.List.Sums.{sum_by-cons}
 use Rattle.cc_bounds.specs.declared.span.Span.{Span}
 use Rattle.cc_bounds.specs.Span.{length_of}
@@ -16,7 +16,7 @@ use Rattle.cc_replay.specs.Totals.{inexact_of, with_made, with_sweep, with_usage
 use Rattle.cc_replay.specs.Memory.{object_at, usage_of}
 use Rattle.cc_replay.specs.Policy.{is_of_the_trace}
 use Rattle.cc_replay.specs.Heap.{Attempts, FreesObject, Heap, MakesObject, empty_heap, swept}
-use Rattle.cc_replay.specs.Events.{Allocates, AllocatesUnknown, AttemptsToReplace, FollowsPolicy, FollowsReplacing, Frees, FreesIfLive, FreesOrNot, IsEvent, Moves, Reallocates, Replaces, ReplacesLive, Tries, TriesToReplace, swept_if_asked}
+use Rattle.cc_replay.specs.Events.{Allocates, AttemptsToReplace, FollowsPolicy, FollowsReplacing, Frees, FreesIfLive, IsEvent, Reallocates, Replaces, ReplacesLive, Tries, TriesToReplace}
 use Rattle.cc_replay.specs.Run.{HasTotals, IsFreeing, IsMaking, IsSweeping, Moment, Passes, Runs, greatest, of_made, of_swept, totals_after, usage_in}
 
 -- ---- the changes that an event is

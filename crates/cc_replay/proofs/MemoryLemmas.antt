@@ -1,12 +1,12 @@
 -- Held spans, and entries under ids, in whatever order.
-use Rattle.std.proofs.Common.{ℕ, zero, suc, Bool, true, false, cond, ◌≡◌, ◌+◌, ◌-◌, ◌*◌, ◌<◌, ◌≤◌, ◌^◌, ◌&&◌, nat_eq, nat_le, nat_lt, List, [], ◌∷◌, ◌++◌, Option, Some, None, All, Contains, count_by, map, sum_by, length, get_or, arith, refl, subst, ◌∙◌, sym, ap, IsPermutation}
+use Rattle.std.proofs.Common.{ℕ, suc, Bool, true, false, cond, ◌≡◌, ◌≤◌, nat_eq, List, [], ◌∷◌, ◌++◌, Some, None, Contains, count_by, map, arith, refl, ap, IsPermutation}
 use Rattle.std.specs.Map.{lookup, remove_entry, set_value}
-use Rattle.std.proofs.lemmas.List.Sums.{sum_by-append, sum_by-cons, sum_by-le, sum_by_push}
-use Rattle.std.proofs.lemmas.List.Sorted.{Contains-permutation, IsPermutation-append_left, IsPermutation-cons, IsPermutation-map, IsPermutation-middle, IsPermutation-refl, IsPermutation-sym, IsPermutation-trans, length_permutation, sum_by-IsPermutation}
+use Rattle.std.proofs.lemmas.List.Sums.{sum_by-append, sum_by-cons, sum_by_push}
+use Rattle.std.proofs.lemmas.List.Sorted.{IsPermutation-append_left, IsPermutation-cons, IsPermutation-map, IsPermutation-middle, IsPermutation-refl, IsPermutation-sym, IsPermutation-trans, sum_by-IsPermutation}
 use Rattle.std.proofs.lemmas.Bool.Decides.{nat_tests}
 use Rattle.cc_bounds.specs.declared.span.Span.{Span}
-use Rattle.cc_bounds.specs.Span.{IsSpan, SharesByte, length_of}
-use Rattle.cc_placer.specs.Placement.{AddsSpan, HaveSameSpans, IsApartFrom, RemovesSpan}
+use Rattle.cc_bounds.specs.Span.{SharesByte}
+use Rattle.cc_placer.specs.Placement.{IsApartFrom}
 use Rattle.cc_placer.proofs.SameSpansLemmas.{permutation_from_sums}
 use Rattle.cc_replay.specs.declared.object.Object.{Object}
 use Rattle.cc_replay.specs.Memory.{ShareNoByte, has_byte, span_of}

@@ -4,12 +4,12 @@ use Rattle.std.specs.Int.{IsPowerOfTwo}
 use Rattle.std.proofs.Math.Nat.{div-add-mod, mul-mod_right}
 use Rattle.std.proofs.Math.Pow.{pow_mono}
 use Rattle.std.proofs.lemmas.Bool.{cases_lt}
-use Rattle.std.proofs.lemmas.Nat.{pow-add, pow_pos}
+use Rattle.std.proofs.lemmas.Nat.{pow-add}
 use Rattle.cc_bounds.specs.declared.align.Align.{Align}
 use Rattle.cc_bounds.specs.declared.align.Align.TheVariants.{One, Sixteen}
 use Rattle.cc_bounds.specs.declared.span.Span.{Span}
 use Rattle.cc_bounds.specs.Align.{align_bytes}
-use Rattle.cc_bounds.specs.Span.{IsSpan, IsWithin, from_zero, length_of, span_from}
+use Rattle.cc_bounds.specs.Span.{IsSpan, IsWithin, from_zero, span_from}
 use Rattle.cc_bounds.specs.Granule.{IsSound as IsSoundSpan, exponent_of, granule_of}
 use Rattle.cc_bounds.proofs.ComputingLemmas.{granule_of-long, granule_of-short}
 use Rattle.cc_placer.specs.Placement.{HasNoPlace, IsApartFrom, IsPlacement}

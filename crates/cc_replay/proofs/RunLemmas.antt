@@ -1,5 +1,5 @@
 -- Runs with one event more.
-use Rattle.std.proofs.Common.{ℕ, ◌≡◌, ◌+◌, ◌<◌, List, [], ◌∷◌, ◌++◌, length, take, get_or, refl, subst}
+use Rattle.std.proofs.Common.{ℕ, ◌+◌, ◌<◌, List, [], ◌∷◌, ◌++◌, length, take, get_or, refl, subst}
 use Rattle.std.proofs.lemmas.List.{take_more}
 use Rattle.cc_replay.specs.declared.event.Event.{Event}
 use Rattle.cc_replay.specs.declared.outcome.Outcome.{Outcome}

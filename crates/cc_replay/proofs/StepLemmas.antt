@@ -1,8 +1,7 @@
 -- What a heap is after an object was made, after one was freed, and after an event.
-use Rattle.std.proofs.Common.{ℕ, max, Bool, true, false, ◌≡◌, ◌≢◌, ◌+◌, ◌-◌, ◌<◌, ◌≤◌, if◌then◌else◌, nat_eq, List, [], ◌∷◌, ◌++◌, Option, Some, None, Result, Ok, Err, IfOk, IsSome, map, length, arith, refl, subst, ◌∙◌, sym, ap, inl, inr, IsPermutation}
-use Rattle.std.specs.Bool.{OnFalse, OnTrue}
+use Rattle.std.proofs.Common.{ℕ, Bool, true, false, ◌≡◌, ◌-◌, if◌then◌else◌, nat_eq, List, [], ◌∷◌, ◌++◌, Option, Some, Result, Ok, Err, IfOk, IsSome, map, length, arith, refl, subst, ◌∙◌, sym, ap, inl, inr, IsPermutation}
 use Rattle.std.specs.Map.{lookup}
-use Rattle.std.specs.Option.{IsNone, is_some}
+use Rattle.std.specs.Option.{is_some}
 use Rattle.std.proofs.lemmas.Bool.Decides.{nat_tests}
 use Rattle.std.proofs.lemmas.List.{length_push}
 use Rattle.std.proofs.lemmas.List.Sorted.{IsPermutation-refl}
@@ -10,7 +9,6 @@ use Rattle.cc_bounds.specs.declared.span.Span.{Span}
 use Rattle.cc_replay.specs.declared.making.Making.{Making}
 use Rattle.cc_replay.specs.declared.making.Making.TheVariants.{Made, NoRoom, Full}
 use Rattle.cc_replay.specs.declared.object.Object.{Object}
-use Rattle.cc_replay.specs.declared.outcome.Outcome.{Outcome}
 use Rattle.cc_replay.specs.declared.settings.Settings.{Settings}
 use Rattle.cc_replay.specs.declared.totals.Totals.{Totals}
 use Rattle.cc_replay.specs.declared.usage.Usage.{Usage}
@@ -18,7 +16,7 @@ use Rattle.cc_replay.specs.Totals.{with_made, with_usage}
 use Rattle.cc_replay.specs.Memory.{object_at, span_of, usage_of}
 use Rattle.cc_replay.specs.Policy.{is_immediate}
 use Rattle.cc_replay.specs.Heap.{Attempts, FreesObject, Heap, MakesObject, is_made, object_under, quarantined_with, swept}
-use Rattle.cc_replay.specs.Events.{Allocates, AttemptsToReplace, FollowsPolicy, Frees, FreesIfLive, HasNoRoom, Moves, Reallocates, Replaces, ReplacesLive, Tries, TriesToReplace}
+use Rattle.cc_replay.specs.Events.{AttemptsToReplace, FollowsPolicy, Frees, FreesIfLive, HasNoRoom, Replaces, Tries, TriesToReplace}
 use Rattle.cc_replay.specs.HeapState.{IsQuarantined, IsReplaced, PutsOver, QuarantinesLive, ReleasesLast, Settles}
 use Rattle.cc_replay.proofs.PlaceLemmas.{IsFound}
 use Rattle.cc_replay.proofs.HeapLemmas.{heap_of, memory_of}

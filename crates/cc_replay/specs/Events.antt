@@ -48,8 +48,8 @@ FreesIfLive old id false new = IsNone (object_under old id) × (new ≡ old)
 
 -- ---- An object is made.
 
--- HasNoRoom holds if an object of this size and requested alignment cannot be made: there is no place for it, or
--- as many spans are held as the limit allows.
+-- HasNoRoom holds if an object of this size and requested alignment cannot be made: there is no place
+-- for it, or as many spans are held as the limit allows.
 abbrev pub HasNoRoom : Heap → (requested size : ℕ) → Type 0
 HasNoRoom heap requested size =
     HasNoPlace heap.settings.pool (held_spans heap.memory) (padded_size_for heap.settings.align size)

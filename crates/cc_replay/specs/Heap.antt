@@ -1,16 +1,14 @@
 -- A heap, and the three changes of it: an object is made, an object is freed, and the quarantine is
 -- swept.
-use Rattle.std.specs.Prelude.{ℕ, Bool, true, false, ◌≡◌, ◌+◌, ◌-◌, ◌<◌, ◌≤◌, List, [], ◌∷◌, ◌++◌, length, nat_eq, if◌then◌else◌, Option, Some, None}
+use Rattle.std.specs.Prelude.{ℕ, Bool, true, false, ◌≡◌, ◌+◌, ◌-◌, ◌≤◌, List, [], ◌∷◌, ◌++◌, length, nat_eq, if◌then◌else◌, Option}
 use Rattle.std.specs.List.Sorted.{IsPermutation}
 use Rattle.std.specs.Map.{lookup}
 use Rattle.cc_bounds.specs.declared.span.Span.{Span}
-use Rattle.cc_bounds.specs.Span.{length_of}
 use Rattle.cc_placer.specs.Placement.{IsPlacement, HasNoPlace}
 use Rattle.cc_replay.specs.declared.object.Object.{Object}
 use Rattle.cc_replay.specs.declared.policy.Policy.{Policy}
 use Rattle.cc_replay.specs.declared.settings.Settings.{Settings}
 use Rattle.cc_replay.specs.declared.totals.Totals.{Totals}
-use Rattle.cc_replay.specs.declared.usage.Usage.{Usage}
 use Rattle.cc_replay.specs.declared.making.Making.{Making}
 use Rattle.cc_replay.specs.declared.making.Making.TheVariants.{Made, NoRoom, Full}
 use Rattle.cc_replay.specs.Policy.{AsksForSweep, Gauge, is_immediate}

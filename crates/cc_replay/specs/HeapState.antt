@@ -1,6 +1,6 @@
 -- The place of an object, and the invariant that ties a heap to its placer, and its sums to what it
 -- holds. No public clause cites this file.
-use Rattle.std.specs.Prelude.{ℕ, ◌≡◌, ◌+◌, ◌<◌, ◌≤◌, ◌^◌, List, [], ◌∷◌, ◌++◌, Option, Some, None, length}
+use Rattle.std.specs.Prelude.{ℕ, ◌≡◌, ◌+◌, ◌≤◌, ◌^◌, List, [], ◌∷◌, ◌++◌, Option, Some, None, length}
 use Rattle.std.specs.List.Sorted.{IsPermutation}
 use Rattle.cc_bounds.specs.declared.span.Span.{Span}
 use Rattle.cc_placer.specs.PlacerState.{IsPoolSpan}

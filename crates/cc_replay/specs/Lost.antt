@@ -2,9 +2,9 @@
 use Rattle.std.specs.Prelude.{ℕ, Bool, true, false, not, ◌≡◌, ◌&&◌, cond, nat_eq, List, Option, Some, None}
 use Rattle.std.specs.List.{list_any}
 use Rattle.cc_replay.specs.declared.event.Event.{Event}
-use Rattle.cc_replay.specs.declared.event.Event.TheVariants.{Allocate, Clear, Reallocate, Free, Sweep, Clock}
+use Rattle.cc_replay.specs.declared.event.Event.TheVariants.{Allocate, Clear, Reallocate, Free}
 use Rattle.cc_replay.specs.declared.making.Making.{Making}
-use Rattle.cc_replay.specs.declared.making.Making.TheVariants.{Made, NoRoom, Full}
+use Rattle.cc_replay.specs.declared.making.Making.TheVariants.{NoRoom, Full}
 use Rattle.cc_replay.specs.declared.outcome.Outcome.{Outcome}
 use Rattle.cc_replay.specs.Events.{IsEvent}
 use Rattle.cc_replay.specs.Heap.{Heap}

@@ -15,8 +15,8 @@ abbrev pub is_of_the_trace : Policy → Bool
 is_of_the_trace Trace = true
 is_of_the_trace _ = false
 
--- The numbers that a policy compares. In bytes: those of live objects, the quarantined ones, and those up to the
--- highest end of an object; and the number of quarantined objects.
+-- The numbers that a policy compares. In bytes: those of live objects, the quarantined ones, and those
+-- up to the highest end of an object. And the number of quarantined objects.
 pub record Gauge : Type 0 where
   pub live : ℕ
   pub quarantine : ℕ

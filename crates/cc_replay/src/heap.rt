@@ -129,8 +129,8 @@ impl<P: Placer> Heap<P> {
     /// Takes one event.
     ///
     /// Requires: an alignment that the event asks for is a power of two.
-    /// Errors: `AllocError` if an allocation fails. The event may then have freed objects, but it
-    /// has made none.
+    /// Errors: `AllocError` if an allocation fails. The heap stays sound then, and the event may have
+    /// freed objects.
     pub fn event(&mut self, event: Event) -> Result<Outcome, AllocError>
         requires aligned { HasAlignment event }
         ensures is_event { IfOk result (λ outcome. IsEvent self.old event outcome self.new) }

@@ -1,4 +1,4 @@
-use Rattle.std.proofs.Common.{arith, refl, rules, ◌∙◌}
+use Rattle.std.proofs.Common.{refl, rules, ◌∙◌}
 use Rattle.cc_replay.proofs.HeapLemmas.{kept_new}
 use Rattle.cc_replay.proofs.heap.Heap.new.Goals as goal
 

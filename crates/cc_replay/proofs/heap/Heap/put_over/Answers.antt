@@ -1,8 +1,7 @@
-use Rattle.std.proofs.Common.{ℕ, ◌≡◌, ◌∷◌, ◌∙◌, Option, arith, rules, refl, subst, sym, ap, IsNone, IsSomeAnd, IsPermutation}
+use Rattle.std.proofs.Common.{◌∷◌, ◌∙◌, Option, arith, refl, subst, sym, ap, IsSomeAnd}
 use Rattle.cc_bounds.specs.declared.span.Span.{Span}
 use Rattle.cc_bounds.specs.Span.{IsWithin}
-use Rattle.std.proofs.lemmas.List.Sorted.{IsPermutation-refl, IsPermutation-sym}
-use Rattle.cc_replay.specs.Heap.{Heap, object_under}
+use Rattle.std.proofs.lemmas.List.Sorted.{IsPermutation-refl}
 use Rattle.cc_replay.specs.Memory.{held_spans}
 use Rattle.cc_replay.proofs.MemoryLemmas.{found_first}
 use Rattle.cc_replay.proofs.PlaceLemmas.{IsFound, found, no_room}

@@ -1,7 +1,7 @@
 use Rattle.std.proofs.Common.{arith}
 use Rattle.std.proofs.lemmas.List.Sorted.{IsPermutation-refl}
 use Rattle.cc_replay.specs.Memory.{held_spans}
-use Rattle.cc_replay.proofs.HeapLemmas.{IsLast, kept_released, last_quarantined, memory_of, popped}
+use Rattle.cc_replay.proofs.HeapLemmas.{kept_released, last_quarantined, memory_of, popped}
 use Rattle.cc_replay.proofs.heap.Heap.release_last.Goals as goal
 
 pub give_back-requires : goal.give_back-requires

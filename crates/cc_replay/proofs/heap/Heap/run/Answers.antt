@@ -1,4 +1,3 @@
-use Rattle.std.proofs.Common.{arith, rules}
 use Rattle.cc_replay.proofs.RunLemmas.{runs_more}
 use Rattle.cc_replay.proofs.heap.Heap.run.Goals as goal
 

@@ -1,5 +1,5 @@
 use Rattle.std.proofs.Common.{rules}
-use Rattle.cc_replay.proofs.StepLemmas.{tries_again, tries_first}
+use Rattle.cc_replay.proofs.StepLemmas.{tries_again}
 use Rattle.cc_replay.proofs.heap.Heap.try_to_make.Goals as goal
 
 pub returns-clause-tries : goal.returns-clause-tries

@@ -1,5 +1,5 @@
 use Rattle.std.proofs.Common.{rules}
-use Rattle.cc_replay.proofs.StepLemmas.{replaces_again, replaces_first}
+use Rattle.cc_replay.proofs.StepLemmas.{replaces_again}
 use Rattle.cc_replay.proofs.heap.Heap.try_to_replace.Goals as goal
 
 pub returns-clause-tries : goal.returns-clause-tries
