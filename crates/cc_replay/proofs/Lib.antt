@@ -4,3 +4,4 @@ pub mod HeapLemmas
 pub mod StepLemmas
 pub mod HistoryLemmas
 pub mod RunLemmas
+pub mod TraceLemmas

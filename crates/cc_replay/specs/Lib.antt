@@ -7,3 +7,4 @@ pub mod Events
 pub mod Run
 pub mod Lost
 pub mod HeapState
+pub mod Trace

@@ -13,6 +13,7 @@ mod policy;
 mod run;
 mod settings;
 mod totals;
+mod trace;
 mod usage;
 
 pub use event::Event;
@@ -25,4 +26,5 @@ pub use policy::{Policy, Share};
 pub use run::Run;
 pub use settings::Settings;
 pub use totals::Totals;
+pub use trace::read_event;
 pub use usage::Usage;
