@@ -5,3 +5,7 @@ pub mod StepLemmas
 pub mod HistoryLemmas
 pub mod RunLemmas
 pub mod TraceLemmas
+pub mod RowLemmas
+pub mod PowerLemmas
+pub mod ReplayLemmas
+pub mod TakenLemmas

@@ -1,5 +1,7 @@
 -- The values of a line, of which the last has no space.
-use Rattle.std.proofs.Common.{◌≡◌, ℕ, ◌<◌, ◌==◌, List, [], ◌∷◌, length, Result, Ok, Err, refl, sym, ◌∙◌, ap, arith}
+use Rattle.std.proofs.Common.{suc, ◌≤◌, take, length-take, None, if◌then◌else◌, inl, inr, ◌≡◌, ℕ, ◌<◌, ◌==◌, List, [], ◌∷◌, length, Result, Ok, Err, refl, sym, ◌∙◌, ap, arith}
+use Rattle.std.proofs.lemmas.Bool.{cases_lt, lt-ltb}
+use Rattle.std.proofs.lemmas.List.{take_all}
 use Rattle.std.proofs.lemmas.List.Splits.{length-slice_split}
 use Rattle.cc_word.specs.declared.refusal.Refusal.{Refusal}
 use Rattle.cc_word.specs.declared.refusal.Refusal.TheVariants as refusal
@@ -7,7 +9,7 @@ use Rattle.cc_syntax.specs.Commands.{address_in, both, single, words_of}
 use Rattle.cc_syntax.proofs.SpaceLemmas.{address_in_single}
 use Rattle.cc_replay.specs.declared.event.Event.{Event}
 use Rattle.cc_replay.specs.declared.event.Event.TheVariants as event
-use Rattle.cc_replay.specs.Trace.{alignment_in, allocation_in, as_alignment, clearing_in, pair_in, reallocation_in, single_in, sweep_in, with_values}
+use Rattle.cc_replay.specs.Trace.{alignment_in, allocation_in, as_alignment, clearing_in, entry_of, pair_in, reallocation_in, single_in, sweep_in, with_values}
 
 -- If one of two values is no number, the error is `Syntax`.
 both_syntax : {A B : Type 0} (first : Result A Refusal) → both {A = A} {B = B} first (Err refusal.Syntax) ≡ Err refusal.Syntax
@@ -81,3 +83,20 @@ no_sweep_by (word ∷ words) some = refl
 
 pub no_sweep : (text : List ℕ) → sweep_in (words_of text) ≡ Err refusal.Syntax
 no_sweep text = no_sweep_by (words_of text) (some_words text)
+
+-- ---- the first bytes of a line
+
+-- a line of more than 128 bytes that is not a comment is refused
+long_line : (first : ℕ) (rest : List ℕ) → 128 ≤ length rest
+    → entry_of (first ∷ rest) ≡ (if first == 35 then Ok None else Err refusal.Syntax)
+unfolding entry_of
+long_line first rest long = rw (lt-ltb 128 (suc (length rest)) (omega (arith, long))) refl
+
+pub first_bytes : (line : List ℕ) → entry_of (take 129 line) ≡ entry_of line
+first_bytes [] = refl
+first_bytes (first ∷ rest) = elim (cases_lt (length rest) 128) [
+  | inl short ↦ ap (λ (bytes : List ℕ). entry_of (first ∷ bytes)) (take_all 128 rest (omega (arith, short)))
+  | inr long ↦
+      let cut : length (take 128 rest) ≡ 128 = omega (arith, length-take 128 rest, long) in
+      long_line first (take 128 rest) (omega (arith, cut)) ∙ sym (long_line first rest long)
+]

@@ -8,3 +8,8 @@ pub mod Run
 pub mod Lost
 pub mod HeapState
 pub mod Trace
+pub mod Counts
+pub mod Rows
+pub mod Summary
+pub mod Reading
+pub mod Replay

@@ -1,8 +1,10 @@
 //! The event of a line of a trace.
-ghost use Rattle.std.specs.Prelude.{◌≡◌, ◌∷◌, [], ◌==◌, IfSome, IfNone, Result};
+ghost use Rattle.std.specs.Prelude.{◌≡◌, ◌∷◌, [], ◌==◌, IfOk, IfSome, IfNone, Result, take};
+ghost use Rattle.std.specs.Int.{IsPowerOfTwo};
 ghost use Rattle.std.specs.List.{slice_split, position};
 ghost use Rattle.cc_word.specs.declared.refusal.Refusal.{Refusal as RefusalSpec};
 ghost use Rattle.cc_syntax.specs.Commands.{words_of};
+ghost use Rattle.cc_replay.specs.Events.{HasAlignment};
 ghost use Rattle.cc_replay.specs.Trace.{alignment_in, allocation_in, as_alignment, as_entry, clearing_in, entry_of, event_in, pair_in, reallocation_in, single_in};
 
 use crate::event::Event;
@@ -19,20 +21,26 @@ const MOST_BYTES: usize = 128;
 ///
 /// Errors, in order: `Syntax` if the line is not an event, or has more than 128 bytes; `OutOfRange`
 /// if a number is above 2^64 - 1, or an alignment is not a power of two.
-#[tactic(auto, unfolding(crate::specs::Trace::entry_of))]
+#[tactic(auto, using(crate::proofs::TraceLemmas::first_bytes), unfolding(crate::specs::Trace::entry_of))]
 pub fn read_event(line: &[u8]) -> Result<Option<Event>, Refusal>
-    ensures { result ≡ entry_of line.now }
+    ensures value { result ≡ entry_of line.now }
+    ensures start { entry_of (take 129 line.now) ≡ entry_of line.now }
+    ensures aligned { IfOk result (λ entry. IfSome entry HasAlignment) }
 {
     match line {
         [] | [b'#', ..] => Ok(None),
         _ if line.len() > MOST_BYTES => Err(Refusal::Syntax),
-        _ => read_words(line).map(Some),
+        _ => match read_words(line) {
+            Ok(event) => Ok(Some(event)),
+            Err(refusal) => Err(refusal),
+        },
     }
 }
 
 /// Parses a line that is not a comment.
 fn read_words(line: &[u8]) -> Result<Event, Refusal>
-    ensures { result ≡ event_in (words_of line.now) }
+    ensures value { result ≡ event_in (words_of line.now) }
+    ensures aligned { IfOk result HasAlignment }
 {
     match split_at_space(line) {
         Some((name, values)) => read_named(name, values),
@@ -44,7 +52,8 @@ fn read_words(line: &[u8]) -> Result<Event, Refusal>
 /// Parses the values after a name.
 #[tactic(auto, using(crate::proofs::TraceLemmas::single_then, crate::proofs::TraceLemmas::no_sweep))]
 fn read_named(name: &[u8], values: &[u8]) -> Result<Event, Refusal>
-    ensures { result ≡ event_in (name.now ∷ words_of values.now) }
+    ensures value { result ≡ event_in (name.now ∷ words_of values.now) }
+    ensures aligned { IfOk result HasAlignment }
 {
     if name == b"a".as_slice() {
         read_allocation(values)
@@ -62,9 +71,10 @@ fn read_named(name: &[u8], values: &[u8]) -> Result<Event, Refusal>
 }
 
 /// Parses `ID SIZE [ALIGN]`. An alignment that is omitted is 1.
-#[tactic(auto, using(crate::proofs::TraceLemmas::allocation_then))]
+#[tactic(auto, using(crate::proofs::TraceLemmas::allocation_then, crate::proofs::PowerLemmas::one_is_a_power))]
 fn read_allocation(values: &[u8]) -> Result<Event, Refusal>
-    ensures { result ≡ allocation_in (words_of values.now) }
+    ensures value { result ≡ allocation_in (words_of values.now) }
+    ensures aligned { IfOk result HasAlignment }
 {
     let Some((id, rest)) = split_at_space(values) else {
         return Err(Refusal::Syntax);
@@ -81,7 +91,8 @@ fn read_allocation(values: &[u8]) -> Result<Event, Refusal>
 /// Parses `ID SIZE`.
 #[tactic(auto, using(crate::proofs::TraceLemmas::clearing_then))]
 fn read_clearing(values: &[u8]) -> Result<Event, Refusal>
-    ensures { result ≡ clearing_in (words_of values.now) }
+    ensures value { result ≡ clearing_in (words_of values.now) }
+    ensures aligned { IfOk result HasAlignment }
 {
     match split_at_space(values) {
         Some((id, size)) => read_pair(id, size).map(|(id, size)| Event::Clear { id, size }),
@@ -92,7 +103,8 @@ fn read_clearing(values: &[u8]) -> Result<Event, Refusal>
 /// Parses `OLD NEW SIZE`.
 #[tactic(auto, using(crate::proofs::TraceLemmas::reallocation_then))]
 fn read_reallocation(values: &[u8]) -> Result<Event, Refusal>
-    ensures { result ≡ reallocation_in (words_of values.now) }
+    ensures value { result ≡ reallocation_in (words_of values.now) }
+    ensures aligned { IfOk result HasAlignment }
 {
     let Some((old, rest)) = split_at_space(values) else {
         return Err(Refusal::Syntax);
@@ -114,8 +126,10 @@ fn read_pair(first: &[u8], second: &[u8]) -> Result<(u64, u64), Refusal>
 }
 
 /// Parses an alignment: a power of two of at most 2^63.
+#[tactic(auto, using(crate::proofs::PowerLemmas::one_bit))]
 fn read_alignment(text: &[u8]) -> Result<u64, Refusal>
-    ensures { result ≡ alignment_in text.now }
+    ensures value { result ≡ alignment_in text.now }
+    ensures aligned { IfOk result IsPowerOfTwo }
 {
     match read_address(text) {
         Ok(align) if align.is_power_of_two() => Ok(align),

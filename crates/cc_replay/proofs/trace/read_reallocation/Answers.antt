@@ -6,8 +6,8 @@ use Rattle.cc_replay.specs.Trace.{pair_in, reallocation_in, with_values}
 use Rattle.cc_replay.proofs.TraceLemmas.{reallocation_then}
 use Rattle.cc_replay.proofs.trace.read_reallocation.Goals as goal
 
-pub returns-in-Err : goal.returns-in-Err
-returns-in-Err c =
+pub returns-in-Err-clause-value : goal.returns-in-Err-clause-value
+returns-in-Err-clause-value c =
     let old = c.in-Some.old.now in
     let new = c.in-Some-split_at_space.new.now in
     let size = c.in-Some-split_at_space.size.now in
