@@ -1,0 +1,11 @@
+pub mod MemoryLemmas
+pub mod PlaceLemmas
+pub mod HeapLemmas
+pub mod StepLemmas
+pub mod HistoryLemmas
+pub mod RunLemmas
+pub mod TraceLemmas
+pub mod RowLemmas
+pub mod PowerLemmas
+pub mod ReplayLemmas
+pub mod TakenLemmas

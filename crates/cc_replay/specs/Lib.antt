@@ -1,0 +1,15 @@
+-- In reading order.
+pub mod Policy
+pub mod Memory
+pub mod Totals
+pub mod Heap
+pub mod Events
+pub mod Run
+pub mod Lost
+pub mod HeapState
+pub mod Trace
+pub mod Counts
+pub mod Rows
+pub mod Summary
+pub mod Reading
+pub mod Replay

@@ -1,0 +1,177 @@
+-- A heap that takes the lines of a trace, and the output: the samples of a series.
+use Rattle.std.specs.Prelude.{◌≡◌, ◌⊎◌, ℕ, Bool, true, false, not, ◌&&◌, ◌||◌, ◌==◌, List, [], ◌∷◌, ◌++◌, if◌then◌else◌, Option, Some, None, Result, Ok, Err}
+use Rattle.cc_word.specs.declared.refusal.Refusal.{Refusal}
+use Rattle.cc_word.specs.declared.refusal.Refusal.TheVariants.{Unfinished}
+use Rattle.cc_replay.specs.declared.counts.Count.{Count}
+use Rattle.cc_replay.specs.declared.counts.Counts.{Counts}
+use Rattle.cc_replay.specs.declared.event.Event.{Event}
+use Rattle.cc_replay.specs.declared.event.Event.TheVariants.{Clock}
+use Rattle.cc_replay.specs.declared.outcome.Outcome.{Outcome}
+use Rattle.cc_replay.specs.declared.reading.Progress.{Progress}
+use Rattle.cc_replay.specs.declared.reading.Progress.TheVariants.{Running, OutOfMemory}
+use Rattle.cc_replay.specs.declared.reading.Reading.{Reading}
+use Rattle.cc_replay.specs.declared.summary.Figures.{Figures}
+use Rattle.cc_replay.specs.Counts.{is_full, is_no_room, with_event, with_line, with_outcome, with_refusal}
+use Rattle.cc_replay.specs.Events.{IsEvent}
+use Rattle.cc_replay.specs.Heap.{Heap}
+use Rattle.cc_replay.specs.Memory.{IsSound, usage_of}
+use Rattle.cc_replay.specs.Reading.{is_due, progress_after}
+use Rattle.cc_replay.specs.Rows.{names_line, values_line}
+use Rattle.cc_replay.specs.Summary.{sample_rows}
+use Rattle.cc_replay.specs.Trace.{entry_of}
+
+-- The state of a replay: the heap, how the trace is read, the counts of its lines, the time that it
+-- gave last, whether further lines are taken, and whether the last event has a sample.
+pub record ReplayState : Type 0 where
+  pub heap : Heap
+  pub reading : Reading
+  pub counts : Counts
+  pub time : ℕ
+  pub progress : Progress
+  pub is_sampled : Bool
+
+-- The counts before the first line.
+abbrev pub no_counts : Counts
+no_counts = record {
+  lines = 0;
+  events = 0;
+  allocs = 0;
+  callocs = 0;
+  reallocs = 0;
+  frees = 0;
+  aligned = 0;
+  zero = 0;
+  syntax = none;
+  range = none;
+  unfinished = none;
+  unknown = none;
+  live = none;
+  no_room = none;
+  full = none;
+  lost = none;
+} where
+  none : Count
+  none = record { times = 0; first = 0 }
+
+-- A replay before the first line of a trace.
+abbrev pub begun : Heap → Reading → ReplayState
+begun heap reading = record {
+  heap = heap;
+  reading = reading;
+  counts = no_counts;
+  time = 0;
+  progress = Running;
+  is_sampled = true;
+}
+
+-- The numbers of a replay.
+abbrev pub figures_of : ReplayState → Figures
+figures_of state = record { counts = state.counts; totals = state.heap.totals; usage = usage_of state.heap.memory }
+
+-- Whether an event is refused: the id of its object is not live, or is that of a live one, or the
+-- object cannot be made.
+abbrev pub is_refused : Outcome → Bool
+is_refused outcome =
+    outcome.unknown || outcome.was_live || outcome.lost || is_no_room outcome.making || is_full outcome.making
+
+-- The time after an event.
+abbrev pub time_after : Event → (time : ℕ) → ℕ
+time_after (Clock now) time = now
+time_after _ time = time
+
+-- The line of a sample, or nothing.
+abbrev pub sample_text : (is_sampled : Bool) → ReplayState → List ℕ
+sample_text is_sampled state = if is_sampled then values_line (sample_rows state.time (figures_of state)) else []
+
+-- TakesEvent holds if the event happens to the heap, what comes of it is counted, and a sample is
+-- written if it is due.
+pub record TakesEvent (old : ReplayState) (event : Event) (text : List ℕ) (is_error : Bool) (new : ReplayState) : Type 0 where
+  pub outcome : Outcome
+  pub heap : Heap
+  pub is_event : IsEvent old.heap event outcome heap
+  pub is_new : new ≡ record old {
+    heap = heap;
+    counts = with_outcome outcome (with_event event old.counts);
+    time = time_after event old.time;
+    progress = progress_after old.reading (is_refused outcome);
+    is_sampled = is_due old.reading (with_event event old.counts).events old.heap.totals.sweeps heap.totals.sweeps;
+  }
+  pub error_is : is_error ≡ is_refused outcome
+  pub text_is : text ≡ sample_text new.is_sampled new
+
+-- RunsOut holds if memory ran out in an event: nothing is written, and no further line is taken.
+pub record RunsOut (old : ReplayState) (text : List ℕ) (is_error : Bool) (new : ReplayState) : Type 0 where
+  pub heap : Heap
+  pub sound : IsSound heap.settings.align heap.memory
+  pub is_new : new ≡ record old { heap = heap; progress = OutOfMemory }
+  pub error_is : is_error ≡ false
+  pub text_is : text ≡ []
+
+-- Refuses holds if the last line is counted as refused, and nothing is written.
+pub record Refuses (old : ReplayState) (refusal : Refusal) (text : List ℕ) (is_error : Bool) (new : ReplayState) : Type 0 where
+  pub is_new : new ≡ record old {
+    counts = with_refusal refusal old.counts;
+    progress = progress_after old.reading true;
+  }
+  pub error_is : is_error ≡ true
+  pub text_is : text ≡ []
+
+-- Passes holds if nothing happens, and nothing is written.
+abbrev pub Passes : (old : ReplayState) (text : List ℕ) (is_error : Bool) (new : ReplayState) → Type 0
+Passes old text is_error new = (text ≡ []) × (is_error ≡ false) × (new ≡ old)
+
+-- TakesEntry holds if the entry of a line is taken: an event, nothing, or a refusal.
+abbrev pub TakesEntry : (old : ReplayState) → Result (Option Event) Refusal → (text : List ℕ) → (is_error : Bool) → (new : ReplayState) → Type 0
+TakesEntry old (Ok (Some event)) text is_error new =
+    TakesEvent old event text is_error new ⊎ RunsOut old text is_error new
+TakesEntry old (Ok None) text is_error new = Passes old text is_error new
+TakesEntry old (Err refusal) text is_error new = Refuses old refusal text is_error new
+
+-- The state with one more line.
+abbrev pub at_line : ReplayState → ReplayState
+at_line state = record state { counts = with_line state.counts }
+
+-- AppendsEvent holds if an event is taken, or memory ran out, and its text is appended to the output.
+pub record AppendsEvent (old : ReplayState) (event : Event) (out out_now : List ℕ) (is_error : Bool) (new : ReplayState) : Type 0 where
+  pub text : List ℕ
+  pub out_is : out_now ≡ out ++ text
+  pub takes : TakesEvent old event text is_error new ⊎ RunsOut old text is_error new
+
+-- TakesNext holds if a line is counted and taken.
+abbrev pub TakesNext : (old : ReplayState) → (line text : List ℕ) → (is_error : Bool) → (new : ReplayState) → Type 0
+TakesNext old line text is_error new = TakesEntry (at_line old) (entry_of line) text is_error new
+
+-- TakesLine holds if a line is counted and taken, unless no further line is.
+abbrev pub TakesLineIn : Progress → (old : ReplayState) → (line text : List ℕ) → (is_error : Bool) → (new : ReplayState) → Type 0
+TakesLineIn Running old line text is_error new = TakesNext old line text is_error new
+TakesLineIn _ old line text is_error new = Passes old text is_error new
+
+abbrev pub TakesLine : (old : ReplayState) → (line text : List ℕ) → (is_error : Bool) → (new : ReplayState) → Type 0
+TakesLine old = TakesLineIn old.progress old
+
+-- TakesRest holds if trailing bytes are counted as a line that is refused, unless no further line is
+-- taken.
+abbrev pub TakesRestIn : Progress → (old : ReplayState) → (rest text : List ℕ) → (is_error : Bool) → (new : ReplayState) → Type 0
+TakesRestIn Running old rest text is_error new = Refuses (at_line old) Unfinished text is_error new
+TakesRestIn _ old rest text is_error new = Passes old text is_error new
+
+abbrev pub TakesRest : (old : ReplayState) → (rest text : List ℕ) → (is_error : Bool) → (new : ReplayState) → Type 0
+TakesRest old = TakesRestIn old.progress old
+
+-- The header of the series: the names of its columns, or nothing if there is no series.
+abbrev pub series_header : ReplayState → List ℕ
+series_header state = if state.reading.each == 0 then [] else names_line (sample_rows 0 (figures_of state))
+
+-- The last sample of the series: that of the end, if the last event has none.
+abbrev pub last_sample : ReplayState → List ℕ
+last_sample state = sample_text (not (state.reading.each == 0) && not state.is_sampled) state
+
+-- The events, with that of a line before them, if the line is an event.
+abbrev pub event_before : Result (Option Event) Refusal → List Event → List Event
+event_before (Ok (Some event)) events = event ∷ events
+event_before _ events = events
+
+-- The events of lines, in order.
+abbrev pub events_in : (lines : List (List ℕ)) → List Event
+events_in [] = []
+events_in (line ∷ lines) = event_before (entry_of line) (events_in lines)

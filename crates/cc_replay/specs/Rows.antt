@@ -1,0 +1,74 @@
+-- The rows of a summary or of a series: names and values, and their text in each format.
+use Rattle.std.specs.Prelude.{ℕ, zero, suc, ◌*◌, ◌/◌, ◌%◌, ◌^◌, List, [], ◌∷◌, ◌++◌, codes, decimal, map, min}
+use Rattle.cc_text.specs.Text.{with_line_feed}
+use Rattle.cc_replay.specs.declared.table.Part.{Part}
+use Rattle.cc_replay.specs.declared.table.Part.TheVariants.{Line, Name, Quantity, Member}
+use Rattle.cc_replay.specs.declared.table.Row.{Row as RowValue}
+use Rattle.cc_replay.specs.declared.table.Value.{Value}
+use Rattle.cc_replay.specs.declared.table.Value.TheVariants.{Number, Percent}
+use Rattle.cc_replay.specs.declared.table.Format.{Format}
+use Rattle.cc_replay.specs.declared.table.Format.TheVariants.{Text, Csv, Json}
+
+-- Ten-thousandths in decimal, with four digits after the point.
+unfoldable pub percent_text : (parts : ℕ) → List ℕ
+percent_text parts =
+    decimal (parts / 10000) ++ codes "." ++ decimal (parts / 1000 % 10) ++ decimal (parts / 100 % 10)
+    ++ decimal (parts / 10 % 10) ++ decimal (parts % 10)
+
+-- The text of a value.
+unfoldable pub value_text : Value → List ℕ
+value_text (Number number) = decimal number
+value_text (Percent parts) = percent_text parts
+
+-- The part in ten-thousandths of a percent of the whole, rounded down, or 0 if the whole is 0. A
+-- part above 2^100 counts as 2^100.
+abbrev pub parts_of : (part whole : ℕ) → ℕ
+parts_of part zero = 0
+parts_of part (suc less) = min part (2 ^ 100) * 1000000 / suc less
+
+-- A row: a name, and its value.
+pub record Row : Type 0 where
+  pub name : List ℕ
+  pub value : Value
+
+-- The rows of a table.
+abbrev pub rows_of : List RowValue → List Row
+rows_of rows = map (λ row. record { name = row.name.now; value = row.value }) rows
+
+-- The text of a row in a part of an output.
+unfoldable pub item_text : Part → Row → List ℕ
+item_text Line row = with_line_feed (row.name ++ codes " " ++ value_text row.value)
+item_text Name row = row.name
+item_text Quantity row = value_text row.value
+item_text Member row = codes "\"" ++ row.name ++ codes "\": " ++ value_text row.value
+
+-- The bytes between two rows.
+abbrev pub separator_of : Part → List ℕ
+separator_of Line = []
+separator_of Name = codes ","
+separator_of Quantity = codes ","
+separator_of Member = codes ", "
+
+-- The rows after another, each with a separator before it.
+abbrev pub more_items : Part → List Row → List ℕ
+more_items part [] = []
+more_items part (row ∷ rows) = separator_of part ++ item_text part row ++ more_items part rows
+
+-- The rows, with the separator between.
+abbrev pub items_text : Part → List Row → List ℕ
+items_text part [] = []
+items_text part (row ∷ rows) = item_text part row ++ more_items part rows
+
+-- The names of the rows, and the values of the rows, with commas between, in one line each.
+unfoldable pub names_line : List Row → List ℕ
+names_line rows = with_line_feed (items_text Name rows)
+
+unfoldable pub values_line : List Row → List ℕ
+values_line rows = with_line_feed (items_text Quantity rows)
+
+-- The table in a format: a line for each row; or a line of the names and one of the values, with
+-- commas between; or one object of JSON.
+abbrev pub table_text : Format → List Row → List ℕ
+table_text Text rows = items_text Line rows
+table_text Csv rows = names_line rows ++ values_line rows
+table_text Json rows = codes "{" ++ items_text Member rows ++ codes "}\n"

@@ -1,0 +1,280 @@
+//! A heap that takes the lines of a trace.
+ghost use Rattle.std.specs.Prelude.{◌≡◌, ◌≤◌, ◌+◌, ◌↔◌, ◌++◌, [], true, false, length, Err, IsErr, OnErr, OnOk};
+ghost use Rattle.cc_io.specs.Answers.{AnswersInto};
+ghost use Rattle.cc_io.specs.Correct.{Pumps};
+ghost use Rattle.cc_io.specs.Frames.{lines};
+ghost use Rattle.cc_io.specs.Devices.{TakesBeginning};
+ghost use Rattle.std.specs.Io.KnownBytes.{Appends};
+ghost use Rattle.cc_replay.specs.Events.{HasAlignment};
+ghost use Rattle.cc_replay.specs.Replay.{AppendsEvent, Refuses, TakesLine, TakesNext, TakesRest, begun, figures_of, is_refused, last_sample, series_header, time_after};
+
+use crate::counts::{Count, Counts};
+use crate::event::Event;
+use crate::heap::Heap;
+use crate::making::Making;
+use crate::outcome::Outcome;
+use crate::reading::{Progress, Reading};
+use crate::series::{MOST_SAMPLE, push_sample, push_series_header};
+use crate::summary::{Figures, write_page};
+use crate::trace::read_event;
+use cc_io::{Answerer, IoError, Lines, Sink, Source, Summary, pump};
+use cc_placer::Placer;
+use cc_text::{Page, Waiting};
+use cc_word::Refusal;
+use std::alloc::AllocError;
+use std::marker::Model;
+
+/// No line.
+const NONE: Count = Count { times: 0, first: 0 };
+
+/// A heap that takes the lines of a trace, and the counts of the lines.
+#[derive(Drop)]
+pub struct Replay<P: Placer> {
+    heap: Heap<P>,
+    reading: Reading,
+    counts: Counts,
+    time: u64,
+    progress: Progress,
+    is_sampled: bool,
+}
+
+impl<P: Placer> Model for Replay<P> {
+    ghost use Rattle.cc_replay.specs.Replay.{ReplayState};
+
+    ghost Value = { ReplayState };
+
+    ghost view = { λ s. record { heap = s.heap; reading = s.reading; counts = s.counts; time = s.time; progress = s.progress; is_sampled = s.is_sampled } };
+}
+
+impl<P: Placer> Replay<P> {
+    /// Creates a replay with a heap, before the first line of a trace.
+    pub fn new(heap: Heap<P>, reading: Reading) -> Self
+        ensures { result ≡ begun heap reading }
+    {
+        Replay {
+            heap,
+            reading,
+            counts: Counts {
+                lines: 0,
+                events: 0,
+                allocs: 0,
+                callocs: 0,
+                reallocs: 0,
+                frees: 0,
+                aligned: 0,
+                zero: 0,
+                syntax: NONE,
+                range: NONE,
+                unfinished: NONE,
+                unknown: NONE,
+                live: NONE,
+                no_room: NONE,
+                full: NONE,
+                lost: NONE,
+            },
+            time: 0,
+            progress: Progress::Running,
+            is_sampled: true,
+        }
+    }
+
+    /// Returns the numbers of the replay.
+    pub fn figures(&self) -> Figures
+        ensures { result ≡ figures_of self.now }
+    {
+        Figures {
+            counts: self.counts,
+            totals: self.heap.totals(),
+            usage: self.heap.usage(),
+        }
+    }
+
+    /// Writes the sample of the end, if there is a series and the last event has no sample, and
+    /// flushes the sink.
+    ///
+    /// Requires: the sink has not failed.
+    /// Errors: `Write` if the sink fails. A prefix of the sample is then written.
+    pub fn end_series<W: Sink>(&self, series: &mut W) -> Result<(), IoError>
+        requires { W.has_failed series.old ≡ false }
+        ensures ok { OnOk result (Appends (W.taken_bytes series.old) (W.taken_bytes series.new) (last_sample self.now)) }
+        ensures err { OnErr result (TakesBeginning (W.taken_bytes series.old) (W.taken_bytes series.new) (last_sample self.now)) }
+        ensures flushed { OnOk result (W.is_flushed series.new ≡ true) }
+        ensures fails { IsErr result ↔ (W.has_failed series.new ≡ true) }
+        ensures write { OnErr result (result ≡ Err IoError.Write) }
+    {
+        let mut page: Page<MOST_SAMPLE> = Page::new();
+        self.push_last(&mut page);
+        write_page(&page, series)
+    }
+
+    /// Appends the sample of the end, if there is a series and the last event has no sample.
+    fn push_last<const N: usize>(&self, page: &mut Page<N>)
+        requires { length page.old + 1301 ≤ N }
+        ensures { page.new ≡ page.old ++ last_sample self.now }
+    {
+        if self.reading.each != 0 && !self.is_sampled {
+            push_sample(page, self.time, &self.figures());
+        }
+    }
+
+    /// Returns whether lines are taken.
+    pub fn progress(&self) -> Progress
+        ensures { result ≡ self.now.progress }
+    {
+        self.progress
+    }
+
+    /// Takes a line, and appends a sample if it is due. Returns whether the line is refused.
+    fn take_line<const N: usize>(&mut self, line: &[u8], out: &mut Page<N>) -> bool
+        requires { length out.old + 1301 ≤ N }
+        ensures { AnswersInto TakesLine self.old line.now out.old out.new result self.new }
+    {
+        match self.progress {
+            Progress::Running => self.take_next(line, out),
+            Progress::Stopped | Progress::OutOfMemory => false,
+        }
+    }
+
+    /// Takes a line while lines are taken.
+    fn take_next<const N: usize>(&mut self, line: &[u8], out: &mut Page<N>) -> bool
+        requires room { length out.old + 1301 ≤ N }
+        ensures { AnswersInto TakesNext self.old line.now out.old out.new result self.new }
+    {
+        self.counts = self.counts.with_line();
+        match read_event(line) {
+            Ok(None) => false,
+            Ok(Some(event)) => self.take_event(event, out),
+            Err(refusal) => self.refuse(refusal),
+        }
+    }
+
+    /// Counts trailing bytes as a line that is refused, while lines are taken.
+    fn take_rest<const N: usize>(&mut self, rest: &[u8], out: &mut Page<N>) -> bool
+        ensures { AnswersInto TakesRest self.old rest.now out.old out.new result self.new }
+    {
+        match self.progress {
+            Progress::Running => {
+                self.counts = self.counts.with_line();
+                self.refuse(Refusal::Unfinished)
+            }
+            Progress::Stopped | Progress::OutOfMemory => false,
+        }
+    }
+
+    /// Appends the header of the series, if there is one.
+    fn push_header<const N: usize>(&self, page: &mut Page<N>)
+        requires { length page.old + 1301 ≤ N }
+        ensures { page.new ≡ page.old ++ series_header self.now }
+    {
+        if self.reading.each != 0 {
+            push_series_header(page, &self.figures());
+        }
+    }
+
+    /// Counts the last line as refused.
+    fn refuse(&mut self, refusal: Refusal) -> bool
+        ensures { Refuses self.old refusal [] result self.new }
+    {
+        self.counts = self.counts.with_refusal(refusal);
+        self.progress = self.reading.progress_after(true);
+        true
+    }
+
+    /// Has an event happen, counts what comes of it, and appends a sample if it is due.
+    fn take_event<const N: usize>(&mut self, event: Event, out: &mut Page<N>) -> bool
+        requires aligned { HasAlignment event }
+        requires room { length out.old + 1301 ≤ N }
+        ensures { AppendsEvent self.old event out.old out.new result self.new }
+    {
+        let sweeps = self.heap.totals().sweeps;
+        let outcome = match self.heap.event(event) {
+            Ok(outcome) => outcome,
+            Err(AllocError) => {
+                self.progress = Progress::OutOfMemory;
+                return false;
+            }
+        };
+        let is_refused = is_refused(outcome);
+        self.counts = self.counts.with_event(event).with_outcome(outcome);
+        self.time = time_after(event, self.time);
+        self.progress = self.reading.progress_after(is_refused);
+        self.is_sampled = self
+            .reading
+            .is_due(self.counts.events, sweeps, self.heap.totals().sweeps);
+        if self.is_sampled {
+            push_sample(out, self.time, &self.figures());
+        }
+        is_refused
+    }
+}
+
+/// Returns whether an event is refused: the id of its object is not live, or is that of a live one,
+/// or the object cannot be made.
+fn is_refused(outcome: Outcome) -> bool
+    ensures { result ≡ is_refused outcome }
+{
+    outcome.unknown
+        || outcome.was_live
+        || outcome.lost
+        || matches!(outcome.making, Some(Making::NoRoom))
+        || matches!(outcome.making, Some(Making::Full))
+}
+
+/// Returns the time after an event.
+fn time_after(event: Event, time: u64) -> u64
+    ensures { result ≡ time_after event time }
+{
+    match event {
+        Event::Clock(now) => now,
+        _ => time,
+    }
+}
+
+impl<P: Placer, const N: usize> Answerer<N> for Replay<P> {
+    ghost Answered = { TakesLine };
+
+    ghost Ended = { TakesRest };
+
+    ghost MOST = { 1301 };
+
+    #[inline(always)]
+    fn most() -> usize {
+        1301
+    }
+
+    fn answer(&mut self, entry: &[u8], out: &mut Page<N>) -> bool {
+        self.take_line(entry, out)
+    }
+
+    fn end(&mut self, rest: &[u8], out: &mut Page<N>) -> bool {
+        self.take_rest(rest, out)
+    }
+}
+
+/// Replays the trace that the source gives, and writes the samples of its series to the sink.
+///
+/// Each line is taken as [`read_event`] reads it. The replay counts a line that is not an event, and
+/// an event that the heap refuses, and takes the next line unless reading is strict. If an allocation
+/// fails, [`Replay::progress`] says so, and no further line is taken. The source is read
+/// in chunks of up to 64 KiB. Before each read, all samples of earlier events are written. The sink
+/// is flushed once, at the end.
+///
+/// Requires: neither the source nor the sink has failed.
+/// Errors: `Read` if and only if the source failed. `Write` if and only if the sink failed.
+pub fn replay_trace<P: Placer, R: Source, W: Sink>(
+    replay: &mut Replay<P>,
+    source: &mut R,
+    series: &mut W,
+) -> Result<Summary, IoError>
+    requires source { R.has_failed source.old ≡ false }
+    requires sink { W.has_failed series.old ≡ false }
+    ensures replays { Pumps TakesLine TakesRest lines 65536 1301 replay.old (series_header replay.old)
+        (R.to_come source.old) (R.to_come source.new) (W.taken_bytes series.old) (W.taken_bytes series.new) result replay.new }
+    ensures read { (result ≡ Err IoError.Read) ↔ (R.has_failed source.new ≡ true) }
+    ensures write { (result ≡ Err IoError.Write) ↔ (W.has_failed series.new ≡ true) }
+    ensures flushed { OnOk result (W.is_flushed series.new ≡ true) }
+{
+    let mut page = Waiting::new();
+    replay.push_header(&mut page);
+    pump(&Lines, replay, source, series, &mut page)
+}

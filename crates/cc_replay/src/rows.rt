@@ -1,0 +1,167 @@
+//! Tables of names and values, and their text in each format.
+ghost use Rattle.std.specs.Prelude.{◌≡◌, ◌≤◌, ◌+◌, ◌*◌, ◌%◌, ◌++◌, decimal, length};
+ghost use Rattle.cc_replay.specs.Rows.{item_text, items_text, more_items, names_line, parts_of, percent_text, rows_of, separator_of, table_text, value_text, values_line};
+
+use crate::table::{Format, Part, Row, Value};
+use cc_text::{Line, Page};
+
+/// The maximum part of a percentage.
+const MOST_PART: u128 = 1 << 100;
+
+/// Returns the part in ten-thousandths of a percent of the whole, rounded down, or 0 if the whole
+/// is 0. A part above 2^100 counts as 2^100.
+pub(crate) fn parts_of(part: u128, whole: u128) -> u128
+    ensures { result ≡ parts_of part whole }
+{
+    if whole == 0 {
+        0
+    } else {
+        part.min(MOST_PART) * 1_000_000 / whole
+    }
+}
+
+/// Appends a table in a format.
+///
+/// Requires: for each row 200 bytes fit the page, and 8 more.
+pub(crate) fn push_table<const N: usize>(page: &mut Page<N>, format: Format, rows: &[Row])
+    requires { length page.old + 200 * length rows.now + 8 ≤ N }
+    ensures { page.new ≡ page.old ++ table_text format (rows_of rows.now) }
+{
+    match format {
+        Format::Text => push_items(page, Part::Line, rows),
+        Format::Csv => {
+            push_names(page, rows);
+            push_values(page, rows);
+        }
+        Format::Json => {
+            page.push(b"{");
+            push_items(page, Part::Member, rows);
+            page.push(b"}\n");
+        }
+    }
+}
+
+/// Appends the line of the names of a table.
+#[tactic(auto, unfolding(crate::specs::Rows::names_line))]
+pub(crate) fn push_names<const N: usize>(page: &mut Page<N>, rows: &[Row])
+    requires { length page.old + 100 * length rows.now + 1 ≤ N }
+    ensures value { page.new ≡ page.old ++ names_line (rows_of rows.now) }
+    ensures fits { length page.new ≤ length page.old + 100 * length rows.now + 1 }
+{
+    push_items(page, Part::Name, rows);
+    page.push(b"\n");
+}
+
+/// Appends the line of the values of a table.
+#[tactic(auto, unfolding(crate::specs::Rows::values_line))]
+pub(crate) fn push_values<const N: usize>(page: &mut Page<N>, rows: &[Row])
+    requires { length page.old + 100 * length rows.now + 1 ≤ N }
+    ensures value { page.new ≡ page.old ++ values_line (rows_of rows.now) }
+    ensures fits { length page.new ≤ length page.old + 100 * length rows.now + 1 }
+{
+    push_items(page, Part::Quantity, rows);
+    page.push(b"\n");
+}
+
+/// Appends a part of a table: its rows, with the separator between.
+fn push_items<const N: usize>(page: &mut Page<N>, part: Part, rows: &[Row])
+    requires { length page.old + 100 * length rows.now ≤ N }
+    ensures value { page.new ≡ page.old ++ items_text part (rows_of rows.now) }
+    ensures fits { length page.new ≤ length page.old + 100 * length rows.now }
+{
+    if let Some((row, rest)) = rows.split_first() {
+        push_item(page, part, row);
+        push_more(page, part, rest);
+    }
+}
+
+/// Appends rows after another, each with a separator before it.
+fn push_more<const N: usize>(page: &mut Page<N>, part: Part, rows: &[Row])
+    requires { length page.old + 100 * length rows.now ≤ N }
+    ensures value { page.new ≡ page.old ++ more_items part (rows_of rows.now) }
+    ensures fits { length page.new ≤ length page.old + 100 * length rows.now }
+{
+    let mut rest = rows;
+    'rows: while let Some((row, after)) = rest.split_first() {
+        page.push(separator_of(part));
+        push_item(page, part, row);
+        rest = after;
+    }
+}
+
+/// Returns the bytes between two rows.
+fn separator_of(part: Part) -> &'static [u8]
+    ensures value { result.now ≡ separator_of part }
+    ensures fits { length result.now ≤ 2 }
+{
+    match part {
+        Part::Line => b"",
+        Part::Name | Part::Quantity => b",",
+        Part::Member => b", ",
+    }
+}
+
+/// Appends a row.
+#[tactic(auto, unfolding(crate::specs::Rows::item_text))]
+fn push_item<const N: usize>(page: &mut Page<N>, part: Part, row: &Row)
+    requires { length page.old + 98 ≤ N }
+    ensures value { page.new ≡ page.old ++ item_text part (record { name = row.now.name.now; value = row.now.value }) }
+    ensures fits { length page.new ≤ length page.old + 98 }
+{
+    match part {
+        Part::Line => {
+            page.push(row.name);
+            page.push(b" ");
+            push_value(page, row.value);
+            page.push(b"\n");
+        }
+        Part::Name => page.push(row.name),
+        Part::Quantity => push_value(page, row.value),
+        Part::Member => {
+            page.push(b"\"");
+            page.push(row.name);
+            page.push(b"\": ");
+            push_value(page, row.value);
+        }
+    }
+}
+
+/// Appends a value.
+#[tactic(auto, unfolding(crate::specs::Rows::value_text))]
+fn push_value<const N: usize>(page: &mut Page<N>, value: Value)
+    requires { length page.old + 54 ≤ N }
+    ensures value { page.new ≡ page.old ++ value_text value }
+    ensures fits { length page.new ≤ length page.old + 54 }
+{
+    match value {
+        Value::Number(number) => page.push_decimal(number),
+        Value::Percent(parts) => push_percent(page, parts),
+    }
+}
+
+/// Appends a percentage in ten-thousandths, with four digits after the point.
+#[tactic(auto, unfolding(crate::specs::Rows::percent_text))]
+fn push_percent<const N: usize>(page: &mut Page<N>, parts: u128)
+    requires { length page.old + 54 ≤ N }
+    ensures value { page.new ≡ page.old ++ percent_text parts }
+    ensures fits { length page.new ≤ length page.old + 54 }
+{
+    let mut digits = Line::new();
+    digits.push_decimal(parts / 10_000);
+    digits.push(b".");
+    push_digit(&mut digits, parts / 1000);
+    push_digit(&mut digits, parts / 100);
+    push_digit(&mut digits, parts / 10);
+    push_digit(&mut digits, parts);
+    page.push(digits.bytes());
+}
+
+/// Appends the last decimal digit of a number.
+#[tactic(auto, using(crate::proofs::RowLemmas::last_digit))]
+fn push_digit(digits: &mut Line, number: u128)
+    requires { length digits.old + 40 ≤ 192 }
+    ensures value { digits.new ≡ digits.old ++ decimal (number % 10) }
+    ensures fits { length digits.new ≤ length digits.old + 1 }
+{
+    digits.push(&[b'0' + (number % 10) as u8]);
+}

@@ -1,0 +1,58 @@
+//! The samples of a series.
+ghost use Rattle.std.specs.Prelude.{◌≡◌, ◌≤◌, ◌+◌, ◌*◌, ◌^◌, ◌++◌, length};
+ghost use Rattle.cc_replay.specs.Rows.{names_line, rows_of, values_line};
+ghost use Rattle.cc_replay.specs.Summary.{sample_rows};
+
+use crate::row;
+use crate::rows::{push_names, push_values};
+use crate::summary::Figures;
+use crate::table::{Row, Value};
+use cc_text::Page;
+
+/// The maximum number of bytes of a line of a series.
+pub const MOST_SAMPLE: usize = 1301;
+
+/// Appends the header of a series: the names of the columns, with commas between. They do not
+/// depend on the figures.
+pub fn push_series_header<const N: usize>(page: &mut Page<N>, figures: &Figures)
+    requires { length page.old + 1301 ≤ N }
+    ensures value { page.new ≡ page.old ++ names_line (sample_rows 0 figures.now) }
+    ensures fits { length page.new ≤ length page.old + 1301 }
+{
+    push_names(page, &sample_rows(0, figures));
+}
+
+/// Appends a sample: the numbers of a replay after a line, with the time that the trace gave last.
+pub fn push_sample<const N: usize>(page: &mut Page<N>, time: u64, figures: &Figures)
+    requires { length page.old + 1301 ≤ N }
+    ensures value { page.new ≡ page.old ++ values_line (sample_rows time figures.now) }
+    ensures fits { length page.new ≤ length page.old + 1301 }
+{
+    push_values(page, &sample_rows(time, figures));
+}
+
+/// Returns the rows of a sample.
+fn sample_rows(time: u64, figures: &Figures) -> [Row; 13]
+    ensures { rows_of result ≡ sample_rows time figures.now }
+{
+    let Figures {
+        counts,
+        totals,
+        usage,
+    } = figures;
+    [
+        row!(b"line", counts.lines),
+        row!(b"event", counts.events),
+        row!(b"time", time),
+        row!(b"made.asked", totals.made_asked),
+        row!(b"objects", usage.objects),
+        row!(b"asked", usage.asked),
+        row!(b"live", usage.live),
+        row!(b"quarantine", usage.quarantine),
+        row!(b"held", usage.live.saturating_add(usage.quarantine)),
+        row!(b"peak.quarantine", totals.peak_quarantine),
+        row!(b"peak.held", totals.peak_held),
+        row!(b"high", totals.high),
+        row!(b"sweeps", totals.sweeps),
+    ]
+}

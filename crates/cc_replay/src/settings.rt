@@ -1,0 +1,18 @@
+//! The settings of a heap.
+use crate::policy::Policy;
+use cc_bounds::{Align, Span};
+
+/// The settings of a heap, which no event changes.
+#[derive(Clone, Copy, PartialEq, Eq, Debug)]
+pub struct Settings {
+    /// The maximum number of held spans, from 1 to 2^24.
+    pub limit: u32,
+    /// The bytes in which objects are placed.
+    pub pool: Span,
+    /// The alignment of each object, if its event does not ask for a larger one.
+    pub align: Align,
+    /// When the quarantine is swept.
+    pub policy: Policy,
+    /// The number of quarantined bytes below which the policy does not sweep.
+    pub least_quarantine: u64,
+}

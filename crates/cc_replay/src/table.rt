@@ -1,0 +1,56 @@
+//! The rows of tables: names and values.
+ghost use Rattle.std.specs.Prelude.{◌≤◌, length};
+
+/// The format of a table.
+#[derive(Clone, Copy, PartialEq, Eq, Debug)]
+pub enum Format {
+    /// A line for each row: the name, a space and the value.
+    Text,
+    /// A line of the names and a line of the values, with commas between.
+    Csv,
+    /// One object of JSON, on one line.
+    Json,
+}
+
+/// The value of a row.
+#[derive(Clone, Copy, PartialEq, Eq, Debug)]
+pub(crate) enum Value {
+    /// A number.
+    Number(u128),
+    /// A percentage, in ten-thousandths.
+    Percent(u128),
+}
+
+/// A part of the text of a table.
+#[derive(Clone, Copy, PartialEq, Eq, Debug)]
+pub(crate) enum Part {
+    /// A line for each row.
+    Line,
+    /// The names, with commas between.
+    Name,
+    /// The values, with commas between.
+    Quantity,
+    /// The members of an object of JSON.
+    Member,
+}
+
+/// A row of a table.
+#[derive(Clone, Copy)]
+pub(crate) struct Row {
+    /// The name, of at most 40 bytes.
+    pub(crate) name: &'static [u8],
+    /// The value.
+    pub(crate) value: Value,
+    ghost short: { length name.now ≤ 40 },
+}
+
+/// The row of a number.
+#[macro_export]
+macro_rules! row {
+    ($name:literal, $number:expr) => {
+        Row {
+            name: $name,
+            value: Value::Number($number as u128),
+        }
+    };
+}
