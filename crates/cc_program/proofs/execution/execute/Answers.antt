@@ -1,4 +1,4 @@
-use Rattle.std.proofs.Common.{◌≡◌, ◌∙◌, Ok, rules, sym}
+use Rattle.std.proofs.Common.{◌≡◌, ◌∙◌, Ok, rules, subst, sym}
 use Rattle.cc_syntax.specs.Planning.{plan_opening, pool_of}
 use Rattle.cc_program.specs.Execution.{AnnotatesWords, Console, FromInput, OnDevices}
 use Rattle.cc_program.specs.declared.input.InputName.{InputName}
