@@ -348,6 +348,36 @@ static void check_many(size_t count)
     expect(cheri_cap_decode_many(words, 0, bounds, count) == 0, "many words", "no words");
 }
 
+// Checks the batch functions on memory that begins at an odd address, with the words of the table in either byte order. Each
+// result is that of the function for one word, and one array is one element shorter.
+static void check_memory(size_t count, bool big_endian)
+{
+    static uint8_t bytes[1 + 16 * CAPACITY];
+    static cheri_cap_bounds bounds[CAPACITY];
+    static uint64_t addresses[CAPACITY];
+    uint8_t *memory = bytes + 1;
+    uint8_t canonical[CAPACITY], representable[CAPACITY];
+    memset(canonical, 7, sizeof canonical);
+    memset(representable, 7, sizeof representable);
+    bounds[count - 1].exponent = 77;
+    for (size_t i = 0; i < count; i++) {
+        cheri_cap_word_to_bytes(words[i], memory + 16 * i, big_endian);
+        addresses[i] = words[i].low ^ UINT64_C(1) << i % 64;
+    }
+    expect(cheri_cap_decode_memory(memory, count, big_endian, bounds, count - 1) == count - 1, "memory", "the number of decoded words");
+    expect(cheri_cap_is_canonical_memory(memory, count, big_endian, canonical, count - 1) == count - 1, "memory", "the number of results on canonical words");
+    expect(cheri_cap_represents_memory(memory, count, big_endian, addresses, count - 1, representable, count) == count - 1, "memory", "the number of results on addresses");
+    for (size_t i = 0; i < count - 1; i++) {
+        cheri_cap_bounds alone = cheri_cap_decode(words[i].high, words[i].low);
+        expect(bounds[i].base == alone.base && bounds[i].exponent == alone.exponent, "memory", "base and exponent");
+        expect(bounds[i].top_high == alone.top_high && bounds[i].top_low == alone.top_low, "memory", "top");
+        expect(canonical[i] == cheri_cap_is_canonical(words[i].high, words[i].low), "memory", "canonical");
+        expect(representable[i] == cheri_cap_represents(words[i].high, words[i].low, addresses[i]), "memory", "representable");
+    }
+    expect(bounds[count - 1].exponent == 77 && canonical[count - 1] == 7 && representable[count - 1] == 7, "memory", "the element after the results");
+    expect(cheri_cap_decode_memory(memory, 0, big_endian, bounds, count) == 0, "memory", "no words");
+}
+
 // Checks the offsets and the accesses that the rows do not have.
 static void check_offsets(void)
 {
@@ -488,6 +518,8 @@ int main(int argc, char **argv)
     unsigned rows = check_table(table);
     expect(rows >= 24, argv[1], "too few rows");
     check_many(rows < CAPACITY ? rows : CAPACITY);
+    check_memory(rows < CAPACITY ? rows : CAPACITY, false);
+    check_memory(rows < CAPACITY ? rows : CAPACITY, true);
     check_comparisons();
     check_lengths();
     check_offsets();

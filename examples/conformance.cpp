@@ -227,6 +227,25 @@ void check_many(const std::vector<word> &words)
     cheri::decode_many(nullptr, nullptr, 0);
     cheri::is_canonical_many(nullptr, nullptr, 0);
     cheri::represents_many(nullptr, nullptr, nullptr, 0);
+    for (const byte_order order : {byte_order::little, byte_order::big}) {
+        std::vector<std::uint8_t> memory, canonical_there(words.size(), 7), representable_there(words.size(), 7);
+        std::vector<cheri_cap_bounds> bounds_there(words.size());
+        for (const word it : words)
+            for (const std::uint8_t byte : it.to_bytes(order))
+                memory.push_back(byte);
+        cheri::decode_memory(memory.data(), order, bounds_there.data(), words.size());
+        cheri::is_canonical_memory(memory.data(), order, canonical_there.data(), words.size());
+        cheri::represents_memory(memory.data(), order, addresses.data(), representable_there.data(), words.size());
+        for (std::size_t i = 0; i < words.size(); i++) {
+            const cheri::bounds got(bounds_there[i]), wanted = words[i].bounds();
+            expect(got.base() == wanted.base() && got.top() == wanted.top(), "memory", "bounds");
+        }
+        expect(canonical_there == canonical && representable_there == representable, "memory",
+               "canonical and representable");
+        cheri::decode_memory(nullptr, order, nullptr, 0);
+        cheri::is_canonical_memory(nullptr, order, nullptr, 0);
+        cheri::represents_memory(nullptr, order, nullptr, nullptr, 0);
+    }
     const std::unordered_set<word> distinct(words.begin(), words.end());
     expect(distinct.count(word::root()) == 1 && distinct.count(word(0, 1)) == 0, "many words", "a set of them");
 }

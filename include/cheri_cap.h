@@ -17,7 +17,8 @@
  * Words: a word has 128 bits and is passed as two halves. `high` has its bits 127 to 64, with the
  * permissions at the top; `low` has its bits 63 to 0, the address. In memory, a little-endian
  * processor has the low half first, and a big-endian one the high half: see
- * cheri_cap_word_from_bytes. A word is in its memory form: null is all zeros.
+ * cheri_cap_word_from_bytes, and for many words cheri_cap_decode_memory. A word is in its memory
+ * form: null is all zeros.
  *
  * Units: addresses, bases, tops, lengths and granules are bytes. Bounds are [base, top): the top is
  * the address after the last byte. A top or a length may be 2^64, which needs 65 bits, so these
@@ -26,13 +27,14 @@
  * Ranges: each function accepts every value of its parameters' types, except invalid pointers and
  * invalid `bool`s. Its comment says what it returns for values out of range.
  *
- * Pointers, of the three text functions and the three batch functions: none may be null, not even
+ * Pointers, of the three text functions and the six batch functions: none may be null, not even
  * with a count or a length of 0, since the library has references to what they point to. An empty
  * std::vector may have a null pointer: cheri_cap.hpp skips the call, and so must a caller from C.
  * An array has as many elements as its count says, and its size is at most PTRDIFF_MAX bytes. It
  * must be aligned for its element type: to 8 bytes for cheri_cap_u128, cheri_cap_bounds and
- * uint64_t. Arrays that a function reads may overlap each other. An array that a function writes
- * must not overlap any other array of that call.
+ * uint64_t. `memory` has 16 bytes for each word of its count, at any address. Arrays that a
+ * function reads may overlap each other. An array that a function writes must not overlap any
+ * other array of that call.
  *
  * Booleans: a `bool` must be 0 or 1, as C and C++ create it, also in a struct. If the bytes of a
  * struct come from a file or a socket, check them first: any other value is undefined behavior, in
@@ -365,9 +367,10 @@ cheri_cap_ends cheri_cap_window(uint64_t high, uint64_t low) CHERI_CAP_NOEXCEPT;
  * 0. Each array has its own count: if they differ, the smallest of them applies, and the results
  * past it do not change.
  *
- * Pointers: none may be null, not even for a count of 0: skip the call then. Words, bounds and addresses must be
- * aligned to 8 bytes. The results must not overlap what is read, but words and addresses may
- * overlap each other. The previous contents of the results do not matter. See "Pointers" above.
+ * Pointers: none may be null, not even for a count of 0: skip the call then. Words, bounds and
+ * addresses must be aligned to 8 bytes. The results must not overlap what is read, but words and
+ * addresses may overlap each other. The previous contents of the results do not matter. See
+ * "Pointers" above.
  */
 size_t cheri_cap_decode_many(
     const cheri_cap_u128 *words, size_t word_count, cheri_cap_bounds *bounds, size_t bounds_count) CHERI_CAP_NOEXCEPT;
@@ -376,6 +379,22 @@ size_t cheri_cap_is_canonical_many(
 size_t cheri_cap_represents_many(
     const cheri_cap_u128 *words, size_t word_count, const uint64_t *addresses, size_t address_count, uint8_t *answers,
     size_t answer_count) CHERI_CAP_NOEXCEPT;
+
+/*
+ * Batch functions on memory. Each does the same for the words of memory, 16 bytes each and one
+ * after the other, in the byte order of the memory: the low half first unless `big_endian`. Each
+ * word is that of cheri_cap_word_from_bytes.
+ *
+ * Pointers: as above, but `memory` may have any alignment. It has 16 * word_count bytes.
+ */
+size_t cheri_cap_decode_memory(
+    const void *memory, size_t word_count, bool big_endian, cheri_cap_bounds *bounds,
+    size_t bounds_count) CHERI_CAP_NOEXCEPT;
+size_t cheri_cap_is_canonical_memory(
+    const void *memory, size_t word_count, bool big_endian, uint8_t *answers, size_t answer_count) CHERI_CAP_NOEXCEPT;
+size_t cheri_cap_represents_memory(
+    const void *memory, size_t word_count, bool big_endian, const uint64_t *addresses, size_t address_count,
+    uint8_t *answers, size_t answer_count) CHERI_CAP_NOEXCEPT;
 
 /*
  * Returns the granule of a length in bytes: the unit in which the bounds of that many bytes from

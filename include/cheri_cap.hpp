@@ -468,6 +468,27 @@ inline void represents_many(const word *words, const std::uint64_t *addresses, s
         cheri_cap_represents_many(&words->raw(), count, addresses, count, results, count);
 }
 
+/*
+ * Batch functions on memory: `count` words of 16 bytes each, one after the other, in the byte order
+ * of the memory and at any address. Otherwise they are like those above.
+ */
+inline void decode_memory(const void *memory, byte_order order, cheri_cap_bounds *results, std::size_t count) noexcept
+{
+    if (count != 0)
+        cheri_cap_decode_memory(memory, count, order == byte_order::big, results, count);
+}
+inline void is_canonical_memory(const void *memory, byte_order order, std::uint8_t *results, std::size_t count) noexcept
+{
+    if (count != 0)
+        cheri_cap_is_canonical_memory(memory, count, order == byte_order::big, results, count);
+}
+inline void represents_memory(const void *memory, byte_order order, const std::uint64_t *addresses,
+                              std::uint8_t *results, std::size_t count) noexcept
+{
+    if (count != 0)
+        cheri_cap_represents_memory(memory, count, order == byte_order::big, addresses, count, results, count);
+}
+
 } // namespace cheri
 
 /* The hash of a word, for std::unordered_map. */

@@ -31,9 +31,10 @@ later with no other modules than Python's own, and x86-64 Linux. It searches for
 
 import ctypes
 import os
+import re
 import sys
 from array import array
-from ctypes import POINTER, c_bool, c_char, c_char_p, c_size_t, c_uint8, c_uint16, c_uint32, c_uint64
+from ctypes import POINTER, c_bool, c_char, c_char_p, c_size_t, c_uint8, c_uint16, c_uint32, c_uint64, c_void_p
 from itertools import compress
 from operator import index
 from pathlib import Path
@@ -143,7 +144,7 @@ _HALF = 2**64 - 1
 _HINT = "set CHERI_CAP_LIBRARY to its file; `examples/run shared` of a checkout builds it"
 _LINE_SIZE = 96
 _WORD_SIZE = 16
-# The number of words that one call on many words gets: their halves and bounds stay in a processor's cache.
+# The number of words that one call on many words gets: their bytes and bounds stay in a processor's cache.
 _PIECE = 1 << 13
 
 
@@ -199,7 +200,7 @@ class _Made(ctypes.Structure):
 
 
 _WORD: List[Any] = [c_uint64, c_uint64]
-_WORDS: List[Any] = [POINTER(_Halves), c_size_t]
+_MEMORY: List[Any] = [c_void_p, c_size_t, c_bool]
 _ANSWERS: List[Any] = [POINTER(c_uint8), c_size_t]
 
 # the functions of the header: the result and the parameters of each
@@ -233,9 +234,9 @@ _CALLS: Dict[str, Tuple[Any, List[Any]]] = {
     "rebuild": (_Made, [*_WORD, *_WORD]),
     "is_subset": (c_bool, [*_WORD, *_WORD]),
     "format": (c_size_t, [*_WORD, c_bool, POINTER(c_char)]),
-    "decode_many": (c_size_t, [*_WORDS, POINTER(_Bounds), c_size_t]),
-    "is_canonical_many": (c_size_t, [*_WORDS, *_ANSWERS]),
-    "represents_many": (c_size_t, [*_WORDS, POINTER(c_uint64), c_size_t, *_ANSWERS]),
+    "decode_memory": (c_size_t, [*_MEMORY, POINTER(_Bounds), c_size_t]),
+    "is_canonical_memory": (c_size_t, [*_MEMORY, *_ANSWERS]),
+    "represents_memory": (c_size_t, [*_MEMORY, POINTER(c_uint64), c_size_t, *_ANSWERS]),
 }
 
 
@@ -271,9 +272,16 @@ def _load() -> Dict[str, Callable[..., Any]]:
 _calls = _load()
 
 
+def _integer(number: SupportsIndex, what: str) -> int:
+    try:
+        return index(number)
+    except TypeError:
+        raise TypeError(f"{what} must be an integer, not {type(number).__name__}") from None
+
+
 def _halves(number: SupportsIndex, most: int, what: str) -> Tuple[int, int]:
     """Returns the two halves of a number from 0 to `most`."""
-    number = index(number)
+    number = _integer(number, what)
     if not 0 <= number <= most:
         raise ValueError(f"{what} must be from 0 to {most:#x}, not {number:#x}")
     return number >> 64, number & _HALF
@@ -408,8 +416,10 @@ class Capability:
 
     @classmethod
     def from_bytes(cls, data: "ReadableBuffer", byteorder: ByteOrder = "little") -> "Capability":
-        """Returns the word of a buffer of 16 bytes, in the byte order of the memory: "little" or "big"."""
-        raw = memoryview(data).tobytes()
+        """Returns the word of a buffer of 16 bytes, in the byte order of the memory: "little" or "big".
+
+        Errors: ValueError for a buffer of another size, or whose items are neither bytes nor integers in that order."""
+        raw = _memory_of(data, byteorder).tobytes()
         if len(raw) != _WORD_SIZE:
             raise ValueError(f"a word must be {_WORD_SIZE} bytes, not {len(raw)}")
         return cls(int.from_bytes(raw, byteorder))
@@ -419,14 +429,13 @@ class Capability:
         """Returns the word of fields.
 
         Errors: ValueError for a number that is wider than its field."""
-        numbers = {name: index(value) for name, value in fields._asdict().items()}
+        numbers = {name: _integer(value, f"the field {name}") for name, value in fields._asdict().items()}
         given = _Fields(**numbers)
-        if any(getattr(given, name) != value for name, value in numbers.items()):
-            raise ValueError(f"a field is too wide: {fields}")
         halves = _calls["pack"](given)
         made = cls(halves.high << 64 | halves.low)
-        if made.fields != fields:
-            raise ValueError(f"a field is too wide: {fields}")
+        for name, value in numbers.items():
+            if not value == getattr(given, name) == getattr(made.fields, name):
+                raise ValueError(f"the field {name} is too wide for the number {value:#x}")
         return made
 
     def to_bytes(self, byteorder: ByteOrder = "little") -> bytes:
@@ -575,7 +584,13 @@ class Capability:
         """CIncOffset: returns the capability with `amount` added to its address, modulo 2**64, and the same bounds.
 
         Refusals: canonical; sealed; unrepresentable."""
-        return self._derived("increment", index(amount) & _HALF)
+        return self._derived("increment", _integer(amount, "an amount") & _HALF)
+
+    def set_offset(self, offset: SupportsIndex) -> "Capability":
+        """CSetOffset: returns the capability with its base plus `offset`, modulo 2**64, as its address.
+
+        Refusals: canonical; sealed; unrepresentable."""
+        return self._derived("set_address", self.base + _integer(offset, "an offset") & _HALF)
 
     def set_bounds(self, length: SupportsIndex) -> "Capability":
         """CSetBounds: returns the capability with the bounds of `length` bytes from its address.
@@ -756,7 +771,8 @@ def alignment_mask(length: SupportsIndex) -> int:
 # ---- Many words
 
 # A buffer of words has 16 bytes for each, one after the other, in the byte order of the memory that it was read from.
-# Its items may have any size and shape: bytes, bytearray, memoryview, array.array, mmap, or an array of numpy.
+# Its items are bytes, or integers in that byte order, of any shape: bytes, bytearray, memoryview, array.array, mmap, or an
+# array of numpy.
 
 
 class ManyBounds(Sequence[Bounds]):
@@ -798,43 +814,60 @@ class ManyBounds(Sequence[Bounds]):
         return Bounds(self.base[position], top, self.exponent[position])
 
 
-def _bytes_of(data: "ReadableBuffer") -> memoryview:
+# The marks of a byte order in a buffer's format.
+_ORDERS = {"<": "little", ">": "big", "!": "big", "=": sys.byteorder, "@": sys.byteorder, "^": sys.byteorder}
+
+
+def _is_memory(kind: str, byteorder: str) -> bool:
+    """Returns whether the items of a buffer of this format are bytes, or integers in a byte order."""
+    order: str = sys.byteorder
+    # without the names in a struct, its brackets, and the numbers of items
+    for letter in re.sub(r":[^:]*:|T\{|[\d\s(,)}]", "", kind):
+        if letter in _ORDERS:
+            order = _ORDERS[letter]
+        elif letter not in "?bBcsxp" and (letter not in "hHiIlLqQnN" or order != byteorder):
+            return False
+    return True
+
+
+def _memory_of(data: "ReadableBuffer", byteorder: str) -> memoryview:
     """Returns the bytes of a buffer of words, copied if they are not contiguous or if its items are structs."""
+    if byteorder not in ("little", "big"):
+        raise ValueError(f"byteorder must be 'little' or 'big', not {byteorder!r}")
     view = memoryview(data)
-    if view.nbytes % _WORD_SIZE:
-        raise ValueError(f"words must be {_WORD_SIZE} bytes each, and {view.nbytes} is not a multiple of that")
+    if not _is_memory(view.format, byteorder):
+        what = f"bytes, or integers in the byte order {byteorder!r}"
+        raise ValueError(f"words must be {what}, not of format {view.format!r}; bytes(WORDS) has their bytes")
     try:
         return view.cast("B")
     except TypeError:
         return memoryview(view.tobytes())
 
 
-def _pieces(data: memoryview, byteorder: str) -> Iterator[Tuple[int, int, "array[int]"]]:
-    """Yields the words of a buffer in pieces: the position of the first, their number, and the halves, high first."""
-    if byteorder not in ("little", "big"):
-        raise ValueError(f"byteorder must be 'little' or 'big', not {byteorder!r}")
-    for start in range(0, data.nbytes // _WORD_SIZE, _PIECE):
-        halves = array("Q", data[start * _WORD_SIZE : (start + _PIECE) * _WORD_SIZE].tobytes())
-        if byteorder != sys.byteorder:
-            halves.byteswap()
-        if byteorder == "little":
-            halves[0::2], halves[1::2] = halves[1::2], halves[0::2]
-        yield start, len(halves) // 2, halves
+def _words_of(data: "ReadableBuffer", byteorder: str) -> memoryview:
+    """Returns the bytes of a buffer of words, 16 for each."""
+    memory = _memory_of(data, byteorder)
+    if memory.nbytes % _WORD_SIZE:
+        raise ValueError(f"words must be {_WORD_SIZE} bytes each, and {memory.nbytes} is not a multiple of that")
+    return memory
 
 
-def _words_in(halves: "array[int]") -> Any:
-    return (_Halves * (len(halves) // 2)).from_buffer(halves)
+def _pieces(memory: memoryview) -> Iterator[Tuple[int, int, bytes]]:
+    """Yields words in pieces: the position of the first, their number, and their bytes."""
+    for start in range(0, memory.nbytes // _WORD_SIZE, _PIECE):
+        piece = memory[start * _WORD_SIZE : (start + _PIECE) * _WORD_SIZE].tobytes()
+        yield start, len(piece) // _WORD_SIZE, piece
 
 
-def _decode_into(results: "array[int]", start: int, count: int, halves: "array[int]") -> None:
+def _decode_into(results: "array[int]", start: int, count: int, piece: bytes, big: bool) -> None:
     """Writes the bounds of a piece of words, as structs of the header, from a position on."""
     bounds = (_Bounds * count).from_buffer(results, start * ctypes.sizeof(_Bounds))
-    _calls["decode_many"](_words_in(halves), count, bounds, count)
+    _calls["decode_memory"](piece, count, big, bounds, count)
 
 
-def _is_canonical_into(results: bytearray, start: int, count: int, halves: "array[int]") -> None:
+def _is_canonical_into(results: bytearray, start: int, count: int, piece: bytes, big: bool) -> None:
     answers = (c_uint8 * count).from_buffer(results, start)
-    _calls["is_canonical_many"](_words_in(halves), count, answers, count)
+    _calls["is_canonical_memory"](piece, count, big, answers, count)
 
 
 def _empty_bounds(count: int) -> "array[int]":
@@ -845,27 +878,29 @@ def _filled(
     words: "ReadableBuffer",
     byteorder: ByteOrder,
     empty: Callable[[int], _Results],
-    fill: Callable[[_Results, int, int, "array[int]"], None],
+    fill: Callable[[_Results, int, int, bytes, bool], None],
 ) -> _Results:
     """Returns the results for the words of a buffer: those of `empty`, into which `fill` writes piece by piece."""
-    data = _bytes_of(words)
-    results = empty(data.nbytes // _WORD_SIZE)
-    for piece in _pieces(data, byteorder):
-        fill(results, *piece)
+    memory = _words_of(words, byteorder)
+    results = empty(memory.nbytes // _WORD_SIZE)
+    for start, count, piece in _pieces(memory):
+        fill(results, start, count, piece, byteorder == "big")
     return results
 
 
 def decode_many(words: "ReadableBuffer", byteorder: ByteOrder = "little") -> ManyBounds:
     """Returns the bounds of each word of a buffer, canonical or not.
 
-    Errors: ValueError for a buffer whose size is not a multiple of 16 bytes."""
+    Errors: ValueError for a buffer whose size is not a multiple of 16 bytes, or whose items are neither bytes nor
+    integers in that byte order."""
     return ManyBounds(_filled(words, byteorder, _empty_bounds, _decode_into))
 
 
 def is_canonical_many(words: "ReadableBuffer", byteorder: ByteOrder = "little") -> memoryview:
     """Returns whether each word of a buffer is canonical: a memoryview of bools, which numpy takes as a mask.
 
-    Errors: ValueError for a buffer whose size is not a multiple of 16 bytes."""
+    Errors: ValueError for a buffer whose size is not a multiple of 16 bytes, or whose items are neither bytes nor
+    integers in that byte order."""
     return memoryview(_filled(words, byteorder, bytearray, _is_canonical_into)).cast("?")
 
 
@@ -877,15 +912,16 @@ def represents_many(
     `addresses` is one address for all words, or a buffer of an unsigned 64-bit number for each, in the order of this
     machine, such as array("Q") or an array of numpy.uint64.
 
-    Errors: ValueError for a buffer whose size is not a multiple of 16 bytes, and for another number of addresses."""
-    data = _bytes_of(words)
-    count = data.nbytes // _WORD_SIZE
+    Errors: ValueError for a buffer whose size is not a multiple of 16 bytes, or whose items are neither bytes nor
+    integers in that byte order, and for another number of addresses."""
+    memory = _words_of(words, byteorder)
+    count = memory.nbytes // _WORD_SIZE
     given = _addresses_of(addresses, count)
     results = bytearray(count)
-    for start, size, halves in _pieces(data, byteorder):
+    for start, size, piece in _pieces(memory):
         at = (c_uint64 * size).from_buffer(given, start * ctypes.sizeof(c_uint64))
         answers = (c_uint8 * size).from_buffer(results, start)
-        _calls["represents_many"](_words_in(halves), size, at, size, answers, size)
+        _calls["represents_memory"](piece, size, byteorder == "big", at, size, answers, size)
     return memoryview(results).cast("?")
 
 
@@ -912,20 +948,26 @@ def find_holding(
     mask `perms`, which `mask_of` makes from names. Null, and every integer below 2**64, is a canonical word whose
     bounds contain each address, but it has no permission. The word at position N begins at byte 16 * N.
 
-    Errors: ValueError for a buffer whose size is not a multiple of 16 bytes."""
+    Errors: ValueError for a buffer whose size is not a multiple of 16 bytes, or whose items are neither bytes nor
+    integers in that byte order."""
     at, mask = _address(address), _halves(perms, 0xFFFF, "a mask")[1]
     bounds, canonical = _empty_bounds(_PIECE), bytearray(_PIECE)
     found: List[int] = []
-    for start, count, halves in _pieces(_bytes_of(words), byteorder):
-        _is_canonical_into(canonical, 0, count, halves)
-        likely = []
-        for i in compress(range(count), canonical):
-            held = halves[2 * i] >> 48
-            if held and held & mask == mask:
-                likely.append(i)
+    for start, count, piece in _pieces(_words_of(words, byteorder)):
+        _is_canonical_into(canonical, 0, count, piece, byteorder == "big")
+        held = _perms_in(piece, byteorder)
+        likely = [i for i in compress(range(count), canonical) if held[i] and held[i] & mask == mask]
         if likely:
-            _decode_into(bounds, 0, count, halves)
+            _decode_into(bounds, 0, count, piece, byteorder == "big")
         for i in likely:
             if bounds[4 * i] <= at and (bounds[4 * i + 1] or at < bounds[4 * i + 2]):
                 found.append(start + i)
     return found
+
+
+def _perms_in(piece: bytes, byteorder: str) -> "array[int]":
+    """Returns the permissions of each word of a piece: its highest 16 bits."""
+    perms = array("H", piece)[7 if byteorder == "little" else 0 :: 8]
+    if byteorder != sys.byteorder:
+        perms.byteswap()
+    return perms

@@ -110,6 +110,26 @@ static void check_word(const input *it)
     SAME(read.low, it->low);
 }
 
+/* Compares the batch functions on memory, of two words at an odd address, with the plain functions on one. */
+static void check_memory(const input *it)
+{
+    const cheri_cap_u128 words[2] = {{it->high, it->low}, {it->outer_high, it->outer_low}};
+    const uint64_t addresses[2] = {it->address, it->address};
+    const bool big_endian = it->length_low & 1;
+    uint8_t bytes[33], canonical[2], representable[2];
+    cheri_cap_bounds bounds[2];
+    for (int i = 0; i < 2; i++)
+        cheri_cap_word_to_bytes(words[i], bytes + 1 + 16 * i, big_endian);
+    SAME(cheri_cap_decode_memory(bytes + 1, 2, big_endian, bounds, 2), 2);
+    SAME(cheri_cap_is_canonical_memory(bytes + 1, 2, big_endian, canonical, 2), 2);
+    SAME(cheri_cap_represents_memory(bytes + 1, 2, big_endian, addresses, 2, representable, 2), 2);
+    for (int i = 0; i < 2; i++) {
+        same_bounds(bounds[i], plain_decode(words[i].high, words[i].low));
+        SAME(canonical[i], plain_is_canonical(words[i].high, words[i].low));
+        SAME(representable[i], plain_represents(words[i].high, words[i].low, it->address));
+    }
+}
+
 static void check_request(const input *it)
 {
     const cheri_cap_granted granted = cheri_cap_set_bounds(it->address, it->length_high, it->length_low);
@@ -173,6 +193,7 @@ int LLVMFuzzerTestOneInput(const uint8_t *data, size_t size)
     memcpy(&it, data, size < sizeof it ? size : sizeof it);
     shape(&it);
     check_word(&it);
+    check_memory(&it);
     check_request(&it);
     check_rules(&it);
     return 0;

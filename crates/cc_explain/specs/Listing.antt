@@ -41,7 +41,12 @@ bounds_lines_of fields bounds canonical =
 abbrev pub listing_of : (word : ℕ) (fields : Fields) (bounds : Span) (canonical : Bool) → List ℕ
 listing_of word fields bounds canonical = field_lines_of word fields ++ bounds_lines_of fields bounds canonical
 
+-- IsWordListing holds if the listing is that of the word, by its fields and the bounds that they
+-- decode to.
+abbrev pub IsWordListing : (word : ℕ) (listing : List ℕ) → Type 0
+IsWordListing = TellsWord listing_of
+
 -- IsListing holds if the listing is the output for a string: for a word its listing, and for any
 -- other string `error 1 syntax`.
 abbrev pub IsListing : (text listing : List ℕ) → Type 0
-IsListing = AnswersText (TellsWord listing_of)
+IsListing = AnswersText IsWordListing

@@ -19,7 +19,7 @@ pub use answers::{push_refusal, write_answer, write_refusal};
 pub use explained_request::push_explained_request;
 pub use explained_steps::{push_fields, push_mantissas, push_window_lines, push_word};
 pub use explaining::{explain_word, push_explained_word};
-pub use listing::show_word;
+pub use listing::{push_listing, show_word};
 pub use permissions::push_permissions;
 pub use picture::{CELLS, Rows, Stretch, push_picture, rows_of, shares_byte};
 pub use standing::{Standing, standing_of};

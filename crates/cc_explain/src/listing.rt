@@ -3,7 +3,7 @@ ghost use Rattle.std.specs.Prelude.{◌≡◌, ◌+◌, ◌≤◌, ◌++◌, ◌
 ghost use Rattle.cc_word.specs.Word.{bit_of, word_of};
 ghost use Rattle.cc_word.specs.WordText.{digits_of, hexadecimal};
 ghost use Rattle.cc_explain.specs.Answer.{WritesAnswer};
-ghost use Rattle.cc_explain.specs.Listing.{IsListing, IsWordText, bounds_lines_of, field_lines_of, line_of, listing_of};
+ghost use Rattle.cc_explain.specs.Listing.{IsListing, IsWordListing, IsWordText, bounds_lines_of, field_lines_of, line_of, listing_of};
 ghost use Rattle.cc_explain.specs.Permissions.{permissions_text};
 
 use crate::answers::{push_refusal, write_answer};
@@ -46,8 +46,7 @@ fn push_answer(answer: &mut Text, text: &[u8]) -> Summary
 {
     match read_word(text) {
         Some(word) => {
-            let fields = unpack(word);
-            push_listing(answer, word, &fields, &decode(&fields), is_canonical(word));
+            push_listing(answer, word);
             Summary { any_error: false }
         }
         None => {
@@ -57,8 +56,20 @@ fn push_answer(answer: &mut Text, text: &[u8]) -> Summary
     }
 }
 
+/// Puts the listing of a word into an empty text: the word, its eight fields, the exponent, base and
+/// top that they decode to, and whether the word is canonical.
+pub fn push_listing(text: &mut Text, word: u128)
+    requires { text.old ≡ [] }
+    ensures { IsWordListing word text.new }
+{
+    let fields = unpack(word);
+    let bounds = decode(&fields);
+    let canonical = is_canonical(word);
+    push_lines(text, word, &fields, &bounds, canonical);
+}
+
 /// Appends all thirteen lines of a word with these fields and bounds.
-fn push_listing(text: &mut Text, word: u128, fields: &Fields, bounds: &Span, canonical: bool)
+fn push_lines(text: &mut Text, word: u128, fields: &Fields, bounds: &Span, canonical: bool)
     requires { text.old ≡ [] }
     ensures { text.new ≡ listing_of word fields.now bounds.now canonical }
 {

@@ -7,3 +7,4 @@ pub mod Defects
 pub mod Measures
 pub mod Rules
 pub mod Many
+pub mod Memory

@@ -8,6 +8,7 @@ mod halves;
 mod lengths;
 mod many;
 mod measures;
+mod memory;
 mod rules;
 mod structs;
 mod text;

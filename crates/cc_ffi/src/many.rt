@@ -66,14 +66,14 @@ pub extern "C" fn cheri_cap_represents_many(
 }
 
 /// Returns the base, the top and the exponent of a word.
-fn decoded(word: Halves) -> Bounds
+pub(crate) fn decoded(word: Halves) -> Bounds
     ensures { OfFields (number_in word) (λ fields. AreDecoded fields result) }
 {
     cheri_cap_decode(word.high, word.low)
 }
 
 /// Returns 1 for a canonical word, and 0 for any other.
-fn canonical(word: Halves) -> u8
+pub(crate) fn canonical(word: Halves) -> u8
     ensures { IsOneIf (IsCanonical (number_in word)) result }
 {
     if cheri_cap_is_canonical(word.high, word.low) {
@@ -85,7 +85,7 @@ fn canonical(word: Halves) -> u8
 
 /// Returns 1 for a word that stores a sound span for which the address is representable, and 0 for
 /// any other.
-fn represented(word: Halves, address: u64) -> u8
+pub(crate) fn represented(word: Halves, address: u64) -> u8
     ensures { IsOneIfRepresentable (number_in word) address result }
 {
     if cheri_cap_represents(word.high, word.low, address) {

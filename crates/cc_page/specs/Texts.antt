@@ -1,5 +1,8 @@
 -- Texts at the start of a caller's bytes.
-use Rattle.std.specs.Prelude.{ℕ, ◌≤◌, ◌+◌, ◌*◌, ◌^◌, List, length, take}
+use Rattle.std.specs.Prelude.{ℕ, ◌≡◌, ◌≤◌, ◌+◌, ◌*◌, ◌^◌, List, length, take}
+use Rattle.cc_word.specs.Refusal.{code_of}
+use Rattle.cc_word.specs.declared.refusal.Refusal.{Refusal}
+use Rattle.cc_explain.specs.Answer.{IsRefusalLine}
 
 -- The number of two halves.
 abbrev pub number_of_halves : (high low : ℕ) → ℕ
@@ -9,3 +12,9 @@ number_of_halves high low = high * 2 ^ 64 + low
 pub record Holds (IsText : List ℕ → Type 0) (bytes : List ℕ) (count : ℕ) : Type 0 where
   pub fits : count ≤ length bytes
   pub is_text : IsText (take count bytes)
+
+-- IsLineOfCode holds if the line is that of a refusal with this code.
+pub record IsLineOfCode (code : ℕ) (line : List ℕ) : Type 0 where
+  pub refusal : Refusal
+  pub has_code : code_of refusal ≡ code
+  pub is_line : IsRefusalLine refusal line

@@ -1,18 +1,33 @@
-//! The explanation of a word and of a request, and the drawing of a window, written into the bytes
-//! of the caller.
+//! The listing and the explanation of a word, the drawing of its window, and the explanation of a
+//! request, written into the bytes of the caller.
 ghost use Rattle.std.specs.Prelude.{◌≡◌, ◌+◌, ◌≤◌, ◌^◌, [], drop, length, take};
 ghost use Rattle.cc_bounds.specs.Span.{span_from};
 ghost use Rattle.cc_explain.specs.Answer.{IsRefusalLine};
 ghost use Rattle.cc_explain.specs.Explanation.{IsWordExplanation};
+ghost use Rattle.cc_explain.specs.Listing.{IsWordListing};
 ghost use Rattle.cc_explain.specs.Request.{IsRequestExplanation};
 ghost use Rattle.cc_explain.specs.WindowDrawing.{IsWordDrawing};
 ghost use Rattle.cc_page.specs.Texts.{Holds, number_of_halves};
 ghost use Rattle.cc_word.specs.declared.refusal.Refusal.TheVariants.{OutOfBounds};
 
 use cc_bounds::{ADDRESS_SPACE, Span};
-use cc_explain::{push_explained_request, push_explained_word, push_refusal, push_window_drawing};
+use cc_explain::{
+    push_explained_request, push_explained_word, push_listing, push_refusal, push_window_drawing,
+};
 use cc_text::{ROOM, Text};
 use cc_word::Refusal;
+
+/// Writes the output of `show` for a word to the start of the bytes, and returns its length. The
+/// bytes after it do not change.
+#[unsafe(no_mangle)]
+pub extern "C" fn cheri_page_show(high: u64, low: u64, bytes: &mut [u8; ROOM]) -> usize
+    ensures text { Holds (IsWordListing (number_of_halves high low)) bytes.new result }
+    ensures rest { drop result bytes.new ≡ drop result bytes.old }
+{
+    let mut text = Text::new();
+    push_listing(&mut text, number(high, low));
+    put(&text, bytes)
+}
 
 /// Writes the output of `explain` for a word to the start of the bytes, and returns its length. The
 /// bytes after it do not change.
@@ -83,7 +98,7 @@ fn number(high: u64, low: u64) -> u128
 
 /// Copies a text to the start of the bytes, and returns its length. The bytes after it do not
 /// change.
-fn put(text: &Text, bytes: &mut [u8; ROOM]) -> usize
+pub(crate) fn put(text: &Text, bytes: &mut [u8; ROOM]) -> usize
     ensures length { result ≡ length text.now }
     ensures fits { result ≤ ROOM }
     ensures text { take result bytes.new ≡ text.now }

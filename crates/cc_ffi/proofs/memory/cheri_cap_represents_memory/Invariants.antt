@@ -1,0 +1,12 @@
+use Rattle.std.proofs.Common.{slice_index}
+use Rattle.std.specs.List.{SameFrom}
+use Rattle.cc_cap.specs.Many.{AnswersEach}
+use Rattle.cc_ffi.specs.Many.{IsOneIfRepresentable}
+use Rattle.cc_ffi.specs.Memory.{word_in_memory}
+use Rattle.cc_ffi.proofs.memory.cheri_cap_represents_memory.Given as goal
+
+abbrev pub invariant-loop-i : goal.invariant-loop-i
+invariant-loop-i l =
+    AnswersEach (λ i answer. IsOneIfRepresentable (word_in_memory l.big_endian l.memory i) (slice_index l.addresses i) answer)
+    l.answers l.i
+    × SameFrom l.initial.answers l.answers l.i

@@ -1,0 +1,88 @@
+//! Batch functions on words in memory: a result for each 16 bytes, at their position.
+//!
+//! A slice crosses as a pointer and a count, so each array has a separate count, and that of the
+//! memory is the number of words. If they differ, the smallest counts: that number of results is
+//! written, and returned.
+ghost use Rattle.std.specs.Prelude.{◌≡◌, length, min, slice_index};
+ghost use Rattle.std.specs.List.{SameFrom};
+ghost use Rattle.cc_cap.specs.Canonical.{IsCanonical};
+ghost use Rattle.cc_cap.specs.Many.{AnswersEach};
+ghost use Rattle.cc_ffi.specs.Numbers.{number_in};
+ghost use Rattle.cc_ffi.specs.Words.{OfFields};
+ghost use Rattle.cc_ffi.specs.Bounds.{AreDecoded};
+ghost use Rattle.cc_ffi.specs.Many.{IsOneIf, IsOneIfRepresentable};
+ghost use Rattle.cc_ffi.specs.Memory.{word_in_memory, word_of_bytes};
+
+use crate::halves::halves;
+use crate::many::{canonical, decoded, represented};
+use crate::structs::{Bounds, Halves};
+
+/// Writes the base, the top and the exponent of each word of memory, and returns the number of words
+/// for which it did.
+#[unsafe(no_mangle)]
+pub extern "C" fn cheri_cap_decode_memory(
+    memory: &[[u8; 16]],
+    big_endian: bool,
+    bounds: &mut [Bounds],
+) -> usize
+    ensures count { result ≡ min (length memory.now) (length bounds.old) }
+    ensures decoded { AnswersEach (λ i told. OfFields (word_in_memory big_endian memory.now i) (λ fields. AreDecoded fields told)) bounds.new result }
+    ensures rest { SameFrom bounds.old bounds.new result }
+{
+    let count = memory.len().min(bounds.len());
+    for i in 0..count {
+        bounds[i] = decoded(word_of(memory[i], big_endian));
+    }
+    count
+}
+
+/// Writes 1 for each canonical word of memory and 0 for each other, and returns the number of words
+/// for which it did.
+#[unsafe(no_mangle)]
+pub extern "C" fn cheri_cap_is_canonical_memory(
+    memory: &[[u8; 16]],
+    big_endian: bool,
+    answers: &mut [u8],
+) -> usize
+    ensures count { result ≡ min (length memory.now) (length answers.old) }
+    ensures told { AnswersEach (λ i answer. IsOneIf (IsCanonical (word_in_memory big_endian memory.now i)) answer) answers.new result }
+    ensures rest { SameFrom answers.old answers.new result }
+{
+    let count = memory.len().min(answers.len());
+    for i in 0..count {
+        answers[i] = canonical(word_of(memory[i], big_endian));
+    }
+    count
+}
+
+/// Writes 1 for each word of memory that stores its bounds as setting bounds stores them and for
+/// which the address at its position is representable, and 0 for each other. Returns the number of
+/// words for which it did.
+#[unsafe(no_mangle)]
+pub extern "C" fn cheri_cap_represents_memory(
+    memory: &[[u8; 16]],
+    big_endian: bool,
+    addresses: &[u64],
+    answers: &mut [u8],
+) -> usize
+    ensures count { result ≡ min (length memory.now) (min (length addresses.now) (length answers.old)) }
+    ensures told { AnswersEach (λ i answer. IsOneIfRepresentable (word_in_memory big_endian memory.now i) (slice_index addresses.now i) answer) answers.new result }
+    ensures rest { SameFrom answers.old answers.new result }
+{
+    let count = memory.len().min(addresses.len().min(answers.len()));
+    for i in 0..count {
+        answers[i] = represented(word_of(memory[i], big_endian), addresses[i]);
+    }
+    count
+}
+
+/// Returns the word of 16 bytes of memory.
+fn word_of(bytes: [u8; 16], big_endian: bool) -> Halves
+    ensures { number_in result ≡ word_of_bytes big_endian bytes }
+{
+    halves(if big_endian {
+        u128::from_be_bytes(bytes)
+    } else {
+        u128::from_le_bytes(bytes)
+    })
+}
