@@ -60,6 +60,7 @@ pub fn decode_words<R: Source, W: Sink>(
 ///
 /// Requires: neither the source nor the sink has failed.
 /// Errors: those of `decode_words`. If the source failed among the skipped bytes, nothing is written.
+#[tactic(auto, using(crate::proofs::SkipLemmas::lists_whole_after))]
 pub fn decode_words_after<R: Source, W: Sink>(
     count: u64,
     options: Options,
