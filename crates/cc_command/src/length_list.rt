@@ -58,7 +58,7 @@ impl Answerer<ROOM> for Rounder {
 ///
 /// The output for a line is that of [`show_round`](crate::show_round), and `error 3 long` for a
 /// line of more than 128 bytes. Bytes after the last line feed get `error 2 unfinished`, unless
-/// there are none. The source is read in chunks of up to 64 KiB. Before each read, the output for
+/// there are none. The source is read in chunks of up to 16 KiB. Before each read, the output for
 /// all earlier lines is written. The sink is flushed once, at the end. Allocates nothing.
 ///
 /// Requires: neither the source nor the sink has failed.
