@@ -1,6 +1,7 @@
 //! The output of `round` for a list: how setting bounds rounds each length of a list.
 ghost use Rattle.std.specs.Prelude.{◌≡◌, ◌↔◌, ◌≤◌, ◌+◌, length, false, true, Err, OnOk};
-ghost use Rattle.cc_command.specs.RoundList.{AnswersLength, RefusesRest, RoundsList};
+ghost use Rattle.cc_command.specs.RoundList.{RoundsList};
+ghost use Rattle.cc_command.specs.Rounder.{AnswersLength, RefusesRest};
 
 use cc_io::{Answerer, IoError, Lines, Page, Sink, Source, Summary, pump};
 use cc_ops::Reply;
