@@ -1,1 +1,2 @@
 mod HintLemmas
+mod RoundListLemmas

@@ -1,6 +1,7 @@
 -- In reading order.
 pub mod Rounding
 pub mod RoundList
+pub mod Rounder
 pub mod Request
 pub mod Statistics
 pub mod Hints

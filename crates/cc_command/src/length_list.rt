@@ -1,6 +1,7 @@
 //! The output of `round` for a list: how setting bounds rounds each length of a list.
 ghost use Rattle.std.specs.Prelude.{◌≡◌, ◌↔◌, ◌≤◌, ◌+◌, length, false, true, Err, OnOk};
-ghost use Rattle.cc_command.specs.RoundList.{AnswersLength, RefusesRest, RoundsList};
+ghost use Rattle.cc_command.specs.RoundList.{RoundsList};
+ghost use Rattle.cc_command.specs.Rounder.{AnswersLength, RefusesRest};
 
 use cc_io::{Answerer, IoError, Lines, Page, Sink, Source, Summary, pump};
 use cc_ops::Reply;
@@ -58,7 +59,7 @@ impl Answerer<ROOM> for Rounder {
 ///
 /// The output for a line is that of [`show_round`](crate::show_round), and `error 3 long` for a
 /// line of more than 128 bytes. Bytes after the last line feed get `error 2 unfinished`, unless
-/// there are none. The source is read in chunks of up to 64 KiB. Before each read, the output for
+/// there are none. The source is read in chunks of up to 16 KiB. Before each read, the output for
 /// all earlier lines is written. The sink is flushed once, at the end. Allocates nothing.
 ///
 /// Requires: neither the source nor the sink has failed.

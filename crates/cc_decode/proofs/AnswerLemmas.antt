@@ -14,10 +14,11 @@ use Rattle.cc_decode.specs.declared.decoder.Decoder.{Decoder}
 use Rattle.cc_decode.specs.declared.input.InputForm.{InputForm}
 use Rattle.cc_decode.specs.declared.input.InputForm.TheVariants.{Lines, Bytes}
 use Rattle.cc_decode.specs.declared.options.Options.{Options}
+use Rattle.cc_decode.proofs.EntryLemmas.{digits_short}
 
 -- a word has fewer bytes than a decoder sees
 word_short : (input : InputForm) (entry : List ℕ) → IsWordEntry input entry → length entry < 129
-word_short Lines entry word = omega (arith, word.0)
+word_short Lines entry word = omega (arith, word.0, digits_short entry)
 word_short (Bytes order) entry word = omega (arith, word)
 
 -- the first 129 bytes of an entry have the reply of the whole entry

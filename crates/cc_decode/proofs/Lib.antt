@@ -1,4 +1,5 @@
 mod DigitLemmas
+mod EntryLemmas
 mod AnswerLemmas
 mod ListLemmas
 mod SkipLemmas

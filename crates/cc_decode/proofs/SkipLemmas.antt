@@ -1,13 +1,13 @@
 -- Reading and dropping the first bytes of a source.
 use Rattle.std.proofs.Common.{◌≡◌, ℕ, ◌+◌, ◌-◌, ◌<◌, ◌≤◌, List, [], ◌∷◌, ◌++◌, length, drop, refl, sym, ◌∙◌, ap, subst, arith, append-nil, inl, inr, Option, Some, None, IfSome, Result}
 use Rattle.std.proofs.lemmas.List.{length-append}
-use Rattle.std.specs.Io.KnownBytes.{Consumes, IsAtEnd}
+use Rattle.std.specs.Io.KnownBytes.{Consumes, IsAtEnd, Keeps}
 use Rattle.std.proofs.KnownBytes.{Consumes-nil, Consumes-trans}
 use Rattle.std.proofs.Math.ListN.{drop_of_length-le}
 use Rattle.cc_io.specs.declared.summary.IoError.{IoError}
 use Rattle.cc_io.specs.declared.summary.Summary.{Summary}
 use Rattle.cc_decode.specs.Correct.{Lists, ListsWhole}
-use Rattle.cc_decode.specs.Skip.{Skips, ListsAfter, ListsWholeAfter}
+use Rattle.cc_decode.specs.Skip.{Skips, GivesFewer, ListsAfter, ListsWholeAfter}
 use Rattle.cc_decode.specs.declared.options.Options.{Options}
 use Rattle.cc_decode.proofs.ListLemmas.{lists_whole}
 
@@ -36,6 +36,19 @@ skips_fewer count rest a b c skipped given ended some = record {
   text = skipped.text;
   given = subst (λ (l : List ℕ). Consumes a c l) (append-nil skipped.text) (Consumes-trans a b c skipped.text [] skipped.given given);
   ends = inr (omega (arith, skipped.counted, some), ended);
+}
+
+-- a call that fails gives nothing
+consumes_kept : (a b : Option (List ℕ)) → Keeps a b → Consumes a b []
+consumes_kept None b kept = tt
+consumes_kept (Some xs) None kept = kept
+consumes_kept (Some xs) (Some ys) kept = sym kept
+
+pub gives_fewer : (count rest : ℕ) (a b c : Option (List ℕ)) → Skipping count rest a b → Keeps b c → 0 < rest → GivesFewer count a c
+gives_fewer count rest a b c skipped kept some = record {
+  text = skipped.text;
+  given = subst (λ (l : List ℕ). Consumes a c l) (append-nil skipped.text) (Consumes-trans a b c skipped.text [] skipped.given (consumes_kept b c kept));
+  fewer = omega (arith, skipped.counted, some);
 }
 
 -- ---- a source whose bytes are known

@@ -1,6 +1,7 @@
 -- The words of an input, and the bytes after the last of them.
-use Rattle.std.specs.Prelude.{◌≡◌, ℕ, List, [], length}
+use Rattle.std.specs.Prelude.{◌≡◌, ℕ, List, [], length, take, drop, codes, if◌then◌else◌}
 use Rattle.std.specs.Int.{w128, from_be_bytes, from_le_bytes}
+use Rattle.std.specs.Str.{bytes_eq}
 use Rattle.std.specs.Str.Parse.{digits_value}
 use Rattle.cc_word.specs.WordText.{IsWordText}
 use Rattle.cc_io.specs.Frames.{Frame, lines, blocks}
@@ -22,10 +23,14 @@ entries_of input text = (frame_of input).entries [] text
 abbrev pub left_of : InputForm → List ℕ → List ℕ
 left_of input text = (frame_of input).left [] text
 
--- IsWordEntry holds if the entry is a word: a line of 32 hexadecimal digits, or any block of
--- sixteen bytes.
+-- The digits of a line: the bytes after `0x` if it begins with `0x`, and otherwise all of them.
+abbrev pub digits_in : (line : List ℕ) → List ℕ
+digits_in line = if bytes_eq (take 2 line) (codes "0x") then drop 2 line else line
+
+-- IsWordEntry holds if the entry is a word: a line of 32 hexadecimal digits, with or without `0x`
+-- before them, or any block of sixteen bytes.
 abbrev pub IsWordEntry : InputForm → (entry : List ℕ) → Type 0
-IsWordEntry Lines line = IsWordText line
+IsWordEntry Lines line = IsWordText (digits_in line)
 IsWordEntry (Bytes order) block = length block ≡ 16
 
 -- The number that sixteen bytes are in a byte order.
@@ -35,5 +40,5 @@ block_value Big block = from_be_bytes w128 block
 
 -- The word of an entry that is one.
 abbrev pub word_of_entry : InputForm → (entry : List ℕ) → ℕ
-word_of_entry Lines line = digits_value 16 line
+word_of_entry Lines line = digits_value 16 (digits_in line)
 word_of_entry (Bytes order) block = block_value order block

@@ -12,7 +12,7 @@ use cc_io::{IoError, Sink, Source, Summary, pump};
 ///
 /// A word is 32 hexadecimal digits of either case, or two halves of 16 with `_` or `:` between,
 /// with or without `0x` before. No letter, digit or underscore comes right before or right after.
-/// Lines may have any length, and bytes any value. The source is read in chunks of up to 64 KiB.
+/// Lines may have any length, and bytes any value. The source is read in chunks of up to 16 KiB.
 /// Before each read, all of the text is written, except word characters at its end, of which at
 /// most 63 are kept. The sink is flushed once, at the end. Allocates nothing.
 ///

@@ -134,7 +134,7 @@ fn without_prefix(run: &[u8], most: usize) -> &[u8]
 }
 
 /// Returns the bytes of a text after its first bytes, if these are `start`.
-fn after<'a>(start: &[u8], text: &'a [u8]) -> Option<&'a [u8]>
+pub(crate) fn after<'a>(start: &[u8], text: &'a [u8]) -> Option<&'a [u8]>
     ensures found { IfSome result (λ rest. text.now ≡ start.now ++ rest.now) }
     ensures none { IfNone result ((rest : List ℕ) → text.now ≢ start.now ++ rest) }
 {

@@ -21,10 +21,11 @@ use cc_io::{Answerer, Blocks, Failed, IoError, Lines, Sink, Source, Summary, pum
 ///
 /// The reply to a word is its row in the format, with its address in front if the options have the
 /// address of the first entry. In a search, only the words that it finds get a reply. The reply to a
-/// line that is not 32 hexadecimal digits is `error 1 syntax`, or nothing in a search; it is an error
-/// in both cases. Bytes after the last entry get the reply `error 2 unfinished`, unless there are
-/// none. The source is read in chunks of up to 16 KiB. Before each read, all
-/// replies to earlier entries are written. The sink is flushed once, at the end. Allocates nothing.
+/// line that is not 32 hexadecimal digits, with or without `0x` before them, is `error 1 syntax`, or
+/// nothing in a search; it is an error in both cases. Bytes after the last entry get the reply
+/// `error 2 unfinished`, unless there are none. The source is read in chunks of up to 16 KiB. Before
+/// each read, all replies to earlier entries are written. The sink is flushed once, at the end.
+/// Allocates nothing.
 ///
 /// Requires: neither the source nor the sink has failed.
 /// Errors: `Read` if and only if the source failed. The header and the replies to all entries
@@ -60,6 +61,7 @@ pub fn decode_words<R: Source, W: Sink>(
 ///
 /// Requires: neither the source nor the sink has failed.
 /// Errors: those of `decode_words`. If the source failed among the skipped bytes, nothing is written.
+#[tactic(auto, using(crate::proofs::SkipLemmas::lists_whole_after))]
 pub fn decode_words_after<R: Source, W: Sink>(
     count: u64,
     options: Options,

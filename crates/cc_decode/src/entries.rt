@@ -1,21 +1,48 @@
 //! The word of an entry.
 ghost use Rattle.std.specs.Prelude.{◌≡◌, ◌↔◌, length, IfSome, IsSome};
-ghost use Rattle.cc_decode.specs.Input.{IsWordEntry, block_value, word_of_entry};
+ghost use Rattle.std.specs.Str.Parse.{digits_value};
+ghost use Rattle.cc_word.specs.WordText.{IsWordText};
+ghost use Rattle.cc_decode.specs.Input.{IsWordEntry, block_value, digits_in, word_of_entry};
 
+use crate::annotator::after;
 use crate::input::{ByteOrder, InputForm};
 use cc_word::read_word_fast;
 
 /// The length of a word in bytes.
 const BLOCK: usize = 16;
 
-/// Returns the word of an entry, or `None` for a line that is not 32 hexadecimal digits.
+/// Returns the word of an entry, or `None` for a line that is not 32 hexadecimal digits, with or
+/// without `0x` before them.
 pub(crate) fn read_entry(input: InputForm, entry: &[u8]) -> Option<u128>
     ensures found { IsSome result ↔ IsWordEntry input entry.now }
     ensures value { IfSome result (λ word. word ≡ word_of_entry input entry.now) }
 {
     match input {
-        InputForm::Lines => read_word_fast(entry),
+        InputForm::Lines => read_line(entry),
         InputForm::Bytes(order) => read_block(order, entry),
+    }
+}
+
+/// Returns the word of 32 hexadecimal digits, with or without `0x` before them.
+// most words have no prefix, so a line is first read as it is
+#[inline(always)]
+fn read_line(line: &[u8]) -> Option<u128>
+    ensures found { IsSome result ↔ IsWordText (digits_in line.now) }
+    ensures value { IfSome result (λ word. word ≡ digits_value 16 (digits_in line.now)) }
+{
+    match read_word_fast(line) {
+        Some(word) => Some(word),
+        None => read_word_fast(digits_in(line)),
+    }
+}
+
+/// Returns the bytes of a line after `0x`, or all of them if it does not begin with `0x`.
+fn digits_in(line: &[u8]) -> &[u8]
+    ensures { result.now ≡ digits_in line.now }
+{
+    match after(b"0x", line) {
+        Some(digits) => digits,
+        None => line,
     }
 }
 

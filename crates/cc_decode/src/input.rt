@@ -13,7 +13,8 @@ pub enum ByteOrder {
 /// The form of words in the input.
 #[derive(Clone, Copy, Debug, PartialEq, Eq)]
 pub enum InputForm {
-    /// One word on a line, as 32 hexadecimal digits of either case.
+    /// One word on a line, as 32 hexadecimal digits of either case, with or without `0x` before
+    /// them.
     Lines,
     /// One word after the other, as sixteen bytes each, with nothing between.
     Bytes(ByteOrder),

@@ -1,6 +1,6 @@
 //! Bytes of a source that are read and dropped.
-ghost use Rattle.std.specs.Prelude.{◌≡◌, ◌↔◌, true, false, IsErr, OnOk};
-ghost use Rattle.cc_decode.specs.Skip.{Skips};
+ghost use Rattle.std.specs.Prelude.{◌≡◌, ◌↔◌, true, false, IsErr, OnErr, OnOk};
+ghost use Rattle.cc_decode.specs.Skip.{GivesFewer, Skips};
 
 use cc_io::{Failed, Source};
 
@@ -10,10 +10,11 @@ const PIECE: usize = 65536;
 /// Reads and drops `count` bytes of a source, or all if there are fewer.
 ///
 /// Requires: the source has not failed.
-/// Errors: `Failed` if and only if the source failed.
+/// Errors: `Failed` if and only if the source failed. It has then given fewer than `count` bytes.
 pub(crate) fn skip<R: Source>(count: u64, source: &mut R) -> Result<(), Failed>
     requires { R.has_failed source.old ≡ false }
     ensures skips { OnOk result (Skips count (R.to_come source.old) (R.to_come source.new)) }
+    ensures fewer { OnErr result (GivesFewer count (R.to_come source.old) (R.to_come source.new)) }
     ensures fails { IsErr result ↔ (R.has_failed source.new ≡ true) }
 {
     if count == 0 {
@@ -28,6 +29,7 @@ pub(crate) fn skip<R: Source>(count: u64, source: &mut R) -> Result<(), Failed>
 fn skip_some<R: Source>(count: u64, source: &mut R) -> Result<(), Failed>
     requires { R.has_failed source.old ≡ false }
     ensures skips { OnOk result (Skips count (R.to_come source.old) (R.to_come source.new)) }
+    ensures fewer { OnErr result (GivesFewer count (R.to_come source.old) (R.to_come source.new)) }
     ensures fails { IsErr result ↔ (R.has_failed source.new ≡ true) }
 {
     let mut piece = [0u8; PIECE];

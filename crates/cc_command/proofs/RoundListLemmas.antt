@@ -1,0 +1,139 @@
+-- The bytes written for a list of lengths, from the contract of the pump.
+use Rattle.std.proofs.Common.{◌≡◌, ℕ, ◌≤◌, Bool, List, [], ◌∷◌, ◌++◌, length, take, refl, sym, ◌∙◌, ap, subst, arith, not, ◌==◌, ◌||◌, length-take, inl, inr, Option, Result, Ok, Err}
+use Rattle.std.specs.List.{list_any}
+use Rattle.std.specs.Io.KnownBytes.{Appends}
+use Rattle.std.proofs.lemmas.Bool.{cases_lt}
+use Rattle.std.proofs.lemmas.List.{take_all}
+use Rattle.std.proofs.Math.Dec.{eqb-suc-zero}
+use Rattle.cc_text.specs.Text.{rest_text}
+use Rattle.cc_io.specs.Answers.{Answer, AnswersAll, EndsWith, answers_text, seen}
+use Rattle.cc_io.specs.Correct.{Pumps, PumpsText, WritesOutput, StopsOnPage as StopsPage, StopsAfterAnswers as StopsAfter}
+use Rattle.cc_io.specs.Frames.{lines}
+use Rattle.cc_io.specs.Lines.{lines_of, rest_of}
+use Rattle.cc_io.specs.declared.summary.IoError.{IoError}
+use Rattle.cc_io.specs.declared.summary.IoError.TheVariants.{Read, Write}
+use Rattle.cc_io.specs.declared.summary.Summary.{Summary}
+use Rattle.cc_command.specs.RoundList.{IsLengthAnswer, AreLengthAnswers, WritesRoundings, StopsOnPage, StopsAfterAnswers, RoundsText, RoundsList}
+use Rattle.cc_command.specs.Rounder.{AnswersLength, RefusesRest}
+use Rattle.cc_command.specs.declared.length_list.Rounder.{Rounder}
+
+-- ---- lines and what a rounder sees of them
+
+-- the first 129 bytes of a line have the reply of the whole line
+start_enough : (line : List ℕ) (answer : Answer) → IsLengthAnswer (take 129 line) answer → IsLengthAnswer line answer
+start_enough line answer is = elim (cases_lt (length line) 129) [
+  | inl short ↦ subst (λ (l : List ℕ). IsLengthAnswer l answer) (take_all 129 line (omega arith)) is
+  | inr long ↦
+      let cut : length (take 129 line) ≡ 129 = omega (arith, length-take 129 line) in
+      record {
+        short = λ small. absurd (omega (arith, small, long));
+        long = λ large. is.long (omega (arith, cut));
+        error_is = (λ error. inr (omega (arith, long)), λ error. is.error_is.1 (inr (omega (arith, cut))));
+      }
+]
+
+answers_are : (old new : Rounder) (each : List (List ℕ)) (answers : List Answer) → AnswersAll AnswersLength old (seen each) answers new
+    → AreLengthAnswers each answers
+answers_are old new [] [] t = tt
+answers_are old new (line ∷ each) (answer ∷ answers) t = (start_enough line answer t.1, answers_are t.0 new each answers t.2)
+answers_are old new [] (answer ∷ answers) t = absurd t
+answers_are old new (line ∷ each) [] t = absurd t
+
+-- the lines whose first bytes are in two parts
+record Parts (whole first_seen second_seen : List (List ℕ)) : Type 0 where
+  first : List (List ℕ)
+  second : List (List ℕ)
+  whole_is : whole ≡ first ++ second
+  first_is : seen first ≡ first_seen
+  second_is : seen second ≡ second_seen
+
+seen_parts : (each xs ys : List (List ℕ)) → seen each ≡ xs ++ ys → Parts each xs ys
+seen_parts each [] ys h = record { first = []; second = each; whole_is = refl; first_is = refl; second_is = h }
+seen_parts [] (x ∷ xs) ys h = cc h
+seen_parts (line ∷ each) (x ∷ xs) ys h =
+    let p = seen_parts each xs ys (cc h) in
+    record {
+      first = line ∷ p.first;
+      second = p.second;
+      whole_is = ap (λ (l : List (List ℕ)). line ∷ l) p.whole_is;
+      first_is = let head : take 129 line ≡ x = cc h in rw (head, p.first_is) refl;
+      second_is = p.second_is;
+    }
+
+-- ---- trailing bytes
+
+rest_refused : (old new : Rounder) (rest : List ℕ) (ending : Answer) → EndsWith RefusesRest old (take 129 rest) ending new → ending.text ≡ rest_text rest
+rest_refused old new [] ending e = e.0
+rest_refused old new (byte ∷ rest) ending e = e.0
+
+rest_is_error : (old new : Rounder) (rest : List ℕ) (ending : Answer) → EndsWith RefusesRest old (take 129 rest) ending new
+    → ending.is_error ≡ not (length rest == 0)
+rest_is_error old new [] ending e = e.1
+rest_is_error old new (byte ∷ rest) ending e = e.1 ∙ sym (ap not (eqb-suc-zero (length rest)))
+
+-- ---- the cases of the pump
+
+writes_roundings : (old new : Rounder) (text : List ℕ) (t u : Option (List ℕ)) (error : Bool)
+    → WritesOutput AnswersLength RefusesRest lines old [] text t u error new → WritesRoundings text t u error
+writes_roundings old new text t u error w =
+    let o = w.of_text in
+    let rest : List ℕ = rest_of text in
+    record {
+      answers = o.answers;
+      are_answers = answers_are old o.mid (lines_of text) o.answers o.takes;
+      written = subst (λ (l : List ℕ). Appends t u l)
+          (o.output_is ∙ ap (λ (l : List ℕ). answers_text o.answers ++ l) (rest_refused o.mid new rest o.ending o.ends)) w.written;
+      error_is = o.error_is ∙ ap (λ (b : Bool). list_any (λ (answer : Answer). answer.is_error) o.answers || b) (rest_is_error o.mid new rest o.ending o.ends);
+    }
+
+stops_on_page : (old new : Rounder) (each : List (List ℕ)) (t u : Option (List ℕ)) → StopsPage AnswersLength 32768 200 old [] (seen each) t u new
+    → StopsOnPage each t u
+stops_on_page old new each t u s =
+    let p = seen_parts each (s.earlier ++ s.on_page) s.later s.entries_are in
+    let q = seen_parts p.first s.earlier s.on_page p.first_is in
+    record {
+      earlier = q.first;
+      on_page = q.second;
+      later = p.second;
+      lines_are = p.whole_is ∙ ap (λ (l : List (List ℕ)). l ++ p.second) q.whole_is;
+      before = s.before;
+      are_before = answers_are old s.mid q.first s.before (subst (λ (l : List (List ℕ)). AnswersAll AnswersLength old l s.before s.mid) (sym q.first_is) s.first);
+      page = s.page;
+      are_page = answers_are s.mid new q.second s.page (subst (λ (l : List (List ℕ)). AnswersAll AnswersLength s.mid l s.page new) (sym q.second_is) s.takes);
+      fits = s.fits;
+      count = s.count;
+      within = s.within;
+      written = s.written;
+    }
+
+stops_after : (old new : Rounder) (text : List ℕ) (t u : Option (List ℕ)) → StopsAfter AnswersLength RefusesRest lines old [] text t u new
+    → StopsAfterAnswers text t u
+stops_after old new text t u s =
+    let same = rest_refused s.mid new (rest_of text) s.ending s.ends in
+    record {
+      answers = s.answers;
+      are_answers = answers_are old s.mid (lines_of text) s.answers s.takes;
+      count = s.count;
+      within = subst (λ (l : List ℕ). s.count ≤ length l) same s.within;
+      written = subst (λ (l : List ℕ). Appends t u (answers_text s.answers ++ take s.count l)) same s.written;
+    }
+
+rounds_text : (old new : Rounder) (text : List ℕ) (j t u : Option (List ℕ)) (result : Result Summary IoError)
+    → PumpsText AnswersLength RefusesRest lines 32768 200 old [] text j t u result new → RoundsText text j t u result
+rounds_text old new text j t u (Ok summary) p = (p.0, writes_roundings old new text t u summary.any_error p.1)
+rounds_text old new text j t u (Err Read) p =
+    record { answers = p.answers; are_answers = answers_are old new (lines_of text) p.answers p.takes; written = p.written }
+rounds_text old new text j t u (Err Write) p = elim p [
+  | inl s ↦ absurd (omega (arith, s.1.some))
+  | inr s ↦ elim s [
+    | inl page ↦ inl (stops_on_page old new (lines_of text) t u page)
+    | inr after ↦ inr (after.0, stops_after old new text t u after.1)
+  ]
+]
+
+-- what the pump promises of a rounder is what `round_list` promises
+pub rounds_pumped : (old new : Rounder) (pending : List ℕ) (c j t u : Option (List ℕ)) (result : Result Summary IoError) → pending ≡ []
+    → Pumps AnswersLength RefusesRest lines 32768 200 old pending c j t u result new → RoundsList c j t u result
+rounds_pumped old new pending c j t u result none p =
+    let q = subst (λ (l : List ℕ). Pumps AnswersLength RefusesRest lines 32768 200 old l c j t u result new) none p in
+    record { text = q.text; given = q.given; rounds = rounds_text old new q.text j t u result q.pumps }

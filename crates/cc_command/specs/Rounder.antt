@@ -1,0 +1,15 @@
+-- The replies of a rounder. No public clause cites this file.
+use Rattle.std.specs.Prelude.{◌≡◌, true}
+use Rattle.cc_word.specs.declared.refusal.Refusal.TheVariants.{Unfinished}
+use Rattle.cc_explain.specs.Answer.{IsRefusalLine}
+use Rattle.cc_io.specs.Answers.{Relation}
+use Rattle.cc_command.specs.RoundList.{IsLengthAnswer}
+use Rattle.cc_command.specs.declared.length_list.Rounder.{Rounder}
+
+-- AnswersLength holds if `text` is the output for the line.
+abbrev pub AnswersLength : Relation Rounder
+AnswersLength old line text is_error new = IsLengthAnswer line (record { text = text; is_error = is_error })
+
+-- RefusesRest holds if `text` is `error 2 unfinished`, the output for bytes without a line feed.
+abbrev pub RefusesRest : Relation Rounder
+RefusesRest old rest text is_error new = IsRefusalLine Unfinished text × (is_error ≡ true)
