@@ -1,4 +1,3 @@
 mod OutcomeLemmas
 mod ReportLemmas
-mod ListingLemmas
 mod ExecutionLemmas

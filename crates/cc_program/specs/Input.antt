@@ -1,24 +1,10 @@
--- The input that a command reads.
-use Rattle.std.specs.Prelude.{IsOk, Option, Some, None, codes, if◌then◌else◌, ⊤}
-use Rattle.std.specs.Borrow.{Bor}
-use Rattle.std.specs.Str.{bytes_eq}
-use Rattle.clap.specs.Words.{Text}
+-- The files that a command reads, the machine that it creates, and whether it writes to standard error.
+use Rattle.std.specs.Prelude.{IsOk, ⊤}
 use Rattle.cc_syntax.specs.Planning.{pool_of}
 use Rattle.cc_arguments.specs.declared.invocation.Invocation.{Invocation}
 use Rattle.cc_arguments.specs.declared.invocation.Invocation.TheVariants.{Annotate, Ask, Decode, Map, Plan, RoundList, Run}
-use Rattle.cc_program.specs.Listing.{listing_in}
-use Rattle.cc_program.specs.declared.input.InputName.{InputName}
-use Rattle.cc_program.specs.declared.input.InputName.TheVariants.{Standard, File}
-
--- The input that FILE names: standard input for `-`, and if FILE is not given.
-abbrev pub file_input : Option (Bor Text) → InputName
-file_input None = Standard
-file_input (Some path) = if bytes_eq path.now (codes "-") then Standard else File path
-
--- IsFile holds if the input is a file.
-abbrev pub IsFile : InputName → Type 0
-IsFile Standard = ⊥
-IsFile (File path) = ⊤
+use Rattle.cc_tasks.specs.Input.{IsFile, file_input}
+use Rattle.cc_tasks.specs.Listing.{listing_in}
 
 -- ReadsFile holds if the command reads a file: FILE names one, BASE and LENGTH of `plan` and `map` are those of a pool, and the
 -- numbers and names of `decode` are such.

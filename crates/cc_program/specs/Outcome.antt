@@ -4,18 +4,11 @@ use Rattle.clap.specs.Words.{IsAmong, Kinds}
 use Rattle.clap.specs.declared.error.kind.ErrorKind.{ErrorKind}
 use Rattle.clap.specs.declared.error.kind.ErrorKind.TheVariants.{DisplayHelp, DisplayVersion, OutOfMemory}
 use Rattle.cc_word.specs.Word.{bit_of}
-use Rattle.cc_io.specs.declared.summary.IoError.{IoError}
 use Rattle.cc_program.specs.declared.outcome.Ending.{Ending}
 use Rattle.cc_program.specs.declared.outcome.Ending.TheVariants.{Answered, Refused, Stopped}
-use Rattle.cc_program.specs.declared.outcome.Fault.{Fault}
-use Rattle.cc_program.specs.declared.outcome.Fault.TheVariants as fault
-use Rattle.cc_io.specs.declared.summary.IoError.TheVariants.{Read, Write}
+use Rattle.cc_tasks.specs.declared.fault.Fault.{Fault}
+use Rattle.cc_tasks.specs.declared.fault.Fault.TheVariants as fault
 use Rattle.cc_io.specs.declared.summary.Summary.{Summary}
-
--- The error of the program if a source or a sink failed.
-abbrev pub fault_of : IoError → Fault
-fault_of Read = fault.Read
-fault_of Write = fault.Write
 
 -- The end of a program whose command had this result.
 abbrev pub ending_of : Result Summary Fault → Ending

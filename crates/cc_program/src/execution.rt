@@ -1,31 +1,29 @@
 //! Executes a command on given devices.
-ghost use Rattle.std.specs.Prelude.{◌≡◌, ◌≢◌, ◌≤◌, ◌*◌, ◌↔◌, ℕ, Bool, [], false, length, true, Err, IfOk, Option, List, OnErr, OnOk};
+ghost use Rattle.std.specs.Prelude.{◌≡◌, ◌≢◌, ◌≤◌, ◌*◌, ◌↔◌, [], false, length, true, Err, IfOk, IsOk, None, Option, List, OnErr, OnOk};
 ghost use Rattle.clap.specs.Words.{Row, Text};
 ghost use Rattle.cc_machine.specs.State.{initial_state};
+ghost use Rattle.cc_syntax.specs.Planning.{pool_of};
 ghost use Rattle.cc_syntax.specs.Tally.{IsTally};
 ghost use Rattle.cc_arguments.specs.Invocation.{IsInvocation};
-ghost use Rattle.cc_program.specs.Execution.{AnnotatesWords, DrawsRun, Executes, FromInput, ListsWords, OnDevices, ReportsRun, RoundsLengths, Traffic};
-ghost use Rattle.cc_program.specs.Input.{IsFile, IsReported, ReadsFile, RunsMachine};
+ghost use Rattle.cc_tasks.specs.Devices.{FromInput, OnDevices, OnOutput, Traffic};
+ghost use Rattle.cc_tasks.specs.Input.{IsFile, file_input};
+ghost use Rattle.cc_program.specs.Execution.{DrawsRun, Executes, MapsFile, PlansFile, ReportsRun};
+ghost use Rattle.cc_program.specs.Input.{IsReported, ReadsFile, RunsMachine};
 
-use crate::discard::Discard;
-use crate::input::{InputName, Inputs, file_input};
-use crate::listing::listing_of;
-use crate::outcome::Fault;
-use crate::questions::answer_question;
 use crate::report::{Report, Terminals, write_report};
-use cc_arguments::Invocation;
-use cc_command::{round_list, show_statistics, write_refusal};
-use cc_decode::{Options, annotate, decode_words_after};
+use cc_arguments::{Invocation, PoolTexts};
+use cc_bounds::Align;
+use cc_command::{show_statistics, write_refusal};
 use cc_draw::{show_drawing, show_map, usage_of};
 use cc_io::{FromReader, Sink, Source, Summary};
 use cc_machine::{Len, Machine, Op};
 use cc_script::{Session, run_session};
 use cc_syntax::{plan_numbers, plan_opening};
+use cc_tasks::{
+    Discard, Fault, InputName, Inputs, annotate_file, ask, decode_file, file_input, round_lengths,
+};
 use cc_text::Waiting;
 use std::alloc::{AllocError, Global};
-
-/// The limit of the input of `decode`, of `annotate` and of `round -` in bytes, more than any file or pipe gives.
-const MOST_DECODED: usize = 1 << 62;
 
 /// Executes a command: reads its input, writes its output to `sink`, and reports a run on `errors`.
 ///
@@ -66,20 +64,10 @@ pub fn execute<R: AllocGlobal, I: Inputs, W: Sink, E: Sink>(
     ensures starved { ¬ IsReported invocation.entry → result ≡ Err Fault.Memory → W.taken_bytes sink.new ≡ W.taken_bytes sink.old }
 {
     match invocation {
-        Invocation::Ask(question) => Ok(answer_question(question, sink)?),
+        Invocation::Ask(question) => ask(question, sink),
         Invocation::Run { limit, stats, file } => {
             let report = Report::new(stats, terminals);
-            run(
-                rt,
-                limit,
-                &[],
-                None,
-                inputs,
-                file_input(file),
-                report,
-                sink,
-                errors,
-            )
+            execute_run(rt, limit, report, inputs, file, sink, errors)
         }
         Invocation::Plan {
             limit,
@@ -87,48 +75,142 @@ pub fn execute<R: AllocGlobal, I: Inputs, W: Sink, E: Sink>(
             align,
             stats,
             file,
-        } => match plan_numbers(pool.base.as_bytes(), pool.length.as_bytes()) {
-            Ok((base, length)) => {
-                let opening = plan_opening(base, length, align);
-                let report = Report::new(stats, terminals);
-                run(
-                    rt,
-                    limit,
-                    &opening,
-                    Some(length),
-                    inputs,
-                    file_input(file),
-                    report,
-                    sink,
-                    errors,
-                )
-            }
-            Err(refusal) => Ok(write_refusal(refusal, sink)?),
-        },
+        } => {
+            let report = Report::new(stats, terminals);
+            execute_plan(rt, limit, pool, align, report, inputs, file, sink, errors)
+        }
         Invocation::Map {
             limit,
             pool,
             align,
             svg,
             file,
-        } => match plan_numbers(pool.base.as_bytes(), pool.length.as_bytes()) {
-            Ok((base, length)) => {
-                let opening = plan_opening(base, length, align);
-                draw(rt, limit, &opening, svg, inputs, file_input(file), sink)
-            }
-            Err(refusal) => Ok(write_refusal(refusal, sink)?),
-        },
+        } => execute_map(rt, limit, pool, align, svg, inputs, file, sink),
         Invocation::Decode {
             input,
             format,
             texts,
             file,
-        } => match listing_of(input, format, texts) {
-            Ok((skipped, options)) => list_words(skipped, options, inputs, file_input(file), sink),
-            Err(refusal) => Ok(write_refusal(refusal, sink)?),
-        },
-        Invocation::Annotate { file } => annotate_words(inputs, file_input(file), sink),
-        Invocation::RoundList => round_lengths(inputs, InputName::Standard, sink),
+        } => decode_file(input, format, texts, inputs, file, sink),
+        Invocation::Annotate { file } => annotate_file(inputs, file, sink),
+        Invocation::RoundList => round_lengths(inputs, sink),
+    }
+}
+
+/// Runs the script that FILE names on a new machine, and reports the run.
+fn execute_run<R: AllocGlobal, I: Inputs, W: Sink, E: Sink>(
+    rt: &R,
+    limit: u32,
+    report: Report,
+    inputs: &I,
+    file: Option<&str>,
+    sink: &mut W,
+    errors: &mut E,
+) -> Result<Summary, Fault>
+    requires from_one { 1 ≤ limit }
+    requires at_most { limit ≤ 65536 }
+    requires sink { W.has_failed sink.old ≡ false }
+    requires errors { E.has_failed errors.old ≡ false }
+    ensures executes { OnDevices (FromInput (file_input file.entry) (record {
+      input = I.bytes_of inputs.now;
+      output = W.taken_bytes sink.old;
+      output_now = W.taken_bytes sink.new;
+      errors = E.taken_bytes errors.old;
+      errors_now = E.taken_bytes errors.new;
+      errors_failed = E.has_failed errors.new;
+    }) (ReportsRun report [] None (initial_state limit))) result }
+    ensures open { result ≡ Err Fault.Open → IsFile (file_input file.entry) }
+    ensures untouched { result ≡ Err Fault.Open → W.taken_bytes sink.new ≡ W.taken_bytes sink.old }
+    ensures write { (result ≡ Err Fault.Write) ↔ (W.has_failed sink.new ≡ true) }
+    ensures flushed { OnOk result (W.is_flushed sink.new ≡ true) }
+    ensures unreported { OnErr result (E.taken_bytes errors.new ≡ E.taken_bytes errors.old) }
+{
+    let input = file_input(file);
+    run(rt, limit, &[], None, inputs, input, report, sink, errors)
+}
+
+/// Runs the script that FILE names on a new machine with a pool, and reports the run. If BASE or LENGTH is refused, the
+/// output is that refusal.
+fn execute_plan<R: AllocGlobal, I: Inputs, W: Sink, E: Sink>(
+    rt: &R,
+    limit: u32,
+    pool: PoolTexts<'_>,
+    align: Align,
+    report: Report,
+    inputs: &I,
+    file: Option<&str>,
+    sink: &mut W,
+    errors: &mut E,
+) -> Result<Summary, Fault>
+    requires from_one { 1 ≤ limit }
+    requires at_most { limit ≤ 65536 }
+    requires sink { W.has_failed sink.old ≡ false }
+    requires errors { E.has_failed errors.old ≡ false }
+    ensures executes { OnDevices (PlansFile report limit pool.entry align file.entry (record {
+      input = I.bytes_of inputs.now;
+      output = W.taken_bytes sink.old;
+      output_now = W.taken_bytes sink.new;
+      errors = E.taken_bytes errors.old;
+      errors_now = E.taken_bytes errors.new;
+      errors_failed = E.has_failed errors.new;
+    })) result }
+    ensures memory { result ≡ Err Fault.Memory → IsOk (pool_of pool.entry.base.now pool.entry.length.now) }
+    ensures open { result ≡ Err Fault.Open → IsOk (pool_of pool.entry.base.now pool.entry.length.now) × IsFile (file_input file.entry) }
+    ensures untouched { result ≡ Err Fault.Open → W.taken_bytes sink.new ≡ W.taken_bytes sink.old }
+    ensures write { (result ≡ Err Fault.Write) ↔ (W.has_failed sink.new ≡ true) }
+    ensures flushed { OnOk result (W.is_flushed sink.new ≡ true) }
+    ensures unreported { OnErr result (E.taken_bytes errors.new ≡ E.taken_bytes errors.old) }
+    ensures silent { ¬ IsOk (pool_of pool.entry.base.now pool.entry.length.now) → errors.new ≡ errors.old }
+{
+    match plan_numbers(pool.base.as_bytes(), pool.length.as_bytes()) {
+        Ok((base, length)) => {
+            let opening = plan_opening(base, length, align);
+            run(
+                rt,
+                limit,
+                &opening,
+                Some(length),
+                inputs,
+                file_input(file),
+                report,
+                sink,
+                errors,
+            )
+        }
+        Err(refusal) => Ok(write_refusal(refusal, sink)?),
+    }
+}
+
+/// Runs the script that FILE names on a new machine with a pool, and draws the pool. If BASE or LENGTH is refused, the
+/// output is that refusal.
+fn execute_map<R: AllocGlobal, I: Inputs, W: Sink>(
+    rt: &R,
+    limit: u32,
+    pool: PoolTexts<'_>,
+    align: Align,
+    svg: bool,
+    inputs: &I,
+    file: Option<&str>,
+    sink: &mut W,
+) -> Result<Summary, Fault>
+    requires from_one { 1 ≤ limit }
+    requires at_most { limit ≤ 65536 }
+    requires sink { W.has_failed sink.old ≡ false }
+    ensures executes { OnOutput (I.bytes_of inputs.now) (W.taken_bytes sink.old) (W.taken_bytes sink.new)
+        (MapsFile limit pool.entry align svg file.entry) result }
+    ensures memory { result ≡ Err Fault.Memory → IsOk (pool_of pool.entry.base.now pool.entry.length.now) }
+    ensures open { result ≡ Err Fault.Open → IsOk (pool_of pool.entry.base.now pool.entry.length.now) × IsFile (file_input file.entry) }
+    ensures untouched { result ≡ Err Fault.Open → W.taken_bytes sink.new ≡ W.taken_bytes sink.old }
+    ensures starved { result ≡ Err Fault.Memory → W.taken_bytes sink.new ≡ W.taken_bytes sink.old }
+    ensures write { (result ≡ Err Fault.Write) ↔ (W.has_failed sink.new ≡ true) }
+    ensures flushed { OnOk result (W.is_flushed sink.new ≡ true) }
+{
+    match plan_numbers(pool.base.as_bytes(), pool.length.as_bytes()) {
+        Ok((base, length)) => {
+            let opening = plan_opening(base, length, align);
+            draw(rt, limit, &opening, svg, inputs, file_input(file), sink)
+        }
+        Err(refusal) => Ok(write_refusal(refusal, sink)?),
     }
 }
 
@@ -242,14 +324,8 @@ fn draw<R: AllocGlobal, I: Inputs, W: Sink>(
     requires at_most { limit ≤ 65536 }
     requires few { 193 * length opening.now ≤ 65536 }
     requires sink { W.has_failed sink.old ≡ false }
-    ensures draws { (errors errors_now : Option (List ℕ)) (errors_failed : Bool) → OnDevices (FromInput input.entry (record {
-      input = I.bytes_of inputs.now;
-      output = W.taken_bytes sink.old;
-      output_now = W.taken_bytes sink.new;
-      errors = errors;
-      errors_now = errors_now;
-      errors_failed = errors_failed;
-    }) (DrawsRun svg opening.now (initial_state limit))) result }
+    ensures draws { OnOutput (I.bytes_of inputs.now) (W.taken_bytes sink.old) (W.taken_bytes sink.new)
+        (λ console. FromInput input.entry console (DrawsRun svg opening.now (initial_state limit))) result }
     ensures open { result ≡ Err Fault.Open → IsFile input.entry }
     ensures untouched { result ≡ Err Fault.Open → W.taken_bytes sink.new ≡ W.taken_bytes sink.old }
     ensures starved { result ≡ Err Fault.Memory → W.taken_bytes sink.new ≡ W.taken_bytes sink.old }
@@ -294,83 +370,4 @@ fn draw_end<R: AllocGlobal, S: Source, W: Sink>(
         show_statistics(&usage, session.tally(), sink)?;
     }
     Ok(summary)
-}
-
-/// Writes a row for each listed word of an input after its first bytes.
-// not inlined, so that other commands do not touch the pages of its buffers on the stack
-#[inline(never)]
-fn list_words<I: Inputs, W: Sink>(
-    skipped: u64,
-    options: Options,
-    inputs: &I,
-    input: InputName<'_>,
-    sink: &mut W,
-) -> Result<Summary, Fault>
-    requires { W.has_failed sink.old ≡ false }
-    ensures lists { (errors errors_now : Option (List ℕ)) (errors_failed : Bool) → OnDevices (FromInput input.entry (record {
-      input = I.bytes_of inputs.now;
-      output = W.taken_bytes sink.old;
-      output_now = W.taken_bytes sink.new;
-      errors = errors;
-      errors_now = errors_now;
-      errors_failed = errors_failed;
-    }) (ListsWords skipped options)) result }
-    ensures open { result ≡ Err Fault.Open → IsFile input.entry }
-    ensures untouched { result ≡ Err Fault.Open → W.taken_bytes sink.new ≡ W.taken_bytes sink.old }
-    ensures memory { result ≢ Err Fault.Memory }
-    ensures write { (result ≡ Err Fault.Write) ↔ (W.has_failed sink.new ≡ true) }
-    ensures flushed { OnOk result (W.is_flushed sink.new ≡ true) }
-{
-    let mut source = FromReader::with_limit(inputs.open(input)?, MOST_DECODED);
-    Ok(decode_words_after(skipped, options, &mut source, sink)?)
-}
-
-/// Copies an input, with the line of each word after the word.
-fn annotate_words<I: Inputs, W: Sink>(
-    inputs: &I,
-    input: InputName<'_>,
-    sink: &mut W,
-) -> Result<Summary, Fault>
-    requires { W.has_failed sink.old ≡ false }
-    ensures annotates { (errors errors_now : Option (List ℕ)) (errors_failed : Bool) → OnDevices (FromInput input.entry (record {
-      input = I.bytes_of inputs.now;
-      output = W.taken_bytes sink.old;
-      output_now = W.taken_bytes sink.new;
-      errors = errors;
-      errors_now = errors_now;
-      errors_failed = errors_failed;
-    }) AnnotatesWords) result }
-    ensures open { result ≡ Err Fault.Open → IsFile input.entry }
-    ensures untouched { result ≡ Err Fault.Open → W.taken_bytes sink.new ≡ W.taken_bytes sink.old }
-    ensures memory { result ≢ Err Fault.Memory }
-    ensures write { (result ≡ Err Fault.Write) ↔ (W.has_failed sink.new ≡ true) }
-    ensures flushed { OnOk result (W.is_flushed sink.new ≡ true) }
-{
-    let mut source = FromReader::with_limit(inputs.open(input)?, MOST_DECODED);
-    Ok(annotate(&mut source, sink)?)
-}
-
-/// Writes the output of `round` for each length of a list.
-fn round_lengths<I: Inputs, W: Sink>(
-    inputs: &I,
-    input: InputName<'_>,
-    sink: &mut W,
-) -> Result<Summary, Fault>
-    requires { W.has_failed sink.old ≡ false }
-    ensures rounds { (errors errors_now : Option (List ℕ)) (errors_failed : Bool) → OnDevices (FromInput input.entry (record {
-      input = I.bytes_of inputs.now;
-      output = W.taken_bytes sink.old;
-      output_now = W.taken_bytes sink.new;
-      errors = errors;
-      errors_now = errors_now;
-      errors_failed = errors_failed;
-    }) RoundsLengths) result }
-    ensures open { result ≡ Err Fault.Open → IsFile input.entry }
-    ensures untouched { result ≡ Err Fault.Open → W.taken_bytes sink.new ≡ W.taken_bytes sink.old }
-    ensures memory { result ≢ Err Fault.Memory }
-    ensures write { (result ≡ Err Fault.Write) ↔ (W.has_failed sink.new ≡ true) }
-    ensures flushed { OnOk result (W.is_flushed sink.new ≡ true) }
-{
-    let mut source = FromReader::with_limit(inputs.open(input)?, MOST_DECODED);
-    Ok(round_list(&mut source, sink)?)
 }

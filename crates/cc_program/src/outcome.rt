@@ -1,28 +1,9 @@
 //! The end of the program, and its exit status.
 ghost use Rattle.std.specs.Prelude.{◌≡◌};
-ghost use Rattle.cc_program.specs.declared.outcome.Fault.TheVariants as fault;
-ghost use Rattle.cc_program.specs.Outcome.{ending_of, fault_of, status_of};
+ghost use Rattle.cc_program.specs.Outcome.{ending_of, status_of};
 
-use cc_io::{IoError, Summary};
-use std::alloc::AllocError;
-use thiserror::Error;
-
-/// The reason that the program stopped before its end. Its text is the line that is then on standard error.
-#[derive(Clone, Copy, Debug, Error)]
-pub enum Fault {
-    /// An allocation failed.
-    #[error("cheri-cap: out of memory")]
-    Memory,
-    /// The file to be read could not be opened.
-    #[error("cheri-cap: cannot open")]
-    Open,
-    /// A read failed.
-    #[error("cheri-cap: read failed")]
-    Read,
-    /// A write failed.
-    #[error("cheri-cap: write failed")]
-    Write,
-}
+use cc_io::Summary;
+use cc_tasks::Fault;
 
 /// The end of the program.
 #[derive(Clone, Copy)]
@@ -65,24 +46,5 @@ pub fn ending_status(ending: Ending) -> u8
         Ending::Answered(summary) => u8::from(summary.any_error),
         Ending::Refused => 2,
         Ending::Stopped(_) => 3,
-    }
-}
-
-impl From<IoError> for Fault {
-    ghost from_gives = { λ error result. result ≡ fault_of error };
-
-    fn from(error: IoError) -> Fault {
-        match error {
-            IoError::Read => Fault::Read,
-            IoError::Write => Fault::Write,
-        }
-    }
-}
-
-impl From<AllocError> for Fault {
-    ghost from_gives = { λ error result. result ≡ fault.Memory };
-
-    fn from(_: AllocError) -> Fault {
-        Fault::Memory
     }
 }

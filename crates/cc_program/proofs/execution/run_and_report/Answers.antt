@@ -1,7 +1,7 @@
 use Rattle.std.proofs.Common.{Err, ◌∙◌, ap}
 use Rattle.std.proofs.lemmas.Result.{err_from_is_err_and}
 use Rattle.cc_program.specs.Execution.{ReportsRun}
-use Rattle.cc_program.proofs.ExecutionLemmas.{on_devices}
+use Rattle.cc_tasks.proofs.DeviceLemmas.{on_devices}
 use Rattle.cc_program.proofs.execution.run_and_report.Goals as goal
 
 pub returns-in_err-summary-clause-runs : goal.returns-in_err-summary-clause-runs

@@ -8,8 +8,8 @@ use Rattle.cc_explain.specs.Explanation.{IsExplanation}
 use Rattle.cc_explain.specs.Listing.{IsWordText}
 use Rattle.cc_explain.specs.WindowDrawing.{IsWindowDrawing}
 use Rattle.cc_arguments.specs.declared.question.Question.{Question}
-use Rattle.cc_program.specs.Questions.{IsAnswerTo, IsUnanswerable}
-use Rattle.cc_program.proofs.questions.answer_question.Goals as goal
+use Rattle.cc_tasks.specs.Questions.{IsAnswerTo, IsUnanswerable}
+use Rattle.cc_tasks.proofs.questions.answer_question.Goals as goal
 
 -- A claim on the summary for the bytes of a word holds for the word.
 word_told : (result : Result Summary IoError) (bytes word : List ℕ) → bytes ≡ word

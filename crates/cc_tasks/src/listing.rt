@@ -1,6 +1,6 @@
 //! The listing that the arguments of `decode` ask for.
 ghost use Rattle.std.specs.Prelude.{◌≡◌};
-ghost use Rattle.cc_program.specs.Listing.{listing_in, named_in, place_in, search_in, skipped_in};
+ghost use Rattle.cc_tasks.specs.Listing.{listing_in, named_in, place_in, search_in, skipped_in};
 
 use cc_arguments::DecodeTexts;
 use cc_decode::{Format, InputForm, Options, Search};

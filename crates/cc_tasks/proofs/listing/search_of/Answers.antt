@@ -1,8 +1,8 @@
 use Rattle.std.proofs.Common.{◌≡◌, Err}
 use Rattle.cc_syntax.specs.Commands.{both}
-use Rattle.cc_program.specs.Listing.{named_in, place_in}
-use Rattle.cc_program.proofs.ListingLemmas.{search_refused}
-use Rattle.cc_program.proofs.listing.search_of.Goals as goal
+use Rattle.cc_tasks.specs.Listing.{named_in, place_in}
+use Rattle.cc_tasks.proofs.ListingLemmas.{search_refused}
+use Rattle.cc_tasks.proofs.listing.search_of.Goals as goal
 
 pub returns-in-Err : goal.returns-in-Err
 returns-in-Err c =

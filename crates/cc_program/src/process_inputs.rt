@@ -1,53 +1,17 @@
-//! The inputs that commands read.
-ghost use Rattle.std.specs.Prelude.{◌≡◌, ℕ, List, None, Option, Some, IfErr, IfOk, IfSome, IsTrue, ◌↔◌};
+//! The files and the standard input of the process, as inputs of commands.
+ghost use Rattle.std.specs.Prelude.{◌≡◌, None, IfErr, IfOk, IsTrue, ◌↔◌};
 ghost use Rattle.either.specs.Either.{is_left};
-ghost use Rattle.cc_program.specs.declared.input.InputName.{InputName as InputNameSpec};
-ghost use Rattle.cc_program.specs.Input.{IsFile, IsRunOrPlan, file_input};
+ghost use Rattle.cc_tasks.specs.Input.{IsFile};
+ghost use Rattle.cc_program.specs.Input.{IsRunOrPlan};
 
 use crate::error_writer::ErrorWriter;
-use crate::outcome::Fault;
 use crate::report::announce;
 use cc_arguments::Invocation;
 use cc_io::FromWriter;
+use cc_tasks::{Fault, InputName, Inputs};
 use either::{Either, Left, Right};
 use std::fs;
-use std::io::Read;
 use std::rt::Files;
-
-/// The name of an input.
-#[derive(Clone, Copy)]
-pub enum InputName<'a> {
-    /// Standard input.
-    Standard,
-    /// The file of this name.
-    File(&'a str),
-}
-
-/// The inputs of commands.
-pub trait Inputs {
-    /// The reader of an input.
-    type Reader: Read + Drop;
-
-    // The bytes of an input, if they are known.
-    ghost bytes_of: { Self → InputNameSpec → Option (List ℕ) };
-
-    /// Opens an input.
-    ///
-    /// Errors: `Open` if a file cannot be opened.
-    fn open(&self, input: InputName<'_>) -> Result<Self::Reader, Fault>
-        ensures opened { IfOk result (λ reader. IfSome (bytes_of self.now input.entry) (λ bytes. Self.Reader.remaining reader ≡ Some bytes)) }
-        ensures fails { IfErr result (λ fault. (fault ≡ Fault.Open) × IsFile input.entry) };
-}
-
-/// Returns the input that FILE names: standard input for `-`, and if FILE is not given.
-pub fn file_input<'a>(file: Option<&'a str>) -> InputName<'a>
-    ensures { result ≡ file_input file.entry }
-{
-    match file {
-        None | Some("-") => InputName::Standard,
-        Some(path) => InputName::File(path),
-    }
-}
 
 /// The files and the standard input of the process.
 #[derive(Drop)]

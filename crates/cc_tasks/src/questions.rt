@@ -1,8 +1,11 @@
 //! `show`, `explain` and `round`: the call for each question.
-ghost use Rattle.std.specs.Prelude.{◌≡◌, ◌↔◌, [], Err, false, true, IfOk, IsErr, IsTrue, OnErr, OnOk};
+ghost use Rattle.std.specs.Prelude.{◌≡◌, ◌≢◌, ◌↔◌, [], Err, false, true, IfOk, IsErr, IsTrue, OnErr, OnOk};
 ghost use Rattle.cc_explain.specs.Answer.{WritesAnswer};
-ghost use Rattle.cc_program.specs.Questions.{IsAnswerTo, IsUnanswerable};
+ghost use Rattle.cc_tasks.specs.Devices.{OnDevices};
+ghost use Rattle.cc_tasks.specs.Questions.{IsAnswerTo, IsUnanswerable};
+ghost use Rattle.cc_tasks.specs.Tasks.{AnswersQuestion};
 
+use crate::fault::Fault;
 use cc_arguments::Question;
 use cc_command::{draw_window, explain_length, explain_word, show_line, show_round, show_word};
 use cc_io::{IoError, Sink, Summary};
@@ -14,7 +17,19 @@ use cc_io::{IoError, Sink, Summary};
 ///
 /// Requires: the sink has not failed.
 /// Errors: `Write` if and only if the sink failed.
-pub fn answer_question<W: Sink>(question: Question<'_>, sink: &mut W) -> Result<Summary, IoError>
+pub fn ask<W: Sink>(question: Question<'_>, sink: &mut W) -> Result<Summary, Fault>
+    requires { W.has_failed sink.old ≡ false }
+    ensures answers { OnDevices (AnswersQuestion question.entry (W.taken_bytes sink.old) (W.taken_bytes sink.new)) result }
+    ensures open { result ≢ Err Fault.Open }
+    ensures memory { result ≢ Err Fault.Memory }
+    ensures write { (result ≡ Err Fault.Write) ↔ (W.has_failed sink.new ≡ true) }
+    ensures flushed { OnOk result (W.is_flushed sink.new ≡ true) }
+{
+    Ok(answer_question(question, sink)?)
+}
+
+/// Writes the listing, line, explanation, drawing or rounding that a question asks for.
+fn answer_question<W: Sink>(question: Question<'_>, sink: &mut W) -> Result<Summary, IoError>
     requires { W.has_failed sink.old ≡ false }
     ensures answered { WritesAnswer (IsAnswerTo question.entry) (W.taken_bytes sink.old) (W.taken_bytes sink.new) result }
     ensures any_error { IfOk result (λ summary. IsTrue summary.any_error ↔ IsUnanswerable question.entry) }

@@ -1,8 +1,8 @@
 use Rattle.std.proofs.Common.{◌≡◌, Err}
 use Rattle.cc_syntax.specs.Commands.{both}
-use Rattle.cc_program.specs.Listing.{place_in, search_in, skipped_in}
-use Rattle.cc_program.proofs.ListingLemmas.{listing_refused}
-use Rattle.cc_program.proofs.listing.listing_of.Goals as goal
+use Rattle.cc_tasks.specs.Listing.{place_in, search_in, skipped_in}
+use Rattle.cc_tasks.proofs.ListingLemmas.{listing_refused}
+use Rattle.cc_tasks.proofs.listing.listing_of.Goals as goal
 
 pub returns-in-Err : goal.returns-in-Err
 returns-in-Err c =

@@ -1,0 +1,3 @@
+mod ListingLemmas
+pub mod DeviceLemmas
+mod TaskLemmas

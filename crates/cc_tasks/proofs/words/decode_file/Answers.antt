@@ -1,0 +1,17 @@
+use Rattle.std.proofs.Common.{◌∙◌, sym}
+use Rattle.cc_tasks.specs.Devices.{Console}
+use Rattle.cc_tasks.proofs.TaskLemmas.{decodes}
+use Rattle.cc_tasks.proofs.words.decode_file.Goals as goal
+
+pub returns-in-Ok-clause-decodes : goal.returns-in-Ok-clause-decodes
+returns-in-Ok-clause-decodes g c = λ errors errors_now errors_failed.
+    let console : Console = record {
+      input = g.I.Inputs.bytes_of c.args.inputs.now;
+      output = g.W.Sink.taken_bytes c.args.sink.now;
+      output_now = g.W.Sink.taken_bytes c.list_words.new.sink;
+      errors = errors;
+      errors_now = errors_now;
+      errors_failed = errors_failed;
+    } in
+    decodes c.args.input c.args.format c.args.texts c.args.file console _ _ c.list_words.result
+    (sym c.listing_of.ensures ∙ c.in-Ok.is) c.file_input.ensures (c.list_words.ensures.lists errors errors_now errors_failed)

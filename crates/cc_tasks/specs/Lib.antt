@@ -1,0 +1,6 @@
+-- In reading order.
+pub mod Listing
+pub mod Input
+pub mod Questions
+pub mod Devices
+pub mod Tasks
