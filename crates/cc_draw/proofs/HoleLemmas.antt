@@ -1,5 +1,5 @@
 -- The holes that held spans leave in a pool are its free bytes.
-use Rattle.std.proofs.Common.{ℕ, zero, suc, Bool, ◌≡◌, ◌+◌, ◌-◌, ◌<◌, ◌≤◌, ◌∙◌, ◌⊎◌, List, [], ◌∷◌, ◌++◌, refl, sym, ap, subst, inl, inr, arith, sum_by, min, map, length}
+use Rattle.std.proofs.Common.{ℕ, zero, suc, Bool, ◌≡◌, ◌+◌, ◌-◌, ◌<◌, ◌≤◌, ◌∙◌, ◌⊎◌, List, [], ◌∷◌, ◌++◌, refl, sym, ap, subst, inl, inr, arith, sum_by, map, length}
 use Rattle.std.specs.Prelude.{All, AllPairs, Contains, filter, if◌then◌else◌, get_or, nat_lt}
 use Rattle.std.specs.List.Sorted.{IsNonDecreasingBy, IsPermutation}
 use Rattle.std.proofs.lemmas.Bool.{cases_lt, le-ltb, lt-ltb}
@@ -15,10 +15,9 @@ use Rattle.cc_plan.specs.declared.object.PlannedObject.{PlannedObject}
 use Rattle.cc_plan.specs.Plan.{held_bytes_of, held_spans, is_held}
 use Rattle.cc_plan.proofs.HeldSpanLemmas.{sum_held}
 use Rattle.cc_plan.proofs.PackingLemmas.{below, covered-next}
-use Rattle.cc_machine.proofs.HeldBytesLemmas.{ArePlaced}
 use Rattle.cc_ops.specs.declared.usage.Usage.{Usage}
 use Rattle.cc_draw.specs.Usage.{HasHoles, greatest, hole, holes}
-use Rattle.cc_draw.specs.Laws.{AreHoles, CountsFreeBytes, IsFree}
+use Rattle.cc_draw.specs.Laws.{AreHoles, ArePlaced, CountsFreeBytes, IsFree}
 
 -- ---- lists
 
@@ -381,7 +380,7 @@ module _ (pool : Span) (objects : List PlannedObject) (placed : ArePlaced pool o
 
   held-one : HaveOne (held_spans objects)
   held-one end =
-      let next = covered-next end objects placed.apart in
+      let next = covered-next end objects placed.disjoint.apart in
       omega (arith, next, sum_held (below end) objects, sum_held (below (suc end)) objects)
 
   module _ (order : List Span) (same : IsPermutation (held_spans objects) order)

@@ -3,4 +3,4 @@ mod MapLemmas
 mod WritingLemmas
 mod DrawingLemmas
 pub mod HoleLemmas
-pub mod StateLemmas
+pub mod PlanLemmas

@@ -2,12 +2,22 @@
 -- exactly the cells that hold a byte of it.
 use Rattle.std.specs.Prelude.{ℕ, ◌≡◌, ◌+◌, ◌<◌, ◌≤◌, ◌↔◌, List, All, AllPairs, Contains, length, map, sum_by}
 use Rattle.cc_bounds.specs.declared.span.Span.{Span}
-use Rattle.cc_bounds.specs.Span.{HasByte, length_of}
+use Rattle.cc_bounds.specs.Span.{HasByte, IsWithin, length_of}
 use Rattle.cc_bounds.specs.Decoding.{ExactlyOne}
 use Rattle.cc_ops.specs.declared.usage.Usage.{Usage}
+use Rattle.cc_plan.specs.declared.object.PlannedObject.{PlannedObject}
+use Rattle.cc_plan.specs.Plan.{HaveDisjointBounds}
 use Rattle.cc_draw.specs.declared.layout.Layout.{Layout}
 use Rattle.cc_draw.specs.Usage.{greatest}
 use Rattle.cc_draw.specs.Drawing.{AreCellsOf, end_cell, first_cell}
+
+-- ArePlaced holds if each object has a byte and lies within the pool, and no two of them share a byte
+-- while both are held.
+pub record ArePlaced (pool : Span) (objects : List PlannedObject) : Type 0 where
+  pub in_order : pool.base ≤ pool.top
+  pub some : All (λ object. object.span.base < object.span.top) objects
+  pub within : All (λ object. IsWithin object.span pool) objects
+  pub disjoint : HaveDisjointBounds objects
 
 -- IsFree holds if the byte lies in the pool, and no held span has it.
 pub record IsFree (pool : Span) (held : List Span) (byte : ℕ) : Type 0 where

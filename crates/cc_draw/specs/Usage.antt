@@ -1,4 +1,4 @@
--- The bytes of a machine's pool that its objects take, and those that are left.
+-- The bytes of a planner's pool that its objects take, and those that are left.
 use Rattle.std.specs.Prelude.{ℕ, Bool, true, false, ◌≡◌, ◌-◌, List, [], ◌∷◌, ◌++◌, count_by, filter, length, map, max, nat_lt, option_map, sum_by, unwrap_or}
 use Rattle.std.specs.List.Sorted.{IsNonDecreasingBy, IsPermutation}
 use Rattle.cc_bounds.specs.declared.span.Span.{Span}
@@ -7,8 +7,6 @@ use Rattle.cc_plan.specs.declared.object.ObjectState.{ObjectState}
 use Rattle.cc_plan.specs.declared.object.ObjectState.TheVariants.{Live, Freed, Swept}
 use Rattle.cc_plan.specs.declared.object.PlannedObject.{PlannedObject}
 use Rattle.cc_plan.specs.Plan.{Plan, held_bytes_of, held_spans, is_freed, is_held}
-use Rattle.cc_machine.specs.State.{State}
-use Rattle.cc_machine.specs.Planned.{plan_of}
 use Rattle.cc_ops.specs.declared.usage.Usage.{Usage}
 
 -- `is_live` holds if the object is live: it was not freed.
@@ -73,7 +71,7 @@ pub record UsesOf (plan : Plan) (usage : Usage) : Type 0 where
   pub holes : HasHoles (pool_span plan) (held_spans plan.objects) usage
   pub end : usage.end ≡ highest_top plan.objects
 
--- IsUsage holds if the usage is that of a machine in this state.
-pub record IsUsage (state : State) (usage : Usage) : Type 0 where
-  pub slots : usage.slots ≡ length state.slots
-  pub uses : UsesOf (plan_of state) usage
+-- IsUsage holds if the usage is that of a machine with this number of slots, and with this plan.
+pub record IsUsage (slots : ℕ) (plan : Plan) (usage : Usage) : Type 0 where
+  pub slots_is : usage.slots ≡ slots
+  pub uses : UsesOf plan usage

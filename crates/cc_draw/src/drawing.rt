@@ -1,7 +1,6 @@
 //! A drawing of a pool: an SVG document with a rectangle for each held object.
 ghost use Rattle.std.specs.Prelude.{◌≡◌, ◌<◌, ◌≤◌, ◌+◌, ◌-◌, ◌*◌, ◌^◌, ◌++◌, ◌↔◌, [], false, true, Bool, IfOk, IsErr, OnErr, OnOk, length, min};
 ghost use Rattle.std.specs.Io.KnownBytes.{Appends};
-ghost use Rattle.cc_machine.specs.Planned.{plan_of};
 ghost use Rattle.cc_io.specs.Devices.{TakesBeginning};
 ghost use Rattle.cc_explain.specs.Answer.{WritesAnswer};
 ghost use Rattle.cc_draw.specs.Drawing.{IsDrawing, bounds_line, drawing_text, closing_text, fills_text, head_text, is_in, key_text, laid_out_text, layer_text, layout_for, live_text, mark_count, mark_text, marks_text, moved_text, names_text, object_text, part_text, parts_text, quarantined_text, rectangle_text, row_count, ground_text, rows_text, scale_text, stripes_text};
@@ -10,10 +9,11 @@ use crate::layout::{Layout, ROW, cells_of};
 use crate::usage::pool_span;
 use cc_bounds::Span;
 use cc_io::{Failed, IoError, Sink, Summary, write_all};
-use cc_machine::{Machine, ObjectState, PlannedObject};
+use cc_placer::Placer;
+use cc_plan::{ObjectState, PlannedObject, Planner};
 use cc_text::{Line, ROOM, Text, end_with_decimal, end_with_hexadecimal, push_hexadecimal};
 
-/// Writes a drawing of the machine's pool, and flushes the sink once after it.
+/// Writes a drawing of the planner's pool, and flushes the sink once after it.
 ///
 /// The drawing is an SVG document with a rectangle for each held object. The rectangle covers the
 /// cells from the first to the last that [`cells_of`] returns. These are exactly the cells that
@@ -28,15 +28,17 @@ use cc_text::{Line, ROOM, Text, end_with_decimal, end_with_hexadecimal, push_hex
 /// Requires: the sink has not failed.
 /// Errors: `Write` if and only if the sink fails. A prefix of the drawing is then written.
 #[tactic(auto, using(crate::proofs::WritingLemmas::whole_begins))]
-pub fn show_drawing<W: Sink>(machine: &Machine, sink: &mut W) -> Result<Summary, IoError>
+pub fn show_drawing<P: Placer, W: Sink>(
+    planner: &Planner<P>,
+    sink: &mut W,
+) -> Result<Summary, IoError>
     requires { W.has_failed sink.old ≡ false }
-    ensures shown { WritesAnswer (IsDrawing (plan_of machine.now)) (W.taken_bytes sink.old) (W.taken_bytes sink.new) result }
+    ensures shown { WritesAnswer (IsDrawing planner.now) (W.taken_bytes sink.old) (W.taken_bytes sink.new) result }
     ensures any_error { IfOk result (λ summary. summary.any_error ≡ false) }
     ensures flushed { OnOk result (W.is_flushed sink.new ≡ true) }
     ensures fails { IsErr result ↔ (W.has_failed sink.new ≡ true) }
     ensures write { OnErr result (result ≡ Err IoError.Write) }
 {
-    let planner = machine.planner();
     write_drawing(planner.objects(), &pool_span(planner.pool()), sink).map_err(|_| IoError::Write)?;
     sink.flush().map_err(|_| IoError::Write)?;
     Ok(Summary { any_error: false })

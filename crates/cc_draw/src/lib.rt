@@ -1,4 +1,4 @@
-//! The use of a machine's pool by its objects, and the bytes that are left: as numbers, as a map in text, and as an SVG
+//! The use of a planner's pool by its objects, and the bytes that are left: as numbers, as a map in text, and as an SVG
 //! drawing. The map and the drawing are written to a sink.
 #![tactic(auto)]
 

@@ -1,7 +1,6 @@
 //! A map of a pool: a mark for each cell, which says what holds its bytes.
 ghost use Rattle.std.specs.Prelude.{◌≡◌, ◌<◌, ◌≤◌, ◌+◌, ◌^◌, ◌++◌, ◌↔◌, ℕ, List, [], false, true, IfOk, IsErr, IsTrue, OnErr, OnOk, length};
 ghost use Rattle.std.specs.Int.{div_ceil};
-ghost use Rattle.cc_machine.specs.Planned.{plan_of};
 ghost use Rattle.cc_explain.specs.Answer.{WritesAnswer};
 ghost use Rattle.cc_draw.specs.Map.{AreMapRows, HoldsByte, IsMap, IsMapOf, IsMapRow, TellsCell, map_row_text};
 ghost use Rattle.cc_explain.specs.Picture.{cell_bytes, cell_count};
@@ -10,13 +9,14 @@ use crate::usage::pool_span;
 use cc_bounds::Span;
 use cc_explain::{CELLS, Stretch, shares_byte, write_answer};
 use cc_io::{IoError, Sink, Summary};
-use cc_machine::{Machine, ObjectState, PlannedObject};
+use cc_placer::Placer;
+use cc_plan::{ObjectState, PlannedObject, Planner};
 use cc_text::{Line, ROOM, Text, end_with_hexadecimal};
 
 /// The maximum number of cells of a map.
 const MOST_CELLS: u128 = 1024;
 
-/// Writes a map of the machine's pool, and flushes the sink once after it.
+/// Writes a map of the planner's pool, and flushes the sink once after it.
 ///
 /// The map is a line with the size of a cell, and then at most 16 rows of up to 64 cells. Each row
 /// begins with the address of its first cell. At most 1,024 cells, as small as that allows, cover
@@ -25,28 +25,27 @@ const MOST_CELLS: u128 = 1024;
 ///
 /// Requires: the sink has not failed.
 /// Errors: `Write` if and only if the sink fails. A prefix of the map is then written.
-pub fn show_map<W: Sink>(machine: &Machine, sink: &mut W) -> Result<Summary, IoError>
+pub fn show_map<P: Placer, W: Sink>(planner: &Planner<P>, sink: &mut W) -> Result<Summary, IoError>
     requires { W.has_failed sink.old ≡ false }
-    ensures shown { WritesAnswer (IsMap (plan_of machine.now)) (W.taken_bytes sink.old) (W.taken_bytes sink.new) result }
+    ensures shown { WritesAnswer (IsMap planner.now) (W.taken_bytes sink.old) (W.taken_bytes sink.new) result }
     ensures any_error { IfOk result (λ summary. summary.any_error ≡ false) }
     ensures flushed { OnOk result (W.is_flushed sink.new ≡ true) }
     ensures fails { IsErr result ↔ (W.has_failed sink.new ≡ true) }
     ensures write { OnErr result (result ≡ Err IoError.Write) }
 {
     let mut text = Text::new();
-    push_map_of_machine(&mut text, machine);
+    push_map_of_planner(&mut text, planner);
     write_answer(&text, sink)?;
     Ok(Summary { any_error: false })
 }
 
-/// Appends the map of a machine's pool.
+/// Appends the map of a planner's pool.
 ///
 /// Requires: `text` is empty.
-fn push_map_of_machine(text: &mut Text, machine: &Machine)
+fn push_map_of_planner<P: Placer>(text: &mut Text, planner: &Planner<P>)
     requires { text.old ≡ [] }
-    ensures { IsMap (plan_of machine.now) text.new }
+    ensures { IsMap planner.now text.new }
 {
-    let planner = machine.planner();
     push_map(text, planner.objects(), &pool_span(planner.pool()));
 }
 

@@ -1,4 +1,4 @@
-//! The bytes of a machine's pool that its objects take, and those that are left.
+//! The bytes of a planner's pool that its objects take, and those that are left.
 ghost use Rattle.std.specs.Prelude.{◌≡◌, ◌≤◌, ◌<◌, ◌+◌, ◌^◌, IfOk, count_by, length, max, option_map, unwrap_or};
 ghost use Rattle.std.specs.List.Sorted.{IsNonDecreasingBy, IsPermutation};
 ghost use Rattle.cc_bounds.specs.Span.{from_zero};
@@ -7,8 +7,9 @@ ghost use Rattle.cc_draw.specs.Usage.{IsUsage, asked_bytes_of, greatest, highest
 
 use cc_bounds::Span;
 use cc_cap::Cap;
-use cc_machine::{Machine, ObjectState, PlannedObject};
 use cc_ops::Usage;
+use cc_placer::Placer;
+use cc_plan::{ObjectState, PlannedObject, Planner};
 use std::alloc::{AllocError, Global};
 
 /// The number of holes, and the number of bytes of the largest.
@@ -32,22 +33,26 @@ impl Holes {
     }
 }
 
-/// Returns the use of a machine's slots, objects and pool. At most 2^80 bytes are held.
+/// Returns the use of a planner's pool by its objects. `slots` is the number of slots of the machine
+/// that has the planner. At most 2^80 bytes are held.
 ///
 /// Allocates memory for the held spans, which it sorts, and frees it.
 ///
 /// Errors: `AllocError` if the allocation fails.
-pub fn usage_of(alloc: Global, machine: &Machine) -> Result<Usage, AllocError>
-    ensures usage { IfOk result (IsUsage machine.now) }
+pub fn usage_of<P: Placer>(
+    alloc: Global,
+    planner: &Planner<P>,
+    slots: u32,
+) -> Result<Usage, AllocError>
+    ensures usage { IfOk result (IsUsage slots planner.now) }
     ensures fits { IfOk result (λ usage. usage.held ≤ 2 ^ 80) }
 {
-    let planner = machine.planner();
     let objects = planner.objects();
     let pool = pool_span(planner.pool());
     let order = spans_in_order(alloc, objects)?;
     let holes = holes_beside(&pool, order.as_slice());
     Ok(Usage {
-        slots: machine.slots(),
+        slots,
         limit: planner.limit(),
         made: objects.len(),
         live: live_count(objects),

@@ -1,3 +1,4 @@
 mod OutcomeLemmas
+mod PlacedLemmas
 mod ReportLemmas
 mod ExecutionLemmas

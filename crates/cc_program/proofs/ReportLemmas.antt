@@ -8,9 +8,8 @@ use Rattle.cc_command.specs.Hints.{hints_of, hints_text}
 use Rattle.cc_script.specs.Session.{SessionState}
 use Rattle.cc_command.specs.Statistics.{statistics_text}
 use Rattle.cc_syntax.specs.Tally.{Exchange}
-use Rattle.cc_draw.specs.Usage.{IsUsage}
 use Rattle.cc_ops.specs.declared.usage.Usage.{Usage}
-use Rattle.cc_program.specs.Report.{IsSummary, WritesReport, hints_given}
+use Rattle.cc_program.specs.Report.{IsMachineUsage, IsSummary, WritesReport, hints_given}
 use Rattle.cc_program.specs.declared.report.Report.{Report}
 
 -- A claim on a successful result holds if the device did not fail.
@@ -24,7 +23,7 @@ of_answered (Ok value) P answered holds = holds
 of_answered (Err error) P answered holds = absurd (false≢true (sym answered))
 
 -- A summary that is requested.
-pub asked_summary : (asked : Bool) (session : SessionState) (usage : Usage) → asked ≡ true → IsUsage session.machine usage
+pub asked_summary : (asked : Bool) (session : SessionState) (usage : Usage) → asked ≡ true → IsMachineUsage session.machine usage
     → IsSummary asked session (statistics_text usage session.tally)
 asked_summary false session usage is_asked is_usage = absurd (false≢true is_asked)
 asked_summary true session usage is_asked is_usage = (usage, is_usage, refl)

@@ -17,7 +17,6 @@ use Rattle.cc_syntax.specs.Planning.{plan_opening, pool_of}
 use Rattle.cc_script.specs.Session.{AnswersSession, SessionState}
 use Rattle.cc_command.specs.Statistics.{statistics_text}
 use Rattle.cc_syntax.specs.Tally.{Exchange, IsTally}
-use Rattle.cc_draw.specs.Usage.{IsUsage}
 use Rattle.cc_ops.specs.declared.usage.Usage.{Usage}
 use Rattle.cc_arguments.specs.declared.invocation.PoolTexts.{PoolTexts}
 use Rattle.cc_arguments.specs.declared.invocation.Invocation.{Invocation}
@@ -26,7 +25,7 @@ use Rattle.cc_tasks.specs.Devices.{Console, FromInput, Traffic}
 use Rattle.cc_tasks.specs.Input.{file_input}
 use Rattle.cc_tasks.specs.Tasks.{AnnotatesWords, AnswersQuestion, ListsWords, RoundsLengths, WithListing, WritesRefusal}
 use Rattle.cc_tasks.specs.declared.input.InputName.TheVariants.{Standard}
-use Rattle.cc_program.specs.Report.{WritesReport, report_of}
+use Rattle.cc_program.specs.Report.{IsMachineUsage, WritesReport, report_of}
 use Rattle.cc_program.specs.declared.report.Report.{Report}
 use Rattle.cc_program.specs.declared.report.Terminals.{Terminals}
 
@@ -44,7 +43,7 @@ pub record DrawsMap (session : SessionState) (output output_now : Option (List â
   pub map : List â„•
   pub usage : Usage
   pub is_map : IsMap (plan_of session.machine) map
-  pub is_usage : IsUsage session.machine usage
+  pub is_usage : IsMachineUsage session.machine usage
   pub written : Appends output output_now (map ++ statistics_text usage session.tally)
 
 -- DrawsPage holds if the drawing of the machine's pool was written.

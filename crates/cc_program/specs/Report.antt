@@ -1,8 +1,10 @@
 -- The report of a run on standard error.
-use Rattle.std.specs.Prelude.{ℕ, Bool, true, false, ◌≡◌, ◌||◌, List, [], ◌++◌, Option, codes, if◌then◌else◌}
+use Rattle.std.specs.Prelude.{ℕ, Bool, true, false, ◌≡◌, ◌||◌, List, [], ◌++◌, Option, codes, if◌then◌else◌, length}
 use Rattle.std.specs.Io.KnownBytes.{Appends}
 use Rattle.cc_ops.specs.declared.reply.Reply.{Reply}
 use Rattle.cc_command.specs.Hints.{hints_of, hints_text}
+use Rattle.cc_machine.specs.Planned.{plan_of}
+use Rattle.cc_machine.specs.State.{State}
 use Rattle.cc_script.specs.Session.{SessionState}
 use Rattle.cc_command.specs.Statistics.{statistics_text}
 use Rattle.cc_syntax.specs.Tally.{Exchange}
@@ -19,10 +21,14 @@ report_of stats terminals = record { stats = stats; hints = stats || terminals.e
 abbrev pub waiting_text : List ℕ
 waiting_text = codes "hint: reading a script from the terminal, a command on each line; Control-D ends it\n"
 
+-- IsMachineUsage holds if the usage is that of a machine in this state: of its slots and of its plan.
+abbrev pub IsMachineUsage : State → Usage → Type 0
+IsMachineUsage state usage = IsUsage (length state.slots) (plan_of state) usage
+
 -- IsSummary holds if the text is the summary of a run that ends with this session, or is empty if none is requested.
 abbrev pub IsSummary : (requested : Bool) → SessionState → (text : List ℕ) → Type 0
 IsSummary false session text = text ≡ []
-IsSummary true session text = (usage : Usage) × IsUsage session.machine usage × (text ≡ statistics_text usage session.tally)
+IsSummary true session text = (usage : Usage) × IsMachineUsage session.machine usage × (text ≡ statistics_text usage session.tally)
 
 -- The hints after a run with these replies to its opening, and these lines with their replies, or no bytes if no hints are
 -- written.

@@ -10,11 +10,11 @@ ghost use Rattle.cc_tasks.specs.Input.{IsFile, file_input};
 ghost use Rattle.cc_program.specs.Execution.{DrawsRun, Executes, MapsFile, PlansFile, ReportsRun};
 ghost use Rattle.cc_program.specs.Input.{IsReported, ReadsFile, RunsMachine};
 
-use crate::report::{Report, Terminals, write_report};
+use crate::report::{Report, Terminals, machine_usage, write_report};
 use cc_arguments::{Invocation, PoolTexts};
 use cc_bounds::Align;
 use cc_command::{show_statistics, write_refusal};
-use cc_draw::{show_drawing, show_map, usage_of};
+use cc_draw::{show_drawing, show_map};
 use cc_io::{FromReader, Sink, Source, Summary};
 use cc_machine::{Len, Machine, Op};
 use cc_script::{Session, run_session};
@@ -363,10 +363,10 @@ fn draw_end<R: AllocGlobal, S: Source, W: Sink>(
     let mut page = Waiting::new();
     let summary = run_session(opening, session, source, &mut Discard, &mut page)?;
     if svg {
-        show_drawing(session.machine(), sink)?;
+        show_drawing(session.machine().planner(), sink)?;
     } else {
-        let usage = usage_of(rt.alloc(), session.machine())?;
-        show_map(session.machine(), sink)?;
+        let usage = machine_usage(rt.alloc(), session.machine())?;
+        show_map(session.machine().planner(), sink)?;
         show_statistics(&usage, session.tally(), sink)?;
     }
     Ok(summary)

@@ -1,16 +1,17 @@
 //! Reports on standard error: that a script is read from the terminal, and the summary of a run and hints.
-ghost use Rattle.std.specs.Prelude.{◌≡◌, List, ℕ, OnErr, OnOk, false};
+ghost use Rattle.std.specs.Prelude.{◌≡◌, ◌≤◌, ◌^◌, List, ℕ, IfOk, OnErr, OnOk, false};
 ghost use Rattle.std.specs.Io.KnownBytes.{Appends};
 ghost use Rattle.cc_ops.specs.declared.reply.Reply.{Reply};
 ghost use Rattle.cc_syntax.specs.Tally.{Exchange, IsTally};
-ghost use Rattle.cc_program.specs.Report.{WritesReport, report_of, waiting_text};
+ghost use Rattle.cc_program.specs.Report.{IsMachineUsage, WritesReport, report_of, waiting_text};
 
 use cc_command::{Hints, show_hints, show_statistics};
 use cc_draw::usage_of;
 use cc_io::{Sink, write_all};
-use cc_machine::Len;
+use cc_machine::{Len, Machine};
+use cc_ops::Usage;
 use cc_script::Session;
-use std::alloc::AllocError;
+use std::alloc::{AllocError, Global};
 
 /// Which standard streams are terminals.
 #[derive(Clone, Copy)]
@@ -69,7 +70,7 @@ pub fn write_report<R: AllocGlobal, E: Sink>(
     ensures unwritten { OnErr result (E.taken_bytes errors.new ≡ E.taken_bytes errors.old) }
 {
     if report.stats {
-        let usage = usage_of(rt.alloc(), session.machine())?;
+        let usage = machine_usage(rt.alloc(), session.machine())?;
         if show_statistics(&usage, session.tally(), errors).is_err() {
             return Ok(());
         }
@@ -78,4 +79,14 @@ pub fn write_report<R: AllocGlobal, E: Sink>(
         let _ = show_hints(&Hints::of(session.tally(), pool), errors);
     }
     Ok(())
+}
+
+/// Returns the use of a machine's slots, objects and pool. At most 2^80 bytes are held.
+///
+/// Errors: `AllocError` if an allocation fails.
+pub(crate) fn machine_usage(alloc: Global, machine: &Machine) -> Result<Usage, AllocError>
+    ensures usage { IfOk result (IsMachineUsage machine.now) }
+    ensures fits { IfOk result (λ usage. usage.held ≤ 2 ^ 80) }
+{
+    usage_of(alloc, machine.planner(), machine.slots())
 }

@@ -1,5 +1,5 @@
-use Rattle.cc_draw.proofs.StateLemmas.{free_counted}
+use Rattle.cc_draw.proofs.PlanLemmas.{free_counted}
 use Rattle.cc_draw.proofs.laws.holes_are_the_free_bytes.Goals as goal
 
 pub returns : goal.returns
-returns c state usage reached is = free_counted state usage reached is
+returns c slots plan usage placed is = free_counted slots plan usage placed is

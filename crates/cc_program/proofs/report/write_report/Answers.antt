@@ -5,7 +5,7 @@ use Rattle.cc_machine.specs.State.{State}
 use Rattle.cc_command.specs.Hints.{hints_text}
 use Rattle.cc_command.specs.Statistics.{statistics_text}
 use Rattle.cc_syntax.specs.Tally.{IsTally}
-use Rattle.cc_draw.specs.Usage.{IsUsage}
+use Rattle.cc_program.specs.Report.{IsMachineUsage}
 use Rattle.cc_syntax.specs.declared.tally.Tally.{Tally}
 use Rattle.cc_program.proofs.ReportLemmas.{asked_summary, given_hints, no_hints, no_summary, of_answer, of_answered, tells}
 use Rattle.cc_program.proofs.report.write_report.Goals as goal
@@ -18,7 +18,7 @@ returns-then-report-2-clause-written g c not_failed opening exchanges counts =
     elim c.if-report.branch [
       | then-report+in_ok-usage+else-is_err w ↦
           tells _ _ _ _ _ _ _ _ _ _
-          (asked_summary _ _ _ w.if-report.true (subst (λ (state : State). IsUsage state w.in_ok-usage.usage) w.machine.ensures w.in_ok-usage.ensures.usage)) hints
+          (asked_summary _ _ _ w.if-report.true (subst (λ (state : State). IsMachineUsage state w.in_ok-usage.usage) w.machine.ensures w.in_ok-usage.ensures.usage)) hints
           (subst (λ errors. Appends (g.E.Sink.taken_bytes c.args.errors.now) (g.E.Sink.taken_bytes errors) (statistics_text w.in_ok-usage.usage c.args.session.now.tally)) (sym w.errors-is)
           (subst (λ (tally : Tally). Appends (g.E.Sink.taken_bytes c.args.errors.now) (g.E.Sink.taken_bytes w.show_statistics.new.sink) (statistics_text w.in_ok-usage.usage tally)) w.tally.ensures
           (of_answered _ _ (sym w.is_err.ensures.value ∙ w.if-is_err.false) w.show_statistics.ensures.ok))) written
@@ -33,7 +33,7 @@ returns-else-report-2-clause-written g c not_failed opening exchanges counts =
     elim c.if-report.branch [
       | then-report+in_ok-usage+else-is_err w ↦
           tells _ _ _ _ _ _ _ _ _ _
-          (asked_summary _ _ _ w.if-report.true (subst (λ (state : State). IsUsage state w.in_ok-usage.usage) w.machine.ensures w.in_ok-usage.ensures.usage)) hints
+          (asked_summary _ _ _ w.if-report.true (subst (λ (state : State). IsMachineUsage state w.in_ok-usage.usage) w.machine.ensures w.in_ok-usage.ensures.usage)) hints
           (subst (λ errors. Appends (g.E.Sink.taken_bytes c.args.errors.now) (g.E.Sink.taken_bytes errors) (statistics_text w.in_ok-usage.usage c.args.session.now.tally)) (sym w.errors-is)
           (subst (λ (tally : Tally). Appends (g.E.Sink.taken_bytes c.args.errors.now) (g.E.Sink.taken_bytes w.show_statistics.new.sink) (statistics_text w.in_ok-usage.usage tally)) w.tally.ensures
           (of_answered _ _ (sym w.is_err.ensures.value ∙ w.if-is_err.false) w.show_statistics.ensures.ok))) (Appends-nil _)

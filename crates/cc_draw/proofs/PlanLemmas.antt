@@ -1,30 +1,24 @@
--- The laws of every state: holes are free bytes, and objects are drawn over exactly their cells.
-use Rattle.std.proofs.Common.{ℕ, ◌+◌, ◌-◌, ◌*◌, ◌<◌, ◌≤◌, arith, inl, inr, max}
+-- The laws of every plan: holes are free bytes, and objects are drawn over exactly their cells.
+use Rattle.std.proofs.Common.{ℕ, ◌-◌, ◌<◌, ◌≤◌, arith, inl, inr}
 use Rattle.std.specs.Prelude.{All, get_or}
-use Rattle.std.specs.Int.{div_ceil}
 use Rattle.std.proofs.Math.Nat.{div-mul-le_self, mul-le-mul_right}
 use Rattle.std.proofs.lemmas.Bool.{cases_lt}
 use Rattle.cc_bounds.specs.declared.span.Span.{Span}
 use Rattle.cc_bounds.specs.Span.{IsWithin, length_of}
 use Rattle.cc_bounds.proofs.GranuleLemmas.{div_ceil-le, le-div_ceil}
 use Rattle.cc_explain.specs.Picture.{cell_bytes, cell_count}
-use Rattle.cc_plan.specs.declared.object.PlannedObject.{PlannedObject}
-use Rattle.cc_plan.specs.Plan.{held_spans}
-use Rattle.cc_machine.specs.State.{State}
-use Rattle.cc_machine.specs.Planned.{plan_of}
-use Rattle.cc_machine.specs.Run.{IsReached}
-use Rattle.cc_machine.proofs.HeldBytesLemmas.{placed-reached}
+use Rattle.cc_plan.specs.Plan.{Plan, held_spans}
 use Rattle.cc_ops.specs.declared.usage.Usage.{Usage}
 use Rattle.cc_draw.specs.Usage.{IsUsage, pool_span}
 use Rattle.cc_draw.specs.Drawing.{end_cell, first_cell, layout_for}
-use Rattle.cc_draw.specs.Laws.{CountsFreeBytes, IsDrawnExactly}
+use Rattle.cc_draw.specs.Laws.{ArePlaced, CountsFreeBytes, IsDrawnExactly}
 use Rattle.cc_draw.proofs.DrawingLemmas.{cells-are}
 use Rattle.cc_draw.proofs.HoleLemmas.{counts_free}
 
-pub free_counted : (state : State) (usage : Usage) → IsReached state → IsUsage state usage
-    → CountsFreeBytes (pool_span (plan_of state)) (held_spans (plan_of state).objects) usage
-free_counted state usage reached is =
-    counts_free (pool_span (plan_of state)) (plan_of state).objects (placed-reached state reached) usage is.uses.holes is.uses.held is.uses.pool
+pub free_counted : (slots : ℕ) (plan : Plan) (usage : Usage) → ArePlaced (pool_span plan) plan.objects → IsUsage slots plan usage
+    → CountsFreeBytes (pool_span plan) (held_spans plan.objects) usage
+free_counted slots plan usage placed is =
+    counts_free (pool_span plan) plan.objects placed usage is.uses.holes is.uses.held is.uses.pool
 
 -- a span with bytes has a cell
 some-cell : (start size : ℕ) (span : Span) → 0 < size → start ≤ span.base → span.base < span.top
@@ -51,8 +45,7 @@ drawn pool span within held =
           div_ceil-le (span.top - pool.base) size (cell_count 16384 (length_of pool)) some (omega (arith, covered, within.to_top));
     }
 
-pub drawn_exactly : (state : State) → IsReached state
-    → All (λ object. IsDrawnExactly (layout_for (pool_span (plan_of state))) object.span) (plan_of state).objects
-drawn_exactly state reached k d inside =
-    let placed = placed-reached state reached in
-    drawn (pool_span (plan_of state)) (get_or (plan_of state).objects k d).span (placed.within k d inside) (placed.some k d inside)
+pub drawn_exactly : (plan : Plan) → ArePlaced (pool_span plan) plan.objects
+    → All (λ object. IsDrawnExactly (layout_for (pool_span plan)) object.span) plan.objects
+drawn_exactly plan placed k d inside =
+    drawn (pool_span plan) (get_or plan.objects k d).span (placed.within k d inside) (placed.some k d inside)
