@@ -3,7 +3,7 @@ use cc_bounds::{Align, Span};
 use cc_io::{IoError, SliceSink, SliceSource, Summary};
 use cc_placer::ScanPlacer;
 use cc_replay::{
-    Format, Heap, Policy, Progress, Reading, Replay, Settings, Share, replay_trace, write_summary,
+    Format, Policy, Progress, Reading, Replay, Settings, Share, replay_trace, write_summary,
 };
 use std::alloc::{AllocError, Global};
 
@@ -130,7 +130,7 @@ const VALUES_7: &[u8] = b"\
 ";
 
 const VALUES_8: &[u8] = b"\
-19,12,3,1,2,4,1,1,2,12,2,13,1,19,3,7,0,0,2,6,0,0,0,0,4,5109,5109,0,0.0000,3,5101,5101,5000,5109,2,108,10210,5128,1,1,1,5000
+19,12,3,1,2,4,1,1,2,12,2,13,1,19,2,7,0,0,2,6,0,0,1,18,4,5109,5109,0,0.0000,3,5101,5101,5000,5109,2,108,10210,5128,1,1,1,5000
 ";
 
 const VALUES_9: &[u8] = b"\
@@ -191,8 +191,7 @@ fn replay(alloc: Global, case: usize, is_strict: bool) -> Result<Replay<ScanPlac
         policy: policy(case),
         least_quarantine: if case == 3 { 6000 } else { 0 },
     };
-    let heap = Heap::new(alloc, settings)?;
-    Ok(Replay::new(heap, Reading { is_strict, each: 4 }))
+    Replay::with_settings(alloc, settings, Reading { is_strict, each: 4 })
 }
 
 /// Returns how the replay ends, and the number of bytes of the series that were then taken, or
@@ -258,6 +257,26 @@ fn each_policy_has_its_values(rt: HostRuntime) {
             "case {case}"
         );
     }
+}
+
+/// Returns whether a free of an object that had no place is lost, and not unknown.
+fn counts_a_lost_object(alloc: Global) -> Result<bool, AllocError> {
+    let mut replay = replay(alloc, 8, false)?;
+    let mut room = [0; 1024];
+    let mut source = SliceSource::new(b"a 1 9000\nf 1\nf 1\n", 4096, None);
+    let mut sink = SliceSink::new(&mut room, 1024, None);
+    let end = replay_trace(&mut replay, &mut source, &mut sink);
+    let counts = replay.figures().counts;
+    Ok(
+        end.is_ok()
+            && (counts.no_room.first, counts.lost.first) == (1, 2)
+            && (counts.lost.times, counts.unknown.first) == (1, 3),
+    )
+}
+
+#[test]
+fn a_free_of_an_object_without_a_place_is_lost(rt: HostRuntime) {
+    assert!(rt; counts_a_lost_object(rt.alloc()) == Ok(true));
 }
 
 #[test]
