@@ -8,7 +8,6 @@ use Rattle.cc_replay.specs.declared.event.Event.{Event}
 use Rattle.cc_replay.specs.declared.outcome.Outcome.{Outcome}
 use Rattle.cc_replay.specs.declared.reading.Progress.{Progress}
 use Rattle.cc_replay.specs.declared.reading.Progress.TheVariants.{Running, Stopped, OutOfMemory}
-use Rattle.cc_replay.specs.Heap.{Heap}
 use Rattle.cc_replay.specs.Lost.{IsRunEvent, RunState, RunsNoting}
 use Rattle.cc_replay.specs.Replay.{ReplayState, TakesEntry, TakesLine, TakesLineIn, TakesRest, TakesRestIn, at_line, event_before, events_in}
 use Rattle.cc_replay.specs.Run.{Runs}

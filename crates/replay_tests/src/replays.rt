@@ -3,7 +3,8 @@ use cc_bounds::{Align, Span};
 use cc_io::{IoError, SliceSink, SliceSource, Summary};
 use cc_placer::ScanPlacer;
 use cc_replay::{
-    Format, Policy, Progress, Reading, Replay, Settings, Share, replay_trace, write_summary,
+    Format, Policy, Progress, Reading, Replay, Settings, Share, read_policy, replay_trace,
+    write_summary,
 };
 use std::alloc::{AllocError, Global};
 
@@ -143,6 +144,11 @@ const VALUES: [&[u8]; 10] = [
     VALUES_9,
 ];
 
+/// The codes of the refusals of a string that is not a policy.
+const SYNTAX: u8 = 1;
+
+const OUT_OF_RANGE: u8 = 4;
+
 /// The pool of most settings.
 const POOL: Span = Span {
     base: 1 << 20,
@@ -277,6 +283,45 @@ fn counts_a_lost_object(alloc: Global) -> Result<bool, AllocError> {
 #[test]
 fn a_free_of_an_object_without_a_place_is_lost(rt: HostRuntime) {
     assert!(rt; counts_a_lost_object(rt.alloc()) == Ok(true));
+}
+
+/// Returns whether a string is read as a policy, or is refused with the code.
+fn reads(text: &[u8], wanted: Result<Policy, u8>) -> bool {
+    match (read_policy(text), wanted) {
+        (Ok(policy), Ok(other)) => policy == other,
+        (Err(refusal), Err(code)) => refusal.code() == code,
+        _ => false,
+    }
+}
+
+/// Returns the policy of a percentage.
+fn percent(percent: u32, of: Share) -> Result<Policy, u8> {
+    Ok(Policy::Percent { percent, of })
+}
+
+/// Returns whether each form of a policy is read, and each kind of error.
+fn reads_policies() -> bool {
+    reads(b"none", Ok(Policy::Immediate))
+        && reads(b"never", Ok(Policy::Never))
+        && reads(b"trace", Ok(Policy::Trace))
+        && reads(b"25%", percent(25, Share::Held))
+        && reads(b"0x19%:held", percent(25, Share::Held))
+        && reads(b"0%:live", percent(0, Share::Live))
+        && reads(b"4294967295%:high", percent(u32::MAX, Share::High))
+        && reads(b"bytes:65536", Ok(Policy::Bytes(65536)))
+        && reads(b"frees:0", Ok(Policy::Frees(0)))
+        && reads(b"4294967296%", Err(OUT_OF_RANGE))
+        && reads(b"bytes:18446744073709551616", Err(OUT_OF_RANGE))
+        && reads(b"", Err(SYNTAX))
+        && reads(b"%", Err(SYNTAX))
+        && reads(b"25", Err(SYNTAX))
+        && reads(b"25%:asked", Err(SYNTAX))
+        && reads(b"bytes:25%", Err(SYNTAX))
+}
+
+#[test]
+fn each_form_of_a_policy_is_read(rt: HostRuntime) {
+    assert!(rt; reads_policies());
 }
 
 #[test]
