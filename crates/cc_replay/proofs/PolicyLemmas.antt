@@ -1,17 +1,20 @@
--- The strings that name a policy are read as it.
-use Rattle.std.proofs.Common.{◌≡◌, ℕ, ◌+◌, ◌-◌, ◌≤◌, ◌^◌, ◌&&◌, if◌then◌else◌, Bool, true, false, nat_eq, nat_lt, List, [], ◌∷◌, ◌++◌, take, drop, length, codes, Option, Some, None, refl, sym, ◌∙◌, ap, append-nil, arith, inl, inr}
+-- The strings that name a policy are read as it, and no other string is read.
+use Rattle.std.proofs.Common.{◌≡◌, ℕ, ◌+◌, ◌-◌, ◌≤◌, ◌^◌, ◌&&◌, if◌then◌else◌, Bool, true, false, nat_eq, nat_le, nat_lt, List, [], ◌∷◌, ◌++◌, take, drop, length, codes, Option, Some, None, Result, Ok, Err, refl, sym, ◌∙◌, ap, append-nil, arith, subst, inl, inr}
 use Rattle.std.proofs.Math.Seq.{drop-append-add, drop-append_seam, take-append_seam}
 use Rattle.std.proofs.lemmas.Bool.{eqb-true}
-use Rattle.std.proofs.lemmas.List.{length-append}
+use Rattle.std.proofs.lemmas.List.{length-append, take-append-drop}
 use Rattle.std.proofs.lemmas.Slice.Eq.{bytes_eq-Decides}
 use Rattle.std.specs.Str.{bytes_eq}
 use Rattle.std.specs.Str.Parse.{digits_value}
+use Rattle.cc_word.specs.declared.refusal.Refusal.{Refusal}
+use Rattle.cc_word.specs.declared.refusal.Refusal.TheVariants.{Syntax, OutOfRange}
+use Rattle.cc_syntax.specs.Commands.{address_in}
 use Rattle.cc_syntax.specs.Numbers.{number_of, within_limit}
 use Rattle.cc_replay.specs.declared.policy.Policy.{Policy}
 use Rattle.cc_replay.specs.declared.policy.Policy.TheVariants.{Immediate, Never, Percent, Bytes, Frees, Trace}
 use Rattle.cc_replay.specs.declared.policy.Share.{Share}
 use Rattle.cc_replay.specs.declared.policy.Share.TheVariants.{Held, Live, High}
-use Rattle.cc_replay.specs.PolicyText.{HasNumber, IsPolicyText, as_percent, before, has_suffix, in_range, of_percent, percent_in, policy_in, with_number}
+use Rattle.cc_replay.specs.PolicyText.{HasNumber, IsPolicyText, after, as_percent, before, has_prefix, has_suffix, in_range, numbered_in, of_percent, percent_in, policy_in, with_number}
 
 -- ---- the end of a string
 
@@ -111,3 +114,151 @@ texts_are_read (Percent percent Held) text (inl is) = percent_read Held (codes "
 texts_are_read (Percent percent Held) text (inr is) = percent_read Held (codes "%:held") text percent is held_share
 texts_are_read (Percent percent Live) text is = percent_read Live (codes "%:live") text percent is live_share
 texts_are_read (Percent percent High) text is = percent_read High (codes "%:high") text percent is high_share
+
+-- ---- no other string is read
+
+-- a percentage that is read has a number
+percent_number : (share : Share) (digits : List ℕ) (policy : Policy) → of_percent share digits ≡ Ok policy
+    → (n : ℕ) × (policy ≡ Percent n share) × (number_of digits ≡ Some n)
+percent_number share digits policy read = by (number_of digits) refl read where
+  small : (n : ℕ) (is_small : Bool) → (if is_small then Ok (Percent n share) else Err OutOfRange) ≡ Ok policy → policy ≡ Percent n share
+  small n true e = cc
+  small n false e = absurd cc
+
+  within : (n : ℕ) (is_within : Bool) → as_percent share (if is_within then Ok n else Err OutOfRange) ≡ Ok policy → policy ≡ Percent n share
+  within n true e = small n (nat_le n (2 ^ 32 - 1)) e
+  within n false e = absurd cc
+
+  by : (found : Option ℕ) → number_of digits ≡ found → as_percent share (within_limit (2 ^ 64 - 1) found) ≡ Ok policy
+      → (n : ℕ) × (policy ≡ Percent n share) × (number_of digits ≡ Some n)
+  by (Some n) is e = (n, within n (nat_le n (2 ^ 64 - 1)) e, is)
+  by None is e = absurd cc
+
+-- another number that is read
+other_number : (make : ℕ → Policy) (digits : List ℕ) (policy : Policy) → with_number make (address_in digits) ≡ Ok policy
+    → (n : ℕ) × (policy ≡ make n) × (number_of digits ≡ Some n)
+other_number make digits policy read = by (number_of digits) refl read where
+  within : (n : ℕ) (is_within : Bool) → with_number make (if is_within then Ok n else Err OutOfRange) ≡ Ok policy → policy ≡ make n
+  within n true e = cc
+  within n false e = absurd cc
+
+  by : (found : Option ℕ) → number_of digits ≡ found → with_number make (within_limit (2 ^ 64 - 1) found) ≡ Ok policy
+      → (n : ℕ) × (policy ≡ make n) × (number_of digits ≡ Some n)
+  by (Some n) is e = (n, within n (nat_le n (2 ^ 64 - 1)) e, is)
+  by None is e = absurd cc
+
+share_named : (share : Share) (suffix text : List ℕ) (policy : Policy) → has_suffix suffix text ≡ true
+    → of_percent share (before suffix text) ≡ Ok policy → (n : ℕ) × (policy ≡ Percent n share) × HasNumber [] suffix text n
+share_named share suffix text policy is_end read =
+    let number = percent_number share (before suffix text) policy read in
+    let end : drop (length text - length suffix) text ≡ suffix =
+    (bytes_eq-Decides (drop (length text - length suffix) text) suffix).0 is_end in (
+      number.0,
+      number.1,
+      record {
+        digits = before suffix text;
+        whole = sym (take-append-drop (length text - length suffix) text) ∙ ap (λ (bytes : List ℕ). before suffix text ++ bytes) end;
+        is_number = number.2;
+      },
+    )
+
+count_named : (make : ℕ → Policy) (prefix text : List ℕ) (policy : Policy) → has_prefix prefix text ≡ true
+    → with_number make (address_in (after prefix text)) ≡ Ok policy → (n : ℕ) × (policy ≡ make n) × HasNumber prefix [] text n
+count_named make prefix text policy is_start read =
+    let number = other_number make (after prefix text) policy read in
+    let beginning : take (length prefix) text ≡ prefix = (bytes_eq-Decides (take (length prefix) text) prefix).0 is_start in (
+      number.0,
+      number.1,
+      record {
+        digits = after prefix text;
+        whole = sym (take-append-drop (length prefix) text) ∙ ap (λ (bytes : List ℕ). bytes ++ after prefix text) beginning
+            ∙ sym (append-nil (prefix ++ after prefix text));
+        is_number = number.2;
+      },
+    )
+
+percent_named : (text : List ℕ) (policy : Policy) → percent_in text ≡ Ok policy → IsPolicyText policy text
+percent_named text policy read = first (has_suffix (codes "%") text) refl read where
+  fourth : (is_end : Bool) → has_suffix (codes "%:high") text ≡ is_end
+      → (if is_end then of_percent High (before (codes "%:high") text) else Err Syntax) ≡ Ok policy → IsPolicyText policy text
+  fourth true is e =
+      let it = share_named High (codes "%:high") text policy is e in
+      subst (λ (p : Policy). IsPolicyText p text) (sym it.1) it.2
+  fourth false is e = absurd cc
+
+  third : (is_end : Bool) → has_suffix (codes "%:live") text ≡ is_end
+      → (if is_end then of_percent Live (before (codes "%:live") text)
+      else if has_suffix (codes "%:high") text then of_percent High (before (codes "%:high") text) else Err Syntax) ≡ Ok policy
+      → IsPolicyText policy text
+  third true is e =
+      let it = share_named Live (codes "%:live") text policy is e in
+      subst (λ (p : Policy). IsPolicyText p text) (sym it.1) it.2
+  third false is e = fourth (has_suffix (codes "%:high") text) refl e
+
+  second : (is_end : Bool) → has_suffix (codes "%:held") text ≡ is_end
+      → (if is_end then of_percent Held (before (codes "%:held") text)
+      else if has_suffix (codes "%:live") text then of_percent Live (before (codes "%:live") text)
+      else if has_suffix (codes "%:high") text then of_percent High (before (codes "%:high") text) else Err Syntax) ≡ Ok policy
+      → IsPolicyText policy text
+  second true is e =
+      let it = share_named Held (codes "%:held") text policy is e in
+      subst (λ (p : Policy). IsPolicyText p text) (sym it.1) (inr it.2)
+  second false is e = third (has_suffix (codes "%:live") text) refl e
+
+  first : (is_end : Bool) → has_suffix (codes "%") text ≡ is_end
+      → (if is_end then of_percent Held (before (codes "%") text)
+      else if has_suffix (codes "%:held") text then of_percent Held (before (codes "%:held") text)
+      else if has_suffix (codes "%:live") text then of_percent Live (before (codes "%:live") text)
+      else if has_suffix (codes "%:high") text then of_percent High (before (codes "%:high") text) else Err Syntax) ≡ Ok policy
+      → IsPolicyText policy text
+  first true is e =
+      let it = share_named Held (codes "%") text policy is e in
+      subst (λ (p : Policy). IsPolicyText p text) (sym it.1) (inl it.2)
+  first false is e = second (has_suffix (codes "%:held") text) refl e
+
+numbered_named : (text : List ℕ) (policy : Policy) → numbered_in text ≡ Ok policy → IsPolicyText policy text
+numbered_named text policy read = first (has_prefix (codes "bytes:") text) refl read where
+  second : (is_start : Bool) → has_prefix (codes "frees:") text ≡ is_start
+      → (if is_start then with_number Frees (address_in (after (codes "frees:") text)) else percent_in text) ≡ Ok policy
+      → IsPolicyText policy text
+  second true is e =
+      let it = count_named Frees (codes "frees:") text policy is e in
+      subst (λ (p : Policy). IsPolicyText p text) (sym it.1) it.2
+  second false is e = percent_named text policy e
+
+  first : (is_start : Bool) → has_prefix (codes "bytes:") text ≡ is_start
+      → (if is_start then with_number Bytes (address_in (after (codes "bytes:") text))
+      else if has_prefix (codes "frees:") text then with_number Frees (address_in (after (codes "frees:") text)) else percent_in text) ≡ Ok policy
+      → IsPolicyText policy text
+  first true is e =
+      let it = count_named Bytes (codes "bytes:") text policy is e in
+      subst (λ (p : Policy). IsPolicyText p text) (sym it.1) it.2
+  first false is e = second (has_prefix (codes "frees:") text) refl e
+
+named : (policy other : Policy) (text name : List ℕ) → bytes_eq text name ≡ true
+    → ◌≡◌ {A = Result Policy Refusal} (Ok other) (Ok policy) → IsPolicyText other name
+    → IsPolicyText policy text
+named policy other text name is e has =
+    let same : other ≡ policy = cc in
+    subst (λ (bytes : List ℕ). IsPolicyText policy bytes) (sym ((bytes_eq-Decides text name).0 is))
+    (subst (λ (p : Policy). IsPolicyText p name) same has)
+
+pub read_texts : (text : List ℕ) (policy : Policy) → policy_in text ≡ Ok policy → IsPolicyText policy text
+read_texts text policy read = first (bytes_eq text (codes "none")) refl read where
+  third : (is_name : Bool) → bytes_eq text (codes "trace") ≡ is_name
+      → (if is_name then Ok Trace else numbered_in text) ≡ Ok policy → IsPolicyText policy text
+  third true is e = named policy Trace text (codes "trace") is e refl
+  third false is e = numbered_named text policy e
+
+  second : (is_name : Bool) → bytes_eq text (codes "never") ≡ is_name
+      → (if is_name then Ok Never else if bytes_eq text (codes "trace") then Ok Trace else numbered_in text) ≡ Ok policy
+      → IsPolicyText policy text
+  second true is e = named policy Never text (codes "never") is e refl
+  second false is e = third (bytes_eq text (codes "trace")) refl e
+
+  first : (is_name : Bool) → bytes_eq text (codes "none") ≡ is_name
+      → (if is_name then Ok Immediate else if bytes_eq text (codes "never") then Ok Never
+      else if bytes_eq text (codes "trace") then Ok Trace else numbered_in text) ≡ Ok policy
+      → IsPolicyText policy text
+  first true is e = named policy Immediate text (codes "none") is e refl
+  first false is e = second (bytes_eq text (codes "never")) refl e

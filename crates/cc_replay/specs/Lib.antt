@@ -14,3 +14,4 @@ pub mod Rows
 pub mod Summary
 pub mod Reading
 pub mod Replay
+pub mod Summarizing

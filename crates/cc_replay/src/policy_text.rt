@@ -1,5 +1,5 @@
 //! The policy that a string names.
-ghost use Rattle.std.specs.Prelude.{◌≡◌};
+ghost use Rattle.std.specs.Prelude.{◌≡◌, Ok};
 ghost use Rattle.cc_replay.specs.declared.policy.Policy.{Policy as PolicySpec};
 ghost use Rattle.cc_replay.specs.PolicyText.{IsPolicyText, in_range, numbered_in, of_percent, percent_in, policy_in};
 
@@ -14,10 +14,11 @@ use cc_word::Refusal;
 ///
 /// Errors, in order: `Syntax` if the string is not a policy; `OutOfRange` if N is above 2^64 - 1, or
 /// PERCENT above 2^32 - 1.
-#[tactic(auto, using(crate::proofs::PolicyLemmas::texts_are_read))]
+#[tactic(auto, using(crate::proofs::PolicyLemmas::texts_are_read, crate::proofs::PolicyLemmas::read_texts))]
 pub fn read_policy(text: &[u8]) -> Result<Policy, Refusal>
     ensures value { result ≡ policy_in text.now }
     ensures texts { (policy : PolicySpec) → IsPolicyText policy text.now → result ≡ in_range policy }
+    ensures names { (policy : PolicySpec) → result ≡ Ok policy → IsPolicyText policy text.now }
 {
     if text == b"none".as_slice() {
         Ok(Policy::Immediate)

@@ -1,10 +1,11 @@
 //! A heap over a trace that takes the lines of it.
-ghost use Rattle.std.specs.Prelude.{◌≡◌, ◌≤◌, ◌+◌, ◌↔◌, ◌++◌, ◌^◌, [], true, false, length, Err, IfOk, IsErr, OnErr, OnOk};
+ghost use Rattle.std.specs.Prelude.{◌≡◌, ◌≤◌, ◌+◌, ◌↔◌, ◌++◌, ◌^◌, [], true, false, length, Err, IfOk, IsErr, IsTrue, OnErr, OnOk};
 ghost use Rattle.cc_io.specs.Answers.{AnswersInto};
 ghost use Rattle.cc_io.specs.Correct.{Pumps};
 ghost use Rattle.cc_io.specs.Frames.{lines};
 ghost use Rattle.cc_io.specs.Devices.{TakesBeginning};
 ghost use Rattle.std.specs.Io.KnownBytes.{Appends};
+ghost use Rattle.cc_replay.specs.declared.reading.Progress.TheVariants.{OutOfMemory};
 ghost use Rattle.cc_replay.specs.Events.{HasAlignment};
 ghost use Rattle.cc_replay.specs.Lost.{empty_run};
 ghost use Rattle.cc_replay.specs.Replay.{AppendsEvent, Refuses, TakesLine, TakesNext, TakesRest, begun, figures_of, is_refused, last_sample, series_header, time_after};
@@ -145,6 +146,16 @@ impl<P: Placer> Replay<P> {
         ensures { result ≡ self.now.progress }
     {
         self.progress
+    }
+
+    /// Returns whether an allocation failed.
+    pub(crate) fn is_out_of_memory(&self) -> bool
+        ensures { IsTrue result ↔ (self.now.progress ≡ OutOfMemory) }
+    {
+        match self.progress {
+            Progress::OutOfMemory => true,
+            Progress::Running | Progress::Stopped => false,
+        }
     }
 
     /// Takes a line, and appends a sample if it is due. Returns whether the line is refused.

@@ -4,7 +4,7 @@ use cc_io::{IoError, SliceSink, SliceSource, Summary};
 use cc_placer::ScanPlacer;
 use cc_replay::{
     Format, Policy, Progress, Reading, Replay, Settings, Share, read_policy, replay_trace,
-    write_summary,
+    summarize_trace, write_summary,
 };
 use std::alloc::{AllocError, Global};
 
@@ -242,6 +242,22 @@ fn replays_whole(alloc: Global) -> Result<bool, AllocError> {
             && has_summary(&replay, Format::Text, SUMMARY.len(), SUMMARY)
             && has_summary(&replay, Format::Json, JSON.len(), JSON),
     )
+}
+
+/// Returns whether the whole trace has its summary by one call.
+fn summarizes_whole(alloc: Global) -> Result<bool, AllocError> {
+    let mut replay = replay(alloc, 0, false)?;
+    let mut room = [0; 2048];
+    let mut source = SliceSource::new(TRACE, 7, None);
+    let mut sink = SliceSink::new(&mut room, 2048, None);
+    let end = summarize_trace(&mut replay, &mut source, Format::Text, &mut sink);
+    let taken = sink.taken();
+    Ok(matches!(end, Ok(summary) if summary.any_error) && room.get(..taken) == Some(SUMMARY))
+}
+
+#[test]
+fn a_trace_is_summarized_by_one_call(rt: HostRuntime) {
+    assert!(rt; summarizes_whole(rt.alloc()) == Ok(true));
 }
 
 /// Returns whether the summary in the settings of a case has these values.

@@ -1,0 +1,24 @@
+use Rattle.std.proofs.Common.{sym, ◌∙◌, subst, true≢false}
+use Rattle.std.specs.Io.KnownBytes.{Appends}
+use Rattle.cc_io.specs.Devices.{TakesBeginning}
+use Rattle.cc_replay.specs.declared.summary.Figures.{Figures}
+use Rattle.cc_replay.specs.Rows.{table_text}
+use Rattle.cc_replay.specs.Summary.{summary_rows}
+use Rattle.cc_replay.proofs.summarizing.summarize_trace.Goals as goal
+
+pub returns-in-Ok-write_summary-clause-summarizes : goal.returns-in-Ok-write_summary-clause-summarizes
+returns-in-Ok-write_summary-clause-summarizes g c = (
+  c.in-Ok.ensures.takes,
+  λ out. true≢false (sym (c.is_out_of_memory.ensures.1 out) ∙ c.if-is_out_of_memory.false),
+  subst (λ (figures : Figures). Appends (g.W.Sink.taken_bytes c.args.sink.now) (g.W.Sink.taken_bytes c.write_summary.new.sink)
+      (table_text c.args.format (summary_rows figures))) c.figures.ensures c.in-Ok-write_summary.ensures.ok,
+)
+
+pub returns-in-Err-clause-summarizes : goal.returns-in-Err-clause-summarizes
+returns-in-Err-clause-summarizes g c = (
+  c.in-Ok.summary.any_error,
+  c.in-Ok.ensures.takes,
+  λ out. true≢false (sym (c.is_out_of_memory.ensures.1 out) ∙ c.if-is_out_of_memory.false),
+  subst (λ (figures : Figures). TakesBeginning (g.W.Sink.taken_bytes c.args.sink.now) (g.W.Sink.taken_bytes c.write_summary.new.sink)
+      (table_text c.args.format (summary_rows figures))) c.figures.ensures c.in-Err.ensures.err,
+)

@@ -1,0 +1,89 @@
+//! The summary of a whole trace.
+ghost use Rattle.std.specs.Prelude.{◌≡◌, ◌≢◌, ◌↔◌, Err, false, true, None, IfOk, IsErr, OnOk};
+ghost use Rattle.cc_replay.specs.declared.reading.Progress.TheVariants.{OutOfMemory};
+ghost use Rattle.cc_replay.specs.Summarizing.{Summarizes, TakesTrace};
+
+use crate::reading::Progress;
+use crate::replay::{Replay, replay_trace};
+use crate::summary::write_summary;
+use crate::table::Format;
+use cc_io::{Failed, Sink, Source, Summary};
+use cc_placer::Placer;
+
+/// The reason for which a trace has no summary.
+#[derive(Clone, Copy, PartialEq, Eq, Debug)]
+pub enum Failure {
+    /// An allocation failed.
+    Memory,
+    /// The source failed.
+    Read,
+    /// The sink failed.
+    Write,
+}
+
+/// A sink that takes the samples of a series and keeps none of them.
+#[derive(Drop)]
+struct Discard;
+
+impl Sink for Discard {
+    ghost taken_bytes = { λ _. None };
+
+    ghost has_failed = { λ _. false };
+
+    fn write(&mut self, piece: &[u8]) -> Result<usize, Failed> {
+        Ok(piece.len())
+    }
+
+    fn flush(&mut self) -> Result<(), Failed> {
+        Ok(())
+    }
+}
+
+/// Replays the trace that the source gives, without a series, and writes the summary of the replay.
+///
+/// Nothing is written before the end of the trace, and nothing if a read or an allocation fails. The
+/// sink is flushed at the end.
+///
+/// Requires: neither the source nor the sink has failed.
+/// Errors: `Read` if and only if the source failed. `Memory` if an allocation failed. `Write` if and
+/// only if the sink failed.
+pub fn summarize_trace<P: Placer, R: Source, W: Sink>(
+    replay: &mut Replay<P>,
+    source: &mut R,
+    format: Format,
+    sink: &mut W,
+) -> Result<Summary, Failure>
+    requires source { R.has_failed source.old ≡ false }
+    requires sink { W.has_failed sink.old ≡ false }
+    ensures summarizes { Summarizes format replay.old (R.to_come source.old) (R.to_come source.new)
+        (W.taken_bytes sink.old) (W.taken_bytes sink.new) result replay.new }
+    ensures read { (result ≡ Err Failure.Read) ↔ (R.has_failed source.new ≡ true) }
+    ensures write { (result ≡ Err Failure.Write) ↔ (W.has_failed sink.new ≡ true) }
+    ensures flushed { OnOk result (W.is_flushed sink.new ≡ true) }
+{
+    let Ok(summary) = take_trace(replay, source) else {
+        return Err(Failure::Read);
+    };
+    if replay.is_out_of_memory() {
+        return Err(Failure::Memory);
+    }
+    match write_summary(&replay.figures(), format, sink) {
+        Ok(()) => Ok(summary),
+        Err(_) => Err(Failure::Write),
+    }
+}
+
+/// Takes all lines of the trace that the source gives, without a series.
+fn take_trace<P: Placer, R: Source>(
+    replay: &mut Replay<P>,
+    source: &mut R,
+) -> Result<Summary, Failed>
+    requires source { R.has_failed source.old ≡ false }
+    ensures takes { IfOk result (λ summary. TakesTrace replay.old (R.to_come source.old) (R.to_come source.new) summary.any_error replay.new) }
+    ensures read { IsErr result ↔ (R.has_failed source.new ≡ true) }
+{
+    match replay_trace(replay, source, &mut Discard) {
+        Ok(summary) => Ok(summary),
+        Err(_) => Err(Failed),
+    }
+}
