@@ -1,5 +1,5 @@
 -- Reading and dropping the first bytes of a source.
-use Rattle.std.proofs.Common.{◌≡◌, ℕ, ◌+◌, ◌-◌, ◌<◌, ◌≤◌, List, [], ◌∷◌, ◌++◌, length, drop, refl, sym, ◌∙◌, ap, subst, arith, append-nil, inl, inr, Option, Some, None, IfSome, Result}
+use Rattle.std.proofs.Common.{◌≡◌, ◌↔◌, ℕ, ◌+◌, ◌-◌, ◌<◌, ◌≤◌, List, [], ◌∷◌, ◌++◌, length, drop, refl, sym, ◌∙◌, ap, subst, arith, append-nil, inl, inr, Option, Some, None, IfSome, Result}
 use Rattle.std.proofs.lemmas.List.{length-append}
 use Rattle.std.specs.Io.KnownBytes.{Consumes, IsAtEnd, Keeps}
 use Rattle.std.proofs.KnownBytes.{Consumes-nil, Consumes-trans}
@@ -50,6 +50,28 @@ gives_fewer count rest a b c skipped kept some = record {
   given = subst (λ (l : List ℕ). Consumes a c l) (append-nil skipped.text) (Consumes-trans a b c skipped.text [] skipped.given (consumes_kept b c kept));
   fewer = omega (arith, skipped.counted, some);
 }
+
+-- ---- no bytes
+
+gives_none : (a b : Option (List ℕ)) → Skips 0 a b → Consumes a b []
+gives_none a b skips = by skips.text (elim skips.ends [ inl all ↦ all | inr fewer ↦ absurd (omega (arith, fewer.0)) ]) skips.given where
+  by : (text : List ℕ) → length text ≡ 0 → Consumes a b text → Consumes a b []
+  by [] none given = given
+  by (x ∷ text) none given = absurd (omega (arith, none))
+
+pub lists_after_none : (options : Options) (to_come left t u : Option (List ℕ)) (result : Result Summary IoError)
+    → ListsAfter 0 options to_come left t u result ↔ Lists options to_come left t u result
+lists_after_none options to_come left t u result = (there, back) where
+  there : ListsAfter 0 options to_come left t u result → Lists options to_come left t u result
+  there (inl fails) = absurd (omega (arith, fails.1.fewer))
+  there (inr after) = record {
+    text = after.2.text;
+    given = Consumes-trans to_come after.0 left [] after.2.text (gives_none to_come after.0 after.1) after.2.given;
+    lists = after.2.lists;
+  }
+
+  back : Lists options to_come left t u result → ListsAfter 0 options to_come left t u result
+  back lists = inr (to_come, record { text = []; given = Consumes-nil to_come; ends = inl refl }, lists)
 
 -- ---- a source whose bytes are known
 

@@ -22,5 +22,5 @@ pub use annotating::annotate;
 pub use decoding::{decode_words, decode_words_after};
 pub use format::Format;
 pub use input::{ByteOrder, InputForm};
-pub use laws::{listing_in_parts, one_listing};
+pub use laws::{listing_in_parts, one_listing, skipping_none};
 pub use options::{Options, Search};
