@@ -1,0 +1,162 @@
+//! The heads of blocks of gaps: what a search reads before it opens a block.
+ghost use Rattle.std.specs.Prelude.{◌≡◌, ℕ, ◌+◌, ◌*◌, ◌/◌, ◌-◌, ◌<◌, ◌≤◌, [], length, insert, remove, slice_set, IfOk};
+ghost use Rattle.std.specs.List.{slice_index_or};
+ghost use Rattle.cc_gaps.specs.declared.gap_heads.Head.{Head as HeadSpec};
+ghost use Rattle.cc_gaps.specs.GapHeads.{AreBounded, AreBoundedBut};
+
+use std::alloc::{AllocError, Global};
+use std::marker::Model;
+
+/// The number of heads in each group except the last.
+pub(crate) const GROUP: usize = 16;
+
+/// The head of a block of gaps.
+#[derive(Clone, Copy)]
+pub(crate) struct Head {
+    /// The address of the last byte of the last gap.
+    pub(crate) last: u64,
+    /// An upper bound on the number of bytes, except one, of each gap.
+    pub(crate) bound: u64,
+}
+
+/// The heads of a row of blocks, in the order of the blocks, with a bound for each group of 16.
+/// Memory for the maximum number of heads is reserved when the row is created.
+#[derive(Drop)]
+pub(crate) struct Heads {
+    heads: Vec<Head>,
+    /// For each group, an upper bound on the bounds of its heads.
+    groups: Vec<u64>,
+    /// The maximum number of heads.
+    room: usize,
+}
+
+impl Model for Heads {
+    ghost use Rattle.std.specs.Prelude.{vec_capacity};
+    ghost use Rattle.cc_gaps.specs.GapHeadsState.{GapHeadsState};
+    ghost use Rattle.cc_gaps.specs.GapHeads.{AreHeads};
+
+    ghost Value = { GapHeadsState };
+
+    ghost view = { λ h. record { heads = h.heads.items; room = h.room } };
+
+    ghost invariant = { λ h. AreHeads h.heads.items h.groups.items h.room (vec_capacity h.heads) };
+}
+
+impl Heads {
+    /// Creates a row without heads, with memory for `room` heads.
+    pub(crate) fn with_room(alloc: Global, room: usize) -> Result<Heads, AllocError>
+        ensures { IfOk result (λ row. row ≡ record { heads = []; room = room }) }
+    {
+        Ok(Heads {
+            heads: Vec::with_capacity(alloc, room)?,
+            groups: vec![in alloc; 0; room.div_ceil(GROUP)]?,
+            room,
+        })
+    }
+
+    #[inline(always)]
+    pub(crate) fn len(&self) -> usize
+        ensures value { result ≡ length self.now.heads }
+        ensures fits { result ≤ self.now.room }
+    {
+        self.heads.len()
+    }
+
+    #[inline(always)]
+    pub(crate) fn at(&self, at: usize) -> Head
+        requires { at < length self.now.heads }
+        ensures { result ≡ slice_index_or self.now.heads at result }
+    {
+        self.heads[at]
+    }
+
+    /// Returns an upper bound on the bounds of the heads of a group.
+    #[inline(always)]
+    pub(crate) fn group_bound(&self, group: usize) -> u64
+        requires { 16 * group < length self.now.heads }
+        ensures { (at : ℕ) (d : HeadSpec) → at < length self.now.heads → at / 16 ≡ group
+            → (slice_index_or self.now.heads at d).bound ≤ result }
+    {
+        self.groups[group]
+    }
+
+    /// Replaces a head.
+    pub(crate) fn set(&mut self, at: usize, head: Head)
+        requires { at < length self.old.heads }
+        ensures { self.new ≡ record { heads = slice_set self.old.heads at head; room = self.old.room } }
+    {
+        let before = self.heads[at].bound;
+        self.heads[at] = head;
+        let group = at / GROUP;
+        if head.bound >= self.groups[group] {
+            self.groups[group] = head.bound;
+        } else if before == self.groups[group] {
+            self.groups[group] = greatest(&self.heads, group);
+        }
+    }
+
+    /// Inserts a head, given that one more fits.
+    pub(crate) fn insert(&mut self, at: usize, head: Head)
+        requires within { at ≤ length self.old.heads }
+        requires room { length self.old.heads < self.old.room }
+        ensures { self.new ≡ record { heads = insert self.old.heads at head; room = self.old.room } }
+    {
+        self.heads.insert(at, head).unwrap();
+        renew_from(&self.heads, &mut self.groups, at);
+    }
+
+    /// Removes a head.
+    pub(crate) fn remove(&mut self, at: usize)
+        requires { at < length self.old.heads }
+        ensures { self.new ≡ record { heads = remove self.old.heads at; room = self.old.room } }
+    {
+        self.heads.remove(at);
+        renew_from(&self.heads, &mut self.groups, at);
+    }
+
+    /// Returns the position of the first head whose last byte is at or above an address, or the
+    /// number of heads if there is none.
+    pub(crate) fn position(&self, address: u64) -> usize
+        ensures within { result ≤ length self.now.heads }
+        ensures below { (d : HeadSpec) → 0 < result → (slice_index_or self.now.heads (result - 1) d).last < address }
+        ensures above { (d : HeadSpec) → result < length self.now.heads
+            → address ≤ (slice_index_or self.now.heads result d).last }
+    {
+        let mut low = 0;
+        let mut high = self.heads.len();
+        while low < high {
+            let middle = low + (high - low) / 2;
+            if self.heads[middle].last < address {
+                low = middle + 1;
+            } else {
+                high = middle;
+            }
+        }
+        low
+    }
+}
+
+/// Recomputes the bounds of all groups from that of the head at a position on.
+fn renew_from(heads: &[Head], groups: &mut [u64], at: usize)
+    requires grouped { length heads.now ≤ 16 * length groups.old }
+    requires bounded { AreBoundedBut at (length heads.now) heads.now groups.old }
+    ensures bounded { AreBounded heads.now groups.new }
+    ensures len { length groups.new ≡ length groups.old }
+{
+    for group in at / GROUP..heads.len().div_ceil(GROUP) {
+        groups[group] = greatest(heads, group);
+    }
+}
+
+/// Returns the largest bound of the heads of a group.
+fn greatest(heads: &[Head], group: usize) -> u64
+    requires { 16 * group < length heads.now }
+    ensures { (at : ℕ) (d : HeadSpec) → 16 * group ≤ at → at < 16 * group + 16 → at < length heads.now
+        → (slice_index_or heads.now at d).bound ≤ result }
+{
+    let mut most = 0;
+    for at in GROUP * group..heads.len().min(GROUP * group + GROUP) {
+        most = heads[at].bound.max(most);
+    }
+    most
+}

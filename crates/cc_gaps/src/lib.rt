@@ -1,0 +1,12 @@
+//! A placer that keeps the gaps between the spans that it holds, and not the spans.
+#![tactic(auto)]
+
+mod gap_block;
+mod gap_blocks;
+mod gap_heads;
+mod gap_place;
+mod gap_row;
+mod gaps;
+mod rounding;
+
+pub use gaps::GapPlacer;
