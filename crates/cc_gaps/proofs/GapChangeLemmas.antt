@@ -125,6 +125,20 @@ pub record IsAround (gaps : List Span) (i : ℕ) (gap span : Span) : Type 0 wher
   pub to_top : span.top ≤ gap.top
   pub some : span.base < span.top
 
+-- the gap around a span is read
+pub around_read : (gaps : List Span) (i : ℕ) (gap span : Span) → slice_get gaps i ≡ Some gap → IsWithin span gap
+    → span.base < span.top → IsAround gaps i gap span
+around_read gaps i gap span read within some =
+    let is : get_or gaps i gap ≡ gap = get_or_from_slice_get gaps i gap gap read in
+    record {
+      within = slice_get_within gaps i gap read;
+      base_is = ap (λ (s : Span). s.base) is;
+      top_is = ap (λ (s : Span). s.top) is;
+      from_base = within.from_base;
+      to_top = within.to_top;
+      some = some;
+    }
+
 -- the first gap that ends above the base of a span that lies in a gap is the one around it
 located_at : (gaps : List Span) (i : ℕ) (span : Span) (lies : LiesInGap gaps span) → AreGaps gaps
     → IsLocatedAt gaps span.base i → span.base < span.top → lies.at ≡ i

@@ -1,5 +1,5 @@
 //! A block of gaps, in the order of their addresses.
-ghost use Rattle.std.specs.Prelude.{◌≡◌, ◌↔◌, ◌+◌, ◌-◌, ◌<◌, ◌≤◌, ◌^◌, ◌∷◌, ◌++◌, ℕ, [], length, insert, remove, slice_set, All, Some, None, Option};
+ghost use Rattle.std.specs.Prelude.{◌≡◌, ◌↔◌, ◌+◌, ◌-◌, ◌<◌, ◌≤◌, ◌^◌, ◌∷◌, ◌++◌, ℕ, [], length, insert, remove, slice_set, All, Some, None, Option, option_map};
 ghost use Rattle.std.specs.List.{slice_index_or};
 ghost use Rattle.cc_bounds.specs.declared.span.Span.{Span as SpanSpec};
 ghost use Rattle.cc_placer.specs.PlacerState.{IsSomeBytes};
@@ -216,11 +216,12 @@ impl GapBlock {
         widest(&self.gaps)
     }
 
-    /// Returns the lowest start at a multiple of `align` of one byte more than `less` in a gap.
-    pub(crate) fn fit(&self, less: u64, align: u64) -> Option<u64>
+    /// Returns the lowest start at a multiple of `align` of one byte more than `less` in a gap, and
+    /// the position of the gap.
+    pub(crate) fn fit(&self, less: u64, align: u64) -> Option<(u64, usize)>
         requires gaps { AreGaps self.now }
         requires aligned { 0 < align }
-        ensures { IsFirstFit self.now (less + 1) align result }
+        ensures { IsFirstFit self.now (less + 1) align (option_map (λ found. found.0) result) }
     {
         fit_among(&self.gaps, less, align)
     }
@@ -237,15 +238,16 @@ fn widest(gaps: &[Gap]) -> u64
     most
 }
 
-/// Returns the lowest start at a multiple of `align` of one byte more than `less` in a gap.
-fn fit_among(gaps: &[Gap], less: u64, align: u64) -> Option<u64>
+/// Returns the lowest start at a multiple of `align` of one byte more than `less` in a gap, and the
+/// position of the gap.
+fn fit_among(gaps: &[Gap], less: u64, align: u64) -> Option<(u64, usize)>
     requires gaps { AreGaps gaps.now }
     requires aligned { 0 < align }
-    ensures { IsFirstFit gaps.now (less + 1) align result }
+    ensures { IsFirstFit gaps.now (less + 1) align (option_map (λ found. found.0) result) }
 {
-    for gap in gaps {
+    for (at, gap) in gaps.iter().enumerate() {
         if let Some(start) = gap.fit(less, align) {
-            return Some(start);
+            return Some((start, at));
         }
     }
     None

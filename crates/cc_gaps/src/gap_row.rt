@@ -1,5 +1,5 @@
 //! A row of gaps: the free spans of a pool, in the order of their addresses.
-ghost use Rattle.std.specs.Prelude.{◌≡◌, ◌+◌, ◌-◌, ◌*◌, ◌/◌, ◌<◌, ◌≤◌, ◌^◌, ℕ, List, [], ◌∷◌, length, max, take, insert, remove, slice_set, slice_get, All, IfOk, IfSome, IfNone, Some, None};
+ghost use Rattle.std.specs.Prelude.{◌≡◌, ◌+◌, ◌-◌, ◌*◌, ◌/◌, ◌<◌, ◌≤◌, ◌^◌, ℕ, List, [], ◌∷◌, length, max, take, insert, remove, slice_set, slice_get, All, IfOk, IfSome, IfNone, IsTrue, Some, None, option_map};
 ghost use Rattle.std.specs.List.{slice_index_or};
 ghost use Rattle.cc_bounds.specs.declared.span.Span.{Span as SpanSpec};
 ghost use Rattle.cc_gaps.specs.declared.gap_place.Place.{Place as PlaceSpec};
@@ -90,6 +90,14 @@ impl GapRow {
         Some(self.blocks.at(place.block).at(place.at))
     }
 
+    /// Returns whether a place is that of a gap.
+    #[inline(always)]
+    pub(crate) fn has(&self, place: Place) -> bool
+        ensures { IsTrue result → IsPlaceIn self.now place }
+    {
+        place.block < self.blocks.len() && place.at < self.blocks.at(place.block).len()
+    }
+
     /// Returns the place of the gap before a place, or `None` if there is none.
     #[inline(always)]
     pub(crate) fn before(&self, place: Place) -> Option<Place>
@@ -168,12 +176,12 @@ impl GapRow {
         }
     }
 
-    /// Returns the lowest start at a multiple of `align` of `len` bytes in a gap, or `None` if there
-    /// is none.
-    pub(crate) fn first_fit(&self, len: u128, align: u64) -> Option<u64>
+    /// Returns the lowest start at a multiple of `align` of `len` bytes in a gap, and the place of
+    /// the gap. `None` if there is none.
+    pub(crate) fn first_fit(&self, len: u128, align: u64) -> Option<(u64, Place)>
         requires some { 0 < len }
         requires aligned { 0 < align }
-        ensures { IsFirstFit (gaps_in self.now) len align result }
+        ensures { IsFirstFit (gaps_in self.now) len align (option_map (λ found. found.0) result) }
     {
         let blocks = &self.blocks;
         let Ok(less) = u64::try_from(len - 1) else {
@@ -221,18 +229,19 @@ fn place_before(blocks: &GapBlocks, heads: &Heads, place: Place) -> Option<Place
     Some(Place { block, at })
 }
 
-/// Returns the lowest start at a multiple of `align` of one byte more than `less` in a gap.
-fn fit_in(blocks: &GapBlocks, heads: &Heads, less: u64, align: u64) -> Option<u64>
+/// Returns the lowest start at a multiple of `align` of one byte more than `less` in a gap, and the
+/// place of the gap.
+fn fit_in(blocks: &GapBlocks, heads: &Heads, less: u64, align: u64) -> Option<(u64, Place)>
     requires gaps { AreGaps (gaps_of blocks.now.blocks) }
     requires headed { AreHeaded blocks.now.blocks heads.now.heads }
     requires few { length blocks.now.blocks ≤ 2 ^ 20 }
     requires aligned { 0 < align }
-    ensures { IsFirstFit (gaps_of blocks.now.blocks) (less + 1) align result }
+    ensures { IsFirstFit (gaps_of blocks.now.blocks) (less + 1) align (option_map (λ found. found.0) result) }
 {
     for group in 0..heads.len().div_ceil(GROUP) {
         if heads.group_bound(group) >= less {
-            if let Some(start) = fit_in_group(blocks, heads, group, less, align) {
-                return Some(start);
+            if let Some(found) = fit_in_group(blocks, heads, group, less, align) {
+                return Some(found);
             }
         }
     }
@@ -240,27 +249,27 @@ fn fit_in(blocks: &GapBlocks, heads: &Heads, less: u64, align: u64) -> Option<u6
 }
 
 /// Returns the lowest start at a multiple of `align` of one byte more than `less` in a gap of a
-/// group of blocks, given that there is none in the groups before it.
+/// group of blocks, and the place of the gap, given that there is none in the groups before it.
 fn fit_in_group(
     blocks: &GapBlocks,
     heads: &Heads,
     group: usize,
     less: u64,
     align: u64,
-) -> Option<u64>
+) -> Option<(u64, Place)>
     requires gaps { AreGaps (gaps_of blocks.now.blocks) }
     requires headed { AreHeaded blocks.now.blocks heads.now.heads }
     requires aligned { 0 < align }
     requires within { 16 * group < length heads.now.heads }
     requires few { length heads.now.heads ≤ 2 ^ 20 }
     requires none { HaveNoFit blocks.now.blocks (16 * group) (less + 1) align }
-    ensures some { IfSome result (λ start. IsFirstFit (gaps_of blocks.now.blocks) (less + 1) align (Some start)) }
+    ensures some { IfSome result (λ found. IsFirstFit (gaps_of blocks.now.blocks) (less + 1) align (Some found.0)) }
     ensures none { IfNone result (HaveNoFit blocks.now.blocks (16 * group + 16) (less + 1) align) }
 {
     for at in GROUP * group..heads.len().min(GROUP * group + GROUP) {
         if heads.at(at).bound >= less {
-            if let Some(start) = blocks.at(at).fit(less, align) {
-                return Some(start);
+            if let Some((start, gap)) = blocks.at(at).fit(less, align) {
+                return Some((start, Place { block: at, at: gap }));
             }
         }
     }

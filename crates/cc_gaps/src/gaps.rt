@@ -1,7 +1,8 @@
 //! A placer that keeps the gaps between its spans.
-ghost use Rattle.std.specs.Prelude.{◌≡◌, ◌≢◌, ◌+◌, ◌<◌, ◌≤◌, ◌^◌, ℕ, List, Some, IfSome, IfNone, length, slice_get};
+ghost use Rattle.std.specs.Prelude.{◌≡◌, ◌≢◌, ◌+◌, ◌<◌, ◌≤◌, ◌^◌, ℕ, List, Some, IfSome, IfNone, IsSome, length, slice_get};
 ghost use Rattle.std.specs.List.{slice_index_or};
 ghost use Rattle.cc_bounds.specs.declared.span.Span.{Span as SpanSpec};
+ghost use Rattle.cc_bounds.specs.Span.{IsWithin};
 ghost use Rattle.cc_placer.specs.Placement.{IsApartFrom};
 ghost use Rattle.cc_placer.specs.PlacerState.{IsSomeBytes};
 ghost use Rattle.cc_gaps.specs.Gaps.{AreGaps};
@@ -11,7 +12,7 @@ ghost use Rattle.cc_gaps.specs.GapRowState.{IsPlaceIn, gaps_in, index_of};
 use crate::gap_place::Place;
 use crate::gap_row::GapRow;
 use cc_bounds::Span;
-use cc_placer::Placer;
+use cc_placer::{Hint, Placer};
 use std::alloc::{AllocError, Global};
 use std::marker::Model;
 
@@ -65,11 +66,29 @@ impl Placer for GapPlacer {
     }
 
     fn room(&self, len: u128, align: u64) -> Option<u64> {
-        self.row.first_fit(len, align)
+        let (start, _) = self.row.first_fit(len, align)?;
+        Some(start)
+    }
+
+    fn find(&self, len: u128, align: u64) -> Option<(u64, Hint)> {
+        let (start, place) = self.row.first_fit(len, align)?;
+        let hint = Hint {
+            block: place.block,
+            at: place.at,
+        };
+        Some((start, hint))
     }
 
     fn hold(&mut self, span: Span) {
-        take(&mut self.row, span);
+        self.hold_at(span, Hint::default());
+    }
+
+    fn hold_at(&mut self, span: Span, hint: Hint) {
+        let near = Place {
+            block: hint.block,
+            at: hint.at,
+        };
+        take(&mut self.row, span, near);
         self.count += 1;
     }
 
@@ -83,8 +102,8 @@ impl Placer for GapPlacer {
     }
 }
 
-/// Takes the bytes of a span out of the gap around it.
-fn take(row: &mut GapRow, span: Span)
+/// Takes the bytes of a span out of the gap around it, which may be the one at the place `near`.
+fn take(row: &mut GapRow, span: Span, near: Place)
     requires gaps { AreGaps (gaps_in row.old) }
     requires some { span.base < span.top }
     requires lies { LiesInGap (gaps_in row.old) span }
@@ -93,10 +112,7 @@ fn take(row: &mut GapRow, span: Span)
     ensures bytes { AddsBytes (gaps_in row.new) span (gaps_in row.old) }
     ensures room { row.new.room ≡ row.old.room }
 {
-    let place = row.locate(span.base);
-    let Some(gap) = row.gap(place) else {
-        unreachable!()
-    };
+    let (place, gap) = gap_around(row, span, near);
     let lower = Span {
         base: gap.base,
         top: u128::from(span.base),
@@ -114,6 +130,44 @@ fn take(row: &mut GapRow, span: Span)
         row.set(place, lower);
     } else {
         row.remove(place);
+    }
+}
+
+/// Returns the place of the gap around a span, and the gap. It is not searched for if it is at the
+/// place `near`.
+fn gap_around(row: &GapRow, span: Span, near: Place) -> (Place, Span)
+    requires gaps { AreGaps (gaps_in row.now) }
+    requires some { span.base < span.top }
+    requires lies { LiesInGap (gaps_in row.now) span }
+    ensures place { IsPlaceIn row.now result.0 }
+    ensures gap { slice_get (gaps_in row.now) (index_of row.now result.0) ≡ Some result.1 }
+    ensures around { IsWithin span result.1 }
+{
+    if let Some(gap) = gap_near(row, span, near) {
+        return (near, gap);
+    }
+    let place = row.locate(span.base);
+    let Some(gap) = row.gap(place) else {
+        unreachable!()
+    };
+    (place, gap)
+}
+
+/// Returns the gap at a place, if there is one, and it is around the span.
+#[inline(always)]
+fn gap_near(row: &GapRow, span: Span, near: Place) -> Option<Span>
+    ensures place { IsSome result → IsPlaceIn row.now near }
+    ensures gap { IfSome result (λ gap. slice_get (gaps_in row.now) (index_of row.now near) ≡ Some gap) }
+    ensures around { IfSome result (IsWithin span) }
+{
+    if !row.has(near) {
+        return None;
+    }
+    let gap = row.gap(near)?;
+    if gap.base <= span.base && span.top <= gap.top {
+        Some(gap)
+    } else {
+        None
     }
 }
 

@@ -2,12 +2,14 @@
 //! to them.
 #![tactic(auto)]
 
+mod hint;
 mod placer;
 mod position;
 mod rounding;
 mod scan;
 mod sorted;
 
+pub use hint::Hint;
 pub use placer::Placer;
 pub use rounding::round_up;
 pub use scan::ScanPlacer;

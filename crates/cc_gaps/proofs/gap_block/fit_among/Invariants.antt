@@ -3,5 +3,5 @@ use Rattle.cc_gaps.proofs.GapFitLemmas.{NoneBefore}
 use Rattle.cc_gaps.proofs.gap_block.fit_among.Given as goal
 
 -- no gap so far has a fit
-abbrev pub invariant-loop-gap : goal.invariant-loop-gap
-invariant-loop-gap l = NoneBefore l.gaps l.gap-index (l.less + 1) l.align
+abbrev pub invariant-loop-at : goal.invariant-loop-at
+invariant-loop-at l = NoneBefore l.gaps l.at (l.less + 1) l.align

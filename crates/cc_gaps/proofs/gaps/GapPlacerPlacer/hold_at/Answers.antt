@@ -1,7 +1,7 @@
 use Rattle.std.proofs.Common.{arith, refl}
 use Rattle.cc_gaps.specs.GapRowState.{gaps_in}
 use Rattle.cc_gaps.proofs.GapPlacerLemmas.{CanTake, can_take, holds_more}
-use Rattle.cc_gaps.proofs.gaps.GapPlacerPlacer.hold.Goals as goal
+use Rattle.cc_gaps.proofs.gaps.GapPlacerPlacer.hold_at.Goals as goal
 
 pub take-requires : goal.take-requires
 take-requires c =
