@@ -12,6 +12,7 @@ use Rattle.cc_gaps.specs.declared.gap_heads.Head.{Head}
 use Rattle.cc_placer.specs.PlacerState.{IsSomeBytes}
 use Rattle.cc_gaps.specs.Gaps.{AreGaps, FitsGap, IsFirstFit}
 use Rattle.cc_gaps.specs.GapRowState.{IsPlaceAt, gaps_of, index_at}
+use Rattle.cc_gaps.specs.GapHeads.{AreAtMost}
 use Rattle.cc_gaps.specs.GapRow.{AreHeaded, HaveNoFit, IsAtMost, IsGapRow, IsHead, IsLocated, IsSplit}
 
 -- ---- Blocks and their heads.
@@ -333,6 +334,14 @@ none_in_group blocks heads group less align bound are bounded low none j d start
           narrow (get_or blocks j d) (get_or heads j e) less align start (head_at blocks heads j d e are inside)
           (omega (arith, most, low))
     ]
+
+-- no block has a fit
+pub none_at_all : (blocks : List (List Span)) (heads : List Head) (less align bound : ℕ) → AreHeaded blocks heads
+    → AreAtMost bound heads → bound < less → HaveNoFit blocks (length blocks) (less + 1) align
+none_at_all blocks heads less align bound are most low j d start _ inside =
+    let e : Head = record { last = 0; bound = 0 } in
+    narrow (get_or blocks j d) (get_or heads j e) less align start (head_at blocks heads j d e are inside)
+    (omega (arith, most j e (omega (arith, inside, headed_length blocks heads are)), low))
 
 -- no gap has more than 2 ^ 64 bytes
 pub too_long : (gaps : List Span) (size align : ℕ) → AreGaps gaps → 2 ^ 64 < size → IsFirstFit gaps size align None

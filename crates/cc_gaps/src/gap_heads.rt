@@ -1,8 +1,8 @@
 //! The heads of blocks of gaps: what a search reads before it opens a block.
-ghost use Rattle.std.specs.Prelude.{◌≡◌, ℕ, ◌+◌, ◌*◌, ◌/◌, ◌-◌, ◌<◌, ◌≤◌, [], length, insert, remove, slice_set, IfOk};
+ghost use Rattle.std.specs.Prelude.{◌≡◌, ℕ, ◌+◌, ◌*◌, ◌/◌, ◌-◌, ◌<◌, ◌≤◌, [], length, insert, remove, slice_set, max, IfOk};
 ghost use Rattle.std.specs.List.{slice_index_or};
 ghost use Rattle.cc_gaps.specs.declared.gap_heads.Head.{Head as HeadSpec};
-ghost use Rattle.cc_gaps.specs.GapHeads.{AreBounded, AreBoundedBut};
+ghost use Rattle.cc_gaps.specs.GapHeads.{AreAtMost, AreBounded, AreBoundedBut};
 
 use std::alloc::{AllocError, Global};
 use std::marker::Model;
@@ -19,13 +19,15 @@ pub(crate) struct Head {
     pub(crate) bound: u64,
 }
 
-/// The heads of a row of blocks, in the order of the blocks, with a bound for each group of 16.
-/// Memory for the maximum number of heads is reserved when the row is created.
+/// The heads of a row of blocks, in the order of the blocks, with a bound for each group of 16, and
+/// one for all. Memory for the maximum number of heads is reserved when the row is created.
 #[derive(Drop)]
 pub(crate) struct Heads {
     heads: Vec<Head>,
     /// For each group, an upper bound on the bounds of its heads.
     groups: Vec<u64>,
+    /// An upper bound on the bounds of all heads.
+    bound: u64,
     /// The maximum number of heads.
     room: usize,
 }
@@ -39,7 +41,7 @@ impl Model for Heads {
 
     ghost view = { λ h. record { heads = h.heads.items; room = h.room } };
 
-    ghost invariant = { λ h. AreHeads h.heads.items h.groups.items h.room (vec_capacity h.heads) };
+    ghost invariant = { λ h. AreHeads h.heads.items h.groups.items h.bound h.room (vec_capacity h.heads) };
 }
 
 impl Heads {
@@ -50,6 +52,7 @@ impl Heads {
         Ok(Heads {
             heads: Vec::with_capacity(alloc, room)?,
             groups: vec![in alloc; 0; room.div_ceil(GROUP)]?,
+            bound: 0,
             room,
         })
     }
@@ -70,6 +73,14 @@ impl Heads {
         self.heads[at]
     }
 
+    /// Returns an upper bound on the bounds of all heads.
+    #[inline(always)]
+    pub(crate) fn bound(&self) -> u64
+        ensures { AreAtMost result self.now.heads }
+    {
+        self.bound
+    }
+
     /// Returns an upper bound on the bounds of the heads of a group.
     #[inline(always)]
     pub(crate) fn group_bound(&self, group: usize) -> u64
@@ -87,12 +98,8 @@ impl Heads {
     {
         let before = self.heads[at].bound;
         self.heads[at] = head;
-        let group = at / GROUP;
-        if head.bound >= self.groups[group] {
-            self.groups[group] = head.bound;
-        } else if before == self.groups[group] {
-            self.groups[group] = greatest(&self.heads, group);
-        }
+        renew(&self.heads, &mut self.groups, at, before);
+        self.bound = bound_after(&self.heads, &self.groups, self.bound, before, head.bound);
     }
 
     /// Inserts a head, given that one more fits.
@@ -103,6 +110,7 @@ impl Heads {
     {
         self.heads.insert(at, head).unwrap();
         renew_from(&self.heads, &mut self.groups, at);
+        self.bound = self.bound.max(head.bound);
     }
 
     /// Removes a head.
@@ -110,8 +118,10 @@ impl Heads {
         requires { at < length self.old.heads }
         ensures { self.new ≡ record { heads = remove self.old.heads at; room = self.old.room } }
     {
+        let before = self.heads[at].bound;
         self.heads.remove(at);
         renew_from(&self.heads, &mut self.groups, at);
+        self.bound = bound_after(&self.heads, &self.groups, self.bound, before, 0);
     }
 
     /// Returns the position of the first head whose last byte is at or above an address, or the
@@ -134,6 +144,52 @@ impl Heads {
         }
         low
     }
+}
+
+/// Renews the bound of the group of the head at a position, which had another bound before. It is
+/// recomputed only if the largest bound of the group is gone.
+fn renew(heads: &[Head], groups: &mut [u64], at: usize, before: u64)
+    requires within { at < length heads.now }
+    requires grouped { length heads.now ≤ 16 * length groups.old }
+    requires bounded { AreBoundedBut at (at + 1) heads.now groups.old }
+    ensures bounded { AreBounded heads.now groups.new }
+    ensures len { length groups.new ≡ length groups.old }
+{
+    let group = at / GROUP;
+    let bound = heads[at].bound;
+    if bound >= groups[group] {
+        groups[group] = bound;
+    } else if before == groups[group] {
+        groups[group] = greatest(heads, group);
+    }
+}
+
+/// Returns an upper bound on the bounds of all heads after a change: a head of the bound `added` was
+/// added, one of the bound `gone` removed. It is recomputed only if the largest is gone.
+fn bound_after(heads: &[Head], groups: &[u64], bound: u64, gone: u64, added: u64) -> u64
+    requires grouped { length heads.now ≤ 16 * length groups.now }
+    requires bounded { AreBounded heads.now groups.now }
+    requires most { AreAtMost (max bound added) heads.now }
+    ensures { AreAtMost result heads.now }
+{
+    if added < bound && gone == bound {
+        greatest_of_all(heads, groups)
+    } else {
+        bound.max(added)
+    }
+}
+
+/// Returns the largest bound of the groups.
+fn greatest_of_all(heads: &[Head], groups: &[u64]) -> u64
+    requires grouped { length heads.now ≤ 16 * length groups.now }
+    requires bounded { AreBounded heads.now groups.now }
+    ensures { AreAtMost result heads.now }
+{
+    let mut most = 0;
+    for group in 0..heads.len().div_ceil(GROUP) {
+        most = groups[group].max(most);
+    }
+    most
 }
 
 /// Recomputes the bounds of all groups from that of the head at a position on.

@@ -238,6 +238,9 @@ fn fit_in(blocks: &GapBlocks, heads: &Heads, less: u64, align: u64) -> Option<(u
     requires aligned { 0 < align }
     ensures { IsFirstFit (gaps_of blocks.now.blocks) (less + 1) align (option_map (λ found. found.0) result) }
 {
+    if heads.bound() < less {
+        return None;
+    }
     for group in 0..heads.len().div_ceil(GROUP) {
         if heads.group_bound(group) >= less {
             if let Some(found) = fit_in_group(blocks, heads, group, less, align) {

@@ -1,7 +1,13 @@
-use Rattle.std.proofs.Common.{arith, ◌*◌}
-use Rattle.cc_gaps.proofs.GapRowLemmas.{headed_length, none_in, none_in_group}
+use Rattle.std.proofs.Common.{arith, length, ◌*◌}
+use Rattle.cc_gaps.proofs.GapRowLemmas.{headed_length, none_at_all, none_in, none_in_group}
 use Rattle.cc_gaps.proofs.gap_row.fit_in.Goals.{then-group_bound-less+in_default, else-group_bound-less}
 use Rattle.cc_gaps.proofs.gap_row.fit_in.Goals as goal
+
+pub returns-then-bound-less : goal.returns-then-bound-less
+returns-then-bound-less c =
+    none_in c.args.blocks.now.blocks (length c.args.blocks.now.blocks) _ c.args.align (omega arith)
+    (none_at_all c.args.blocks.now.blocks c.args.heads.now.heads c.args.less c.args.align c.bound.result c.requires.headed
+    c.bound.ensures (omega (arith, c.if-bound-less.true)))
 
 pub fit_in_group-requires-clause-few : goal.fit_in_group-requires-clause-few
 fit_in_group-requires-clause-few c =
