@@ -8,6 +8,7 @@ ghost use Rattle.cc_gaps.specs.Gaps.{AreGaps, IsFirstFit};
 ghost use Rattle.cc_gaps.specs.GapRow.{IsAtMost};
 
 use crate::rounding::padding;
+use crate::searching::step_if_below;
 use arrayvec::ArrayVec;
 use cc_bounds::Span;
 use std::marker::Model;
@@ -190,6 +191,7 @@ impl GapBlock {
     /// Requires: the last gap does.
     #[inline(always)]
     pub(crate) fn position(&self, address: u64) -> usize
+        requires gaps { AreGaps self.now }
         requires some { 0 < length self.now }
         requires last { (d : SpanSpec) → address < (slice_index_or self.now (length self.now - 1) d).top }
         ensures within { result < length self.now }
@@ -197,14 +199,11 @@ impl GapBlock {
         ensures above { (d : SpanSpec) → address < (slice_index_or self.now result d).top }
     {
         let mut low = 0;
-        let mut high = self.gaps.len() - 1;
-        while low < high {
-            let middle = low + (high - low) / 2;
-            if self.gaps[middle].last() < address {
-                low = middle + 1;
-            } else {
-                high = middle;
-            }
+        let mut size = self.gaps.len() - 1;
+        while size > 0 {
+            let half = size - size / 2;
+            low += step_if_below(self.gaps[low + half - 1].last(), address, half);
+            size /= 2;
         }
         low
     }

@@ -8,5 +8,6 @@ mod gap_place;
 mod gap_row;
 mod gaps;
 mod rounding;
+mod searching;
 
 pub use gaps::GapPlacer;

@@ -1,6 +1,6 @@
 use Rattle.std.proofs.Common.{arith, refl, length, [], ◌≡◌, ◌<◌}
 use Rattle.cc_gaps.specs.declared.gap_heads.Head.{Head}
-use Rattle.cc_gaps.proofs.GapRowLemmas.{head_of_block, headed_length, last_above, length_of_block, located_end, located_in}
+use Rattle.cc_gaps.proofs.GapRowLemmas.{gaps_of_read, head_of_block, headed_length, last_above, length_of_block, located_end, located_in}
 use Rattle.cc_gaps.proofs.gap_row.locate_in.Goals as goal
 
 pub returns-then-block-len-clause-place : goal.returns-then-block-len-clause-place
@@ -19,6 +19,12 @@ pub at-requires : goal.at-requires
 at-requires c =
     let same = headed_length c.args.blocks.now.blocks c.args.heads.now.heads c.requires.headed in
     omega (arith, same, c.if-block-len.false, c.len.ensures.value, c.position-block.ensures.within)
+
+pub position-at-requires-clause-gaps : goal.position-at-requires-clause-gaps
+position-at-requires-clause-gaps c =
+    let same = headed_length c.args.blocks.now.blocks c.args.heads.now.heads c.requires.headed in
+    gaps_of_read c.args.blocks.now.blocks c.position-block.result c.at.result.now c.requires.gaps
+    (omega (arith, same, c.if-block-len.false, c.len.ensures.value, c.position-block.ensures.within)) c.at.ensures
 
 pub position-at-requires-clause-some : goal.position-at-requires-clause-some
 position-at-requires-clause-some c =
