@@ -2,9 +2,3 @@ pub mod PlacementLemmas
 pub mod SameSpansLemmas
 pub mod SortedLemmas
 pub mod SearchLemmas
-pub mod FreeSpaceLemmas
-pub mod GapChangeLemmas
-pub mod GapBlocksLemmas
-pub mod GapFitLemmas
-pub mod GapRowLemmas
-pub mod GapPlacerLemmas

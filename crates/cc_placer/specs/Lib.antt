@@ -1,14 +1,3 @@
 -- In reading order.
 pub mod Placement
 pub mod PlacerState
-pub mod Gaps
-pub mod FreeSpace
-pub mod Fit
-pub mod GapRowState
-pub mod GapBlocksState
-pub mod GapBlocks
-pub mod GapLends
-pub mod GapHeadsState
-pub mod GapHeads
-pub mod GapRow
-pub mod GapPlacer

@@ -2,19 +2,14 @@
 //! to them.
 #![tactic(auto)]
 
-mod gap_block;
-mod gap_blocks;
-mod gap_heads;
-mod gap_place;
-mod gap_row;
-mod gaps;
+mod hint;
 mod placer;
 mod position;
 mod rounding;
 mod scan;
 mod sorted;
 
-pub use gaps::GapPlacer;
+pub use hint::Hint;
 pub use placer::Placer;
 pub use rounding::round_up;
 pub use scan::ScanPlacer;

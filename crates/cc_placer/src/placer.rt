@@ -1,9 +1,10 @@
 //! The interface between a planner and its placer.
-ghost use Rattle.std.specs.Prelude.{◌≡◌, ℕ, ◌^◌, ◌<◌, ◌≤◌, List, [], length, Option, Some, None, IfOk, IfSome, IsSome, IsSomeAnd, Contains};
+ghost use Rattle.std.specs.Prelude.{◌≡◌, ℕ, ◌^◌, ◌<◌, ◌≤◌, List, [], length, Option, Some, None, IfOk, IfSome, IsSome, IsSomeAnd, Contains, option_map};
 ghost use Rattle.cc_bounds.specs.declared.span.Span.{Span as SpanSpec};
 ghost use Rattle.cc_bounds.specs.Span.{IsWithin};
 ghost use Rattle.cc_placer.specs.Placement.{AddsSpan, RemovesSpan, IsApartFrom, IsRoom};
 
+use crate::hint::Hint;
 use cc_bounds::Span;
 use std::alloc::{AllocError, Global};
 
@@ -62,6 +63,21 @@ pub trait Placer: Drop {
         ensures { (spans : List SpanSpec) → holds self.now spans
             → IfSome (pool self.now) (λ pool. IsRoom pool spans len align result) };
 
+    /// Returns the place that [`Placer::room`] returns, with a hint for [`Placer::hold_at`] of where
+    /// it was found.
+    ///
+    /// Requires: a pool is set; `len > 0`; `align > 0`.
+    fn find(&self, len: u128, align: u64) -> Option<(u64, Hint)>
+        requires pool { IsSome (pool self.now) }
+        requires some { 0 < len }
+        requires aligned { 0 < align }
+        ensures { (spans : List SpanSpec) → holds self.now spans
+            → IfSome (pool self.now) (λ pool. IsRoom pool spans len align (option_map (λ found. found.0) result)) }
+    {
+        let start = self.room(len, align)?;
+        Some((start, Hint::default()))
+    }
+
     /// Adds a span to the held ones.
     ///
     /// Requires: the span has at least one byte, lies in the pool, and shares no byte with a held
@@ -75,6 +91,24 @@ pub trait Placer: Drop {
         ensures pool { pool self.new ≡ pool self.old }
         ensures held { (spans more : List SpanSpec) → holds self.old spans → IsApartFrom spans span
             → length spans < limit self.old → AddsSpan spans span more → holds self.new more };
+
+    /// Adds a span to the held ones, as [`Placer::hold`] does whatever the hint is. The hint of
+    /// [`Placer::find`] saves a search.
+    ///
+    /// Requires: as `hold`.
+    fn hold_at(&mut self, span: Span, hint: Hint)
+        requires not_empty { span.base < span.top }
+        requires in_pool { IsSomeAnd (pool self.old) (IsWithin span) }
+        requires apart { (spans : List SpanSpec) × holds self.old spans × IsApartFrom spans span
+            × (length spans < limit self.old) }
+        ensures limit { limit self.new ≡ limit self.old }
+        ensures pool { pool self.new ≡ pool self.old }
+        ensures held { (spans more : List SpanSpec) → holds self.old spans → IsApartFrom spans span
+            → length spans < limit self.old → AddsSpan spans span more → holds self.new more }
+    {
+        let _ = hint;
+        self.hold(span);
+    }
 
     /// Removes a span from the held ones.
     ///

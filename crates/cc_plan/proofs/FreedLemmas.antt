@@ -1,9 +1,12 @@
 -- The freed objects: the planner's list of their positions, and the result of sweeping them one by
 -- one.
-use Rattle.std.proofs.Common.{ℕ, Bool, true, false, if◌then◌else◌, cond, ◌≡◌, ◌≢◌, ◌+◌, ◌<◌, ◌≤◌, List, [], ◌∷◌, ◌++◌, Option, Some, All, length, get_or, map, slice_set, arith, refl, subst, ◌∙◌, sym, ap}
+use Rattle.std.proofs.Common.{ℕ, Bool, true, false, if◌then◌else◌, cond, ◌≡◌, ◌≢◌, ◌+◌, ◌<◌, ◌≤◌, List, [], ◌∷◌, ◌++◌, Option, Some, All, length, get_or, map, slice_set, IsPermutation, eqb, inl, inr, arith, refl, subst, ◌∙◌, sym, ap}
+use Rattle.std.proofs.lemmas.Bool.{cases_eq, eqb-false, ne_eqb}
 use Rattle.std.proofs.lemmas.List.{get_or_append_left, get_or_push, get_or-set_same, get_or-set_other, length_push, length-set}
 use Rattle.std.proofs.lemmas.List.Elements.{All-push}
 use Rattle.std.proofs.lemmas.List.Quantifiers.{all_pairs_push}
+use Rattle.std.proofs.lemmas.List.Sorted.{All-permutation, length_permutation}
+use Rattle.std.proofs.lemmas.Map.Keys.{IsDistinct-IsPermutation, IsDistinct-from_apart, apart_from_distinct}
 use Rattle.std.proofs.lemmas.List.Sums.{sum_by-cons, sum_by-le, sum_by_push, sum_by-set}
 use Rattle.std.proofs.Math.Seq.{map-set_same}
 use Rattle.std.specs.Option.{option_to_list}
@@ -88,6 +91,25 @@ listed_made objects freed size span lists = record {
   differ = lists.differ;
   as_many = omega (arith, lists.as_many, sum_by_push freed_weight objects (made size span));
 }
+
+-- the list in another order
+pub listed_sorted : (objects : List PlannedObject) (freed sorted : List ℕ) → IsPermutation freed sorted
+    → ListsFreed objects freed → ListsFreed objects sorted
+listed_sorted objects freed sorted same lists = record {
+  each = All-permutation (IsFreedAt objects) freed sorted same lists.each;
+  differ = λ i j d less within equal.
+      let apart = apart_from_distinct eqb sorted i j d
+      (IsDistinct-IsPermutation eqb flips freed sorted same
+      (IsDistinct-from_apart eqb freed (λ k l e low inside. ne_eqb _ _ (lists.differ k l e low inside)))) less within in
+      eqb-false _ _ apart equal;
+  as_many = omega (arith, lists.as_many, length_permutation freed sorted same);
+}
+  where
+    flips : (x y : ℕ) → eqb x y ≡ eqb y x
+    flips x y = elim (cases_eq x y) [
+      | inl same ↦ rw same refl
+      | inr other ↦ ne_eqb x y other ∙ sym (ne_eqb y x (λ same. other (sym same)))
+    ]
 
 -- the freed object that was listed last is swept
 pub listed_swept : (objects : List PlannedObject) (freed : List ℕ) (position : ℕ) (object : PlannedObject)

@@ -4,9 +4,9 @@ ghost use Rattle.cc_plan.specs.Replay.{IsWithinLimit};
 
 use super::{Pool, with_pool};
 use PlanCall::{Alloc, Free, Sweep};
+use cc_gaps::GapPlacer;
 use cc_plan::{
-    Align, GapPlacer, ObjectId, Placer, PlanCall, PlanReply, Planner, ScanPlacer, SortedPlacer,
-    plan_run,
+    Align, ObjectId, Placer, PlanCall, PlanReply, Planner, ScanPlacer, SortedPlacer, plan_run,
 };
 use cc_word::Refusal;
 use std::alloc::Global;

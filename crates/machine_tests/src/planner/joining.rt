@@ -3,10 +3,11 @@
 ghost use Rattle.std.specs.Prelude.{◌≡◌, ◌<◌, List, IsSome};
 ghost use Rattle.cc_bounds.specs.declared.span.Span.{Span as SpanSpec};
 ghost use Rattle.cc_placer.specs.Placement.{AddsSpan};
-ghost use Rattle.cc_placer.specs.GapPlacer.{MayHold};
+ghost use Rattle.cc_gaps.specs.GapPlacer.{MayHold};
 
 use cc_bounds::Span;
-use cc_plan::{GapPlacer, Placer};
+use cc_gaps::GapPlacer;
+use cc_plan::Placer;
 use std::process::Abort;
 use std::test::Fail;
 

@@ -1,7 +1,8 @@
 //! Placers and planners are created at the second attempt if an allocation failed at the first. In
 //! an ordinary run none fails; `tests/opening` lets each allocation of these tests fail in turn.
 use super::pool;
-use cc_plan::{GapPlacer, ObjectId, Placer, Planner, ScanPlacer, SortedPlacer};
+use cc_gaps::GapPlacer;
+use cc_plan::{ObjectId, Placer, Planner, ScanPlacer, SortedPlacer};
 use std::alloc::{AllocError, Global};
 use std::process::Abort;
 

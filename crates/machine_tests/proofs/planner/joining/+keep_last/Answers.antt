@@ -3,7 +3,7 @@ use Rattle.std.proofs.lemmas.List.Sorted.{IsPermutation-refl, sum_by_pushed}
 use Rattle.std.proofs.lemmas.List.Sums.{sum_by-cons}
 use Rattle.cc_bounds.specs.declared.span.Span.{Span}
 use Rattle.cc_placer.specs.Placement.{AddsSpan, RemovesSpan}
-use Rattle.cc_placer.specs.GapPlacer.{GapPlacerState, MayHold}
+use Rattle.cc_gaps.specs.GapPlacer.{GapPlacerState, MayHold}
 use Rattle.cc_placer.proofs.SameSpansLemmas.{permutation_from_sums}
 use Rattle.machine_tests.proofs.planner.joining.+keep_last.Goals as goal
 

@@ -1,6 +1,6 @@
 use Rattle.std.proofs.Common.{◌≡◌, List, IsSome}
 use Rattle.cc_bounds.specs.declared.span.Span.{Span}
-use Rattle.cc_placer.specs.GapPlacer.{MayHold}
+use Rattle.cc_gaps.specs.GapPlacer.{MayHold}
 use Rattle.machine_tests.proofs.planner.joining.leaves_one_of_each.Given as goal
 
 -- the pool and the limit stay, and some spans may be held

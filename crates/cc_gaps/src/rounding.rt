@@ -1,0 +1,26 @@
+//! Rounding up to a multiple, without a division if it can be.
+ghost use Rattle.std.specs.Prelude.{◌≡◌, ◌+◌, ◌%◌, ◌<◌};
+
+/// Returns `n` modulo `align`, without a division if `align` is a power of two.
+fn remainder(n: u64, align: u64) -> u64
+    requires { 0 < align }
+    ensures { result ≡ n % align }
+{
+    let power_of_two = 1 << align.ilog2();
+    if align == power_of_two {
+        n & (power_of_two - 1)
+    } else {
+        n % align
+    }
+}
+
+/// Returns the number of bytes from `n` up to the smallest multiple of `align` that is at least
+/// `n`.
+pub(crate) fn padding(n: u64, align: u64) -> u64
+    requires { 0 < align }
+    ensures multiple { (n + result) % align ≡ 0 }
+    ensures near { result < align }
+{
+    let over = remainder(n, align);
+    if over == 0 { 0 } else { align - over }
+}

@@ -1,9 +1,0 @@
-use Rattle.cc_placer.specs.GapRowState.{gaps_in}
-use Rattle.cc_placer.proofs.GapPlacerLemmas.{room_of_gaps}
-use Rattle.cc_placer.proofs.gaps.GapPlacerPlacer.room.Goals as goal
-
-pub returns : goal.returns
-returns c spans may =
-    rw (← c.self.view_is)
-    (room_of_gaps c.self.inside.pool spans (gaps_in c.self.inside.row) c.args.len c.args.align c.first_fit.result
-    (rw (← c.self.view_is) at may).free c.requires.some c.first_fit.ensures)
