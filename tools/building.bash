@@ -160,6 +160,24 @@ is_built() {
   identify "$1"
   is_current "$identity" "crates/$1/out/$2" "$top/crates/$1/out"
 }
+# Prints the names, sizes and times of the sources of a crate and of those below it:  list_sources CRATE
+list_sources() {
+  local order cpu identity
+  local -A needs listed
+  is_built "$1" '' || true
+  looks | LC_ALL=C sort
+}
+# Takes a crate's program, which another command has proved and built from the sources as list_sources printed them before, as one
+# that was built here. Fails if a source changed since then:  take_built CRATE LISTED
+take_built() {
+  local product=crates/$1/out/$1 kept=$top/crates/$1/out order cpu identity found made_of
+  local -A needs listed
+  ! is_built "$1" "$1" || return 0
+  [[ -n $identity && -z $cpu && -x $top/$product && $(looks | LC_ALL=C sort) == "$2" ]] || return
+  found=$(looks "$product") && made_of=$(checksums "$product") || return
+  [[ $(looks | LC_ALL=C sort) == "$2" ]] || return
+  keep "$kept/built-from" "$identity"$'\n'"$made_of" && keep "$kept/seen" "$found"
+}
 want_toolchain() {
   [[ -n $identity ]] || stop "the toolchain's command rt was not found or has no version, and the existing build is not from these sources: see README.md, \"Install\""
 }
