@@ -7,5 +7,6 @@ pub mod RunLemmas
 pub mod TraceLemmas
 pub mod RowLemmas
 pub mod PowerLemmas
+pub mod PolicyLemmas
 pub mod ReplayLemmas
 pub mod TakenLemmas

@@ -1,5 +1,6 @@
 -- In reading order.
 pub mod Policy
+pub mod PolicyText
 pub mod Memory
 pub mod Totals
 pub mod Heap

@@ -1,5 +1,5 @@
 -- A heap over a trace, and the ids whose objects were not made: the lost ones.
-use Rattle.std.specs.Prelude.{ℕ, Bool, true, false, not, ◌≡◌, ◌&&◌, cond, nat_eq, List, Option, Some, None}
+use Rattle.std.specs.Prelude.{ℕ, Bool, true, false, not, ◌≡◌, ◌&&◌, cond, nat_eq, List, [], ◌∷◌, Option, Some, None}
 use Rattle.std.specs.List.{list_any}
 use Rattle.cc_replay.specs.declared.event.Event.{Event}
 use Rattle.cc_replay.specs.declared.event.Event.TheVariants.{Allocate, Clear, Reallocate, Free}
@@ -7,12 +7,17 @@ use Rattle.cc_replay.specs.declared.making.Making.{Making}
 use Rattle.cc_replay.specs.declared.making.Making.TheVariants.{NoRoom, Full}
 use Rattle.cc_replay.specs.declared.outcome.Outcome.{Outcome}
 use Rattle.cc_replay.specs.Events.{IsEvent}
-use Rattle.cc_replay.specs.Heap.{Heap}
+use Rattle.cc_replay.specs.declared.settings.Settings.{Settings}
+use Rattle.cc_replay.specs.Heap.{Heap, empty_heap}
 
 -- A heap, and the ids that are lost, in no order.
 pub record RunState : Type 0 where
   pub heap : Heap
   pub lost : List ℕ
+
+-- A run of a heap that has held nothing, before the first event.
+abbrev pub empty_run : Settings → RunState
+empty_run settings = record { heap = empty_heap settings; lost = [] }
 
 -- Whether an id is lost.
 abbrev pub is_lost : List ℕ → ℕ → Bool
@@ -62,3 +67,9 @@ pub record IsRunEvent (old : RunState) (event : Event) (outcome : Outcome) (new 
   pub is_told : outcome ≡ with_lost told (is_lost_one old.lost (freed_id event))
   pub lost : (id : ℕ) → is_lost new.lost id
       ≡ noted (made_id event) (is_not_made told.making) (noted (freed_id event) false (is_lost old.lost)) id
+
+-- RunsNoting holds if the events turn the run `old` into `new`, each from the run that the one before left.
+abbrev pub RunsNoting : RunState → List Event → RunState → Type 0
+RunsNoting old [] new = new ≡ old
+RunsNoting old (event ∷ events) new =
+    (outcome : Outcome) × (next : RunState) × IsRunEvent old event outcome next × RunsNoting next events new

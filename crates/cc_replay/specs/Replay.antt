@@ -1,4 +1,4 @@
--- A heap that takes the lines of a trace, and the output: the samples of a series.
+-- A heap over a trace that takes its lines, and the output: the samples of a series.
 use Rattle.std.specs.Prelude.{◌≡◌, ◌⊎◌, ℕ, Bool, true, false, not, ◌&&◌, ◌||◌, ◌==◌, List, [], ◌∷◌, ◌++◌, if◌then◌else◌, Option, Some, None, Result, Ok, Err}
 use Rattle.cc_word.specs.declared.refusal.Refusal.{Refusal}
 use Rattle.cc_word.specs.declared.refusal.Refusal.TheVariants.{Unfinished}
@@ -12,18 +12,17 @@ use Rattle.cc_replay.specs.declared.reading.Progress.TheVariants.{Running, OutOf
 use Rattle.cc_replay.specs.declared.reading.Reading.{Reading}
 use Rattle.cc_replay.specs.declared.summary.Figures.{Figures}
 use Rattle.cc_replay.specs.Counts.{is_full, is_no_room, with_event, with_line, with_outcome, with_refusal}
-use Rattle.cc_replay.specs.Events.{IsEvent}
-use Rattle.cc_replay.specs.Heap.{Heap}
+use Rattle.cc_replay.specs.Lost.{IsRunEvent, RunState}
 use Rattle.cc_replay.specs.Memory.{IsSound, usage_of}
 use Rattle.cc_replay.specs.Reading.{is_due, progress_after}
 use Rattle.cc_replay.specs.Rows.{names_line, values_line}
 use Rattle.cc_replay.specs.Summary.{sample_rows}
 use Rattle.cc_replay.specs.Trace.{entry_of}
 
--- The state of a replay: the heap, how the trace is read, the counts of its lines, the time that it
--- gave last, whether further lines are taken, and whether the last event has a sample.
+-- The state of a replay: the heap with the lost ids, how the trace is read, the counts of its lines, the
+-- time that it gave last, whether further lines are taken, and whether the last event has a sample.
 pub record ReplayState : Type 0 where
-  pub heap : Heap
+  pub run : RunState
   pub reading : Reading
   pub counts : Counts
   pub time : ℕ
@@ -54,9 +53,9 @@ no_counts = record {
   none = record { times = 0; first = 0 }
 
 -- A replay before the first line of a trace.
-abbrev pub begun : Heap → Reading → ReplayState
-begun heap reading = record {
-  heap = heap;
+abbrev pub begun : RunState → Reading → ReplayState
+begun run reading = record {
+  run = run;
   reading = reading;
   counts = no_counts;
   time = 0;
@@ -66,10 +65,11 @@ begun heap reading = record {
 
 -- The numbers of a replay.
 abbrev pub figures_of : ReplayState → Figures
-figures_of state = record { counts = state.counts; totals = state.heap.totals; usage = usage_of state.heap.memory }
+figures_of state =
+    record { counts = state.counts; totals = state.run.heap.totals; usage = usage_of state.run.heap.memory }
 
--- Whether an event is refused: the id of its object is not live, or is that of a live one, or the
--- object cannot be made.
+-- Whether an event is refused: the id of its object is not live or is lost, or is that of a live one, or
+-- the object cannot be made.
 abbrev pub is_refused : Outcome → Bool
 is_refused outcome =
     outcome.unknown || outcome.was_live || outcome.lost || is_no_room outcome.making || is_full outcome.making
@@ -83,27 +83,27 @@ time_after _ time = time
 abbrev pub sample_text : (is_sampled : Bool) → ReplayState → List ℕ
 sample_text is_sampled state = if is_sampled then values_line (sample_rows state.time (figures_of state)) else []
 
--- TakesEvent holds if the event happens to the heap, what comes of it is counted, and a sample is
--- written if it is due.
+-- TakesEvent holds if the event happens to the heap, the lost ids are noted, what comes of it is counted,
+-- and a sample is written if it is due.
 pub record TakesEvent (old : ReplayState) (event : Event) (text : List ℕ) (is_error : Bool) (new : ReplayState) : Type 0 where
   pub outcome : Outcome
-  pub heap : Heap
-  pub is_event : IsEvent old.heap event outcome heap
+  pub run : RunState
+  pub is_event : IsRunEvent old.run event outcome run
   pub is_new : new ≡ record old {
-    heap = heap;
+    run = run;
     counts = with_outcome outcome (with_event event old.counts);
     time = time_after event old.time;
     progress = progress_after old.reading (is_refused outcome);
-    is_sampled = is_due old.reading (with_event event old.counts).events old.heap.totals.sweeps heap.totals.sweeps;
+    is_sampled = is_due old.reading (with_event event old.counts).events old.run.heap.totals.sweeps run.heap.totals.sweeps;
   }
   pub error_is : is_error ≡ is_refused outcome
   pub text_is : text ≡ sample_text new.is_sampled new
 
 -- RunsOut holds if memory ran out in an event: nothing is written, and no further line is taken.
 pub record RunsOut (old : ReplayState) (text : List ℕ) (is_error : Bool) (new : ReplayState) : Type 0 where
-  pub heap : Heap
-  pub sound : IsSound heap.settings.align heap.memory
-  pub is_new : new ≡ record old { heap = heap; progress = OutOfMemory }
+  pub run : RunState
+  pub sound : IsSound run.heap.settings.align run.heap.memory
+  pub is_new : new ≡ record old { run = run; progress = OutOfMemory }
   pub error_is : is_error ≡ false
   pub text_is : text ≡ []
 

@@ -6,6 +6,7 @@ ghost use Rattle.cc_io.specs.Lines.{lines_of};
 ghost use Rattle.cc_replay.specs.declared.event.Event.{Event};
 ghost use Rattle.cc_replay.specs.declared.settings.Settings.{Settings};
 ghost use Rattle.cc_replay.specs.Heap.{Heap, empty_heap};
+ghost use Rattle.cc_replay.specs.Lost.{RunsNoting};
 ghost use Rattle.cc_replay.specs.Replay.{ReplayState, TakesLine, TakesRest, events_in};
 ghost use Rattle.cc_replay.specs.Run.{HasTotals, Runs};
 ghost use Rattle.cc_replay.specs.declared.reading.Progress.TheVariants.{Running};
@@ -21,12 +22,15 @@ pub fn totals_are_of_all_states()
 {}
 
 /// Proves that a replay has the events of the trace's lines happen to its heap, in order, and nothing
-/// else, if lines are still taken at its end.
+/// else, if lines are still taken at its end. The ids that are lost are noted after each event.
 ///
 /// `Output` is the relation between an input and its output that `replay_trace` states by `Pumps`. So
 /// the totals of a whole replay are numbers of all states that the heap has passed.
 pub fn replays_are_runs()
-    ensures { (old new : ReplayState) (text output : List ℕ) (any_error : Bool)
+    ensures heap { (old new : ReplayState) (text output : List ℕ) (any_error : Bool)
         → Output TakesLine TakesRest lines old text output any_error new → new.progress ≡ Running
-        → Runs old.heap (events_in (lines_of text)) new.heap }
+        → Runs old.run.heap (events_in (lines_of text)) new.run.heap }
+    ensures lost { (old new : ReplayState) (text output : List ℕ) (any_error : Bool)
+        → Output TakesLine TakesRest lines old text output any_error new → new.progress ≡ Running
+        → RunsNoting old.run (events_in (lines_of text)) new.run }
 {}

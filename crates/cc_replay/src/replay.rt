@@ -1,11 +1,12 @@
-//! A heap that takes the lines of a trace.
-ghost use Rattle.std.specs.Prelude.{◌≡◌, ◌≤◌, ◌+◌, ◌↔◌, ◌++◌, [], true, false, length, Err, IsErr, OnErr, OnOk};
+//! A heap over a trace that takes the lines of it.
+ghost use Rattle.std.specs.Prelude.{◌≡◌, ◌≤◌, ◌+◌, ◌↔◌, ◌++◌, ◌^◌, [], true, false, length, Err, IfOk, IsErr, OnErr, OnOk};
 ghost use Rattle.cc_io.specs.Answers.{AnswersInto};
 ghost use Rattle.cc_io.specs.Correct.{Pumps};
 ghost use Rattle.cc_io.specs.Frames.{lines};
 ghost use Rattle.cc_io.specs.Devices.{TakesBeginning};
 ghost use Rattle.std.specs.Io.KnownBytes.{Appends};
 ghost use Rattle.cc_replay.specs.Events.{HasAlignment};
+ghost use Rattle.cc_replay.specs.Lost.{empty_run};
 ghost use Rattle.cc_replay.specs.Replay.{AppendsEvent, Refuses, TakesLine, TakesNext, TakesRest, begun, figures_of, is_refused, last_sample, series_header, time_after};
 
 use crate::counts::{Count, Counts};
@@ -14,23 +15,25 @@ use crate::heap::Heap;
 use crate::making::Making;
 use crate::outcome::Outcome;
 use crate::reading::{Progress, Reading};
+use crate::run::Run;
 use crate::series::{MOST_SAMPLE, push_sample, push_series_header};
+use crate::settings::Settings;
 use crate::summary::{Figures, write_page};
 use crate::trace::read_event;
 use cc_io::{Answerer, IoError, Lines, Sink, Source, Summary, pump};
 use cc_placer::Placer;
 use cc_text::{Page, Waiting};
 use cc_word::Refusal;
-use std::alloc::AllocError;
+use std::alloc::{AllocError, Global};
 use std::marker::Model;
 
 /// No line.
 const NONE: Count = Count { times: 0, first: 0 };
 
-/// A heap that takes the lines of a trace, and the counts of the lines.
+/// A heap over a trace that takes the lines of it, and the counts of the lines.
 #[derive(Drop)]
 pub struct Replay<P: Placer> {
-    heap: Heap<P>,
+    run: Run<P>,
     reading: Reading,
     counts: Counts,
     time: u64,
@@ -43,16 +46,36 @@ impl<P: Placer> Model for Replay<P> {
 
     ghost Value = { ReplayState };
 
-    ghost view = { λ s. record { heap = s.heap; reading = s.reading; counts = s.counts; time = s.time; progress = s.progress; is_sampled = s.is_sampled } };
+    ghost view = { λ s. record { run = s.run; reading = s.reading; counts = s.counts; time = s.time; progress = s.progress; is_sampled = s.is_sampled } };
 }
 
 impl<P: Placer> Replay<P> {
-    /// Creates a replay with a heap, before the first line of a trace.
-    pub fn new(heap: Heap<P>, reading: Reading) -> Self
-        ensures { result ≡ begun heap reading }
+    /// Creates a replay with a heap that holds nothing, before the first line of a trace.
+    ///
+    /// Requires: `1 <= settings.limit <= 2^24`; the pool's base is at most its top, and that at
+    /// most 2^64.
+    /// Errors: `AllocError` if an allocation fails.
+    pub fn with_settings(
+        alloc: Global,
+        settings: Settings,
+        reading: Reading,
+    ) -> Result<Self, AllocError>
+        requires some { 1 ≤ settings.limit }
+        requires few { settings.limit ≤ 2 ^ 24 }
+        requires in_order { settings.pool.base ≤ settings.pool.top }
+        requires fits { settings.pool.top ≤ 2 ^ 64 }
+        ensures { IfOk result (λ replay. replay ≡ begun (empty_run settings) reading) }
+    {
+        let heap = Heap::new(alloc, settings)?;
+        Ok(Replay::new(Run::new(alloc, heap), reading))
+    }
+
+    /// Creates a replay with a run of a heap, before the first line of a trace.
+    pub fn new(run: Run<P>, reading: Reading) -> Self
+        ensures { result ≡ begun run reading }
     {
         Replay {
-            heap,
+            run,
             reading,
             counts: Counts {
                 lines: 0,
@@ -84,8 +107,8 @@ impl<P: Placer> Replay<P> {
     {
         Figures {
             counts: self.counts,
-            totals: self.heap.totals(),
-            usage: self.heap.usage(),
+            totals: self.run.totals(),
+            usage: self.run.usage(),
         }
     }
 
@@ -186,8 +209,8 @@ impl<P: Placer> Replay<P> {
         requires room { length out.old + 1301 ≤ N }
         ensures { AppendsEvent self.old event out.old out.new result self.new }
     {
-        let sweeps = self.heap.totals().sweeps;
-        let outcome = match self.heap.event(event) {
+        let sweeps = self.run.totals().sweeps;
+        let outcome = match self.run.event(event) {
             Ok(outcome) => outcome,
             Err(AllocError) => {
                 self.progress = Progress::OutOfMemory;
@@ -200,7 +223,7 @@ impl<P: Placer> Replay<P> {
         self.progress = self.reading.progress_after(is_refused);
         self.is_sampled = self
             .reading
-            .is_due(self.counts.events, sweeps, self.heap.totals().sweeps);
+            .is_due(self.counts.events, sweeps, self.run.totals().sweeps);
         if self.is_sampled {
             push_sample(out, self.time, &self.figures());
         }
@@ -208,8 +231,8 @@ impl<P: Placer> Replay<P> {
     }
 }
 
-/// Returns whether an event is refused: the id of its object is not live, or is that of a live one,
-/// or the object cannot be made.
+/// Returns whether an event is refused: the id of its object is not live or is lost, or is that of a
+/// live one, or the object cannot be made.
 fn is_refused(outcome: Outcome) -> bool
     ensures { result ≡ is_refused outcome }
 {
@@ -256,7 +279,7 @@ impl<P: Placer, const N: usize> Answerer<N> for Replay<P> {
 /// Each line is taken as [`read_event`] reads it. The replay counts a line that is not an event, and
 /// an event that the heap refuses, and takes the next line unless reading is strict. If an allocation
 /// fails, [`Replay::progress`] says so, and no further line is taken. The source is read
-/// in chunks of up to 64 KiB. Before each read, all samples of earlier events are written. The sink
+/// in chunks of up to 16 KiB. Before each read, all samples of earlier events are written. The sink
 /// is flushed once, at the end.
 ///
 /// Requires: neither the source nor the sink has failed.

@@ -3,7 +3,8 @@ use cc_bounds::{Align, Span};
 use cc_io::{IoError, SliceSink, SliceSource, Summary};
 use cc_placer::ScanPlacer;
 use cc_replay::{
-    Format, Heap, Policy, Progress, Reading, Replay, Settings, Share, replay_trace, write_summary,
+    Format, Policy, Progress, Reading, Replay, Settings, Share, read_policy, replay_trace,
+    write_summary,
 };
 use std::alloc::{AllocError, Global};
 
@@ -130,7 +131,7 @@ const VALUES_7: &[u8] = b"\
 ";
 
 const VALUES_8: &[u8] = b"\
-19,12,3,1,2,4,1,1,2,12,2,13,1,19,3,7,0,0,2,6,0,0,0,0,4,5109,5109,0,0.0000,3,5101,5101,5000,5109,2,108,10210,5128,1,1,1,5000
+19,12,3,1,2,4,1,1,2,12,2,13,1,19,2,7,0,0,2,6,0,0,1,18,4,5109,5109,0,0.0000,3,5101,5101,5000,5109,2,108,10210,5128,1,1,1,5000
 ";
 
 const VALUES_9: &[u8] = b"\
@@ -142,6 +143,11 @@ const VALUES: [&[u8]; 10] = [
     VALUES_0, VALUES_1, VALUES_2, VALUES_3, VALUES_4, VALUES_5, VALUES_6, VALUES_7, VALUES_8,
     VALUES_9,
 ];
+
+/// The codes of the refusals of a string that is not a policy.
+const SYNTAX: u8 = 1;
+
+const OUT_OF_RANGE: u8 = 4;
 
 /// The pool of most settings.
 const POOL: Span = Span {
@@ -191,8 +197,7 @@ fn replay(alloc: Global, case: usize, is_strict: bool) -> Result<Replay<ScanPlac
         policy: policy(case),
         least_quarantine: if case == 3 { 6000 } else { 0 },
     };
-    let heap = Heap::new(alloc, settings)?;
-    Ok(Replay::new(heap, Reading { is_strict, each: 4 }))
+    Replay::with_settings(alloc, settings, Reading { is_strict, each: 4 })
 }
 
 /// Returns how the replay ends, and the number of bytes of the series that were then taken, or
@@ -258,6 +263,65 @@ fn each_policy_has_its_values(rt: HostRuntime) {
             "case {case}"
         );
     }
+}
+
+/// Returns whether a free of an object that had no place is lost, and not unknown.
+fn counts_a_lost_object(alloc: Global) -> Result<bool, AllocError> {
+    let mut replay = replay(alloc, 8, false)?;
+    let mut room = [0; 1024];
+    let mut source = SliceSource::new(b"a 1 9000\nf 1\nf 1\n", 4096, None);
+    let mut sink = SliceSink::new(&mut room, 1024, None);
+    let end = replay_trace(&mut replay, &mut source, &mut sink);
+    let counts = replay.figures().counts;
+    Ok(
+        end.is_ok()
+            && (counts.no_room.first, counts.lost.first) == (1, 2)
+            && (counts.lost.times, counts.unknown.first) == (1, 3),
+    )
+}
+
+#[test]
+fn a_free_of_an_object_without_a_place_is_lost(rt: HostRuntime) {
+    assert!(rt; counts_a_lost_object(rt.alloc()) == Ok(true));
+}
+
+/// Returns whether a string is read as a policy, or is refused with the code.
+fn reads(text: &[u8], wanted: Result<Policy, u8>) -> bool {
+    match (read_policy(text), wanted) {
+        (Ok(policy), Ok(other)) => policy == other,
+        (Err(refusal), Err(code)) => refusal.code() == code,
+        _ => false,
+    }
+}
+
+/// Returns the policy of a percentage.
+fn percent(percent: u32, of: Share) -> Result<Policy, u8> {
+    Ok(Policy::Percent { percent, of })
+}
+
+/// Returns whether each form of a policy is read, and each kind of error.
+fn reads_policies() -> bool {
+    reads(b"none", Ok(Policy::Immediate))
+        && reads(b"never", Ok(Policy::Never))
+        && reads(b"trace", Ok(Policy::Trace))
+        && reads(b"25%", percent(25, Share::Held))
+        && reads(b"0x19%:held", percent(25, Share::Held))
+        && reads(b"0%:live", percent(0, Share::Live))
+        && reads(b"4294967295%:high", percent(u32::MAX, Share::High))
+        && reads(b"bytes:65536", Ok(Policy::Bytes(65536)))
+        && reads(b"frees:0", Ok(Policy::Frees(0)))
+        && reads(b"4294967296%", Err(OUT_OF_RANGE))
+        && reads(b"bytes:18446744073709551616", Err(OUT_OF_RANGE))
+        && reads(b"", Err(SYNTAX))
+        && reads(b"%", Err(SYNTAX))
+        && reads(b"25", Err(SYNTAX))
+        && reads(b"25%:asked", Err(SYNTAX))
+        && reads(b"bytes:25%", Err(SYNTAX))
+}
+
+#[test]
+fn each_form_of_a_policy_is_read(rt: HostRuntime) {
+    assert!(rt; reads_policies());
 }
 
 #[test]

@@ -1,0 +1,77 @@
+//! The policy that a string names.
+ghost use Rattle.std.specs.Prelude.{◌≡◌};
+ghost use Rattle.cc_replay.specs.declared.policy.Policy.{Policy as PolicySpec};
+ghost use Rattle.cc_replay.specs.PolicyText.{IsPolicyText, in_range, numbered_in, of_percent, percent_in, policy_in};
+
+use crate::policy::{Policy, Share};
+use cc_syntax::read_address;
+use cc_word::Refusal;
+
+/// Parses a policy: `none`, `never`, `trace`, `bytes:N`, `frees:N`, or `PERCENT%`, which may have
+/// `:held`, `:live` or `:high` after it. A percentage without one of these is of the held bytes.
+///
+/// Numbers are decimal digits, or `0x` and hexadecimal digits.
+///
+/// Errors, in order: `Syntax` if the string is not a policy; `OutOfRange` if N is above 2^64 - 1, or
+/// PERCENT above 2^32 - 1.
+#[tactic(auto, using(crate::proofs::PolicyLemmas::texts_are_read))]
+pub fn read_policy(text: &[u8]) -> Result<Policy, Refusal>
+    ensures value { result ≡ policy_in text.now }
+    ensures texts { (policy : PolicySpec) → IsPolicyText policy text.now → result ≡ in_range policy }
+{
+    if text == b"none".as_slice() {
+        Ok(Policy::Immediate)
+    } else if text == b"never".as_slice() {
+        Ok(Policy::Never)
+    } else if text == b"trace".as_slice() {
+        Ok(Policy::Trace)
+    } else {
+        read_numbered(text)
+    }
+}
+
+/// Parses a policy that has a number.
+fn read_numbered(text: &[u8]) -> Result<Policy, Refusal>
+    ensures { result ≡ numbered_in text.now }
+{
+    if let Some(number) = text.strip_prefix(b"bytes:".as_slice()) {
+        return read_address(number).map(Policy::Bytes);
+    }
+    if let Some(number) = text.strip_prefix(b"frees:".as_slice()) {
+        return read_address(number).map(Policy::Frees);
+    }
+    read_share(text)
+}
+
+/// Parses a percentage, and the bytes of which it is.
+fn read_share(text: &[u8]) -> Result<Policy, Refusal>
+    ensures { result ≡ percent_in text.now }
+{
+    if let Some(number) = text.strip_suffix(b"%".as_slice()) {
+        return read_percent(number, Share::Held);
+    }
+    if let Some(number) = text.strip_suffix(b"%:held".as_slice()) {
+        return read_percent(number, Share::Held);
+    }
+    if let Some(number) = text.strip_suffix(b"%:live".as_slice()) {
+        return read_percent(number, Share::Live);
+    }
+    if let Some(number) = text.strip_suffix(b"%:high".as_slice()) {
+        return read_percent(number, Share::High);
+    }
+    Err(Refusal::Syntax)
+}
+
+/// Parses the number of a percentage.
+fn read_percent(number: &[u8], of: Share) -> Result<Policy, Refusal>
+    ensures { result ≡ of_percent of number.now }
+{
+    match read_address(number) {
+        Ok(percent) if percent <= u64::from(u32::MAX) => Ok(Policy::Percent {
+            percent: percent as u32,
+            of,
+        }),
+        Ok(_) => Err(Refusal::OutOfRange),
+        Err(refusal) => Err(refusal),
+    }
+}
