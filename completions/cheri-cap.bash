@@ -4,13 +4,14 @@ _cheri_cap() {
   local word=${COMP_WORDS[COMP_CWORD]} before=${COMP_WORDS[COMP_CWORD - 1]} command=${COMP_WORDS[1]} options='-h --help'
   COMPREPLY=()
   if ((COMP_CWORD == 1)); then
-    mapfile -t COMPREPLY < <(compgen -W 'show round run plan map decode annotate explain -h --help -V --version' -- "$word")
+    mapfile -t COMPREPLY < <(compgen -W 'show round run plan map replay decode annotate explain -h --help -V --version' -- "$word")
     return
   fi
   case $command in
     run) options+=' --slots --stats' ;;
     plan) options+=' --slots --align --stats' ;;
     map) options+=' --slots --align --svg' ;;
+    replay) options+=' --align --sweep --min --pool --strict --summary --each' ;;
     decode) options+=' --format --bytes --skip --at --holds --perms' ;;
     show) options+=' --line' ;;
     explain) options+=' --svg --length --base' ;;
@@ -19,14 +20,15 @@ _cheri_cap() {
     *) return ;;
   esac
   case $before in
-    --slots | --length | --base | --skip | --at | --holds | --perms) ;;
+    --slots | --length | --base | --skip | --at | --holds | --perms | --sweep | --min | --pool | --each) ;;
+    --summary) mapfile -t COMPREPLY < <(compgen -W 'text csv json' -- "$word") ;;
     --format) mapfile -t COMPREPLY < <(compgen -W 'columns text fixed csv' -- "$word") ;;
     --bytes) mapfile -t COMPREPLY < <(compgen -W 'little big' -- "$word") ;;
     --align) mapfile -t COMPREPLY < <(compgen -W '1 16' -- "$word") ;;
     *)
       if [[ $word == -* ]]; then
         mapfile -t COMPREPLY < <(compgen -W "$options" -- "$word")
-      elif [[ $command == run || $command == plan || $command == map || $command == decode || $command == annotate ]]; then
+      elif [[ $command == run || $command == plan || $command == map || $command == replay || $command == decode || $command == annotate ]]; then
         compopt -o filenames 2>/dev/null
         mapfile -t COMPREPLY < <(compgen -f -- "$word")
       fi

@@ -31,8 +31,10 @@ use Rattle.cc_decode.specs.declared.input.InputForm.TheVariants.{Bytes, Lines}
 use Rattle.cc_decode.specs.declared.format.Format.{Format}
 use Rattle.cc_decode.specs.declared.format.Format.TheVariants.{Columns}
 use Rattle.cc_decode.specs.declared.format.Format.TheVariants as format
-use Rattle.cc_arguments.specs.Invocation.{HasChoice, HasItsTexts, HasLimit, HasValues, HasWanted, IsChosen, IsGiven, IsLimit, IsInvocation, IsLimitText, choice_fault_in, align_named, decimal_value, format_named, format_names, program, slots_option, choice_option, command_name_of, input_named, order_names, HasFlag, flag_option}
+use Rattle.cc_arguments.specs.Invocation.{HasChoice, HasItsTexts, HasLimit, HasValues, HasWanted, IsChosen, IsGiven, IsLimit, IsInvocation, IsLimitText, choice_fault_in, align_named, decimal_value, format_named, format_names, program, slots_option, choice_option, command_name_of, input_named, order_names, HasFlag, flag_option, summary_named, summary_names}
 use Rattle.cc_arguments.specs.declared.invocation.Invocation.{Invocation}
+use Rattle.cc_arguments.specs.declared.invocation.SummaryFormat.{SummaryFormat}
+use Rattle.cc_arguments.specs.declared.invocation.SummaryFormat.TheVariants as summary
 use Rattle.cc_arguments.proofs.GivenLemmas.{GiveValues, GivesValue, IsTaken, flag_gives, level-given, level_parts, no_default-given, required_given, set_gives, taken}
 
 -- ---- numbers
@@ -163,6 +165,35 @@ format_columns (Some text) read not_line not_fixed not_csv =
     go false false false true no_line no_fixed no_csv read = absurd (no_csv refl)
     go false false false false no_line no_fixed no_csv read = cc read
 
+-- Each name of a format of a summary names one.
+summary_read : (text : Text) → list_any (λ name. bytes_eq name text) summary_names ≡ true → IsSome (summary_named text)
+summary_read text among =
+    go (bytes_eq (codes "text") text) (bytes_eq (codes "csv") text) (bytes_eq (codes "json") text) refl refl refl among
+  where
+    go : (line csv json : Bool) → bytes_eq (codes "text") text ≡ line → bytes_eq (codes "csv") text ≡ csv → bytes_eq (codes "json") text ≡ json
+        → (line || (csv || (json || false))) ≡ true → IsSome (summary_named text)
+    go true csv json is one two e = subst (λ (t : Text). IsSome (summary_named t)) ((bytes_eq-Decides (codes "text") text).0 is) refl
+    go false true json one is two e = subst (λ (t : Text). IsSome (summary_named t)) ((bytes_eq-Decides (codes "csv") text).0 is) refl
+    go false false true one two is e = subst (λ (t : Text). IsSome (summary_named t)) ((bytes_eq-Decides (codes "json") text).0 is) refl
+    go false false false one two three e = cc e
+
+-- A format of a summary that is none of the others is text.
+pub summary_text : (given : Option Text) → IfSome given (λ text. IsSome (summary_named text)) → (given ≡ Some (codes "csv") → ⊥) → (given ≡ Some (codes "json") → ⊥)
+    → IsChosen summary_named summary.Text given summary.Text
+summary_text None read not_csv not_json = refl
+summary_text (Some text) read not_csv not_json =
+    go (bytes_eq text (codes "text")) (bytes_eq text (codes "csv")) (bytes_eq text (codes "json"))
+    (λ is. not_csv (ap Some ((bytes_eq-Decides text (codes "csv")).0 is))) (λ is. not_json (ap Some ((bytes_eq-Decides text (codes "json")).0 is))) read
+  where
+    named : (line csv json : Bool) → Option SummaryFormat
+    named line csv json = if line then Some summary.Text else if csv then Some summary.Csv else if json then Some summary.Json else None
+
+    go : (line csv json : Bool) → (csv ≡ true → ⊥) → (json ≡ true → ⊥) → IsSome (named line csv json) → named line csv json ≡ Some summary.Text
+    go true csv json no_csv no_json read = refl
+    go false true json no_csv no_json read = absurd (no_csv refl)
+    go false false true no_csv no_json read = absurd (no_json refl)
+    go false false false no_csv no_json read = cc read
+
 -- ---- orders of bytes
 
 -- Each name of an order names one.
@@ -229,30 +260,34 @@ flag_read (Some text) flag either none on off = elim either [
 -- ---- the commands, as building leaves them
 
 module _ (aligns : Bor (List (Bor Text))) (are : texts aligns.now ≡ codes "1" ∷ codes "16" ∷ []) (formats : Bor (List (Bor Text))) (are_formats : texts formats.now ≡ format_names)
-    (orders : Bor (List (Bor Text))) (are_orders : texts orders.now ≡ order_names) where
+    (orders : Bor (List (Bor Text))) (are_orders : texts orders.now ≡ order_names) (summaries : Bor (List (Bor Text)))
+    (are_summaries : texts summaries.now ≡ summary_names) where
   abbrev show : Shape
-  show = get_or (built (program aligns formats orders)).subs 0 help_shape
+  show = get_or (built (program aligns formats orders summaries)).subs 0 help_shape
 
   abbrev round : Shape
-  round = get_or (built (program aligns formats orders)).subs 1 help_shape
+  round = get_or (built (program aligns formats orders summaries)).subs 1 help_shape
 
   abbrev run : Shape
-  run = get_or (built (program aligns formats orders)).subs 2 help_shape
+  run = get_or (built (program aligns formats orders summaries)).subs 2 help_shape
 
   abbrev plan : Shape
-  plan = get_or (built (program aligns formats orders)).subs 3 help_shape
+  plan = get_or (built (program aligns formats orders summaries)).subs 3 help_shape
 
   abbrev map : Shape
-  map = get_or (built (program aligns formats orders)).subs 4 help_shape
+  map = get_or (built (program aligns formats orders summaries)).subs 4 help_shape
+
+  abbrev replay : Shape
+  replay = get_or (built (program aligns formats orders summaries)).subs 5 help_shape
 
   abbrev decode : Shape
-  decode = get_or (built (program aligns formats orders)).subs 5 help_shape
+  decode = get_or (built (program aligns formats orders summaries)).subs 6 help_shape
 
   abbrev annotate : Shape
-  annotate = get_or (built (program aligns formats orders)).subs 6 help_shape
+  annotate = get_or (built (program aligns formats orders summaries)).subs 7 help_shape
 
   abbrev explain : Shape
-  explain = get_or (built (program aligns formats orders)).subs 7 help_shape
+  explain = get_or (built (program aligns formats orders summaries)).subs 8 help_shape
 
   -- A call for help is an error, and changes no row.
   help_gives : (c : List Rule) → GivesValue c (filled help_rule)
@@ -312,6 +347,30 @@ module _ (aligns : Bor (List (Bor Text))) (are : texts aligns.now ≡ codes "1" 
           (
             set_gives map.rules _ refl refl refl refl,
             (set_gives map.rules _ refl refl refl refl, (help_gives map.rules, tt)),
+          ),
+        ),
+      ),
+    ),
+  )
+
+  replay_gives : GiveValues replay.rules replay.rules
+  replay_gives = (
+    set_gives replay.rules _ refl refl refl refl,
+    (
+      set_gives replay.rules _ refl refl refl refl,
+      (
+        set_gives replay.rules _ refl refl refl refl,
+        (
+          set_gives replay.rules _ refl refl refl refl,
+          (
+            flag_gives replay.rules _ refl refl refl refl refl,
+            (
+              set_gives replay.rules _ refl refl refl refl,
+              (
+                set_gives replay.rules _ refl refl refl refl,
+                (set_gives replay.rules _ refl refl refl refl, (help_gives replay.rules, tt)),
+              ),
+            ),
           ),
         ),
       ),
@@ -400,6 +459,14 @@ module _ (aligns : Bor (List (Bor Text))) (are : texts aligns.now ≡ codes "1" 
       let svg = flag_served map words (codes "svg") map_gives refl e in
       (codes "map", rows, refl, ((wanted.1.1.1.0 refl, wanted.1.1.1.1.0 refl), limit, align, svg))
 
+  replay_serves : Serves replay
+  replay_serves words e choice =
+      let rows = rows_after replay.rules [] words in
+      let align = has_choice align_named (codes "align") (codes "1" ∷ codes "16" ∷ []) align_read aligns are rows (taken replay.rules (codes "align") (filled (choice_option (codes "align") aligns)) rows (level-given replay [] words false [] replay_gives e) refl) in
+      let strict = flag_served replay words (codes "strict") replay_gives refl e in
+      let told = has_choice summary_named (codes "summary") summary_names summary_read summaries are_summaries rows (taken replay.rules (codes "summary") (filled (choice_option (codes "summary") summaries)) rows (level-given replay [] words false [] replay_gives e) refl) in
+      (codes "replay", rows, refl, (align, strict, told))
+
   decode_serves : Serves decode
   decode_serves words e choice =
       let rows = rows_after decode.rules [] words in
@@ -411,8 +478,8 @@ module _ (aligns : Bor (List (Bor Text))) (are : texts aligns.now ≡ codes "1" 
   AllServe [] = ⊤
   AllServe (s ∷ rest) = Serves s × AllServe rest
 
-  all_serve : AllServe (built (program aligns formats orders)).subs
-  all_serve = (show_serves, (round_serves, (run_serves, (plan_serves, (map_serves, (decode_serves, (annotate_serves, (explain_serves, tt))))))))
+  all_serve : AllServe (built (program aligns formats orders summaries)).subs
+  all_serve = (show_serves, (round_serves, (run_serves, (plan_serves, (map_serves, (replay_serves, (decode_serves, (annotate_serves, (explain_serves, tt)))))))))
 
   -- ---- the program
 
@@ -421,42 +488,42 @@ module _ (aligns : Bor (List (Bor Text))) (are : texts aligns.now ≡ codes "1" 
   wanted_by false b e = cc e
 
   -- A command is required.
-  wanted : (rows : List Row) → check_fault (built (program aligns formats orders)).top rows false ≡ [] → ⊥
+  wanted : (rows : List Row) → check_fault (built (program aligns formats orders summaries)).top rows false ≡ [] → ⊥
   wanted rows e =
       wanted_by (not (list_any (λ (r : Row). explicit_source r.source) rows))
-      (list_any (λ (a : Rule). a.required && not (is_given a.id rows)) (built (program aligns formats orders)).top.rules) e
+      (list_any (λ (a : Rule). a.required && not (is_given a.id rows)) (built (program aligns formats orders summaries)).top.rules) e
 
   by_name : (is_named : Shape → Bool) (commands : List Shape) (words : List Text) (rows : List Row) → AllServe commands
       → option_map_or (λ s. level_fault s [] nothing_held words false []) (find is_named commands) [] ≡ []
-      → check_fault (built (program aligns formats orders)).top rows (is_some (option_map (λ s. rows_at s words) (find is_named commands))) ≡ []
+      → check_fault (built (program aligns formats orders summaries)).top rows (is_some (option_map (λ s. rows_at s words) (find is_named commands))) ≡ []
       → choice_fault_in (option_map (λ s. rows_at s words) (find is_named commands)) ≡ None
       → HasItsTexts (option_map (λ s. rows_at s words) (find is_named commands))
   by_name is_named [] words rows all below e choice = absurd (wanted rows e)
   by_name is_named (s ∷ rest) words rows all below e choice = go (is_named s) below e choice (by_name is_named rest words rows all.1)
     where
       go : (b : Bool) → option_map_or (λ s. level_fault s [] nothing_held words false []) (if b then Some s else find is_named rest) [] ≡ []
-          → check_fault (built (program aligns formats orders)).top rows (is_some (option_map (λ s. rows_at s words) (if b then Some s else find is_named rest))) ≡ []
+          → check_fault (built (program aligns formats orders summaries)).top rows (is_some (option_map (λ s. rows_at s words) (if b then Some s else find is_named rest))) ≡ []
           → choice_fault_in (option_map (λ s. rows_at s words) (if b then Some s else find is_named rest)) ≡ None
           → (option_map_or (λ s. level_fault s [] nothing_held words false []) (find is_named rest) [] ≡ []
-          → check_fault (built (program aligns formats orders)).top rows (is_some (option_map (λ s. rows_at s words) (find is_named rest))) ≡ []
+          → check_fault (built (program aligns formats orders summaries)).top rows (is_some (option_map (λ s. rows_at s words) (find is_named rest))) ≡ []
           → choice_fault_in (option_map (λ s. rows_at s words) (find is_named rest)) ≡ None
           → HasItsTexts (option_map (λ s. rows_at s words) (find is_named rest)))
           → HasItsTexts (option_map (λ s. rows_at s words) (if b then Some s else find is_named rest))
       go true below e choice later = all.0 words below choice
       go false below e choice later = later below e choice
 
-  by_stop : (stop : Option (Text × List Text)) (rows : List Row) → entered_fault (built (program aligns formats orders)) stop ≡ []
-      → check_fault (built (program aligns formats orders)).top rows (is_some (entered (built (program aligns formats orders)) stop)) ≡ []
-      → choice_fault_in (entered (built (program aligns formats orders)) stop) ≡ None → HasItsTexts (entered (built (program aligns formats orders)) stop)
+  by_stop : (stop : Option (Text × List Text)) (rows : List Row) → entered_fault (built (program aligns formats orders summaries)) stop ≡ []
+      → check_fault (built (program aligns formats orders summaries)).top rows (is_some (entered (built (program aligns formats orders summaries)) stop)) ≡ []
+      → choice_fault_in (entered (built (program aligns formats orders summaries)) stop) ≡ None → HasItsTexts (entered (built (program aligns formats orders summaries)) stop)
   by_stop None rows below e choice = absurd (wanted rows e)
-  by_stop (Some p) rows below e choice = by_name (λ s. answers_to p.0 (label_of s)) (built (program aligns formats orders)).subs p.1 rows all_serve below e choice
+  by_stop (Some p) rows below e choice = by_name (λ s. answers_to p.0 (label_of s)) (built (program aligns formats orders summaries)).subs p.1 rows all_serve below e choice
 
   -- Arguments without an error name a command and give it its texts, if they are a choice.
-  pub found : (words : List Text) → fault_of (program aligns formats orders) words ≡ [] → choice_fault_in (subcommand_of (program aligns formats orders) words) ≡ None
-      → HasItsTexts (subcommand_of (program aligns formats orders) words)
+  pub found : (words : List Text) → fault_of (program aligns formats orders summaries) words ≡ [] → choice_fault_in (subcommand_of (program aligns formats orders summaries) words) ≡ None
+      → HasItsTexts (subcommand_of (program aligns formats orders summaries) words)
   found words e choice =
-      let app = built (program aligns formats orders) in
-      let rest = argument_words (program aligns formats orders) words in
+      let app = built (program aligns formats orders summaries) in
+      let rest = argument_words (program aligns formats orders summaries) words in
       let end = walk app.top.rules (names_of app) nothing_held rest in
       let parts = level_parts app.top (names_of app) rest (is_some (entered app end.stopped)) (entered_fault app end.stopped) e in
       by_stop end.stopped (rows_after app.top.rules (names_of app) rest) parts.1 parts.3 choice
@@ -492,7 +559,7 @@ pub command_wanted : (m : ArgMatches) (name : Text) (rows : List Row) → Some n
 command_wanted m name rows named told has = wanted_of (subcommand_rows_of m) name rows (command_is m name rows named told) has
 
 abbrev command_names : List Text
-command_names = codes "show" ∷ codes "round" ∷ codes "run" ∷ codes "plan" ∷ codes "map" ∷ codes "decode" ∷ codes "annotate" ∷ codes "explain" ∷ []
+command_names = codes "show" ∷ codes "round" ∷ codes "run" ∷ codes "plan" ∷ codes "map" ∷ codes "replay" ∷ codes "decode" ∷ codes "annotate" ∷ codes "explain" ∷ []
 
 -- `IsNone` holds if the text is not one of these names.
 abbrev pub IsNone : (names : List Text) (text : Text) → Type 0
@@ -511,9 +578,10 @@ none_wanted name rows others =
     (not_this _ _ _ (λ e. others.1.1.0 ((bytes_eq-Decides name (codes "run")).0 e))
     (not_this _ _ _ (λ e. others.1.1.1.0 ((bytes_eq-Decides name (codes "plan")).0 e))
     (not_this _ _ _ (λ e. others.1.1.1.1.0 ((bytes_eq-Decides name (codes "map")).0 e))
-    (not_this _ _ _ (λ e. others.1.1.1.1.1.0 ((bytes_eq-Decides name (codes "decode")).0 e))
-    (not_this _ _ _ (λ e. others.1.1.1.1.1.1.0 ((bytes_eq-Decides name (codes "annotate")).0 e))
-    (not_this _ _ _ (λ e. others.1.1.1.1.1.1.1.0 ((bytes_eq-Decides name (codes "explain")).0 e)) (λ none. none))))))))
+    (not_this _ _ _ (λ e. others.1.1.1.1.1.0 ((bytes_eq-Decides name (codes "replay")).0 e))
+    (not_this _ _ _ (λ e. others.1.1.1.1.1.1.0 ((bytes_eq-Decides name (codes "decode")).0 e))
+    (not_this _ _ _ (λ e. others.1.1.1.1.1.1.1.0 ((bytes_eq-Decides name (codes "annotate")).0 e))
+    (not_this _ _ _ (λ e. others.1.1.1.1.1.1.1.1.0 ((bytes_eq-Decides name (codes "explain")).0 e)) (λ none. none)))))))))
 
 -- The command that was found is one of the program's.
 pub known : (met : Option (Text × List Row)) (name : Text) → HasItsTexts met → Some name ≡ option_map (λ p. p.0) met → IsNone command_names name → ⊥

@@ -4,7 +4,7 @@ use Rattle.std.specs.Borrow.{Bor}
 use Rattle.std.specs.Option.{option_map_or}
 use Rattle.std.specs.Str.{bytes_eq}
 use Rattle.std.specs.Str.Parse.{IsNumeral, digits_value, without_leading_plus}
-pub use Rattle.cc_table.specs.Usage.{IsProgram, choice_option, flag_option, format_names, order_names, program, slots_option}
+pub use Rattle.cc_table.specs.Usage.{IsProgram, choice_option, flag_option, format_names, order_names, program, slots_option, summary_names}
 use Rattle.clap.specs.Kinds.{or_else}
 use Rattle.clap.specs.Words.{App, Kinds, Row, Text, fault_of, first_of, one_of, subcommand_of, takes}
 use Rattle.clap.specs.declared.error.kind.ErrorKind.{ErrorKind}
@@ -13,6 +13,9 @@ use Rattle.cc_bounds.specs.declared.align.Align.{Align}
 use Rattle.cc_bounds.specs.declared.align.Align.TheVariants.{One, Sixteen}
 use Rattle.cc_arguments.specs.declared.invocation.DecodeTexts.{DecodeTexts}
 use Rattle.cc_arguments.specs.declared.invocation.PoolTexts.{PoolTexts}
+use Rattle.cc_arguments.specs.declared.invocation.ReplayTexts.{ReplayTexts}
+use Rattle.cc_arguments.specs.declared.invocation.SummaryFormat.{SummaryFormat}
+use Rattle.cc_arguments.specs.declared.invocation.SummaryFormat.TheVariants as summary
 use Rattle.cc_decode.specs.declared.input.ByteOrder.TheVariants.{Little, Big}
 use Rattle.cc_decode.specs.declared.input.InputForm.{InputForm}
 use Rattle.cc_decode.specs.declared.input.InputForm.TheVariants.{Lines, Bytes}
@@ -20,7 +23,7 @@ use Rattle.cc_decode.specs.declared.format.Format.{Format}
 use Rattle.cc_decode.specs.declared.format.Format.TheVariants.{Columns, Csv, Fixed}
 use Rattle.cc_decode.specs.declared.format.Format.TheVariants as format
 use Rattle.cc_arguments.specs.declared.invocation.Invocation.{Invocation}
-use Rattle.cc_arguments.specs.declared.invocation.Invocation.TheVariants.{Annotate, Ask, Decode, Map, Plan, RoundList, Run}
+use Rattle.cc_arguments.specs.declared.invocation.Invocation.TheVariants.{Annotate, Ask, Decode, Map, Plan, Replay, RoundList, Run}
 use Rattle.cc_arguments.specs.declared.question.Question.{Question}
 use Rattle.cc_arguments.specs.declared.question.Question.TheVariants.{DrawWindow, Explain, ExplainLength, Round, Show}
 
@@ -54,6 +57,14 @@ format_named text =
     else if bytes_eq text (codes "csv") then Some Csv
     else None
 
+-- The format of a summary that a text names, if it names one.
+abbrev pub summary_named : Text → Option SummaryFormat
+summary_named text =
+    if bytes_eq text (codes "text") then Some summary.Text
+    else if bytes_eq text (codes "csv") then Some summary.Csv
+    else if bytes_eq text (codes "json") then Some summary.Json
+    else None
+
 -- The input form of raw bytes in the order that a text names, if it names one.
 abbrev pub input_named : Text → Option InputForm
 input_named text = if bytes_eq text (codes "little") then Some (Bytes Little) else if bytes_eq text (codes "big") then Some (Bytes Big) else None
@@ -80,6 +91,7 @@ command_name_of (Ask question) = question_command question
 command_name_of (Run limit stats file) = codes "run"
 command_name_of (Plan limit pool align stats file) = codes "plan"
 command_name_of (Map limit pool align svg file) = codes "map"
+command_name_of (Replay align strict format texts file) = codes "replay"
 command_name_of (Decode input format texts file) = codes "decode"
 command_name_of (Annotate file) = codes "annotate"
 command_name_of RoundList = codes "round"
@@ -104,6 +116,13 @@ pub record HasDecodeTexts (rows : List Row) (texts : DecodeTexts) : Type 0 where
   pub holds : first_of (codes "holds") rows ≡ option_map (λ text. text.now) texts.holds
   pub perms : first_of (codes "perms") rows ≡ option_map (λ text. text.now) texts.perms
 
+-- `HasReplayTexts` holds if the texts are the values of these options, or `None` for those that are not given.
+pub record HasReplayTexts (rows : List Row) (texts : ReplayTexts) : Type 0 where
+  pub sweep : first_of (codes "sweep") rows ≡ option_map (λ text. text.now) texts.sweep
+  pub least : first_of (codes "min") rows ≡ option_map (λ text. text.now) texts.least
+  pub pool : first_of (codes "pool") rows ≡ option_map (λ text. text.now) texts.pool
+  pub each : first_of (codes "each") rows ≡ option_map (λ text. text.now) texts.each
+
 -- `HasTexts` holds if the texts of the question are the values that clap found. The arguments of `explain` that the
 -- question has no text for have no value, and a missing `--base` is `0`. The N of `round` is not `-`, which is a list.
 abbrev pub HasTexts : List Row → Question → Type 0
@@ -126,6 +145,9 @@ HasValues rows (Plan limit pool align stats file) =
 HasValues rows (Map limit pool align svg file) =
     IsLimit (first_of (codes "slots") rows) limit × IsChosen align_named One (first_of (codes "align") rows) align
     × IsGiven (first_of (codes "svg") rows) svg × HasPool rows pool × HasFile rows file
+HasValues rows (Replay align strict format texts file) =
+    IsChosen align_named One (first_of (codes "align") rows) align × IsGiven (first_of (codes "strict") rows) strict
+    × IsChosen summary_named summary.Text (first_of (codes "summary") rows) format × HasReplayTexts rows texts × HasFile rows file
 HasValues rows (Decode input format texts file) =
     IsChosen format_named Columns (first_of (codes "format") rows) format
     × IsChosen input_named Lines (first_of (codes "bytes") rows) input × HasDecodeTexts rows texts × HasFile rows file
@@ -208,9 +230,10 @@ HasWanted name rows =
     (cond (bytes_eq name (codes "run")) (HasLimit rows × HasFlag (codes "stats") rows)
     (cond (bytes_eq name (codes "plan")) (HasPoolTexts rows × HasLimit rows × HasChoice align_named (codes "align") rows × HasFlag (codes "stats") rows)
     (cond (bytes_eq name (codes "map")) (HasPoolTexts rows × HasLimit rows × HasChoice align_named (codes "align") rows × HasFlag (codes "svg") rows)
+    (cond (bytes_eq name (codes "replay")) (HasChoice align_named (codes "align") rows × HasFlag (codes "strict") rows × HasChoice summary_named (codes "summary") rows)
     (cond (bytes_eq name (codes "decode")) (HasChoice format_named (codes "format") rows × HasChoice input_named (codes "bytes") rows)
     (cond (bytes_eq name (codes "annotate")) ⊤
-    (cond (bytes_eq name (codes "explain")) (choice_fault_of rows ≡ None) ⊥)))))))
+    (cond (bytes_eq name (codes "explain")) (choice_fault_of rows ≡ None) ⊥))))))))
 
 -- `HasItsTexts` holds if clap found a command of the program, with the values that it needs.
 abbrev pub HasItsTexts : Option (Text × List Row) → Type 0

@@ -25,6 +25,30 @@ pub struct DecodeTexts<'a> {
     pub perms: Option<&'a str>,
 }
 
+/// The format of the summary of `replay`.
+#[derive(Clone, Copy, Debug, PartialEq, Eq)]
+pub enum SummaryFormat {
+    /// One line a number: its name and its value.
+    Text,
+    /// A line of the names and one of the values, with commas between.
+    Csv,
+    /// One object of JSON.
+    Json,
+}
+
+/// The values of the options of `replay` that are numbers, a policy or a pool, as they were typed.
+#[derive(Clone, Copy, Debug, PartialEq, Eq)]
+pub struct ReplayTexts<'a> {
+    /// The policy.
+    pub sweep: Option<&'a str>,
+    /// The number of quarantined bytes below which the policy does not sweep.
+    pub least: Option<&'a str>,
+    /// The base and the length of the pool.
+    pub pool: Option<&'a str>,
+    /// The number of events from one sample to the next.
+    pub each: Option<&'a str>,
+}
+
 /// A command and its values.
 #[derive(Clone, Copy)]
 pub enum Invocation<'a> {
@@ -63,6 +87,20 @@ pub enum Invocation<'a> {
         /// Whether the pool is drawn as an SVG document.
         svg: bool,
         /// The script's file; `None` and `-` are standard input.
+        file: Option<&'a str>,
+    },
+    /// `replay [--align ALIGN] [--sweep POLICY] [--min BYTES] [--pool BASE:LENGTH] [--strict] [--summary FORMAT] [--each N]
+    /// [FILE]`: replays the trace of an allocator.
+    Replay {
+        /// The alignment of each object.
+        align: Align,
+        /// Whether no line is taken after one that is refused.
+        strict: bool,
+        /// The format of the summary.
+        format: SummaryFormat,
+        /// The values of the other options, as they were typed.
+        texts: ReplayTexts<'a>,
+        /// The trace's file; `None` and `-` are standard input.
         file: Option<&'a str>,
     },
     /// `decode [--format FORMAT] [--bytes ORDER] [--skip N] [--at START] [--holds ADDRESS] [--perms NAMES] [FILE]`: lists

@@ -6,6 +6,6 @@ mod question;
 mod reading;
 mod values;
 
-pub use invocation::{DecodeTexts, Invocation, PoolTexts};
+pub use invocation::{DecodeTexts, Invocation, PoolTexts, ReplayTexts, SummaryFormat};
 pub use question::Question;
 pub use reading::read_words;

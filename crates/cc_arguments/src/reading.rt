@@ -2,13 +2,13 @@
 ghost use Rattle.std.specs.Prelude.{◌≡◌, ◌∷◌, [], IfErr, IfOk, None, codes, is_some, true};
 ghost use Rattle.clap.specs.Walk.{texts};
 ghost use Rattle.clap.specs.Words.{App, FailsBy, first_of, found_of, kind_of, rows_of, subcommand_of, subcommand_rows_of};
-ghost use Rattle.cc_arguments.specs.Invocation.{HasChoice, HasFlag, HasItsTexts, HasLimit, HasPoolTexts, HasText, HasValues, IsInvocation, IsProgram, align_named, choice_fault_in, choice_fault_of, command_name_of, faults_of, format_named, format_names, input_named, is_taken, kinds_in, order_names};
+ghost use Rattle.cc_arguments.specs.Invocation.{HasChoice, HasFlag, HasItsTexts, HasLimit, HasPoolTexts, HasText, HasValues, IsInvocation, IsProgram, align_named, choice_fault_in, choice_fault_of, command_name_of, faults_of, format_named, format_names, input_named, is_taken, kinds_in, order_names, summary_named, summary_names};
 
 use crate::invocation::Invocation;
 use crate::question::Question;
 use crate::values::{
     align_of, base_of, decode_texts, format_of, input_of, is_given, is_on, limit_of, pool_texts,
-    value_of, wanted_text,
+    replay_texts, summary_of, value_of, wanted_text,
 };
 use cc_table::{EXPLAIN_CHOICE, explain_command, program};
 use clap::error::ErrorKind;
@@ -26,7 +26,7 @@ pub fn read_words<'a>(alloc: Global, words: &'a [&'a str]) -> Result<Invocation<
         (app : App) × IsProgram app × (is_taken app (texts words.now) ≡ true → kind_of error ≡ ErrorKind.OutOfMemory)) }
     ensures kinds { (app : App) × IsProgram app × FailsBy (faults_of app (texts words.now)) result }
 {
-    let mut command = program(alloc, aligns(), formats(), orders())?;
+    let mut command = program(alloc, aligns(), formats(), orders(), summaries())?;
     match command.try_get_matches_from_mut(words) {
         Ok(matches) => chosen(alloc, &matches),
         Err(error) => Err(error),
@@ -52,6 +52,13 @@ fn orders<'a>() -> &'a [&'a str]
     ensures { texts result.now ≡ order_names }
 {
     &["little", "big"]
+}
+
+/// Returns the values that `--summary` accepts.
+fn summaries<'a>() -> &'a [&'a str]
+    ensures { texts result.now ≡ summary_names }
+{
+    &["text", "csv", "json"]
 }
 
 /// Returns the invocation of the command that clap found, or the error of the values of `explain` that exclude each
@@ -114,6 +121,7 @@ fn invocation_of<'a>(matches: &ArgMatches<'a>) -> Invocation<'a>
         Some(("run", run)) => read_run(run),
         Some(("plan", plan)) => read_plan(plan),
         Some(("map", map)) => read_map(map),
+        Some(("replay", replay)) => read_replay(replay),
         Some(("decode", decode)) => read_decode(decode),
         Some(("annotate", annotate)) => read_annotate(annotate),
         Some(("explain", explain)) => read_explain(explain),
@@ -189,6 +197,22 @@ fn read_map<'a>(matches: &ArgMatches<'a>) -> Invocation<'a>
         pool: pool_texts(matches),
         align: align_of(matches),
         svg: is_given(matches, "svg"),
+        file: value_of(matches, "file"),
+    }
+}
+
+fn read_replay<'a>(matches: &ArgMatches<'a>) -> Invocation<'a>
+    requires align { HasChoice align_named (codes "align") (rows_of (found_of matches.now)) }
+    requires strict { HasFlag (codes "strict") (rows_of (found_of matches.now)) }
+    requires summary { HasChoice summary_named (codes "summary") (rows_of (found_of matches.now)) }
+    ensures command { command_name_of result ≡ codes "replay" }
+    ensures values { HasValues (rows_of (found_of matches.now)) result }
+{
+    Invocation::Replay {
+        align: align_of(matches),
+        strict: is_given(matches, "strict"),
+        format: summary_of(matches),
+        texts: replay_texts(matches),
         file: value_of(matches, "file"),
     }
 }

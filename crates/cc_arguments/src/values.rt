@@ -1,9 +1,9 @@
 //! The values that clap found for arguments and options.
 ghost use Rattle.std.specs.Prelude.{◌≡◌, Some, codes, option_map, unwrap_or};
 ghost use Rattle.clap.specs.Words.{first_of, found_of, rows_of};
-ghost use Rattle.cc_arguments.specs.Invocation.{HasChoice, HasDecodeTexts, HasFlag, HasLimit, HasPool, HasPoolTexts, HasText, IsChosen, IsGiven, IsLimit, align_named, format_named, input_named, is_on};
+ghost use Rattle.cc_arguments.specs.Invocation.{HasChoice, HasDecodeTexts, HasFlag, HasLimit, HasPool, HasPoolTexts, HasReplayTexts, HasText, IsChosen, IsGiven, IsLimit, align_named, format_named, input_named, is_on, summary_named};
 
-use crate::invocation::{DecodeTexts, PoolTexts};
+use crate::invocation::{DecodeTexts, PoolTexts, ReplayTexts, SummaryFormat};
 use cc_bounds::Align;
 use cc_decode::{ByteOrder, Format, InputForm};
 use clap::ArgMatches;
@@ -59,6 +59,18 @@ pub(crate) fn decode_texts<'a>(matches: &ArgMatches<'a>) -> DecodeTexts<'a>
     }
 }
 
+/// Returns the values of the options of `replay` that are numbers, a policy or a pool.
+pub(crate) fn replay_texts<'a>(matches: &ArgMatches<'a>) -> ReplayTexts<'a>
+    ensures { HasReplayTexts (rows_of (found_of matches.now)) result }
+{
+    ReplayTexts {
+        sweep: value_of(matches, "sweep"),
+        least: value_of(matches, "min"),
+        pool: value_of(matches, "pool"),
+        each: value_of(matches, "each"),
+    }
+}
+
 /// Returns whether an option without a value was given.
 pub(crate) fn is_given(matches: &ArgMatches<'_>, name: &str) -> bool
     requires { HasFlag name.now (rows_of (found_of matches.now)) }
@@ -106,6 +118,18 @@ pub(crate) fn format_of(matches: &ArgMatches<'_>) -> Format
         Some("fixed") => Format::Fixed,
         Some("csv") => Format::Csv,
         _ => Format::Columns,
+    }
+}
+
+/// Returns the value of `--summary`, or text.
+pub(crate) fn summary_of(matches: &ArgMatches<'_>) -> SummaryFormat
+    requires { HasChoice summary_named (codes "summary") (rows_of (found_of matches.now)) }
+    ensures { IsChosen summary_named SummaryFormat.Text (first_of (codes "summary") (rows_of (found_of matches.now))) result }
+{
+    match value_of(matches, "summary") {
+        Some("csv") => SummaryFormat::Csv,
+        Some("json") => SummaryFormat::Json,
+        _ => SummaryFormat::Text,
     }
 }
 

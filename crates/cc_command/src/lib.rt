@@ -20,5 +20,6 @@ pub use cc_explain::{draw_window, explain_word, show_line, show_word, write_refu
 pub use explaining_bounds::explain_length;
 pub use hints::{Hints, show_hints};
 pub use length_list::round_list;
+pub use request::read_request;
 pub use rounding::show_round;
 pub use statistics::show_statistics;

@@ -11,7 +11,7 @@ use cc_word::Refusal;
 ///
 /// Errors, in order: `Syntax` if a string is not a number; `OutOfRange` if the base is at least
 /// 2^64 or the length above 2^64; `OutOfBounds` if the request ends past 2^64.
-pub(crate) fn read_request(base: &str, length: &str) -> Result<Span, Refusal>
+pub fn read_request(base: &str, length: &str) -> Result<Span, Refusal>
     ensures request { result ≡ request_in base.now length.now }
     ensures is_span { IfOk result IsSpan }
 {

@@ -20,9 +20,10 @@ use Rattle.cc_syntax.specs.Tally.{Exchange, IsTally}
 use Rattle.cc_ops.specs.declared.usage.Usage.{Usage}
 use Rattle.cc_arguments.specs.declared.invocation.PoolTexts.{PoolTexts}
 use Rattle.cc_arguments.specs.declared.invocation.Invocation.{Invocation}
-use Rattle.cc_arguments.specs.declared.invocation.Invocation.TheVariants.{Annotate, Ask, Decode, Map, Plan, RoundList, Run}
+use Rattle.cc_arguments.specs.declared.invocation.Invocation.TheVariants.{Annotate, Ask, Decode, Map, Plan, Replay, RoundList, Run}
 use Rattle.cc_tasks.specs.Devices.{Console, FromInput, Traffic}
 use Rattle.cc_tasks.specs.Input.{file_input}
+use Rattle.cc_tasks.specs.Replaying.{ReplaysTrace, WithReplay}
 use Rattle.cc_tasks.specs.Tasks.{AnnotatesWords, AnswersQuestion, ListsWords, RoundsLengths, WithListing, WritesRefusal}
 use Rattle.cc_tasks.specs.declared.input.InputName.TheVariants.{Standard}
 use Rattle.cc_program.specs.Report.{IsMachineUsage, WritesReport, report_of}
@@ -94,6 +95,8 @@ Executes (Run limit stats file) terminals console result =
     FromInput (file_input file) console (ReportsRun (report_of stats terminals) [] None (initial_state limit)) result
 Executes (Plan limit pool align stats file) terminals console result = PlansFile (report_of stats terminals) limit pool align file console result
 Executes (Map limit pool align svg file) terminals console result = MapsFile limit pool align svg file console result
+Executes (Replay align strict format texts file) terminals console result =
+    WithReplay align strict texts console (λ settings reading. FromInput (file_input file) console (ReplaysTrace format settings reading)) result
 Executes (Decode input format texts file) terminals console result =
     WithListing input format texts console (λ skipped options. FromInput (file_input file) console (ListsWords skipped options)) result
 Executes (Annotate file) terminals console result = FromInput (file_input file) console AnnotatesWords result

@@ -8,7 +8,7 @@ ghost use Rattle.cc_arguments.specs.Invocation.{IsInvocation};
 ghost use Rattle.cc_tasks.specs.Devices.{FromInput, OnDevices, OnOutput, Traffic};
 ghost use Rattle.cc_tasks.specs.Input.{IsFile, file_input};
 ghost use Rattle.cc_program.specs.Execution.{DrawsRun, Executes, MapsFile, PlansFile, ReportsRun};
-ghost use Rattle.cc_program.specs.Input.{IsReported, ReadsFile, RunsMachine};
+ghost use Rattle.cc_program.specs.Input.{IsReported, IsSampled, ReadsFile, RunsMachine};
 
 use crate::report::{Report, Terminals, machine_usage, write_report};
 use cc_arguments::{Invocation, PoolTexts};
@@ -20,7 +20,8 @@ use cc_machine::{Len, Machine, Op};
 use cc_script::{Session, run_session};
 use cc_syntax::{plan_numbers, plan_opening};
 use cc_tasks::{
-    Discard, Fault, InputName, Inputs, annotate_file, ask, decode_file, file_input, round_lengths,
+    Discard, Fault, InputName, Inputs, annotate_file, ask, decode_file, file_input, replay_file,
+    round_lengths,
 };
 use cc_text::Waiting;
 use std::alloc::{AllocError, Global};
@@ -29,12 +30,12 @@ use std::alloc::{AllocError, Global};
 ///
 /// BASE and LENGTH of `plan` and `map`, and the numbers and names of `decode`, are read first. If one is refused, the output
 /// is that refusal, and nothing is read.
-/// The machine is created next, and then the input is opened.
+/// So are the texts of `replay`. The machine or the heap is created next, and then the input is opened.
 ///
 /// Requires: no device has failed.
-/// Errors: `Memory` if an allocation fails, in a command that creates a machine; `Open` if the input cannot be opened;
-/// `Read` if a read fails; `Write` if and only if the sink failed. Nothing is reported then. If the error is `Open`, or if it
-/// is `Memory` in `map`, nothing was written to `sink` either.
+/// Errors: `Memory` if an allocation fails, in a command that creates a machine or a heap; `Open` if the input cannot be
+/// opened; `Read` if a read fails; `Write` if and only if the sink failed. Nothing is reported then. If the error is `Open`, or
+/// if it is `Memory` in `map` or in `replay` without `--each`, nothing was written to `sink` either.
 pub fn execute<R: AllocGlobal, I: Inputs, W: Sink, E: Sink>(
     rt: &R,
     invocation: Invocation<'_>,
@@ -61,7 +62,7 @@ pub fn execute<R: AllocGlobal, I: Inputs, W: Sink, E: Sink>(
     ensures unreported { OnErr result (E.taken_bytes errors.new ≡ E.taken_bytes errors.old) }
     ensures untouched { result ≡ Err Fault.Open → W.taken_bytes sink.new ≡ W.taken_bytes sink.old }
     ensures silent { ¬ IsReported invocation.entry → errors.new ≡ errors.old }
-    ensures starved { ¬ IsReported invocation.entry → result ≡ Err Fault.Memory → W.taken_bytes sink.new ≡ W.taken_bytes sink.old }
+    ensures starved { ¬ IsReported invocation.entry → ¬ IsSampled invocation.entry → result ≡ Err Fault.Memory → W.taken_bytes sink.new ≡ W.taken_bytes sink.old }
 {
     match invocation {
         Invocation::Ask(question) => ask(question, sink),
@@ -86,6 +87,13 @@ pub fn execute<R: AllocGlobal, I: Inputs, W: Sink, E: Sink>(
             svg,
             file,
         } => execute_map(rt, limit, pool, align, svg, inputs, file, sink),
+        Invocation::Replay {
+            align,
+            strict,
+            format,
+            texts,
+            file,
+        } => replay_file(rt, align, strict, format, texts, inputs, file, sink),
         Invocation::Decode {
             input,
             format,

@@ -8,7 +8,7 @@ use Rattle.clap.specs.declared.builder.value_parser.ValueParser.TheVariants.{Nam
 use Rattle.cc_table.specs.declared.table.Choices.{Choices}
 use Rattle.cc_table.specs.declared.table.CommandRow.{CommandRow}
 use Rattle.cc_table.specs.declared.table.Kind.{Kind}
-use Rattle.cc_table.specs.declared.table.Kind.TheVariants.{Align, Flag, Format, Free, Order, Slots, Valued, Wanted}
+use Rattle.cc_table.specs.declared.table.Kind.TheVariants.{Align, Flag, Format, Free, Order, Slots, Summary, Valued, Wanted}
 use Rattle.cc_table.specs.declared.table.Row.{Row}
 
 -- An optional argument.
@@ -74,6 +74,24 @@ plan_command aligns = with_pool (with_rule (with_pool_options (new_app (codes "p
 abbrev pub map_command : Bor (List (Bor Text)) → App
 map_command aligns = with_pool (with_rule (with_pool_options (new_app (codes "map")) aligns) (flag_option (codes "svg")))
 
+-- The names of the formats of a summary.
+abbrev pub summary_names : List Text
+summary_names = codes "text" ∷ codes "csv" ∷ codes "json" ∷ []
+
+-- A command with `[--sweep POLICY] [--min BYTES] [--pool BASE:LENGTH]` added.
+abbrev pub with_heap_options : App → App
+with_heap_options command =
+    let swept = with_rule (with_rule command (valued_option (codes "sweep"))) (valued_option (codes "min")) in
+    with_rule swept (valued_option (codes "pool"))
+
+-- The command `replay [--align ALIGN] [--sweep POLICY] [--min BYTES] [--pool BASE:LENGTH] [--strict]
+-- [--summary FORMAT] [--each N] [FILE]`.
+abbrev pub replay_command : (aligns summaries : Bor (List (Bor Text))) → App
+replay_command aligns summaries =
+    let heap = with_heap_options (with_rule (new_app (codes "replay")) (choice_option (codes "align") aligns)) in
+    let told = with_rule (with_rule heap (flag_option (codes "strict"))) (choice_option (codes "summary") summaries) in
+    with_rule (with_rule told (valued_option (codes "each"))) (optional_argument (codes "file"))
+
 -- The names of the formats.
 abbrev pub format_names : List Text
 format_names = codes "columns" ∷ codes "text" ∷ codes "fixed" ∷ codes "csv" ∷ []
@@ -121,17 +139,19 @@ with_scripts program aligns =
     with_subcommand runs (map_command aligns).top
 
 -- The program with all commands except `explain`.
-abbrev pub listed_commands : (aligns formats orders : Bor (List (Bor Text))) → App
-listed_commands aligns formats orders =
-    let words = with_subcommand (with_scripts (with_words bare_program) aligns) (decode_command formats orders).top in
+abbrev pub listed_commands : (aligns formats orders summaries : Bor (List (Bor Text))) → App
+listed_commands aligns formats orders summaries =
+    let replay = with_subcommand (with_scripts (with_words bare_program) aligns) (replay_command aligns summaries).top in
+    let words = with_subcommand replay (decode_command formats orders).top in
     with_subcommand words annotate_command.top
 
--- The whole program, if `--align`, `--format` and `--bytes` accept these strings.
-abbrev pub program : (aligns formats orders : Bor (List (Bor Text))) → App
-program aligns formats orders = with_subcommand (listed_commands aligns formats orders) explain_command.top
+-- The whole program, if `--align`, `--format`, `--bytes` and `--summary` accept these strings.
+abbrev pub program : (aligns formats orders summaries : Bor (List (Bor Text))) → App
+program aligns formats orders summaries = with_subcommand (listed_commands aligns formats orders summaries) explain_command.top
 
 -- IsProgram holds if `app` is the whole program. `--align` accepts 1 and 16, `--format` the names
--- of the formats, and `--bytes` those of the byte orders, wherever in memory these strings are.
+-- of the formats, `--bytes` those of the byte orders, and `--summary` those of the formats of a
+-- summary, wherever in memory these strings are.
 pub record IsProgram (app : App) : Type 0 where
   pub aligns : Bor (List (Bor Text))
   pub are : texts aligns.now ≡ codes "1" ∷ codes "16" ∷ []
@@ -139,7 +159,9 @@ pub record IsProgram (app : App) : Type 0 where
   pub are_formats : texts formats.now ≡ format_names
   pub orders : Bor (List (Bor Text))
   pub are_orders : texts orders.now ≡ order_names
-  pub is : app ≡ program aligns formats orders
+  pub summaries : Bor (List (Bor Text))
+  pub are_summaries : texts summaries.now ≡ summary_names
+  pub is : app ≡ program aligns formats orders summaries
 
 -- ---- definitions that only private contracts cite
 
@@ -153,6 +175,7 @@ kind_rule choices Slots name = record (valued_option name) { parser = Some (Sign
 kind_rule choices Align name = choice_option name choices.aligns
 kind_rule choices Format name = choice_option name choices.formats
 kind_rule choices Order name = choice_option name choices.orders
+kind_rule choices Summary name = choice_option name choices.summaries
 
 -- The rule of a row.
 abbrev pub argument_of : Choices → Row → Rule

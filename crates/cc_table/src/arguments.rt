@@ -23,6 +23,7 @@ pub(crate) fn argument<'a>(alloc: Global, row: &Row<'a>, choices: Choices<'a>) -
         Kind::Align => valued(bare, row).value_parser(ValueParser::Names(choices.aligns)),
         Kind::Format => valued(bare, row).value_parser(ValueParser::Names(choices.formats)),
         Kind::Order => valued(bare, row).value_parser(ValueParser::Names(choices.orders)),
+        Kind::Summary => valued(bare, row).value_parser(ValueParser::Names(choices.summaries)),
     }
 }
 

@@ -10,8 +10,8 @@ use crate::table::{Choices, CommandRow, Row, about, after_help, commands, explai
 use clap::Command;
 use std::alloc::{AllocError, Global};
 
-/// Returns the program with all its commands. `--align`, `--format` and `--bytes` accept the
-/// strings of `aligns`, `formats` and `orders`.
+/// Returns the program with all its commands. `--align`, `--format`, `--bytes` and `--summary`
+/// accept the strings of `aligns`, `formats`, `orders` and `summaries`.
 ///
 /// Errors: `AllocError` if an allocation fails.
 pub fn program<'a>(
@@ -19,13 +19,15 @@ pub fn program<'a>(
     aligns: &'a [&'a str],
     formats: &'a [&'a str],
     orders: &'a [&'a str],
+    summaries: &'a [&'a str],
 ) -> Result<Command<'a>, AllocError>
-    ensures { IfOk result (λ command. app_of command ≡ program aligns.entry formats.entry orders.entry) }
+    ensures { IfOk result (λ command. app_of command ≡ program aligns.entry formats.entry orders.entry summaries.entry) }
 {
     let choices = Choices {
         aligns,
         formats,
         orders,
+        summaries,
     };
     let mut program = bare_program(alloc)?;
     for row in commands() {
@@ -64,6 +66,7 @@ pub fn explain_command<'a>(alloc: Global) -> Result<Command<'a>, AllocError>
         aligns: &[],
         formats: &[],
         orders: &[],
+        summaries: &[],
     };
     let bare = bare_command(alloc, "explain", EXPLAIN_ABOUT, EXPLAIN_AFTER_HELP);
     with_arguments(

@@ -188,6 +188,61 @@ Examples:
   echo alloc 20 | cheri-cap map --svg 0x1000 64 | grep object
   <rect x='0' y='0' width='320' height='24'><title>object 1: 0x1000-0x1014</title></rect>";
 
+pub(crate) const REPLAY_ABOUT: &str =
+    "Replays the trace of an allocator on a heap with exact bounds, and prints the heap's numbers";
+
+pub(crate) const SWEEP_HELP: &str = "\
+When the quarantine is swept: `none` (there is no quarantine), `never`, `trace` (at each event `s`),
+N% (if more bytes are quarantined than N percent of the held ones), N%:live or N%:high (of the live
+ones, or of those up to the highest end), bytes:N or frees:N (from N bytes or N objects on)
+[default: 25%]";
+
+pub(crate) const LEAST_HELP: &str =
+    "Number of quarantined bytes below which the policy does not sweep [default: 0]";
+
+pub(crate) const POOL_HELP: &str = "\
+Bytes in which objects are placed: the first address and the length, each in decimal or with 0x
+[default: 2^44 and all above]";
+
+pub(crate) const STRICT_HELP: &str = "Take no further line after one that is refused";
+
+pub(crate) const SUMMARY_HELP: &str = "Format of the summary [default: text]";
+
+pub(crate) const EACH_HELP: &str = "\
+Print a series in place of the summary, as comma-separated values: a sample at every N-th event, at
+each event that sweeps, and at the end";
+
+pub(crate) const TRACE_FILE_HELP: &str = "Trace file; standard input if `-` or omitted";
+
+pub(crate) const REPLAY_AFTER_HELP: &str = "\
+Each line of the trace is an event:
+  a ID SIZE [ALIGN]  makes an object, as malloc and aligned_alloc do
+  c ID SIZE          makes an object, as calloc does
+  r OLD NEW SIZE     makes an object in place of another, as realloc does; NEW may be OLD
+  f ID               frees an object; its bytes stay held until the next sweep
+  s, t NUMBER        asks for a sweep, gives the time
+An empty line, and one that begins with `#`, is nothing. Numbers are below 2^64: decimal digits, or
+0x and hexadecimal ones. ID names an object from its making to its free, and can be used again after
+that. An object of SIZE bytes, or of one byte if SIZE is 0, takes its representable length at the
+lowest place with the alignment that exact bounds need, or with ALIGN if that is larger. The policy
+is examined after each free and each realloc. If an object has no place, the quarantine is swept once
+for it.
+
+The summary has counts of lines and events, sums over all objects that were made, peaks of the bytes
+that are held, the sweeps, and what is held at the end. It counts each kind of refused line and has
+the first of each: `syntax`, `range`, `unfinished`; `unknown` for an ID that is not live, `live` for
+a new object under one that is, `noroom` and `full` for an object that is not made, and `lost` for an
+event on such an object.
+
+The exit status is 0, or 1 if a line is refused, 2 for a command line that is not understood,
+and 3 if the program ran out of memory, FILE cannot be opened, or its input or output failed.
+
+Example:
+  printf 'a 1 100\\na 2 8191\\nf 1\\n' | cheri-cap replay --each 2
+  line,event,time,made.asked,objects,asked,live,quarantine,held,peak.quarantine,peak.held,high,sweeps
+  2,2,0,8291,2,8291,8292,0,8292,0,8292,8304,0
+  3,3,0,8291,1,8191,8192,100,8292,100,8292,8304,0";
+
 pub(crate) const DECODE_ABOUT: &str = "Decodes words, one on each line";
 
 pub(crate) const FORMAT_HELP: &str = "\

@@ -5,11 +5,12 @@ ghost use Rattle.cc_table.specs.Usage.{bare_program, explain_command, listed_com
 
 use crate::help::{
     ALIGN_HELP, ANNOTATE_ABOUT, ANNOTATE_AFTER_HELP, AT_HELP, BASE_HELP, BYTES_HELP, DECODE_ABOUT,
-    DECODE_AFTER_HELP, FILE_HELP, FORMAT_HELP, HOLDS_HELP, LENGTH_HELP, LINE_HELP, MAP_ABOUT,
-    MAP_AFTER_HELP, PERMISSIONS_HELP, PLAN_ABOUT, PLAN_AFTER_HELP, POOL_LENGTH_HELP,
-    REQUEST_BASE_HELP, REQUEST_LENGTH_HELP, ROUND_ABOUT, ROUND_AFTER_HELP, RUN_ABOUT,
-    RUN_AFTER_HELP, SHOW_ABOUT, SHOW_AFTER_HELP, SKIP_HELP, SLOTS_HELP, STATS_HELP, SVG_HELP,
-    TEXT_FILE_HELP, WINDOW_SVG_HELP, WORD_HELP, WORDS_FILE_HELP,
+    DECODE_AFTER_HELP, EACH_HELP, FILE_HELP, FORMAT_HELP, HOLDS_HELP, LEAST_HELP, LENGTH_HELP,
+    LINE_HELP, MAP_ABOUT, MAP_AFTER_HELP, PERMISSIONS_HELP, PLAN_ABOUT, PLAN_AFTER_HELP, POOL_HELP,
+    POOL_LENGTH_HELP, REPLAY_ABOUT, REPLAY_AFTER_HELP, REQUEST_BASE_HELP, REQUEST_LENGTH_HELP,
+    ROUND_ABOUT, ROUND_AFTER_HELP, RUN_ABOUT, RUN_AFTER_HELP, SHOW_ABOUT, SHOW_AFTER_HELP,
+    SKIP_HELP, SLOTS_HELP, STATS_HELP, STRICT_HELP, SUMMARY_HELP, SVG_HELP, SWEEP_HELP,
+    TEXT_FILE_HELP, TRACE_FILE_HELP, WINDOW_SVG_HELP, WORD_HELP, WORDS_FILE_HELP,
 };
 
 /// The subject of the help of an argument.
@@ -57,6 +58,20 @@ pub(crate) enum Topic {
     RequestLength,
     /// `REQUEST_BASE_HELP`.
     RequestBase,
+    /// `SWEEP_HELP`.
+    Sweep,
+    /// `LEAST_HELP`.
+    Least,
+    /// `POOL_HELP`.
+    Pool,
+    /// `STRICT_HELP`.
+    Strict,
+    /// `SUMMARY_HELP`.
+    Summary,
+    /// `EACH_HELP`.
+    Each,
+    /// `TRACE_FILE_HELP`.
+    TraceFile,
 }
 
 /// The command of a help text.
@@ -76,6 +91,8 @@ pub(crate) enum Page {
     Decode,
     /// The command `annotate`.
     Annotate,
+    /// The command `replay`.
+    Replay,
 }
 
 /// Returns the help of an argument.
@@ -102,6 +119,13 @@ pub(crate) fn help<'a>(topic: Topic) -> &'a str {
         Topic::TextFile => TEXT_FILE_HELP,
         Topic::RequestLength => REQUEST_LENGTH_HELP,
         Topic::RequestBase => REQUEST_BASE_HELP,
+        Topic::Sweep => SWEEP_HELP,
+        Topic::Least => LEAST_HELP,
+        Topic::Pool => POOL_HELP,
+        Topic::Strict => STRICT_HELP,
+        Topic::Summary => SUMMARY_HELP,
+        Topic::Each => EACH_HELP,
+        Topic::TraceFile => TRACE_FILE_HELP,
     }
 }
 
@@ -115,6 +139,7 @@ pub(crate) fn about<'a>(page: Page) -> &'a str {
         Page::Map => MAP_ABOUT,
         Page::Decode => DECODE_ABOUT,
         Page::Annotate => ANNOTATE_ABOUT,
+        Page::Replay => REPLAY_ABOUT,
     }
 }
 
@@ -128,6 +153,7 @@ pub(crate) fn after_help<'a>(page: Page) -> &'a str {
         Page::Map => MAP_AFTER_HELP,
         Page::Decode => DECODE_AFTER_HELP,
         Page::Annotate => ANNOTATE_AFTER_HELP,
+        Page::Replay => REPLAY_AFTER_HELP,
     }
 }
 
@@ -150,6 +176,8 @@ pub(crate) enum Kind {
     Format,
     /// An option whose value is an order of bytes.
     Order,
+    /// An option whose value is the format of a summary.
+    Summary,
 }
 
 /// An argument of a command.
@@ -161,12 +189,13 @@ pub(crate) struct Row<'a> {
     pub(crate) topic: Topic,
 }
 
-/// The strings that `--align`, `--format` and `--bytes` accept.
+/// The strings that `--align`, `--format`, `--bytes` and `--summary` accept.
 #[derive(Clone, Copy)]
 pub(crate) struct Choices<'a> {
     pub(crate) aligns: &'a [&'a str],
     pub(crate) formats: &'a [&'a str],
     pub(crate) orders: &'a [&'a str],
+    pub(crate) summaries: &'a [&'a str],
 }
 
 /// A command.
@@ -316,6 +345,60 @@ const COMMANDS: &[CommandRow] = &[
         ],
     },
     CommandRow {
+        name: "replay",
+        page: Page::Replay,
+        rows: &[
+            Row {
+                kind: Kind::Align,
+                name: "align",
+                placeholder: "ALIGN",
+                topic: Topic::Align,
+            },
+            Row {
+                kind: Kind::Valued,
+                name: "sweep",
+                placeholder: "POLICY",
+                topic: Topic::Sweep,
+            },
+            Row {
+                kind: Kind::Valued,
+                name: "min",
+                placeholder: "BYTES",
+                topic: Topic::Least,
+            },
+            Row {
+                kind: Kind::Valued,
+                name: "pool",
+                placeholder: "BASE:LENGTH",
+                topic: Topic::Pool,
+            },
+            Row {
+                kind: Kind::Flag,
+                name: "strict",
+                placeholder: "",
+                topic: Topic::Strict,
+            },
+            Row {
+                kind: Kind::Summary,
+                name: "summary",
+                placeholder: "FORMAT",
+                topic: Topic::Summary,
+            },
+            Row {
+                kind: Kind::Valued,
+                name: "each",
+                placeholder: "N",
+                topic: Topic::Each,
+            },
+            Row {
+                kind: Kind::Free,
+                name: "file",
+                placeholder: "FILE",
+                topic: Topic::TraceFile,
+            },
+        ],
+    },
+    CommandRow {
         name: "decode",
         page: Page::Decode,
         rows: &[
@@ -405,7 +488,7 @@ const EXPLAIN_ROWS: &[Row] = &[
 
 /// Returns the commands except `explain`.
 pub(crate) fn commands<'a>() -> &'a [CommandRow<'a>]
-    ensures { (choices : Choices) → with_commands choices bare_program result.now ≡ listed_commands choices.aligns choices.formats choices.orders }
+    ensures { (choices : Choices) → with_commands choices bare_program result.now ≡ listed_commands choices.aligns choices.formats choices.orders choices.summaries }
 {
     COMMANDS
 }

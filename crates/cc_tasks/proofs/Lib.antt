@@ -1,3 +1,5 @@
 mod ListingLemmas
 pub mod DeviceLemmas
 mod TaskLemmas
+mod ReplayTextsLemmas
+mod ReplayingLemmas

@@ -4,3 +4,5 @@ pub mod Input
 pub mod Questions
 pub mod Devices
 pub mod Tasks
+pub mod ReplayTexts
+pub mod Replaying

@@ -112,6 +112,30 @@ returns-in-Some-map-default c =
     let rows = rows_of (found_of here.map.now) in
     invocation_is c.args.matches.now (codes "map") rows c.read_map.result (sym (ap Some here.is-map) ∙ here.ensures.name) here.ensures.rows c.read_map.ensures.command c.read_map.ensures.values
 
+pub read_replay-requires-clause-align : goal.read_replay-requires-clause-align
+read_replay-requires-clause-align c =
+    let here = c.in-Some-replay-default in
+    let rows = rows_of (found_of here.replay.now) in
+    (command_wanted c.args.matches.now (codes "replay") rows (sym (ap Some here.is-replay) ∙ here.ensures.name) here.ensures.rows c.requires).0
+
+pub read_replay-requires-clause-strict : goal.read_replay-requires-clause-strict
+read_replay-requires-clause-strict c =
+    let here = c.in-Some-replay-default in
+    let rows = rows_of (found_of here.replay.now) in
+    (command_wanted c.args.matches.now (codes "replay") rows (sym (ap Some here.is-replay) ∙ here.ensures.name) here.ensures.rows c.requires).1
+
+pub read_replay-requires-clause-summary : goal.read_replay-requires-clause-summary
+read_replay-requires-clause-summary c =
+    let here = c.in-Some-replay-default in
+    let rows = rows_of (found_of here.replay.now) in
+    (command_wanted c.args.matches.now (codes "replay") rows (sym (ap Some here.is-replay) ∙ here.ensures.name) here.ensures.rows c.requires).2
+
+pub returns-in-Some-replay-default : goal.returns-in-Some-replay-default
+returns-in-Some-replay-default c =
+    let here = c.in-Some-replay-default in
+    let rows = rows_of (found_of here.replay.now) in
+    invocation_is c.args.matches.now (codes "replay") rows c.read_replay.result (sym (ap Some here.is-replay) ∙ here.ensures.name) here.ensures.rows c.read_replay.ensures.command c.read_replay.ensures.values
+
 pub read_decode-requires-clause-format : goal.read_decode-requires-clause-format
 read_decode-requires-clause-format c =
     let here = c.in-Some-decode-default in
@@ -154,6 +178,6 @@ unreachable-requires c = elim c.in_default.branch [
       let d = w.in_default in
       known _ d.field-0.0.now c.requires
       (found_name c.args.matches.now d.field-0.0.now (sym (ap (option_map (λ found. found.0.now)) d.is) ∙ c.subcommand.ensures.name))
-      (λ same. search rules, (λ same. search rules, (λ same. search rules, (λ same. search rules, (λ same. search rules, (λ same. search rules, (λ same. search rules, (λ same. search rules, tt))))))))
+      (λ same. search rules, (λ same. search rules, (λ same. search rules, (λ same. search rules, (λ same. search rules, (λ same. search rules, (λ same. search rules, (λ same. search rules, (λ same. search rules, tt)))))))))
   | in_default-via-in_default w ↦ search rules
 ]

@@ -11,6 +11,11 @@ returns-in-Map-clause-executes g c =
     by_invocation _ _ c.in-Map.is c.args.terminals _ c.execute_map.result
     (c.execute_map.ensures.executes (g.E.Sink.taken_bytes c.args.errors.now) (g.E.Sink.taken_bytes c.args.errors.now) (g.E.Sink.has_failed c.args.errors.now))
 
+pub returns-in-Replay-clause-executes : goal.returns-in-Replay-clause-executes
+returns-in-Replay-clause-executes g c =
+    by_invocation _ _ c.in-Replay.is c.args.terminals _ c.replay_file.result
+    (c.replay_file.ensures.replays (g.E.Sink.taken_bytes c.args.errors.now) (g.E.Sink.taken_bytes c.args.errors.now) (g.E.Sink.has_failed c.args.errors.now))
+
 pub returns-in-Decode-clause-executes : goal.returns-in-Decode-clause-executes
 returns-in-Decode-clause-executes g c =
     by_invocation _ _ c.in-Decode.is c.args.terminals _ c.decode_file.result

@@ -15,9 +15,9 @@ loop-row-preserved c =
 
 pub returns : goal.returns
 returns c =
-    let choices : Choices = record { aligns = c.args.aligns; formats = c.args.formats; orders = c.args.orders } in
+    let choices : Choices = record { aligns = c.args.aligns; formats = c.args.formats; orders = c.args.orders; summaries = c.args.summaries } in
     let rows = c.commands-row-items.result.now in
-    let made : app_of c.loop-row.program ≡ listed_commands c.args.aligns c.args.formats c.args.orders =
+    let made : app_of c.loop-row.program ≡ listed_commands c.args.aligns c.args.formats c.args.orders c.args.summaries =
     c.loop-row.invariant ∙ ap (with_commands choices bare_program) (take_all c.loop-row.row-index rows (omega arith)) ∙ c.commands-row-items.ensures choices in
     let explain = c.in_ok-explain.ensures in
     IfOk-weaker c.subcommand-2.result _ _
