@@ -267,7 +267,7 @@ pub(crate) const PERMISSIONS_HELP: &str =
 pub(crate) const WORDS_FILE_HELP: &str = "File of words; standard input if `-` or omitted";
 
 pub(crate) const DECODE_AFTER_HELP: &str = "\
-Each line is a word: 32 hexadecimal digits of either case, as a trace or a dump has them. With
+Each line is a word: 32 hexadecimal digits of either case, with or without 0x in front of them. With
 --bytes each 16 bytes are a word, as memory holds them: `little` for the order of CHERI-RISC-V.
 The output has a line for each word, in their order:
   columns   WORD BASE TOP PERMS FLAG TYPE EXPONENT CANONICAL, as `cheri-cap show` prints them
