@@ -9,8 +9,7 @@ use crate::counts::Counts;
 use crate::row;
 use crate::rows::{parts_of, push_table};
 use crate::table::{Format, Row, Value};
-use crate::totals::Totals;
-use crate::usage::Usage;
+use cc_heap::{Totals, Usage};
 use cc_io::{IoError, Sink, write_all};
 use cc_text::Page;
 
