@@ -1,0 +1,6 @@
+pub mod MemoryLemmas
+pub mod PlaceLemmas
+pub mod HeapLemmas
+pub mod StepLemmas
+pub mod HistoryLemmas
+pub mod RunLemmas

@@ -1,0 +1,9 @@
+-- In reading order.
+pub mod Policy
+pub mod Memory
+pub mod Totals
+pub mod Heap
+pub mod Events
+pub mod Run
+pub mod Lost
+pub mod HeapState
