@@ -1,9 +1,3 @@
-pub mod MemoryLemmas
-pub mod PlaceLemmas
-pub mod HeapLemmas
-pub mod StepLemmas
-pub mod HistoryLemmas
-pub mod RunLemmas
 pub mod TraceLemmas
 pub mod RowLemmas
 pub mod PowerLemmas

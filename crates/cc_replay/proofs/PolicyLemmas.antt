@@ -10,10 +10,10 @@ use Rattle.cc_word.specs.declared.refusal.Refusal.{Refusal}
 use Rattle.cc_word.specs.declared.refusal.Refusal.TheVariants.{Syntax, OutOfRange}
 use Rattle.cc_syntax.specs.Commands.{address_in}
 use Rattle.cc_syntax.specs.Numbers.{number_of, within_limit}
-use Rattle.cc_replay.specs.declared.policy.Policy.{Policy}
-use Rattle.cc_replay.specs.declared.policy.Policy.TheVariants.{Immediate, Never, Percent, Bytes, Frees, Trace}
-use Rattle.cc_replay.specs.declared.policy.Share.{Share}
-use Rattle.cc_replay.specs.declared.policy.Share.TheVariants.{Held, Live, High}
+use Rattle.cc_heap.specs.declared.policy.Policy.{Policy}
+use Rattle.cc_heap.specs.declared.policy.Policy.TheVariants.{Immediate, Never, Percent, Bytes, Frees, Trace}
+use Rattle.cc_heap.specs.declared.policy.Share.{Share}
+use Rattle.cc_heap.specs.declared.policy.Share.TheVariants.{Held, Live, High}
 use Rattle.cc_replay.specs.PolicyText.{HasNumber, IsPolicyText, after, as_percent, before, has_prefix, has_suffix, in_range, numbered_in, of_percent, percent_in, policy_in, with_number}
 
 -- ---- the end of a string

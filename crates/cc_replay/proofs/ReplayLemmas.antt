@@ -1,12 +1,12 @@
 -- An event that was taken.
 use Rattle.std.proofs.Common.{◌≡◌, ℕ, Bool, List, ◌++◌, refl, ◌∙◌, ap, inl}
 use Rattle.cc_replay.specs.declared.counts.Counts.{Counts}
-use Rattle.cc_replay.specs.declared.event.Event.{Event}
-use Rattle.cc_replay.specs.declared.outcome.Outcome.{Outcome}
+use Rattle.cc_heap.specs.declared.event.Event.{Event}
+use Rattle.cc_heap.specs.declared.outcome.Outcome.{Outcome}
 use Rattle.cc_replay.specs.declared.reading.Progress.{Progress}
 use Rattle.cc_replay.specs.declared.reading.Reading.{Reading}
 use Rattle.cc_replay.specs.Counts.{with_event, with_outcome}
-use Rattle.cc_replay.specs.Lost.{IsRunEvent, RunState}
+use Rattle.cc_heap.specs.Lost.{IsRunEvent, RunState}
 use Rattle.cc_replay.specs.Reading.{is_due, progress_after}
 use Rattle.cc_replay.specs.Replay.{AppendsEvent, ReplayState, is_refused, sample_text, time_after}
 

@@ -4,13 +4,13 @@ use Rattle.cc_word.specs.declared.refusal.Refusal.{Refusal}
 use Rattle.cc_io.specs.Answers.{Answer, AnswersAll, EndsWith, Output, entries_of, rest_of}
 use Rattle.cc_io.specs.Frames.{lines}
 use Rattle.cc_io.specs.Lines.{lines_of}
-use Rattle.cc_replay.specs.declared.event.Event.{Event}
-use Rattle.cc_replay.specs.declared.outcome.Outcome.{Outcome}
+use Rattle.cc_heap.specs.declared.event.Event.{Event}
+use Rattle.cc_heap.specs.declared.outcome.Outcome.{Outcome}
 use Rattle.cc_replay.specs.declared.reading.Progress.{Progress}
 use Rattle.cc_replay.specs.declared.reading.Progress.TheVariants.{Running, Stopped, OutOfMemory}
-use Rattle.cc_replay.specs.Lost.{IsRunEvent, RunState, RunsNoting}
+use Rattle.cc_heap.specs.Lost.{IsRunEvent, RunState, RunsNoting}
 use Rattle.cc_replay.specs.Replay.{ReplayState, TakesEntry, TakesLine, TakesLineIn, TakesRest, TakesRestIn, at_line, event_before, events_in}
-use Rattle.cc_replay.specs.Run.{Runs}
+use Rattle.cc_heap.specs.Run.{Runs}
 use Rattle.cc_replay.specs.Trace.{entry_of}
 use Rattle.cc_replay.proofs.TraceLemmas.{first_bytes}
 

@@ -4,12 +4,12 @@ use Rattle.cc_word.specs.declared.refusal.Refusal.{Refusal}
 use Rattle.cc_word.specs.declared.refusal.Refusal.TheVariants.{OutOfRange, Unfinished}
 use Rattle.cc_replay.specs.declared.counts.Count.{Count}
 use Rattle.cc_replay.specs.declared.counts.Counts.{Counts}
-use Rattle.cc_replay.specs.declared.event.Event.{Event}
-use Rattle.cc_replay.specs.declared.event.Event.TheVariants.{Allocate, Clear, Reallocate, Free, Sweep, Clock}
-use Rattle.cc_replay.specs.declared.making.Making.{Making}
-use Rattle.cc_replay.specs.declared.making.Making.TheVariants.{NoRoom, Full}
-use Rattle.cc_replay.specs.declared.outcome.Outcome.{Outcome}
-use Rattle.cc_replay.specs.Totals.{capped_count}
+use Rattle.cc_heap.specs.declared.event.Event.{Event}
+use Rattle.cc_heap.specs.declared.event.Event.TheVariants.{Allocate, Clear, Reallocate, Free, Sweep, Clock}
+use Rattle.cc_heap.specs.declared.making.Making.{Making}
+use Rattle.cc_heap.specs.declared.making.Making.TheVariants.{NoRoom, Full}
+use Rattle.cc_heap.specs.declared.outcome.Outcome.{Outcome}
+use Rattle.cc_heap.specs.Totals.{capped_count}
 
 -- The count with this line, which is the first if there was none.
 abbrev pub counted : (line : ℕ) → Count → Count

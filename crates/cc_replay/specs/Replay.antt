@@ -4,16 +4,16 @@ use Rattle.cc_word.specs.declared.refusal.Refusal.{Refusal}
 use Rattle.cc_word.specs.declared.refusal.Refusal.TheVariants.{Unfinished}
 use Rattle.cc_replay.specs.declared.counts.Count.{Count}
 use Rattle.cc_replay.specs.declared.counts.Counts.{Counts}
-use Rattle.cc_replay.specs.declared.event.Event.{Event}
-use Rattle.cc_replay.specs.declared.event.Event.TheVariants.{Clock}
-use Rattle.cc_replay.specs.declared.outcome.Outcome.{Outcome}
+use Rattle.cc_heap.specs.declared.event.Event.{Event}
+use Rattle.cc_heap.specs.declared.event.Event.TheVariants.{Clock}
+use Rattle.cc_heap.specs.declared.outcome.Outcome.{Outcome}
 use Rattle.cc_replay.specs.declared.reading.Progress.{Progress}
 use Rattle.cc_replay.specs.declared.reading.Progress.TheVariants.{Running, OutOfMemory}
 use Rattle.cc_replay.specs.declared.reading.Reading.{Reading}
 use Rattle.cc_replay.specs.declared.summary.Figures.{Figures}
 use Rattle.cc_replay.specs.Counts.{is_full, is_no_room, with_event, with_line, with_outcome, with_refusal}
-use Rattle.cc_replay.specs.Lost.{IsRunEvent, RunState}
-use Rattle.cc_replay.specs.Memory.{IsSound, usage_of}
+use Rattle.cc_heap.specs.Lost.{IsRunEvent, RunState}
+use Rattle.cc_heap.specs.Memory.{IsSound, usage_of}
 use Rattle.cc_replay.specs.Reading.{is_due, progress_after}
 use Rattle.cc_replay.specs.Rows.{names_line, values_line}
 use Rattle.cc_replay.specs.Summary.{sample_rows}

@@ -3,10 +3,10 @@ use Rattle.std.specs.Prelude.{ℕ, ◌+◌, ◌-◌, List, [], ◌∷◌, ◌++�
 use Rattle.cc_replay.specs.declared.counts.Counts.{Counts}
 use Rattle.cc_replay.specs.declared.table.Value.TheVariants.{Number, Percent}
 use Rattle.cc_replay.specs.declared.summary.Figures.{Figures}
-use Rattle.cc_replay.specs.declared.totals.Totals.{Totals}
-use Rattle.cc_replay.specs.declared.usage.Usage.{Usage}
+use Rattle.cc_heap.specs.declared.totals.Totals.{Totals}
+use Rattle.cc_heap.specs.declared.usage.Usage.{Usage}
 use Rattle.cc_replay.specs.Rows.{Row, parts_of}
-use Rattle.cc_replay.specs.Totals.{capped_sum}
+use Rattle.cc_heap.specs.Totals.{capped_sum}
 
 -- A row of a number.
 abbrev pub number_row : (name : List ℕ) (number : ℕ) → Row

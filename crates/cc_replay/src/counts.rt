@@ -2,9 +2,7 @@
 ghost use Rattle.std.specs.Prelude.{◌≡◌};
 ghost use Rattle.cc_replay.specs.Counts.{counted, counted_if, is_full, is_no_room, with_event, with_line, with_outcome, with_refusal};
 
-use crate::event::Event;
-use crate::making::Making;
-use crate::outcome::Outcome;
+use cc_heap::{Event, Making, Outcome};
 use cc_word::Refusal;
 
 /// The number of lines of one kind, and the first of them.

@@ -1,9 +1,9 @@
 //! The policy that a string names.
 ghost use Rattle.std.specs.Prelude.{◌≡◌, Ok};
-ghost use Rattle.cc_replay.specs.declared.policy.Policy.{Policy as PolicySpec};
+ghost use Rattle.cc_heap.specs.declared.policy.Policy.{Policy as PolicySpec};
 ghost use Rattle.cc_replay.specs.PolicyText.{IsPolicyText, in_range, numbered_in, of_percent, percent_in, policy_in};
 
-use crate::policy::{Policy, Share};
+use cc_heap::{Policy, Share};
 use cc_syntax::read_address;
 use cc_word::Refusal;
 

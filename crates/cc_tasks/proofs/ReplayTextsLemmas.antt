@@ -6,9 +6,9 @@ use Rattle.cc_word.specs.declared.refusal.Refusal.TheVariants.{Syntax}
 use Rattle.cc_bounds.specs.declared.align.Align.{Align}
 use Rattle.cc_bounds.specs.declared.span.Span.{Span}
 use Rattle.cc_syntax.specs.Commands.{both}
-use Rattle.cc_replay.specs.declared.policy.Policy.{Policy}
+use Rattle.cc_heap.specs.declared.policy.Policy.{Policy}
 use Rattle.cc_replay.specs.declared.reading.Reading.{Reading}
-use Rattle.cc_replay.specs.declared.settings.Settings.{Settings}
+use Rattle.cc_heap.specs.declared.settings.Settings.{Settings}
 use Rattle.cc_arguments.specs.declared.invocation.ReplayTexts.{ReplayTexts}
 use Rattle.cc_tasks.specs.Listing.{changed}
 use Rattle.cc_tasks.specs.ReplayTexts.{each_in, least_in, replay_in, span_given, sweep_in}

@@ -10,11 +10,11 @@ use Rattle.cc_io.specs.Devices.{TakesBeginning}
 use Rattle.cc_io.specs.declared.summary.IoError.{IoError}
 use Rattle.cc_io.specs.declared.summary.IoError.TheVariants.{Read, Write}
 use Rattle.cc_io.specs.declared.summary.Summary.{Summary}
-use Rattle.cc_replay.specs.Lost.{empty_run}
+use Rattle.cc_heap.specs.Lost.{empty_run}
 use Rattle.cc_replay.specs.Replay.{ReplayState, begun, last_sample}
 use Rattle.cc_replay.specs.declared.reading.Progress.TheVariants.{OutOfMemory}
 use Rattle.cc_replay.specs.declared.reading.Reading.{Reading}
-use Rattle.cc_replay.specs.declared.settings.Settings.{Settings}
+use Rattle.cc_heap.specs.declared.settings.Settings.{Settings}
 use Rattle.cc_arguments.specs.declared.invocation.ReplayTexts.{ReplayTexts}
 use Rattle.cc_arguments.specs.declared.invocation.SummaryFormat.{SummaryFormat}
 use Rattle.cc_tasks.specs.Devices.{Console, FromInput, OnDevices, Traffic, traffic_of}

@@ -10,11 +10,11 @@ use Rattle.cc_bounds.specs.declared.span.Span.{Span}
 use Rattle.cc_syntax.specs.Commands.{address_in, both}
 use Rattle.cc_command.specs.Request.{request_in}
 use Rattle.cc_replay.specs.PolicyText.{policy_in}
-use Rattle.cc_replay.specs.declared.policy.Policy.{Policy}
-use Rattle.cc_replay.specs.declared.policy.Policy.TheVariants.{Percent}
-use Rattle.cc_replay.specs.declared.policy.Share.TheVariants.{Held}
+use Rattle.cc_heap.specs.declared.policy.Policy.{Policy}
+use Rattle.cc_heap.specs.declared.policy.Policy.TheVariants.{Percent}
+use Rattle.cc_heap.specs.declared.policy.Share.TheVariants.{Held}
 use Rattle.cc_replay.specs.declared.reading.Reading.{Reading}
-use Rattle.cc_replay.specs.declared.settings.Settings.{Settings}
+use Rattle.cc_heap.specs.declared.settings.Settings.{Settings}
 use Rattle.cc_arguments.specs.declared.invocation.ReplayTexts.{ReplayTexts}
 use Rattle.cc_tasks.specs.Listing.{changed}
 

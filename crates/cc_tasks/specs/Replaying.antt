@@ -9,13 +9,13 @@ use Rattle.cc_io.specs.Frames.{lines}
 use Rattle.cc_io.specs.declared.summary.IoError.{IoError}
 use Rattle.cc_io.specs.declared.summary.IoError.TheVariants.{Read, Write}
 use Rattle.cc_io.specs.declared.summary.Summary.{Summary}
-use Rattle.cc_replay.specs.Lost.{empty_run}
+use Rattle.cc_heap.specs.Lost.{empty_run}
 use Rattle.cc_replay.specs.Replay.{ReplayState, TakesLine, TakesRest, begun, figures_of, last_sample, series_header}
 use Rattle.cc_replay.specs.Rows.{table_text}
 use Rattle.cc_replay.specs.Summary.{summary_rows}
 use Rattle.cc_replay.specs.declared.reading.Progress.TheVariants.{OutOfMemory}
 use Rattle.cc_replay.specs.declared.reading.Reading.{Reading}
-use Rattle.cc_replay.specs.declared.settings.Settings.{Settings}
+use Rattle.cc_heap.specs.declared.settings.Settings.{Settings}
 use Rattle.cc_replay.specs.declared.table.Format.{Format}
 use Rattle.cc_replay.specs.declared.table.Format.TheVariants.{Text, Csv, Json}
 use Rattle.cc_arguments.specs.declared.invocation.ReplayTexts.{ReplayTexts}

@@ -1,7 +1,7 @@
 //! `replay`: the call for the trace of an allocator.
 ghost use Rattle.std.specs.Prelude.{◌≡◌, ◌≢◌, ◌≤◌, ◌^◌, ◌↔◌, false, true, Err, IsOk, None, OnOk};
 ghost use Rattle.cc_bounds.specs.Span.{IsSpan};
-ghost use Rattle.cc_replay.specs.Lost.{empty_run};
+ghost use Rattle.cc_heap.specs.Lost.{empty_run};
 ghost use Rattle.cc_replay.specs.Replay.{begun};
 ghost use Rattle.cc_tasks.specs.Devices.{FromInput, OnDevices, OnOutput, Traffic};
 ghost use Rattle.cc_tasks.specs.Input.{IsFile, file_input};

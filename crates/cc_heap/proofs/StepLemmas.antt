@@ -1,0 +1,256 @@
+-- What a heap is after an object was made, after one was freed, and after an event.
+use Rattle.std.proofs.Common.{ℕ, Bool, true, false, ◌≡◌, ◌-◌, if◌then◌else◌, nat_eq, List, [], ◌∷◌, ◌++◌, Option, Some, Result, Ok, Err, IfOk, IsSome, map, length, arith, refl, subst, ◌∙◌, sym, ap, inl, inr, IsPermutation}
+use Rattle.std.specs.Map.{lookup}
+use Rattle.std.specs.Option.{is_some}
+use Rattle.std.proofs.lemmas.Bool.Decides.{nat_tests}
+use Rattle.std.proofs.lemmas.List.{length_push}
+use Rattle.std.proofs.lemmas.List.Sorted.{IsPermutation-refl}
+use Rattle.cc_bounds.specs.declared.span.Span.{Span}
+use Rattle.cc_heap.specs.declared.making.Making.{Making}
+use Rattle.cc_heap.specs.declared.making.Making.TheVariants.{Made, NoRoom, Full}
+use Rattle.cc_heap.specs.declared.object.Object.{Object}
+use Rattle.cc_heap.specs.declared.settings.Settings.{Settings}
+use Rattle.cc_heap.specs.declared.totals.Totals.{Totals}
+use Rattle.cc_heap.specs.declared.usage.Usage.{Usage}
+use Rattle.cc_heap.specs.Totals.{with_made, with_usage}
+use Rattle.cc_heap.specs.Memory.{object_at, span_of, usage_of}
+use Rattle.cc_heap.specs.Policy.{is_immediate}
+use Rattle.cc_heap.specs.Heap.{Attempts, FreesObject, Heap, MakesObject, is_made, object_under, quarantined_with, swept}
+use Rattle.cc_heap.specs.Events.{AttemptsToReplace, FollowsPolicy, Frees, FreesIfLive, HasNoRoom, Replaces, Tries, TriesToReplace}
+use Rattle.cc_heap.specs.HeapState.{IsQuarantined, IsReplaced, PutsOver, QuarantinesLive, ReleasesLast, Settles}
+use Rattle.cc_heap.proofs.PlaceLemmas.{IsFound}
+use Rattle.cc_heap.proofs.HeapLemmas.{heap_of, memory_of}
+
+-- ---- an object is made
+
+pub makes : (old new : Heap) (settings : Settings) (totals new_totals : Totals) (live more : List (ℕ × Object))
+    (waiting new_waiting : List Span) (usage : Usage) (id : ℕ) (object : Object)
+    → heap_of settings live waiting totals ≡ old → heap_of settings more new_waiting new_totals ≡ new
+    → IsFound settings.align settings.pool (map span_of live ++ waiting) object.align object.size object.span
+    → IsPermutation ((id, object) ∷ live) more → new_waiting ≡ waiting → usage ≡ usage_of (memory_of more waiting)
+    → new_totals ≡ with_made totals object (object.span.top - settings.pool.base) usage
+    → MakesObject old id object.align object.size new
+makes old new settings totals new_totals live more waiting new_waiting usage id object old_is new_is found adds waiting_is
+    usage_is totals_is =
+    let at : object ≡ object_at settings.align object.align object.span.base object.size =
+    λ i. record {
+      size = object.size;
+      align = object.align;
+      span = record { base = object.span.base; top = found.top i };
+    } in
+    let counted : with_made totals object (object.span.top - settings.pool.base) usage
+    ≡ with_made totals (object_at settings.align object.align object.span.base object.size)
+    ((object_at settings.align object.align object.span.base object.size).span.top - settings.pool.base)
+    (usage_of (memory_of more waiting)) =
+    λ i. with_made totals (at i) ((at i).span.top - settings.pool.base) (usage_is i) in
+    rw (← old_is) (record {
+      start = object.span.base;
+      live = more;
+      placement = found.placement;
+      adds = subst (λ (o : Object). IsPermutation ((id, o) ∷ live) more) at adds;
+      is_new = sym new_is ∙ (λ i. heap_of settings more (waiting_is i) ((totals_is ∙ counted) i));
+    })
+
+-- ---- an object is freed
+
+pub quarantines : (old : Heap) (settings : Settings) (totals : Totals) (live fewer : List (ℕ × Object))
+    (waiting new_waiting : List Span) (id : ℕ) (object : Object) (result : Option Object)
+    → heap_of settings live waiting totals ≡ old → result ≡ lookup (nat_eq id) live → result ≡ Some object
+    → IsPermutation live ((id, object) ∷ fewer) → new_waiting ≡ waiting ++ object.span ∷ []
+    → QuarantinesLive old id (heap_of settings fewer new_waiting totals)
+quarantines old settings totals live fewer waiting new_waiting id object result old_is result_is is takes waiting_is =
+    rw (← old_is, waiting_is) (record {
+      object = object;
+      is_live = sym result_is ∙ is;
+      quarantines = record { live = fewer; takes = takes; is_new = refl };
+    })
+
+-- an object is made under a live id, and the one before it quarantined
+pub replaced : (old : Heap) (settings : Settings) (totals new_totals : Totals) (live more : List (ℕ × Object))
+    (waiting new_waiting : List Span) (usage : Usage) (id : ℕ) (before object : Object) (result : Option Object)
+    → heap_of settings live waiting totals ≡ old
+    → IsFound settings.align settings.pool (map span_of live ++ waiting) object.align object.size object.span
+    → result ≡ lookup (nat_eq id) live → result ≡ Some before
+    → IsPermutation ((id, object) ∷ live) ((id, before) ∷ more) → new_waiting ≡ waiting ++ before.span ∷ []
+    → usage ≡ usage_of (memory_of ((id, object) ∷ live) waiting)
+    → new_totals ≡ with_made totals object (object.span.top - settings.pool.base) usage
+    → IsReplaced old id object.align object.size (heap_of settings more new_waiting new_totals)
+replaced old settings totals new_totals live more waiting new_waiting usage id before object result old_is found result_is is
+    takes waiting_is usage_is totals_is =
+    rw (← old_is) (record {
+      before = before;
+      is_live = sym result_is ∙ is;
+      made = heap_of settings ((id, object) ∷ live) waiting new_totals;
+      makes = makes (heap_of settings live waiting totals) (heap_of settings ((id, object) ∷ live) waiting new_totals)
+          settings totals new_totals live ((id, object) ∷ live) waiting waiting usage id object refl refl found
+          (IsPermutation-refl ((id, object) ∷ live)) refl usage_is totals_is;
+      quarantines = record { live = more; takes = takes; is_new = rw waiting_is refl };
+    })
+
+-- ---- the span that was quarantined last
+
+abbrev tail_of : List Span → List Span
+tail_of [] = []
+tail_of (x ∷ xs) = xs
+
+abbrev head_of : Span → List Span → Span
+head_of d [] = d
+head_of d (x ∷ xs) = x
+
+-- lists with one span more are the same only if they were
+push_same : (xs ys : List Span) (x y : Span) → xs ++ x ∷ [] ≡ ys ++ y ∷ [] → xs ≡ ys
+push_same [] [] x y same = refl
+push_same [] (b ∷ ys) x y same =
+    absurd (omega (arith, ap (λ (l : List Span). length l) same, length_push (b ∷ ys) y))
+push_same (a ∷ xs) [] x y same =
+    absurd (omega (arith, ap (λ (l : List Span). length l) same, length_push (a ∷ xs) x))
+push_same (a ∷ xs) (b ∷ ys) x y same =
+    let heads : a ≡ b = ap (head_of a) same in
+    let tails : xs ++ x ∷ [] ≡ ys ++ y ∷ [] = ap tail_of same in
+    let rest : xs ≡ ys = push_same xs ys x y tails in
+    λ i. heads i ∷ rest i
+
+-- the heap with its state counted
+abbrev pub counted_state : Heap → Heap
+counted_state heap = record heap { totals = with_usage heap.totals (usage_of heap.memory) }
+
+pub settles_released : (old released new : Heap) → ReleasesLast old released → is_immediate old.settings.policy ≡ true
+    → new ≡ counted_state released → Settles old new
+settles_released old released new releases immediate new_is spans span was =
+    let fewer : released.memory.quarantined ≡ spans =
+    push_same released.memory.quarantined spans releases.span span (sym releases.last ∙ was) in
+    let left : quarantined_with old.settings.policy spans span ≡ spans =
+    ap (λ (b : Bool). if b then spans else spans ++ span ∷ []) immediate in
+    let same : released ≡ heap_of old.settings old.memory.live (quarantined_with old.settings.policy spans span) old.totals =
+    releases.is_new ∙ ap (λ (w : List Span). heap_of old.settings old.memory.live w old.totals) (fewer ∙ sym left) in
+    new_is ∙ ap (λ (h : Heap). counted_state h) same
+
+pub settles_kept : (old new : Heap) → is_immediate old.settings.policy ≡ false → new ≡ counted_state old
+    → Settles old new
+settles_kept old new kept new_is spans span was =
+    let left : quarantined_with old.settings.policy spans span ≡ spans ++ span ∷ [] =
+    ap (λ (b : Bool). if b then spans else spans ++ span ∷ []) kept in
+    new_is
+    ∙ ap (λ (w : List Span). counted_state (heap_of old.settings old.memory.live w old.totals)) (was ∙ sym left)
+
+pub frees_object : (old between new : Heap) (id : ℕ) (object : Object) → IsQuarantined old id object between
+    → Settles between new → FreesObject old id object new
+frees_object old between new id object quarantined settles =
+    let after : Settles (heap_of old.settings quarantined.live (old.memory.quarantined ++ object.span ∷ []) old.totals) new =
+    subst (λ (h : Heap). Settles h new) quarantined.is_new settles in
+    record {
+      live = quarantined.live;
+      takes = quarantined.takes;
+      is_new = after old.memory.quarantined object.span refl;
+    }
+
+pub frees : (old between settled new : Heap) (id : ℕ) → QuarantinesLive old id between → Settles between settled
+    → FollowsPolicy settled new → Frees old id new
+frees old between settled new id quarantined settles follows = record {
+  object = quarantined.object;
+  is_live = quarantined.is_live;
+  freed = settled;
+  frees = frees_object old between settled id quarantined.object quarantined.quarantines settles;
+  follows = follows;
+}
+
+pub replaces : (old between new : Heap) (id requested size : ℕ) → IsReplaced old id requested size between
+    → Settles between new → Replaces old id requested size new
+replaces old between new id requested size is settles = record {
+  before = is.before;
+  is_live = is.is_live;
+  made = is.made;
+  makes = is.makes;
+  frees = frees_object is.made between new id is.before is.quarantines settles;
+}
+
+-- ---- attempts
+
+never : (b : Bool) → b ≡ true → b ≡ false → ⊥
+never true is not = cc
+never false is not = cc
+
+pub tries_first : (old new : Heap) (id requested size : ℕ) (making : Making) → is_made making ≡ true
+    → Attempts old id requested size making new → Tries old id requested size making new
+tries_first old new id requested size Made is attempts = inl (refl, attempts)
+tries_first old new id requested size NoRoom is attempts = absurd (never false is refl)
+tries_first old new id requested size Full is attempts = absurd (never false is refl)
+
+-- an attempt that failed: why, and that nothing changed
+pub record IsRefused (old : Heap) (requested size : ℕ) (new : Heap) : Type 0 where
+  pub why : HasNoRoom old requested size
+  pub same : new ≡ old
+
+refused : (old new : Heap) (id requested size : ℕ) (making : Making) → is_made making ≡ false
+    → Attempts old id requested size making new → IsRefused old requested size new
+refused old new id requested size Made not attempts = absurd (never true refl not)
+refused old new id requested size NoRoom not (none, same) = record { why = inl none; same = same }
+refused old new id requested size Full not (many, same) = record { why = inr many; same = same }
+
+pub tries_again : {E : Type 0} (old between after new : Heap) (id requested size : ℕ) (first : Making)
+    (result : Result Making E) → is_made first ≡ false → Attempts old id requested size first between
+    → after ≡ swept between → IfOk result (λ making. Attempts after id requested size making new)
+    → IfOk result (λ making. Tries old id requested size making new)
+tries_again old between after new id requested size first (Ok making) not attempts after_is again =
+    let is = refused old between id requested size first not attempts in
+    inr (
+      is.why,
+      subst (λ (h : Heap). Attempts h id requested size making new) (after_is ∙ ap (λ (h : Heap). swept h) is.same) again,
+    )
+tries_again old between after new id requested size first (Err error) not attempts after_is again = tt
+
+pub replaces_first : (old new : Heap) (id requested size : ℕ) (making : Making) → is_made making ≡ true
+    → AttemptsToReplace old id requested size making new → TriesToReplace old id requested size making new
+replaces_first old new id requested size Made is attempts = inl (refl, attempts)
+replaces_first old new id requested size NoRoom is attempts = absurd (never false is refl)
+replaces_first old new id requested size Full is attempts = absurd (never false is refl)
+
+not_replaced : (old new : Heap) (id requested size : ℕ) (making : Making) → is_made making ≡ false
+    → AttemptsToReplace old id requested size making new → IsRefused old requested size new
+not_replaced old new id requested size Made not attempts = absurd (never true refl not)
+not_replaced old new id requested size NoRoom not (none, same) = record { why = inl none; same = same }
+not_replaced old new id requested size Full not (many, same) = record { why = inr many; same = same }
+
+pub replaces_again : {E : Type 0} (old between after new : Heap) (id requested size : ℕ) (first : Making)
+    (result : Result Making E) → is_made first ≡ false → AttemptsToReplace old id requested size first between
+    → after ≡ swept between → IfOk result (λ making. AttemptsToReplace after id requested size making new)
+    → IfOk result (λ making. TriesToReplace old id requested size making new)
+replaces_again old between after new id requested size first (Ok making) not attempts after_is again =
+    let is = not_replaced old between id requested size first not attempts in
+    inr (
+      is.why,
+      subst (λ (h : Heap). AttemptsToReplace h id requested size making new)
+          (after_is ∙ ap (λ (h : Heap). swept h) is.same) again,
+    )
+replaces_again old between after new id requested size first (Err error) not attempts after_is again = tt
+
+-- the attempt to put an object over another
+pub put_settled : (old between new : Heap) (id requested size : ℕ) (making : Making) → is_made making ≡ true
+    → PutsOver old id requested size making between → Settles between new
+    → AttemptsToReplace old id requested size making new
+put_settled old between new id requested size Made is puts settles =
+    replaces old between new id requested size puts settles
+put_settled old between new id requested size NoRoom is puts settles = absurd (never false is refl)
+put_settled old between new id requested size Full is puts settles = absurd (never false is refl)
+
+pub put_refused : (old new : Heap) (id requested size : ℕ) (making : Making) → is_made making ≡ false
+    → PutsOver old id requested size making new → AttemptsToReplace old id requested size making new
+put_refused old new id requested size Made not puts = absurd (never true refl not)
+put_refused old new id requested size NoRoom not puts = puts
+put_refused old new id requested size Full not puts = puts
+
+-- ---- events
+
+-- a free of an id that is live
+pub freed_live : (old new : Heap) (id : ℕ) (is_live : Bool) → FreesIfLive old id is_live new
+    → IsSome (object_under old id) → Frees old id new
+freed_live old new id true frees live = frees
+freed_live old new id false (none, same) live = absurd (never (is_some (object_under old id)) live none)
+
+-- numbers that differ
+pub differ : (one other : ℕ) → (one ≡ other → ⊥) → nat_eq other one ≡ false
+differ one other apart = by_case (nat_eq other one) refl
+  where
+    by_case : (b : Bool) → nat_eq other one ≡ b → nat_eq other one ≡ false
+    by_case true is = absurd (apart (grind (arith, nat_tests)))
+    by_case false is = is

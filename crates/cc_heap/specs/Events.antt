@@ -1,0 +1,156 @@
+-- The effect of an event on a heap.
+use Rattle.std.specs.Prelude.{ℕ, Bool, true, false, ◌≡◌, ◌≢◌, ◌⊎◌, ◌≤◌, max, Option, Some, None, IsSome, IsNone, length, if◌then◌else◌}
+use Rattle.std.specs.Int.{IsPowerOfTwo}
+use Rattle.cc_placer.specs.Placement.{HasNoPlace}
+use Rattle.cc_heap.specs.declared.event.Event.{Event}
+use Rattle.cc_heap.specs.declared.event.Event.TheVariants.{Allocate, Clear, Reallocate, Free, Sweep, Clock}
+use Rattle.cc_heap.specs.declared.making.Making.{Making}
+use Rattle.cc_heap.specs.declared.making.Making.TheVariants.{Made}
+use Rattle.cc_heap.specs.declared.object.Object.{Object}
+use Rattle.cc_heap.specs.declared.outcome.Outcome.{Outcome}
+use Rattle.cc_plan.specs.PlannerState.{padded_size_for}
+use Rattle.cc_heap.specs.Memory.{held_spans, start_unit}
+use Rattle.cc_heap.specs.Policy.{is_of_the_trace}
+use Rattle.cc_heap.specs.Heap.{Attempts, FreesObject, Heap, MakesObject, MustSweep, object_under, swept}
+
+-- HasAlignment holds if an alignment that the event asks for is a power of two.
+abbrev pub HasAlignment : Event → Type 0
+HasAlignment (Allocate id size align) = IsPowerOfTwo align
+HasAlignment _ = Unit
+
+-- The size of an object: a requested size of 0 counts as 1.
+abbrev pub size_of : (requested : ℕ) → ℕ
+size_of requested = max requested 1
+
+-- The outcome of an event that makes no object, and of one that does.
+abbrev pub outcome_of : (was_live unknown : Bool) → Option Making → Outcome
+outcome_of was_live unknown making =
+    record { was_live = was_live; unknown = unknown; lost = false; making = making }
+
+-- ---- A free.
+
+-- FollowsPolicy holds if the quarantine is swept if the policy sweeps, and otherwise nothing changes.
+abbrev pub FollowsPolicy : Heap → Heap → Type 0
+FollowsPolicy old new = (MustSweep old × (new ≡ swept old)) ⊎ ((¬ MustSweep old) × (new ≡ old))
+
+-- Frees holds if the object that is live under the id is freed, and then the policy is followed.
+pub record Frees (old : Heap) (id : ℕ) (new : Heap) : Type 0 where
+  pub object : Object
+  pub is_live : object_under old id ≡ Some object
+  pub freed : Heap
+  pub frees : FreesObject old id object freed
+  pub follows : FollowsPolicy freed new
+
+-- FreesIfLive holds if the id is live and its object is freed, or it is not live and nothing changes.
+abbrev pub FreesIfLive : Heap → (id : ℕ) → (is_live : Bool) → Heap → Type 0
+FreesIfLive old id true new = Frees old id new
+FreesIfLive old id false new = IsNone (object_under old id) × (new ≡ old)
+
+-- ---- An object is made.
+
+-- HasNoRoom holds if an object of this size and requested alignment cannot be made: there is no place
+-- for it, or as many spans are held as the limit allows.
+abbrev pub HasNoRoom : Heap → (requested size : ℕ) → Type 0
+HasNoRoom heap requested size =
+    HasNoPlace heap.settings.pool (held_spans heap.memory) (padded_size_for heap.settings.align size)
+    (start_unit heap.settings.align requested size)
+    ⊎ (heap.settings.limit ≤ length (held_spans heap.memory))
+
+-- Tries holds if an object is made, or else the quarantine is swept once, and its making attempted
+-- again.
+abbrev pub Tries : Heap → (id requested size : ℕ) → Making → Heap → Type 0
+Tries old id requested size making new =
+    ((making ≡ Made) × MakesObject old id requested size new)
+    ⊎ (HasNoRoom old requested size × Attempts (swept old) id requested size making new)
+
+-- Allocates holds if the object under the id is freed, if it is live, and then one is made under it.
+pub record Allocates (old : Heap) (id requested size : ℕ) (outcome : Outcome) (new : Heap) : Type 0 where
+  pub was_live : Bool
+  pub cleared : Heap
+  pub clears : FreesIfLive old id was_live cleared
+  pub making : Making
+  pub tries : Tries cleared id requested size making new
+  pub is_told : outcome ≡ outcome_of was_live false (Some making)
+
+-- ---- An object is made in place of another.
+
+-- Replaces holds if an object is made under a live id while the one under it is held, and then that
+-- one is freed.
+pub record Replaces (old : Heap) (id requested size : ℕ) (new : Heap) : Type 0 where
+  pub before : Object
+  pub is_live : object_under old id ≡ Some before
+  pub made : Heap
+  pub makes : MakesObject old id requested size made
+  pub frees : FreesObject made id before new
+
+-- AttemptsToReplace holds if the object under the id is replaced, or the new one has no place, and nothing
+-- changes.
+abbrev pub AttemptsToReplace : Heap → (id requested size : ℕ) → Making → Heap → Type 0
+AttemptsToReplace old id requested size Made new = Replaces old id requested size new
+AttemptsToReplace old id requested size making new = Attempts old id requested size making new
+
+-- TriesToReplace holds if the object is replaced, or else the quarantine is swept once, and it is
+-- attempted again.
+abbrev pub TriesToReplace : Heap → (id requested size : ℕ) → Making → Heap → Type 0
+TriesToReplace old id requested size making new =
+    ((making ≡ Made) × Replaces old id requested size new)
+    ⊎ (HasNoRoom old requested size × AttemptsToReplace (swept old) id requested size making new)
+
+-- FollowsReplacing holds if the policy is followed once an object is replaced, or the object is freed
+-- nevertheless if it was not.
+abbrev pub FollowsReplacing : Heap → (id : ℕ) → Making → Heap → Type 0
+FollowsReplacing old id Made new = FollowsPolicy old new
+FollowsReplacing old id _ new = Frees old id new
+
+-- ReplacesLive holds if an object is made under a live id in place of the one under it.
+pub record ReplacesLive (old : Heap) (id requested size : ℕ) (outcome : Outcome) (new : Heap) : Type 0 where
+  pub making : Making
+  pub tried : Heap
+  pub tries : TriesToReplace old id requested size making tried
+  pub follows : FollowsReplacing tried id making new
+  pub is_told : outcome ≡ outcome_of false false (Some making)
+
+-- Moves holds if an object is made under one id while that under another is held, and then that one is
+-- freed.
+pub record Moves (old : Heap) (from to requested size : ℕ) (outcome : Outcome) (new : Heap) : Type 0 where
+  pub made : Heap
+  pub allocates : Allocates old to requested size outcome made
+  pub frees : Frees made from new
+
+-- AllocatesUnknown holds if there is no object to replace, and one is made.
+pub record AllocatesUnknown (old : Heap) (id requested size : ℕ) (outcome : Outcome) (new : Heap) : Type 0 where
+  pub told : Outcome
+  pub allocates : Allocates old id requested size told new
+  pub is_told : outcome ≡ record told { unknown = true }
+
+-- Reallocates holds if an object is made in place of the one under an id, if that is live.
+abbrev pub Reallocates : Heap → (from to requested size : ℕ) → Outcome → Heap → Type 0
+Reallocates old from to requested size outcome new =
+    (IsNone (object_under old from) × AllocatesUnknown old to requested size outcome new)
+    ⊎ (IsSome (object_under old from)
+    × (((from ≡ to) × ReplacesLive old to requested size outcome new)
+    ⊎ ((from ≢ to) × Moves old from to requested size outcome new)))
+
+-- ---- An event.
+
+-- FreesOrNot holds if the object under the id is freed, or the id is not live, and nothing changes.
+pub record FreesOrNot (old : Heap) (id : ℕ) (outcome : Outcome) (new : Heap) : Type 0 where
+  pub is_live : Bool
+  pub frees : FreesIfLive old id is_live new
+  pub is_told : outcome ≡ outcome_of false (if is_live then false else true) None
+
+-- The heap after an event that asks for a sweep: swept if the policy is the trace's.
+abbrev pub swept_if_asked : Heap → Heap
+swept_if_asked heap = if is_of_the_trace heap.settings.policy then swept heap else heap
+
+-- IsEvent holds if the event turns the heap `old` into `new`, with this outcome.
+abbrev pub IsEvent : Heap → Event → Outcome → Heap → Type 0
+IsEvent old (Allocate id size align) outcome new =
+    Allocates old id align (size_of size) outcome new
+IsEvent old (Clear id size) outcome new =
+    Allocates old id 1 (size_of size) outcome new
+IsEvent old (Reallocate from to size) outcome new =
+    Reallocates old from to 1 (size_of size) outcome new
+IsEvent old (Free id) outcome new = FreesOrNot old id outcome new
+IsEvent old Sweep outcome new = (new ≡ swept_if_asked old) × (outcome ≡ outcome_of false false None)
+IsEvent old (Clock time) outcome new = (new ≡ old) × (outcome ≡ outcome_of false false None)

@@ -1,0 +1,10 @@
+-- In reading order.
+pub mod Policy
+pub mod Memory
+pub mod Totals
+pub mod Heap
+pub mod Events
+pub mod Run
+pub mod Sizes
+pub mod Lost
+pub mod HeapState

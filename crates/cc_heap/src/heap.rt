@@ -1,0 +1,519 @@
+//! The heap.
+ghost use Rattle.std.specs.Prelude.{◌≡◌, ℕ, false, None, nat_eq, ◌+◌, ◌<◌, ◌≤◌, ◌^◌, ◌↔◌, length, All, IfOk, OnErr, OnOk, IsNone, IsSome, IsTrue};
+ghost use Rattle.std.specs.Bool.{OnFalse, OnTrue};
+ghost use Rattle.std.specs.Int.{IsPowerOfTwo};
+ghost use Rattle.cc_heap.specs.Memory.{IsSound, usage_of};
+ghost use Rattle.cc_heap.specs.Totals.{with_usage};
+ghost use Rattle.cc_heap.specs.Heap.{Attempts, MustSweep, empty_heap, object_under, swept, swept_memory};
+ghost use Rattle.cc_heap.specs.Events.{Allocates, AttemptsToReplace, FollowsPolicy, FollowsReplacing, FreesIfLive, FreesOrNot, HasAlignment, IsEvent, Moves, Reallocates, ReplacesLive, Tries, TriesToReplace, outcome_of, swept_if_asked};
+ghost use Rattle.cc_heap.specs.Run.{Runs};
+ghost use Rattle.cc_heap.specs.HeapState.{PutsOver, QuarantinesLive, ReleasesLast, Settles};
+
+use crate::event::Event;
+use crate::making::Making;
+use crate::object::Object;
+use crate::outcome::Outcome;
+use crate::placing::place;
+use crate::settings::Settings;
+use crate::totals::Totals;
+use crate::usage::Usage;
+use cc_bounds::Span;
+use cc_placer::Placer;
+use std::alloc::{AllocError, Global};
+use std::collections::HashMap;
+use std::marker::Model;
+
+/// The heap of an allocator: objects with exact bounds in a pool, under ids that can be used again,
+/// and a quarantine of the spans of freed objects.
+///
+/// An object takes its padded size at the lowest place of the pool. Its bytes stay held from its
+/// making to the sweep after its free, and no byte is held twice.
+#[derive(Drop)]
+pub struct Heap<P: Placer> {
+    settings: Settings,
+    objects: HashMap<u64, Object>,
+    quarantine: Vec<Span>,
+    usage: Usage,
+    totals: Totals,
+    placer: P,
+}
+
+impl<P: Placer> Model for Heap<P> {
+    ghost use Rattle.std.specs.Prelude.{vec_capacity};
+    ghost use Rattle.cc_heap.specs.Heap.{Heap};
+    ghost use Rattle.cc_heap.specs.Run.{Runs};
+    ghost use Rattle.cc_heap.specs.HeapState.{IsHeap};
+
+    ghost Value = { Heap };
+
+    ghost view = { λ h. record {
+      settings = h.settings;
+      memory = record { live = h.objects.entries; quarantined = h.quarantine.items };
+      totals = h.totals;
+    } };
+
+    ghost invariant = { λ h. IsHeap (record {
+      settings = h.settings;
+      memory = record { live = h.objects.entries; quarantined = h.quarantine.items };
+      totals = h.totals;
+    })
+        h.usage (vec_capacity h.quarantine) (P.limit h.placer) (P.pool h.placer) (P.holds h.placer) };
+}
+
+impl<P: Placer> Heap<P> {
+    /// Creates a heap that holds nothing.
+    ///
+    /// Requires: `1 <= settings.limit <= 2^24`; the pool's base is at most its top, and that at
+    /// most 2^64.
+    /// Errors: `AllocError` if an allocation fails.
+    pub fn new(alloc: Global, settings: Settings) -> Result<Self, AllocError>
+        requires some { 1 ≤ settings.limit }
+        requires few { settings.limit ≤ 2 ^ 24 }
+        requires in_order { settings.pool.base ≤ settings.pool.top }
+        requires fits { settings.pool.top ≤ 2 ^ 64 }
+        ensures { IfOk result (λ heap. heap ≡ empty_heap settings) }
+    {
+        let mut placer = P::with_limit(alloc, settings.limit)?;
+        placer.set_pool(settings.pool);
+        Ok(Heap {
+            settings,
+            objects: HashMap::new(alloc),
+            quarantine: Vec::new(alloc),
+            usage: Usage {
+                objects: 0,
+                asked: 0,
+                live: 0,
+                quarantine: 0,
+            },
+            totals: Totals {
+                made: 0,
+                inexact: 0,
+                made_asked: 0,
+                made_padded: 0,
+                sweeps: 0,
+                swept: 0,
+                swept_over: 0,
+                peak_objects: 0,
+                peak_asked: 0,
+                peak_live: 0,
+                peak_quarantine: 0,
+                peak_held: 0,
+                high: 0,
+            },
+            placer,
+        })
+    }
+
+    /// Returns the number of objects and of bytes that the heap holds.
+    pub fn usage(&self) -> Usage
+        ensures value { result ≡ usage_of self.now.memory }
+        ensures fits { result.live + result.quarantine ≤ 2 ^ 127 }
+    {
+        self.usage
+    }
+
+    /// Returns the numbers of all states that the heap has had.
+    pub fn totals(&self) -> Totals
+        ensures { result ≡ self.now.totals }
+    {
+        self.totals
+    }
+
+    /// Returns the settings of the heap.
+    pub fn settings(&self) -> Settings
+        ensures { result ≡ self.now.settings }
+    {
+        self.settings
+    }
+
+    /// Takes one event.
+    ///
+    /// Requires: an alignment that the event asks for is a power of two.
+    /// Errors: `AllocError` if an allocation fails. The heap stays sound then, and the event may have
+    /// freed objects.
+    pub fn event(&mut self, event: Event) -> Result<Outcome, AllocError>
+        requires aligned { HasAlignment event }
+        ensures is_event { IfOk result (λ outcome. IsEvent self.old event outcome self.new) }
+        ensures sound { IsSound self.new.settings.align self.new.memory }
+    {
+        let _ = &self.settings;
+        match event {
+            Event::Allocate { id, size, align } => self.allocate(id, align, size.max(1)),
+            Event::Clear { id, size } => self.allocate(id, 1, size.max(1)),
+            Event::Reallocate { old, new, size } => self.reallocate(old, new, 1, size.max(1)),
+            Event::Free { id } => Ok(self.free_or_not(id)),
+            Event::Sweep => Ok(self.sweep_if_asked()),
+            Event::Clock(_) => Ok(Outcome {
+                was_live: false,
+                unknown: false,
+                lost: false,
+                making: None,
+            }),
+        }
+    }
+
+    /// Takes events in order, up to the first for which an allocation fails.
+    ///
+    /// Requires: each alignment that an event asks for is a power of two.
+    /// Errors: `AllocError` if an allocation fails. The events before that one have been taken.
+    pub fn run(&mut self, events: &[Event]) -> Result<(), AllocError>
+        requires aligned { All HasAlignment events.now }
+        ensures runs { OnOk result (Runs self.old events.now self.new) }
+        ensures sound { IsSound self.new.settings.align self.new.memory }
+    {
+        let _ = &self.settings;
+        for i in 0..events.len() {
+            self.event(events[i])?;
+        }
+        Ok(())
+    }
+
+    /// Frees the object under an id, if that is live.
+    fn free_or_not(&mut self, id: u64) -> Outcome
+        ensures frees { FreesOrNot self.old id result self.new }
+        ensures sound { IsSound self.new.settings.align self.new.memory }
+    {
+        let is_live = self.free(id);
+        Outcome {
+            was_live: false,
+            unknown: !is_live,
+            lost: false,
+            making: None,
+        }
+    }
+
+    /// Sweeps if the policy is the trace's.
+    fn sweep_if_asked(&mut self) -> Outcome
+        ensures swept { self.new ≡ swept_if_asked self.old }
+        ensures told { result ≡ outcome_of false false None }
+        ensures sound { IsSound self.new.settings.align self.new.memory }
+    {
+        if self.settings.policy.is_of_the_trace() {
+            self.sweep();
+        }
+        Outcome {
+            was_live: false,
+            unknown: false,
+            lost: false,
+            making: None,
+        }
+    }
+
+    /// Frees the object under the id, if that is live, and makes one under it.
+    fn allocate(&mut self, id: u64, align: u64, size: u64) -> Result<Outcome, AllocError>
+        requires some { 0 < size }
+        requires aligned { IsPowerOfTwo align }
+        ensures allocates { IfOk result (λ outcome. Allocates self.old id align size outcome self.new) }
+        ensures others { (other : ℕ) → nat_eq id other ≡ false → object_under self.new other ≡ object_under self.old other }
+        ensures sound { IsSound self.new.settings.align self.new.memory }
+    {
+        let was_live = self.free(id);
+        let making = self.try_to_make(id, align, size)?;
+        Ok(Outcome {
+            was_live,
+            unknown: false,
+            lost: false,
+            making: Some(making),
+        })
+    }
+
+    /// Makes an object in place of that under `from`, if that is live.
+    fn reallocate(
+        &mut self,
+        from: u64,
+        to: u64,
+        align: u64,
+        size: u64,
+    ) -> Result<Outcome, AllocError>
+        requires some { 0 < size }
+        requires aligned { IsPowerOfTwo align }
+        ensures reallocates { IfOk result (λ outcome. Reallocates self.old from to align size outcome self.new) }
+        ensures sound { IsSound self.new.settings.align self.new.memory }
+    {
+        if !self.objects.contains_key(&from) {
+            let outcome = self.allocate(to, align, size)?;
+            return Ok(Outcome {
+                unknown: true,
+                ..outcome
+            });
+        }
+        if from == to {
+            return self.replace_live(to, align, size);
+        }
+        self.move_to(from, to, align, size)
+    }
+
+    /// Makes an object under `to`, and then frees that under `from`.
+    fn move_to(&mut self, from: u64, to: u64, align: u64, size: u64) -> Result<Outcome, AllocError>
+        requires some { 0 < size }
+        requires aligned { IsPowerOfTwo align }
+        requires live { IsSome (object_under self.old from) }
+        requires differ { nat_eq to from ≡ false }
+        ensures moves { IfOk result (λ outcome. Moves self.old from to align size outcome self.new) }
+        ensures sound { IsSound self.new.settings.align self.new.memory }
+    {
+        let outcome = self.allocate(to, align, size)?;
+        self.free(from);
+        Ok(outcome)
+    }
+
+    /// Makes an object under a live id in place of the one under it.
+    fn replace_live(&mut self, id: u64, align: u64, size: u64) -> Result<Outcome, AllocError>
+        requires some { 0 < size }
+        requires aligned { IsPowerOfTwo align }
+        requires live { IsSome (object_under self.old id) }
+        ensures replaces { IfOk result (λ outcome. ReplacesLive self.old id align size outcome self.new) }
+        ensures sound { IsSound self.new.settings.align self.new.memory }
+    {
+        let making = self.try_to_replace(id, align, size)?;
+        self.follow_replacing(id, making);
+        Ok(Outcome {
+            was_live: false,
+            unknown: false,
+            lost: false,
+            making: Some(making),
+        })
+    }
+
+    /// Follows the policy once the object under a live id was replaced, or frees it if it was not.
+    fn follow_replacing(&mut self, id: u64, making: Making)
+        requires live { IsSome (object_under self.old id) }
+        ensures follows { FollowsReplacing self.old id making self.new }
+        ensures sound { IsSound self.new.settings.align self.new.memory }
+    {
+        if making.is_made() {
+            self.follow_policy();
+            return;
+        }
+        self.free(id);
+    }
+
+    /// Makes an object under an id that is not live, with one sweep and one more attempt if it has
+    /// no room.
+    fn try_to_make(&mut self, id: u64, align: u64, size: u64) -> Result<Making, AllocError>
+        requires some { 0 < size }
+        requires aligned { IsPowerOfTwo align }
+        requires fresh { IsNone (object_under self.old id) }
+        ensures tries { IfOk result (λ making. Tries self.old id align size making self.new) }
+        ensures others { (other : ℕ) → nat_eq id other ≡ false → object_under self.new other ≡ object_under self.old other }
+        ensures sound { IsSound self.new.settings.align self.new.memory }
+    {
+        let making = self.make(id, align, size)?;
+        if making.is_made() {
+            return Ok(making);
+        }
+        self.sweep();
+        self.make(id, align, size)
+    }
+
+    /// Replaces the object under a live id, with one sweep and one more attempt if the new one has
+    /// no room.
+    fn try_to_replace(&mut self, id: u64, align: u64, size: u64) -> Result<Making, AllocError>
+        requires some { 0 < size }
+        requires aligned { IsPowerOfTwo align }
+        requires live { IsSome (object_under self.old id) }
+        ensures tries { IfOk result (λ making. TriesToReplace self.old id align size making self.new) }
+        ensures live { IfOk result (λ making. IsSome (object_under self.new id)) }
+        ensures sound { IsSound self.new.settings.align self.new.memory }
+    {
+        let making = self.replace(id, align, size)?;
+        if making.is_made() {
+            return Ok(making);
+        }
+        self.sweep();
+        self.replace(id, align, size)
+    }
+
+    /// Makes an object under an id that is not live, at the lowest place of the pool.
+    ///
+    /// On `Err` nothing changes.
+    fn make(&mut self, id: u64, align: u64, size: u64) -> Result<Making, AllocError>
+        requires some { 0 < size }
+        requires aligned { IsPowerOfTwo align }
+        requires fresh { IsNone (object_under self.old id) }
+        ensures attempts { IfOk result (λ making. Attempts self.old id align size making self.new) }
+        ensures refused { OnErr result (self.new ≡ self.old) }
+        ensures others { (other : ℕ) → nat_eq id other ≡ false → object_under self.new other ≡ object_under self.old other }
+        ensures sound { IsSound self.new.settings.align self.new.memory }
+    {
+        if self.objects.len() + self.quarantine.len() >= self.settings.limit as usize {
+            return Ok(Making::Full);
+        }
+        self.quarantine.reserve(self.objects.len() + 1)?;
+        let Some(span) = place(&self.placer, self.settings.align, align, size) else {
+            return Ok(Making::NoRoom);
+        };
+        let object = Object { size, align, span };
+        self.objects.insert(id, object)?;
+        self.placer.hold(span);
+        self.usage = self.usage.with_made(object);
+        let end = span.top - u128::from(self.settings.pool.base);
+        self.totals = self.totals.with_made(object, end, self.usage);
+        Ok(Making::Made)
+    }
+
+    /// Makes an object under a live id, and frees the one that was under it.
+    ///
+    /// On `Err` nothing changes.
+    fn replace(&mut self, id: u64, align: u64, size: u64) -> Result<Making, AllocError>
+        requires some { 0 < size }
+        requires aligned { IsPowerOfTwo align }
+        requires live { IsSome (object_under self.old id) }
+        ensures attempts { IfOk result (λ making. AttemptsToReplace self.old id align size making self.new) }
+        ensures refused { OnErr result (self.new ≡ self.old) }
+        ensures live { IsSome (object_under self.new id) }
+        ensures sound { IsSound self.new.settings.align self.new.memory }
+    {
+        let making = self.put_over(id, align, size)?;
+        if !making.is_made() {
+            return Ok(making);
+        }
+        self.settle();
+        Ok(making)
+    }
+
+    /// Makes an object under a live id, and moves the one that was under it to the quarantine.
+    ///
+    /// On `Err` nothing changes.
+    fn put_over(&mut self, id: u64, align: u64, size: u64) -> Result<Making, AllocError>
+        requires some { 0 < size }
+        requires aligned { IsPowerOfTwo align }
+        requires live { IsSome (object_under self.old id) }
+        ensures attempts { IfOk result (λ making. PutsOver self.old id align size making self.new) }
+        ensures refused { OnErr result (self.new ≡ self.old) }
+        ensures live { IsSome (object_under self.new id) }
+        ensures sound { IsSound self.new.settings.align self.new.memory }
+    {
+        if self.objects.len() + self.quarantine.len() >= self.settings.limit as usize {
+            return Ok(Making::Full);
+        }
+        self.quarantine.reserve(self.objects.len() + 1)?;
+        let Some(span) = place(&self.placer, self.settings.align, align, size) else {
+            return Ok(Making::NoRoom);
+        };
+        let object = Object { size, align, span };
+        let Some(before) = self.objects.insert(id, object)? else {
+            unreachable!()
+        };
+        self.placer.hold(span);
+        let usage = self.usage.with_made(object);
+        let end = span.top - u128::from(self.settings.pool.base);
+        self.totals = self.totals.with_made(object, end, usage);
+        self.quarantine.push_reserved(before.span);
+        self.usage = usage.with_quarantined(before);
+        Ok(Making::Made)
+    }
+
+    /// Frees the object under an id, if that is live, and follows the policy. Returns whether it was
+    /// live.
+    fn free(&mut self, id: u64) -> bool
+        ensures frees { FreesIfLive self.old id result self.new }
+        ensures gone { IsNone (object_under self.new id) }
+        ensures others { (other : ℕ) → nat_eq id other ≡ false → object_under self.new other ≡ object_under self.old other }
+        ensures sound { IsSound self.new.settings.align self.new.memory }
+    {
+        if !self.quarantine_object(id) {
+            return false;
+        }
+        self.settle();
+        self.follow_policy();
+        true
+    }
+
+    /// Moves the object under an id to the quarantine, if the id is live. Returns whether it was
+    /// live.
+    fn quarantine_object(&mut self, id: u64) -> bool
+        ensures quarantined { OnTrue result (QuarantinesLive self.old id self.new) }
+        ensures unknown { OnFalse result (IsNone (object_under self.old id) × (self.new ≡ self.old)) }
+        ensures gone { IsNone (object_under self.new id) }
+        ensures others { (other : ℕ) → nat_eq id other ≡ false → object_under self.new other ≡ object_under self.old other }
+        ensures sound { IsSound self.new.settings.align self.new.memory }
+    {
+        let Some(object) = self.objects.remove(&id) else {
+            return false;
+        };
+        self.quarantine.push_reserved(object.span);
+        self.usage = self.usage.with_quarantined(object);
+        true
+    }
+
+    /// Releases the span that was quarantined last, if the policy has no quarantine, and counts the
+    /// state.
+    fn settle(&mut self)
+        requires some { 0 < length self.old.memory.quarantined }
+        ensures settles { Settles self.old self.new }
+        ensures objects { (id : ℕ) → object_under self.new id ≡ object_under self.old id }
+        ensures sound { IsSound self.new.settings.align self.new.memory }
+    {
+        if self.settings.policy.is_immediate() {
+            self.release_last();
+            self.count_state();
+            return;
+        }
+        self.count_state();
+    }
+
+    /// Counts the state that the heap has.
+    fn count_state(&mut self)
+        ensures counts { self.new ≡ record self.old { totals = with_usage self.old.totals (usage_of self.old.memory) } }
+        ensures sound { IsSound self.new.settings.align self.new.memory }
+    {
+        self.totals = self.totals.with_usage(self.usage);
+    }
+
+    /// Sweeps if the policy does.
+    fn follow_policy(&mut self)
+        ensures follows { FollowsPolicy self.old self.new }
+        ensures objects { (id : ℕ) → object_under self.new id ≡ object_under self.old id }
+        ensures sound { IsSound self.new.settings.align self.new.memory }
+    {
+        let _ = &self.settings;
+        if self.must_sweep() {
+            self.sweep();
+        }
+    }
+
+    /// Returns whether the policy sweeps.
+    fn must_sweep(&self) -> bool
+        ensures { IsTrue result ↔ MustSweep self.now }
+    {
+        let quarantine = self.usage.quarantine;
+        quarantine >= u128::from(self.settings.least_quarantine)
+            && self
+                .settings
+                .policy
+                .asks_for_sweep(self.usage, self.totals.high, self.quarantine.len())
+    }
+
+    /// Sweeps the quarantine.
+    fn sweep(&mut self)
+        ensures swept { self.new ≡ swept self.old }
+        ensures sound { IsSound self.new.settings.align self.new.memory }
+    {
+        let bytes = self.usage.quarantine;
+        self.release_all();
+        self.totals = self.totals.with_sweep(bytes, self.usage);
+    }
+
+    /// Releases all quarantined spans.
+    fn release_all(&mut self)
+        ensures rest { self.new ≡ record self.old { memory = swept_memory self.old.memory } }
+        ensures sound { IsSound self.new.settings.align self.new.memory }
+    {
+        let count = self.quarantine.len();
+        for _released in 0..count {
+            self.release_last();
+        }
+    }
+
+    /// Releases the span that was quarantined last.
+    fn release_last(&mut self)
+        requires { 0 < length self.old.memory.quarantined }
+        ensures releases { ReleasesLast self.old self.new }
+        ensures sound { IsSound self.new.settings.align self.new.memory }
+    {
+        let span = self.quarantine.pop().unwrap();
+        self.placer.give_back(span);
+        self.usage = self.usage.with_released(span.len());
+    }
+}

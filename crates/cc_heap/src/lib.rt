@@ -1,0 +1,30 @@
+//! Models the heap of an allocator over the events of a trace: the objects that are live, the
+//! quarantine, and the numbers of both.
+#![tactic(auto)]
+
+mod event;
+mod heap;
+mod laws;
+mod making;
+mod object;
+mod outcome;
+mod placing;
+mod policy;
+mod run;
+mod settings;
+mod sizes;
+mod totals;
+mod usage;
+
+pub use event::Event;
+pub use heap::Heap;
+pub use laws::{sizes_are_of_all_objects, totals_are_of_all_states};
+pub use making::Making;
+pub use object::Object;
+pub use outcome::Outcome;
+pub use policy::{Policy, Share};
+pub use run::Run;
+pub use settings::Settings;
+pub use sizes::{NO_OBJECTS, SizeTotals};
+pub use totals::Totals;
+pub use usage::Usage;

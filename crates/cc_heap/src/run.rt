@@ -1,0 +1,172 @@
+//! A heap over a trace, and the ids whose objects were not made.
+ghost use Rattle.std.specs.Prelude.{◌≡◌, ℕ, [], IfOk, IfSome, OnOk, ◌<◌};
+ghost use Rattle.cc_heap.specs.Events.{HasAlignment};
+ghost use Rattle.cc_heap.specs.Lost.{IsRunEvent, freed_id, is_lost, is_lost_one, is_not_made, made_id, noted};
+ghost use Rattle.cc_heap.specs.Memory.{IsSound, usage_of};
+ghost use Rattle.cc_heap.specs.Sizes.{no_sizes, with_made_size};
+
+use crate::event::Event;
+use crate::heap::Heap;
+use crate::making::Making;
+use crate::outcome::Outcome;
+use crate::placing::padded_size;
+use crate::settings::Settings;
+use crate::sizes::{NO_OBJECTS, SizeTotals, count_size, made_size};
+use crate::totals::Totals;
+use crate::usage::Usage;
+use cc_bounds::Align;
+use cc_placer::Placer;
+use std::alloc::{AllocError, Global};
+use std::collections::HashSet;
+use std::marker::Model;
+
+/// A heap over a trace. It also has the ids whose objects were not made since there was no place for
+/// them, so that a free of such an id is not one of an id that names nothing, and the numbers of the
+/// objects that were made by the powers of two of their sizes.
+#[derive(Drop)]
+pub struct Run<P: Placer> {
+    heap: Heap<P>,
+    lost: HashSet<u64>,
+    sizes: [SizeTotals; 64],
+}
+
+impl<P: Placer> Model for Run<P> {
+    ghost use Rattle.cc_heap.specs.Lost.{RunState};
+
+    ghost Value = { RunState };
+
+    ghost view = { λ r. record { heap = r.heap; lost = r.lost.keys; sizes = r.sizes } };
+}
+
+impl<P: Placer> Run<P> {
+    /// Creates a run of a heap, before the first event.
+    pub fn new(alloc: Global, heap: Heap<P>) -> Self
+        ensures { result ≡ record { heap = heap; lost = []; sizes = no_sizes } }
+    {
+        Run {
+            heap,
+            lost: HashSet::new(alloc),
+            sizes: [NO_OBJECTS; 64],
+        }
+    }
+
+    /// Takes one event, and also returns whether an id that it frees is lost.
+    ///
+    /// Requires: an alignment that the event asks for is a power of two.
+    /// Errors: `AllocError` if an allocation fails.
+    pub fn event(&mut self, event: Event) -> Result<Outcome, AllocError>
+        requires aligned { HasAlignment event }
+        ensures is_event { IfOk result (λ outcome. IsRunEvent self.old event outcome self.new) }
+        ensures sound { IsSound self.new.heap.settings.align self.new.heap.memory }
+    {
+        let align = self.heap.settings().align;
+        let told = self.heap.event(event)?;
+        let was_lost = self.is_lost(freed_id(event));
+        self.note(freed_id(event), false)?;
+        self.note(made_id(event), is_not_made(told.making))?;
+        count_made(&mut self.sizes, align, made_size(event, told.making));
+        Ok(Outcome {
+            unknown: told.unknown && !was_lost,
+            lost: told.unknown && was_lost,
+            ..told
+        })
+    }
+
+    /// Returns the number of objects and of bytes that the heap holds.
+    pub fn usage(&self) -> Usage
+        ensures { result ≡ usage_of self.now.heap.memory }
+    {
+        self.heap.usage()
+    }
+
+    /// Returns the numbers of all states that the heap has had.
+    pub fn totals(&self) -> Totals
+        ensures { result ≡ self.now.heap.totals }
+    {
+        self.heap.totals()
+    }
+
+    /// Returns the settings of the heap.
+    pub fn settings(&self) -> Settings
+        ensures { result ≡ self.now.heap.settings }
+    {
+        self.heap.settings()
+    }
+
+    /// Returns the numbers of the objects that were made, with a row for each power of two: that of
+    /// objects whose sizes are at least the power, and below the next.
+    pub fn sizes(&self) -> &[SizeTotals; 64]
+        ensures { result.now ≡ self.now.sizes }
+    {
+        &self.sizes
+    }
+
+    /// Returns whether the id, if there is one, is lost.
+    fn is_lost(&self, id: Option<u64>) -> bool
+        ensures { result ≡ is_lost_one self.now.lost id }
+    {
+        match id {
+            Some(id) => self.lost.contains(&id),
+            None => false,
+        }
+    }
+
+    /// Notes that the id, if there is one, is lost or is not.
+    fn note(&mut self, id: Option<u64>, lost: bool) -> Result<(), AllocError>
+        ensures noted { OnOk result ((other : ℕ) → is_lost self.new.lost other ≡ noted id lost (is_lost self.old.lost) other) }
+        ensures heap { self.new.heap ≡ self.old.heap }
+        ensures sizes { self.new.sizes ≡ self.old.sizes }
+    {
+        let Some(id) = id else {
+            return Ok(());
+        };
+        if lost {
+            self.lost.insert(id)?;
+            return Ok(());
+        }
+        self.lost.remove(&id);
+        Ok(())
+    }
+}
+
+/// Counts an object of this size, if there is one.
+fn count_made(sizes: &mut [SizeTotals; 64], align: Align, size: Option<u64>)
+    requires { IfSome size (λ bytes. 0 < bytes) }
+    ensures { sizes.new ≡ with_made_size align size sizes.old }
+{
+    if let Some(size) = size {
+        count_size(sizes, size, padded_size(align, size));
+    }
+}
+
+/// Returns the id that an event frees, or `None` if it frees none.
+fn freed_id(event: Event) -> Option<u64>
+    ensures { result ≡ freed_id event }
+{
+    match event {
+        Event::Reallocate { old, .. } => Some(old),
+        Event::Free { id } => Some(id),
+        Event::Allocate { .. } | Event::Clear { .. } | Event::Sweep | Event::Clock(_) => None,
+    }
+}
+
+/// Returns the id under which an event makes an object, or `None` if it makes none.
+fn made_id(event: Event) -> Option<u64>
+    ensures { result ≡ made_id event }
+{
+    match event {
+        Event::Allocate { id, .. } | Event::Clear { id, .. } => Some(id),
+        Event::Reallocate { new, .. } => Some(new),
+        Event::Free { .. } | Event::Sweep | Event::Clock(_) => None,
+    }
+}
+
+/// Returns whether an object was to be made, and was not.
+fn is_not_made(making: Option<Making>) -> bool
+    ensures { result ≡ is_not_made making }
+{
+    match making {
+        Some(Making::NoRoom) | Some(Making::Full) => true,
+        Some(Making::Made) | None => false,
+    }
+}
