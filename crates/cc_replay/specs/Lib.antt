@@ -4,6 +4,7 @@ pub mod Trace
 pub mod Counts
 pub mod Rows
 pub mod Summary
+pub mod SizeTable
 pub mod Reading
 pub mod Replay
 pub mod Summarizing

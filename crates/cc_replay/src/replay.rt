@@ -15,7 +15,7 @@ use crate::reading::{Progress, Reading};
 use crate::series::{MOST_SAMPLE, push_sample, push_series_header};
 use crate::summary::{Figures, write_page};
 use crate::trace::read_event;
-use cc_heap::{Event, Heap, Making, Outcome, Run, Settings};
+use cc_heap::{Event, Heap, Making, Outcome, Run, Settings, SizeTotals};
 use cc_io::{Answerer, IoError, Lines, Sink, Source, Summary, pump};
 use cc_placer::Placer;
 use cc_text::{Page, Waiting};
@@ -106,6 +106,14 @@ impl<P: Placer> Replay<P> {
             totals: self.run.totals(),
             usage: self.run.usage(),
         }
+    }
+
+    /// Returns the numbers of the objects that were made, with a row for each power of two: that of
+    /// objects whose sizes are at least the power, and below the next.
+    pub fn sizes(&self) -> &[SizeTotals; 64]
+        ensures { result.now ≡ self.now.run.sizes }
+    {
+        self.run.sizes()
     }
 
     /// Writes the sample of the end, if there is a series and the last event has no sample, and
