@@ -1,0 +1,2 @@
+pub mod StartLemmas
+pub mod CutLemmas

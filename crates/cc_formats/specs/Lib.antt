@@ -1,0 +1,5 @@
+-- In reading order.
+pub mod Reports
+pub mod Mtrace
+pub mod Heaptrack
+pub mod Ltrace

@@ -1,0 +1,35 @@
+//! Values that are separated by one byte.
+ghost use Rattle.std.specs.Prelude.{◌≡◌, ◌≤◌, ◌==◌, length};
+ghost use Rattle.std.specs.List.{after_first, before_first, position};
+ghost use Rattle.cc_formats.specs.Ltrace.{after_or_all};
+
+/// Returns the bytes before the first byte of this value, and those after it. If there is none,
+/// these are all bytes and no bytes.
+pub(crate) fn cut(text: &[u8], at: u8) -> (&[u8], &[u8])
+    ensures before { result.0.now ≡ before_first (λ byte. byte == at) text.now }
+    ensures after { result.1.now ≡ after_first (λ byte. byte == at) text.now }
+    ensures before_fits { length result.0.now ≤ length text.now }
+    ensures after_fits { length result.1.now ≤ length text.now }
+{
+    match position_of(text, at) {
+        Some(count) => (&text[..count], &text[count + 1..]),
+        None => (text, &[]),
+    }
+}
+
+/// Returns the bytes after the first byte of this value, or all bytes if there is none.
+pub(crate) fn after_or_all(text: &[u8], at: u8) -> &[u8]
+    ensures { result.now ≡ after_or_all at text.now }
+{
+    match position_of(text, at) {
+        Some(count) => &text[count + 1..],
+        None => text,
+    }
+}
+
+/// Returns the position of the first byte of this value.
+fn position_of(text: &[u8], value: u8) -> Option<usize>
+    ensures { result ≡ position (λ byte. byte == value) text.now }
+{
+    text.iter().position(|byte| *byte == value)
+}
