@@ -346,6 +346,10 @@ static void check_many(size_t count)
     }
     expect(bounds[count - 1].exponent == 77 && canonical[count - 1] == 7 && representable[count - 1] == 7, "many words", "the element after the results");
     expect(cheri_cap_decode_many(words, 0, bounds, count) == 0, "many words", "no words");
+    expect(cheri_cap_decode_many(NULL, 0, bounds, count) == 0 && cheri_cap_decode_many(words, count, NULL, 0) == 0, "many words", "null for no words or bounds");
+    expect(cheri_cap_is_canonical_many(NULL, 0, canonical, count) == 0 && cheri_cap_is_canonical_many(words, count, NULL, 0) == 0, "many words", "null for no words or results");
+    expect(cheri_cap_represents_many(NULL, 0, NULL, 0, NULL, 0) == 0 && cheri_cap_represents_many(words, count, NULL, 0, representable, count) == 0, "many words", "null for no addresses");
+    expect(!cheri_cap_read_word(NULL, 0).found, "text", "null for no text");
 }
 
 // Checks the batch functions on memory that begins at an odd address, with the words of the table in either byte order. Each
@@ -376,6 +380,9 @@ static void check_memory(size_t count, bool big_endian)
     }
     expect(bounds[count - 1].exponent == 77 && canonical[count - 1] == 7 && representable[count - 1] == 7, "memory", "the element after the results");
     expect(cheri_cap_decode_memory(memory, 0, big_endian, bounds, count) == 0, "memory", "no words");
+    expect(cheri_cap_decode_memory(NULL, 0, big_endian, bounds, count) == 0 && cheri_cap_decode_memory(memory, count, big_endian, NULL, 0) == 0, "memory", "null for no words or bounds");
+    expect(cheri_cap_is_canonical_memory(NULL, 0, big_endian, canonical, count) == 0 && cheri_cap_is_canonical_memory(memory, count, big_endian, NULL, 0) == 0, "memory", "null for no words or results");
+    expect(cheri_cap_represents_memory(NULL, 0, big_endian, NULL, 0, NULL, 0) == 0 && cheri_cap_represents_memory(memory, count, big_endian, NULL, 0, representable, count) == 0, "memory", "null for no addresses");
 }
 
 // Checks the offsets and the accesses that the rows do not have.

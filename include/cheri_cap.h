@@ -27,10 +27,9 @@
  * Ranges: each function accepts every value of its parameters' types, except invalid pointers and
  * invalid `bool`s. Its comment says what it returns for values out of range.
  *
- * Pointers, of the three text functions and the six batch functions: none may be null, not even
- * with a count or a length of 0, since the library has references to what they point to. An empty
- * std::vector may have a null pointer: cheri_cap.hpp skips the call, and so must a caller from C.
- * An array has as many elements as its count says, and its size is at most PTRDIFF_MAX bytes. It
+ * Pointers, of the three text functions and the six batch functions: the pointer to an array may be
+ * null if its count or its length is 0, as that of an empty std::vector may be, and no other pointer
+ * may. An array has as many elements as its count says, and its size is at most PTRDIFF_MAX bytes. It
  * must be aligned for its element type: to 8 bytes for cheri_cap_u128, cheri_cap_bounds and
  * uint64_t. `memory` has 16 bytes for each word of its count, at any address. Arrays that a
  * function reads may overlap each other. An array that a function writes must not overlap any
@@ -367,7 +366,7 @@ cheri_cap_ends cheri_cap_window(uint64_t high, uint64_t low) CHERI_CAP_NOEXCEPT;
  * 0. Each array has its own count: if they differ, the smallest of them applies, and the results
  * past it do not change.
  *
- * Pointers: none may be null, not even for a count of 0: skip the call then. Words, bounds and
+ * Pointers: the pointer to an array of count 0 may be null, and no other. Words, bounds and
  * addresses must be aligned to 8 bytes. The results must not overlap what is read, but words and
  * addresses may overlap each other. The previous contents of the results do not matter. See
  * "Pointers" above.
@@ -429,8 +428,8 @@ uint64_t cheri_cap_alignment_mask(uint64_t length_high, uint64_t length_low) CHE
  *
  * For any other text `found` is false and the halves are 0.
  *
- * Pointers: `text` must not be null, not even for length 0. `length` bytes of it are read, at most
- * PTRDIFF_MAX. It needs no terminating NUL.
+ * Pointers: `text` may be null for length 0. `length` bytes of it are read, at most PTRDIFF_MAX. It
+ * needs no terminating NUL.
  */
 CHERI_CAP_NODISCARD CHERI_CAP_PURE
 cheri_cap_read cheri_cap_read_word(const char *text, size_t length) CHERI_CAP_NOEXCEPT;
@@ -885,6 +884,75 @@ static inline cheri_cap_u128 cheri_cap_with_bounds(
     cheri_cap_u128 word = {(high & ~mask) | ((fields ^ CHERI_CAP_NULL_MASK_HIGH) & mask), low};
     return word;
 }
+
+/*
+ * Null for an empty array. The functions of the library have references to their arrays, and no
+ * reference is null. So each call of a batch function or of cheri_cap_read_word is a call of the
+ * function below that has its name and an underscore. It returns the result for an empty array
+ * itself, and calls the library for any other. A program that finds a function of the library by its
+ * name, as dlsym does, must not pass null.
+ */
+static inline size_t cheri_cap_decode_many_(
+    const cheri_cap_u128 *words, size_t word_count, cheri_cap_bounds *bounds, size_t bounds_count) CHERI_CAP_NOEXCEPT
+{
+    return word_count == 0 || bounds_count == 0 ? 0 : cheri_cap_decode_many(words, word_count, bounds, bounds_count);
+}
+
+static inline size_t cheri_cap_is_canonical_many_(
+    const cheri_cap_u128 *words, size_t word_count, uint8_t *answers, size_t answer_count) CHERI_CAP_NOEXCEPT
+{
+    return word_count == 0 || answer_count == 0 ? 0 : cheri_cap_is_canonical_many(words, word_count, answers, answer_count);
+}
+
+static inline size_t cheri_cap_represents_many_(
+    const cheri_cap_u128 *words, size_t word_count, const uint64_t *addresses, size_t address_count, uint8_t *answers,
+    size_t answer_count) CHERI_CAP_NOEXCEPT
+{
+    return word_count == 0 || address_count == 0 || answer_count == 0
+        ? 0
+        : cheri_cap_represents_many(words, word_count, addresses, address_count, answers, answer_count);
+}
+
+static inline size_t cheri_cap_decode_memory_(
+    const void *memory, size_t word_count, bool big_endian, cheri_cap_bounds *bounds,
+    size_t bounds_count) CHERI_CAP_NOEXCEPT
+{
+    return word_count == 0 || bounds_count == 0
+        ? 0
+        : cheri_cap_decode_memory(memory, word_count, big_endian, bounds, bounds_count);
+}
+
+static inline size_t cheri_cap_is_canonical_memory_(
+    const void *memory, size_t word_count, bool big_endian, uint8_t *answers, size_t answer_count) CHERI_CAP_NOEXCEPT
+{
+    return word_count == 0 || answer_count == 0
+        ? 0
+        : cheri_cap_is_canonical_memory(memory, word_count, big_endian, answers, answer_count);
+}
+
+static inline size_t cheri_cap_represents_memory_(
+    const void *memory, size_t word_count, bool big_endian, const uint64_t *addresses, size_t address_count,
+    uint8_t *answers, size_t answer_count) CHERI_CAP_NOEXCEPT
+{
+    return word_count == 0 || address_count == 0 || answer_count == 0
+        ? 0
+        : cheri_cap_represents_memory(memory, word_count, big_endian, addresses, address_count, answers, answer_count);
+}
+
+CHERI_CAP_NODISCARD CHERI_CAP_PURE
+static inline cheri_cap_read cheri_cap_read_word_(const char *text, size_t length) CHERI_CAP_NOEXCEPT
+{
+    cheri_cap_read none = {0, 0, false};
+    return length == 0 ? none : cheri_cap_read_word(text, length);
+}
+
+#define cheri_cap_decode_many cheri_cap_decode_many_
+#define cheri_cap_is_canonical_many cheri_cap_is_canonical_many_
+#define cheri_cap_represents_many cheri_cap_represents_many_
+#define cheri_cap_decode_memory cheri_cap_decode_memory_
+#define cheri_cap_is_canonical_memory cheri_cap_is_canonical_memory_
+#define cheri_cap_represents_memory cheri_cap_represents_memory_
+#define cheri_cap_read_word cheri_cap_read_word_
 
 #ifdef __GNUC__
 #pragma GCC diagnostic pop

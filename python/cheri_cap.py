@@ -813,6 +813,10 @@ class ManyBounds(Sequence[Bounds]):
         top = self.top_high[position] << 64 | self.top_low[position]
         return Bounds(self.base[position], top, self.exponent[position])
 
+    def __array__(self, *_arguments: object, **_named: object) -> object:
+        """Raises TypeError: numpy would read the bounds of one word after the other, which takes minutes for millions."""
+        raise TypeError("the columns have arrays, and not the bounds: numpy.asarray(BOUNDS.base)")
+
 
 # The marks of a byte order in a buffer's format.
 _ORDERS = {"<": "little", ">": "big", "!": "big", "=": sys.byteorder, "@": sys.byteorder, "^": sys.byteorder}

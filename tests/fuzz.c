@@ -130,6 +130,19 @@ static void check_memory(const input *it)
     }
 }
 
+/* An array of no elements may have a null pointer. */
+static void check_null(const input *it)
+{
+    const cheri_cap_u128 word = {it->high, it->low};
+    cheri_cap_bounds bounds = {it->low, it->high, it->address, 77};
+    SAME(cheri_cap_decode_many(NULL, 0, &bounds, 1), 0);
+    SAME(cheri_cap_decode_many(&word, 1, NULL, 0), 0);
+    SAME(cheri_cap_decode_memory(NULL, 0, it->length_low & 1, &bounds, 1), 0);
+    same_bounds(bounds, (cheri_cap_bounds){it->low, it->high, it->address, 77});
+    SAME(cheri_cap_represents_many(&word, 1, NULL, 0, NULL, 0), 0);
+    SAME(cheri_cap_read_word(NULL, 0).found, false);
+}
+
 static void check_request(const input *it)
 {
     const cheri_cap_granted granted = cheri_cap_set_bounds(it->address, it->length_high, it->length_low);
@@ -194,6 +207,7 @@ int LLVMFuzzerTestOneInput(const uint8_t *data, size_t size)
     shape(&it);
     check_word(&it);
     check_memory(&it);
+    check_null(&it);
     check_request(&it);
     check_rules(&it);
     return 0;

@@ -167,15 +167,17 @@ list_sources() {
   is_built "$1" '' || true
   looks | LC_ALL=C sort
 }
-# Takes a crate's program, which another command has proved and built from the sources as list_sources printed them before, as one
-# that was built here. Fails if a source changed since then:  take_built CRATE LISTED
+# Takes a file of a crate's directory out/, which another command has proved and built from the sources as list_sources printed them
+# before, as one that was built here: the program for the toolchain's default processor, the library for its own. Fails if a source
+# changed since then:  take_built CRATE FILE LISTED
 take_built() {
-  local product=crates/$1/out/$1 kept=$top/crates/$1/out order cpu identity found made_of
+  local product=crates/$1/out/$2 kept=$top/crates/$1/out order cpu identity found made_of
   local -A needs listed
-  ! is_built "$1" "$1" || return 0
-  [[ -n $identity && -z $cpu && -x $top/$product && $(looks | LC_ALL=C sort) == "$2" ]] || return
+  ! is_built "$1" "$2" || return 0
+  [[ $1 != cheri_cap || -z $cpu ]] || return
+  [[ -n $identity && -s $top/$product && $(looks | LC_ALL=C sort) == "$3" ]] || return
   found=$(looks "$product") && made_of=$(checksums "$product") || return
-  [[ $(looks | LC_ALL=C sort) == "$2" ]] || return
+  [[ $(looks | LC_ALL=C sort) == "$3" ]] || return
   keep "$kept/built-from" "$identity"$'\n'"$made_of" && keep "$kept/seen" "$found"
 }
 want_toolchain() {

@@ -7,7 +7,7 @@
 # build begins, and to crates/*/out/. When the crate is proved, the view's directory out/ is moved to the crate's own.
 
 # Memory of one job, in MB. A crate gets a job for each JOB_SECONDS of its cost, and at most MOST_JOBS.
-readonly JOB_MEMORY=2000 MOST_JOBS=4 JOB_SECONDS=60
+readonly JOB_MEMORY=2000 MOST_JOBS=4 JOB_SECONDS=45
 # The cost in seconds of a crate that tools/crate-costs does not name, and of one whose library exists.
 readonly UNKNOWN_COST=60 BUILT_COST=3
 # The time that 1 to 4 jobs take, in percent of the time of one job.
@@ -56,9 +56,10 @@ weigh_crates() {
 
 # Sets `picked` to the crate to begin next, and `jobs` to its number of jobs. Fails if no crate can begin. Of the crates that
 # wait and have all crates below them built, it is the one of the highest rank. It gets the free slots, minus one for each other
-# crate that could begin.
+# crate that could begin: but at least two if the longest chain of crates that are not built begins with it, and one if a crate of
+# a higher rank waits for others.
 pick() {
-  local name it ready=0 most
+  local name it ready=0 most longest=yes
   picked=''
   # with no status, bash may return that of the command before a trap
   ((busy < slots)) || return 1
@@ -70,6 +71,14 @@ pick() {
   done
   [[ -n $picked ]] || return 1
   most=$((1 + ${costs[$picked]} / JOB_SECONDS)) jobs=$((slots - busy - ready + 1))
+  for name in "${order[@]}"; do
+    ((${ranks[$name]} > ${ranks[$picked]})) || continue
+    case ${states[$name]} in
+      waits) most=1 longest='' ;;
+      runs) longest='' ;;
+    esac
+  done
+  if [[ -n $longest ]] && ((slots > 2 && slots - busy > 1 && jobs < 2)); then jobs=2; fi
   # the last crate itself has few functions, and one process compiles its code
   [[ $picked != "${order[-1]}" ]] || most=1
   ((most <= MOST_JOBS)) || most=$MOST_JOBS

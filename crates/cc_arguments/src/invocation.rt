@@ -4,7 +4,7 @@ use cc_bounds::Align;
 use cc_decode::{Format, InputForm};
 
 /// The bounds of a pool, as they were typed.
-#[derive(Clone, Copy, Debug, PartialEq, Eq)]
+#[derive(Clone, Copy)]
 pub struct PoolTexts<'a> {
     /// The base.
     pub base: &'a str,
@@ -13,7 +13,7 @@ pub struct PoolTexts<'a> {
 }
 
 /// The values of the options of `decode` that are numbers or names, as they were typed.
-#[derive(Clone, Copy, Debug, PartialEq, Eq)]
+#[derive(Clone, Copy)]
 pub struct DecodeTexts<'a> {
     /// The number of bytes to skip.
     pub skip: Option<&'a str>,
@@ -26,7 +26,7 @@ pub struct DecodeTexts<'a> {
 }
 
 /// The format of the summary of `replay`.
-#[derive(Clone, Copy, Debug, PartialEq, Eq)]
+#[derive(Clone, Copy)]
 pub enum SummaryFormat {
     /// One line a number: its name and its value.
     Text,
@@ -37,7 +37,7 @@ pub enum SummaryFormat {
 }
 
 /// The values of the options of `replay` that are numbers, a policy or a pool, as they were typed.
-#[derive(Clone, Copy, Debug, PartialEq, Eq)]
+#[derive(Clone, Copy)]
 pub struct ReplayTexts<'a> {
     /// The policy.
     pub sweep: Option<&'a str>,

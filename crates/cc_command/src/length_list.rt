@@ -16,7 +16,7 @@ const ROOM: usize = 32768;
 const MOST_LINE: usize = 128;
 
 /// Replies to the lines of a list of lengths.
-#[derive(Clone, Copy, Debug, PartialEq, Eq)]
+#[derive(Clone, Copy)]
 pub(crate) struct Rounder;
 
 impl Answerer<ROOM> for Rounder {

@@ -14,7 +14,7 @@ use cc_word::read_word_fast;
 const HALF: usize = 16;
 
 /// The bytes before a run, as far as the run's word depends on them.
-#[derive(Clone, Copy, Debug, PartialEq, Eq)]
+#[derive(Clone, Copy)]
 pub(crate) enum Before {
     /// A byte that is not a word character, or no byte.
     Outside,
@@ -25,7 +25,7 @@ pub(crate) enum Before {
 }
 
 /// Replies to a run with the run, and with the line of its word if it has one.
-#[derive(Clone, Copy, Debug, PartialEq, Eq)]
+#[derive(Clone, Copy)]
 pub(crate) struct Annotator {
     /// The bytes before the next run.
     pub(crate) before: Before,

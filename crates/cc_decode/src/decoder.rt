@@ -19,7 +19,7 @@ use cc_word::Refusal;
 /// Replies to an entry with the row of its word, or with `error 1 syntax`. Each reply has a line
 /// feed.
 // The decoder of all words, without addresses: it tests nothing for a word.
-#[derive(Clone, Copy, Debug, PartialEq, Eq)]
+#[derive(Clone, Copy)]
 pub(crate) struct PlainDecoder {
     /// The form of the input.
     pub(crate) input: InputForm,
@@ -60,7 +60,7 @@ impl Answerer<ROOM> for PlainDecoder {
 
 /// Replies to an entry with the row of its word, if the word is listed, with its address in front,
 /// if it has one. In a search, an entry that is not a word is an error without a reply.
-#[derive(Clone, Copy, Debug, PartialEq, Eq)]
+#[derive(Clone, Copy)]
 pub(crate) struct Decoder {
     /// The options for the rest of the input.
     pub(crate) options: Options,

@@ -11,7 +11,7 @@ use cc_io::Framing;
 pub(crate) const MOST_RUN: usize = 64;
 
 /// Entries that are a run of word characters and the byte after it, or 64 word characters.
-#[derive(Clone, Copy, Debug, PartialEq, Eq)]
+#[derive(Clone, Copy)]
 pub(crate) struct Runs;
 
 impl Framing for Runs {

@@ -227,6 +227,7 @@ impl GapBlock {
 }
 
 /// Returns the largest number of bytes, except one, of a gap.
+#[inline(never)]
 fn widest(gaps: &[Gap]) -> u64
     ensures { All (IsAtMost result) gaps.now }
 {

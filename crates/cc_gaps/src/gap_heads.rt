@@ -92,14 +92,17 @@ impl Heads {
     }
 
     /// Replaces a head.
+    #[inline(always)]
     pub(crate) fn set(&mut self, at: usize, head: Head)
         requires { at < length self.old.heads }
         ensures { self.new ≡ record { heads = slice_set self.old.heads at head; room = self.old.room } }
     {
         let before = self.heads[at].bound;
         self.heads[at] = head;
-        renew(&self.heads, &mut self.groups, at, before);
-        self.bound = bound_after(&self.heads, &self.groups, self.bound, before, head.bound);
+        if head.bound != before {
+            renew(&self.heads, &mut self.groups, at, before);
+            self.bound = bound_after(&self.heads, &self.groups, self.bound, before, head.bound);
+        }
     }
 
     /// Inserts a head, given that one more fits.
@@ -148,6 +151,7 @@ impl Heads {
 
 /// Renews the bound of the group of the head at a position, which had another bound before. It is
 /// recomputed only if the largest bound of the group is gone.
+#[inline(always)]
 fn renew(heads: &[Head], groups: &mut [u64], at: usize, before: u64)
     requires within { at < length heads.now }
     requires grouped { length heads.now ≤ 16 * length groups.old }
@@ -166,6 +170,7 @@ fn renew(heads: &[Head], groups: &mut [u64], at: usize, before: u64)
 
 /// Returns an upper bound on the bounds of all heads after a change: a head of the bound `added` was
 /// added, one of the bound `gone` removed. It is recomputed only if the largest is gone.
+#[inline(always)]
 fn bound_after(heads: &[Head], groups: &[u64], bound: u64, gone: u64, added: u64) -> u64
     requires grouped { length heads.now ≤ 16 * length groups.now }
     requires bounded { AreBounded heads.now groups.now }
@@ -180,6 +185,7 @@ fn bound_after(heads: &[Head], groups: &[u64], bound: u64, gone: u64, added: u64
 }
 
 /// Returns the largest bound of the groups.
+#[inline(never)]
 fn greatest_of_all(heads: &[Head], groups: &[u64]) -> u64
     requires grouped { length heads.now ≤ 16 * length groups.now }
     requires bounded { AreBounded heads.now groups.now }
@@ -205,6 +211,7 @@ fn renew_from(heads: &[Head], groups: &mut [u64], at: usize)
 }
 
 /// Returns the largest bound of the heads of a group.
+#[inline(never)]
 fn greatest(heads: &[Head], group: usize) -> u64
     requires { 16 * group < length heads.now }
     ensures { (at : ℕ) (d : HeadSpec) → 16 * group ≤ at → at < 16 * group + 16 → at < length heads.now

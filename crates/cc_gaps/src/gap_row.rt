@@ -22,6 +22,9 @@ const GAPS_A_BLOCK: u32 = 24;
 /// Two neighbors with at most this number of gaps together may be joined if no further block fits.
 const JOINED_GAPS: usize = 48;
 
+/// A gap is near a bound if it is shorter by at most this part of the bound.
+const NEAR: u64 = 1024;
+
 /// Gaps in the order of their addresses, in blocks of up to 64.
 ///
 /// Each block has a head: the last byte of its last gap, and an upper bound on the length of each.
@@ -110,6 +113,7 @@ impl GapRow {
     }
 
     /// Replaces the gap at a place. Each place stays that of its gap.
+    #[inline(always)]
     pub(crate) fn set(&mut self, place: Place, gap: Span)
         requires place { IsPlaceIn self.old place }
         requires within { index_of self.old place < length (gaps_in self.old) }
@@ -192,6 +196,7 @@ impl GapRow {
 }
 
 /// Returns the place of the first gap that ends above an address, or the end if there is none.
+#[inline(always)]
 fn locate_in(blocks: &GapBlocks, heads: &Heads, address: u64) -> Place
     requires gaps { AreGaps (gaps_of blocks.now.blocks) }
     requires headed { AreHeaded blocks.now.blocks heads.now.heads }
@@ -280,6 +285,7 @@ fn fit_in_group(
 }
 
 /// Replaces the gap at a position in a block.
+#[inline(always)]
 fn set_in(blocks: &mut GapBlocks, heads: &mut Heads, block: usize, at: usize, gap: Span)
     requires headed { AreHeaded blocks.old.blocks heads.old.heads }
     requires within { block < length blocks.old.blocks }
@@ -337,7 +343,8 @@ fn insert_in(blocks: &mut GapBlocks, heads: &mut Heads, block: usize, at: usize,
 }
 
 /// Returns the head of a block after a change: a gap of `added` bytes more than one was added, one of
-/// `gone` bytes more than one removed. The bound is recomputed only if the widest gap is gone.
+/// `gone` bytes more than one removed.
+#[inline(always)]
 fn head_after(block: &GapBlock, head: Head, gone: u64, added: u64) -> Head
     requires some { 0 < length block.now }
     requires bound { All (IsAtMost (max head.bound added)) block.now }
@@ -350,11 +357,16 @@ fn head_after(block: &GapBlock, head: Head, gone: u64, added: u64) -> Head
 }
 
 /// Returns a bound of a block after a change, as in [`head_after`].
+///
+/// It is recomputed only if a gap near the bound is gone, and the one that was added is not near it.
+/// So objects that are made one after the other in a large gap do not recompute it each time.
+#[inline(always)]
 fn bound_after(block: &GapBlock, bound: u64, gone: u64, added: u64) -> u64
     requires { All (IsAtMost (max bound added)) block.now }
     ensures { All (IsAtMost result) block.now }
 {
-    if added < bound && gone == bound {
+    let near = bound - bound / NEAR;
+    if added < near && near <= gone {
         block.widest()
     } else {
         bound.max(added)

@@ -83,6 +83,7 @@ impl Placer for GapPlacer {
         self.hold_at(span, Hint::default());
     }
 
+    #[inline(always)]
     fn hold_at(&mut self, span: Span, hint: Hint) {
         let near = Place {
             block: hint.block,
@@ -103,6 +104,7 @@ impl Placer for GapPlacer {
 }
 
 /// Takes the bytes of a span out of the gap around it, which may be the one at the place `near`.
+#[inline(always)]
 fn take(row: &mut GapRow, span: Span, near: Place)
     requires gaps { AreGaps (gaps_in row.old) }
     requires some { span.base < span.top }
@@ -135,6 +137,7 @@ fn take(row: &mut GapRow, span: Span, near: Place)
 
 /// Returns the place of the gap around a span, and the gap. It is not searched for if it is at the
 /// place `near`.
+#[inline(always)]
 fn gap_around(row: &GapRow, span: Span, near: Place) -> (Place, Span)
     requires gaps { AreGaps (gaps_in row.now) }
     requires some { span.base < span.top }
@@ -172,6 +175,7 @@ fn gap_near(row: &GapRow, span: Span, near: Place) -> Option<Span>
 }
 
 /// Adds the bytes of a span that shares none with a gap, and joins it with the gaps that it touches.
+#[inline(always)]
 fn give(row: &mut GapRow, span: Span)
     requires gaps { AreGaps (gaps_in row.old) }
     requires some { IsSomeBytes span }

@@ -26,7 +26,7 @@ pub record HasHistory (old new : Heap) : Type 0 where
   pub moments : List Moment
   pub passes : Passes old moments new
 
-joined : (old between new : Heap) (moments others : List Moment) → Passes old moments between
+pub joined : (old between new : Heap) (moments others : List Moment) → Passes old moments between
     → Passes between others new → Passes old (moments ++ others) new
 joined old between new [] others same rest = subst (λ (h : Heap). Passes h others new) same rest
 joined old between new (moment ∷ moments) others (next, change, passes) rest =
@@ -164,14 +164,14 @@ record IsCapped (totals : Totals) : Type 0 where
   swept_over : totals.swept_over ≤ 2 ^ 128 - 1
 
 -- nothing more
-capped_same : (cap number : ℕ) → number ≤ cap → number ≡ min (number + 0) cap
+pub capped_same : (cap number : ℕ) → number ≤ cap → number ≡ min (number + 0) cap
 capped_same cap number few = omega arith
 
 max_zero : (number : ℕ) → number ≡ max number 0
 max_zero number = omega arith
 
 -- a part and a rest
-capped_more : (cap number part rest whole : ℕ) → whole ≡ part + rest
+pub capped_more : (cap number part rest whole : ℕ) → whole ≡ part + rest
     → min (min (number + part) cap + rest) cap ≡ min (number + whole) cap
 capped_more cap number part rest whole is = omega (arith, is)
 

@@ -4,3 +4,5 @@ pub mod HeapLemmas
 pub mod StepLemmas
 pub mod HistoryLemmas
 pub mod RunLemmas
+pub mod SizeLemmas
+pub mod MadeLemmas

@@ -5,5 +5,6 @@ pub mod Totals
 pub mod Heap
 pub mod Events
 pub mod Run
+pub mod Sizes
 pub mod Lost
 pub mod HeapState

@@ -1,5 +1,5 @@
 -- A heap over a trace, and the ids whose objects were not made: the lost ones.
-use Rattle.std.specs.Prelude.{ℕ, Bool, true, false, not, ◌≡◌, ◌&&◌, cond, nat_eq, List, [], ◌∷◌, Option, Some, None}
+use Rattle.std.specs.Prelude.{ℕ, Bool, true, false, not, ◌≡◌, ◌<◌, ◌&&◌, cond, get_or, nat_eq, List, [], ◌∷◌, Option, Some, None}
 use Rattle.std.specs.List.{list_any}
 use Rattle.cc_heap.specs.declared.event.Event.{Event}
 use Rattle.cc_heap.specs.declared.event.Event.TheVariants.{Allocate, Clear, Reallocate, Free}
@@ -8,16 +8,21 @@ use Rattle.cc_heap.specs.declared.making.Making.TheVariants.{NoRoom, Full}
 use Rattle.cc_heap.specs.declared.outcome.Outcome.{Outcome}
 use Rattle.cc_heap.specs.Events.{IsEvent}
 use Rattle.cc_heap.specs.declared.settings.Settings.{Settings}
+use Rattle.cc_heap.specs.declared.sizes.SizeTotals.{SizeTotals}
 use Rattle.cc_heap.specs.Heap.{Heap, empty_heap}
+use Rattle.cc_heap.specs.Run.{Moment, Passes}
+use Rattle.cc_heap.specs.Sizes.{made_size, no_objects, no_sizes, sizes_after, with_made_size}
 
--- A heap, and the ids that are lost, in no order.
+-- A heap, the ids that are lost, in no order, and the numbers of the objects that were made by the powers
+-- of two of their sizes.
 pub record RunState : Type 0 where
   pub heap : Heap
   pub lost : List ℕ
+  pub sizes : List SizeTotals
 
 -- A run of a heap that has held nothing, before the first event.
 abbrev pub empty_run : Settings → RunState
-empty_run settings = record { heap = empty_heap settings; lost = [] }
+empty_run settings = record { heap = empty_heap settings; lost = []; sizes = no_sizes }
 
 -- Whether an id is lost.
 abbrev pub is_lost : List ℕ → ℕ → Bool
@@ -60,16 +65,24 @@ with_lost told was_lost = record told {
 
 -- IsRunEvent holds if the event is taken by the heap, an id that it frees is lost no more, and the id of
 -- an object that it could not make is. The outcome says of an id that it frees that
--- it was lost, and not unknown.
+-- it was lost, and not unknown. An object that the event makes counts in the row of its size.
 pub record IsRunEvent (old : RunState) (event : Event) (outcome : Outcome) (new : RunState) : Type 0 where
   pub told : Outcome
   pub is_event : IsEvent old.heap event told new.heap
   pub is_told : outcome ≡ with_lost told (is_lost_one old.lost (freed_id event))
   pub lost : (id : ℕ) → is_lost new.lost id
       ≡ noted (made_id event) (is_not_made told.making) (noted (freed_id event) false (is_lost old.lost)) id
+  pub sizes : new.sizes ≡ with_made_size old.heap.settings.align (made_size event told.making) old.sizes
 
 -- RunsNoting holds if the events turn the run `old` into `new`, each from the run that the one before left.
 abbrev pub RunsNoting : RunState → List Event → RunState → Type 0
 RunsNoting old [] new = new ≡ old
 RunsNoting old (event ∷ events) new =
     (outcome : Outcome) × (next : RunState) × IsRunEvent old event outcome next × RunsNoting next events new
+
+-- HasSizes holds if the heap of a run comes from one that held nothing, and the row of each power of two has
+-- the numbers of all states that the heap has passed.
+pub record HasSizes (run : RunState) : Type 0 where
+  pub moments : List Moment
+  pub passes : Passes (empty_heap run.heap.settings) moments run.heap
+  pub rows : (power : ℕ) → power < 64 → get_or run.sizes power no_objects ≡ sizes_after power no_objects moments

@@ -1,8 +1,9 @@
-//! A law of the runs of a heap.
+//! Laws of the runs of a heap.
 ghost use Rattle.std.specs.Prelude.{List};
 ghost use Rattle.cc_heap.specs.declared.event.Event.{Event};
 ghost use Rattle.cc_heap.specs.declared.settings.Settings.{Settings};
 ghost use Rattle.cc_heap.specs.Heap.{Heap, empty_heap};
+ghost use Rattle.cc_heap.specs.Lost.{HasSizes, RunState, RunsNoting, empty_run};
 ghost use Rattle.cc_heap.specs.Run.{HasTotals, Runs};
 
 /// Proves that the totals of a heap are numbers of all states that it has passed, for every list of
@@ -13,4 +14,14 @@ ghost use Rattle.cc_heap.specs.Run.{HasTotals, Runs};
 pub fn totals_are_of_all_states()
     ensures { (settings : Settings) (events : List Event) (heap : Heap)
         → Runs (empty_heap settings) events heap → HasTotals heap }
+{}
+
+/// Proves that the rows of the sizes of a run are numbers of all states that its heap has passed, for
+/// every list of events from a heap that held nothing.
+///
+/// The row of a power of two has the counts and sums over the objects that were made whose sizes are at
+/// least the power, and below the next, up to the largest number that is kept.
+pub fn sizes_are_of_all_objects()
+    ensures { (settings : Settings) (events : List Event) (run : RunState)
+        → RunsNoting (empty_run settings) events run → HasSizes run }
 {}

@@ -1,6 +1,7 @@
 //! The place of an object.
-ghost use Rattle.std.specs.Prelude.{◌<◌, List, IfSome, IsSome};
+ghost use Rattle.std.specs.Prelude.{◌≡◌, ◌<◌, List, IfSome, IsSome};
 ghost use Rattle.cc_bounds.specs.declared.span.Span.{Span as SpanSpec};
+ghost use Rattle.cc_plan.specs.PlannerState.{padded_size_for};
 ghost use Rattle.cc_heap.specs.HeapState.{IsRoomFor};
 
 use cc_bounds::{Align, Span, granule};
@@ -25,4 +26,14 @@ pub(crate) fn place<P: Placer>(placer: &P, align: Align, requested: u64, size: u
         base: start,
         top: u128::from(start) + len,
     })
+}
+
+/// Returns the number of bytes that an object of `size` bytes takes.
+pub(crate) fn padded_size(align: Align, size: u64) -> u128
+    requires { 0 < size }
+    ensures { result ≡ padded_size_for align size }
+{
+    let size = u128::from(size);
+    let unit = granule(size).max(align.bytes());
+    round_up(size, unit)
 }

@@ -1,27 +1,33 @@
 //! A heap over a trace, and the ids whose objects were not made.
-ghost use Rattle.std.specs.Prelude.{◌≡◌, ℕ, [], IfOk, OnOk};
+ghost use Rattle.std.specs.Prelude.{◌≡◌, ℕ, [], IfOk, IfSome, OnOk, ◌<◌};
 ghost use Rattle.cc_heap.specs.Events.{HasAlignment};
 ghost use Rattle.cc_heap.specs.Lost.{IsRunEvent, freed_id, is_lost, is_lost_one, is_not_made, made_id, noted};
 ghost use Rattle.cc_heap.specs.Memory.{IsSound, usage_of};
+ghost use Rattle.cc_heap.specs.Sizes.{no_sizes, with_made_size};
 
 use crate::event::Event;
 use crate::heap::Heap;
 use crate::making::Making;
 use crate::outcome::Outcome;
+use crate::placing::padded_size;
 use crate::settings::Settings;
+use crate::sizes::{NO_OBJECTS, SizeTotals, count_size, made_size};
 use crate::totals::Totals;
 use crate::usage::Usage;
+use cc_bounds::Align;
 use cc_placer::Placer;
 use std::alloc::{AllocError, Global};
 use std::collections::HashSet;
 use std::marker::Model;
 
 /// A heap over a trace. It also has the ids whose objects were not made since there was no place for
-/// them, so that a free of such an id is not one of an id that names nothing.
+/// them, so that a free of such an id is not one of an id that names nothing, and the numbers of the
+/// objects that were made by the powers of two of their sizes.
 #[derive(Drop)]
 pub struct Run<P: Placer> {
     heap: Heap<P>,
     lost: HashSet<u64>,
+    sizes: [SizeTotals; 64],
 }
 
 impl<P: Placer> Model for Run<P> {
@@ -29,17 +35,18 @@ impl<P: Placer> Model for Run<P> {
 
     ghost Value = { RunState };
 
-    ghost view = { λ r. record { heap = r.heap; lost = r.lost.keys } };
+    ghost view = { λ r. record { heap = r.heap; lost = r.lost.keys; sizes = r.sizes } };
 }
 
 impl<P: Placer> Run<P> {
     /// Creates a run of a heap, before the first event.
     pub fn new(alloc: Global, heap: Heap<P>) -> Self
-        ensures { result ≡ record { heap = heap; lost = [] } }
+        ensures { result ≡ record { heap = heap; lost = []; sizes = no_sizes } }
     {
         Run {
             heap,
             lost: HashSet::new(alloc),
+            sizes: [NO_OBJECTS; 64],
         }
     }
 
@@ -52,10 +59,12 @@ impl<P: Placer> Run<P> {
         ensures is_event { IfOk result (λ outcome. IsRunEvent self.old event outcome self.new) }
         ensures sound { IsSound self.new.heap.settings.align self.new.heap.memory }
     {
+        let align = self.heap.settings().align;
         let told = self.heap.event(event)?;
         let was_lost = self.is_lost(freed_id(event));
         self.note(freed_id(event), false)?;
         self.note(made_id(event), is_not_made(told.making))?;
+        count_made(&mut self.sizes, align, made_size(event, told.making));
         Ok(Outcome {
             unknown: told.unknown && !was_lost,
             lost: told.unknown && was_lost,
@@ -84,6 +93,14 @@ impl<P: Placer> Run<P> {
         self.heap.settings()
     }
 
+    /// Returns the numbers of the objects that were made, with a row for each power of two: that of
+    /// objects whose sizes are at least the power, and below the next.
+    pub fn sizes(&self) -> &[SizeTotals; 64]
+        ensures { result.now ≡ self.now.sizes }
+    {
+        &self.sizes
+    }
+
     /// Returns whether the id, if there is one, is lost.
     fn is_lost(&self, id: Option<u64>) -> bool
         ensures { result ≡ is_lost_one self.now.lost id }
@@ -98,6 +115,7 @@ impl<P: Placer> Run<P> {
     fn note(&mut self, id: Option<u64>, lost: bool) -> Result<(), AllocError>
         ensures noted { OnOk result ((other : ℕ) → is_lost self.new.lost other ≡ noted id lost (is_lost self.old.lost) other) }
         ensures heap { self.new.heap ≡ self.old.heap }
+        ensures sizes { self.new.sizes ≡ self.old.sizes }
     {
         let Some(id) = id else {
             return Ok(());
@@ -108,6 +126,16 @@ impl<P: Placer> Run<P> {
         }
         self.lost.remove(&id);
         Ok(())
+    }
+}
+
+/// Counts an object of this size, if there is one.
+fn count_made(sizes: &mut [SizeTotals; 64], align: Align, size: Option<u64>)
+    requires { IfSome size (λ bytes. 0 < bytes) }
+    ensures { sizes.new ≡ with_made_size align size sizes.old }
+{
+    if let Some(size) = size {
+        count_size(sizes, size, padded_size(align, size));
     }
 }
 

@@ -1,9 +1,15 @@
--- The digits of a percentage.
-use Rattle.std.proofs.Common.{◌≡◌, ℕ, ◌%◌, ◌+◌, [], ◌∷◌, ◌∙◌, ap, arith}
+-- The digits of a percentage, and rows after others.
+use Rattle.std.proofs.Common.{◌≡◌, ℕ, ◌%◌, ◌+◌, List, [], ◌∷◌, ◌++◌, ◌∙◌, ap, arith, refl}
 use Rattle.std.specs.Prelude.{decimal}
 use Rattle.cc_text.proofs.DecimalLemmas.{one_digit}
+use Rattle.cc_replay.specs.declared.table.Row.{Row as RowValue}
+use Rattle.cc_replay.specs.Rows.{Row, rows_of}
 
 pub last_digit : (n : ℕ) → decimal (n % 10) ≡ (48 + n % 10) ∷ []
 last_digit n =
     let same : n % 10 % 10 ≡ n % 10 = omega arith in
     one_digit (n % 10) (omega arith) ∙ ap (λ (d : ℕ). (48 + d) ∷ []) same
+
+pub rows_after : (rows more : List RowValue) → rows_of (rows ++ more) ≡ rows_of rows ++ rows_of more
+rows_after [] more = refl
+rows_after (row ∷ rows) more = ap (λ (others : List Row). record { name = row.name.now; value = row.value } ∷ others) (rows_after rows more)

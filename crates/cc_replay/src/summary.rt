@@ -1,20 +1,25 @@
 //! The summary of a replay.
 ghost use Rattle.std.specs.Prelude.{◌≡◌, ◌≤◌, ◌<◌, ◌+◌, ◌-◌, ◌*◌, ◌^◌, ◌++◌, ◌↔◌, [], length, false, true, Err, OnOk, OnErr, IsErr};
 ghost use Rattle.std.specs.Io.KnownBytes.{Appends};
+ghost use Rattle.arrayvec.specs.ArrayVec.{array_vec_len};
 ghost use Rattle.cc_io.specs.Devices.{TakesBeginning};
 ghost use Rattle.cc_replay.specs.Rows.{rows_of, table_text};
-ghost use Rattle.cc_replay.specs.Summary.{summary_rows};
+ghost use Rattle.cc_replay.specs.Summary.{end_rows, line_rows, made_rows, peak_rows, refusal_rows, summary_rows};
 
 use crate::counts::Counts;
 use crate::row;
 use crate::rows::{parts_of, push_table};
 use crate::table::{Format, Row, Value};
+use arrayvec::ArrayVec;
 use cc_heap::{Totals, Usage};
 use cc_io::{IoError, Sink, write_all};
 use cc_text::Page;
 
 /// The maximum number of bytes of a summary.
 const MOST_SUMMARY: usize = 16384;
+
+/// The number of rows of a summary.
+const MOST_ROWS: usize = 42;
 
 /// The numbers of a replay.
 #[derive(Clone, Copy, PartialEq, Eq, Debug)]
@@ -45,23 +50,37 @@ pub fn write_summary<W: Sink>(
 {
     let rows = summary_rows(figures);
     let mut page: Page<MOST_SUMMARY> = Page::new();
-    push_table(&mut page, format, &rows);
+    push_table(&mut page, format, rows.as_slice());
     write_page(&page, sink)
 }
 
 /// Returns the rows of a summary.
-fn summary_rows(figures: &Figures) -> [Row; 42]
-    ensures { rows_of result ≡ summary_rows figures.now }
+fn summary_rows(figures: &Figures) -> ArrayVec<Row, MOST_ROWS>
+    ensures { rows_of result.items ≡ summary_rows figures.now }
 {
-    let Figures {
-        counts,
-        totals,
-        usage,
-    } = figures;
-    let padding = parts_of(
-        totals.made_padded.saturating_sub(totals.made_asked),
-        totals.made_asked,
-    );
+    let mut rows = ArrayVec::new();
+    append_rows(&mut rows, &line_rows(&figures.counts));
+    append_rows(&mut rows, &refusal_rows(&figures.counts));
+    append_rows(&mut rows, &made_rows(&figures.totals));
+    append_rows(&mut rows, &peak_rows(&figures.totals));
+    append_rows(&mut rows, &end_rows(&figures.usage));
+    rows
+}
+
+/// Appends rows to those of a summary.
+#[tactic(auto, using(crate::proofs::RowLemmas::rows_after))]
+fn append_rows(rows: &mut ArrayVec<Row, MOST_ROWS>, more: &[Row])
+    requires { array_vec_len rows.old + length more.now ≤ 42 }
+    ensures value { rows_of rows.new.items ≡ rows_of rows.old.items ++ rows_of more.now }
+    ensures len { array_vec_len rows.new ≡ array_vec_len rows.old + length more.now }
+{
+    let _ = rows.try_extend_from_slice(more);
+}
+
+/// Returns the rows of the lines of a trace, by kind.
+fn line_rows(counts: &Counts) -> [Row; 8]
+    ensures { rows_of result ≡ line_rows counts.now }
+{
     [
         row!(b"lines", counts.lines),
         row!(b"events", counts.events),
@@ -71,6 +90,14 @@ fn summary_rows(figures: &Figures) -> [Row; 42]
         row!(b"frees", counts.frees),
         row!(b"aligned", counts.aligned),
         row!(b"zero", counts.zero),
+    ]
+}
+
+/// Returns the rows of the lines that are not events, and of the events that are refused.
+fn refusal_rows(counts: &Counts) -> [Row; 16]
+    ensures { rows_of result ≡ refusal_rows counts.now }
+{
+    [
         row!(b"refused.syntax", counts.syntax.times),
         row!(b"first.syntax", counts.syntax.first),
         row!(b"refused.range", counts.range.times),
@@ -87,6 +114,18 @@ fn summary_rows(figures: &Figures) -> [Row; 42]
         row!(b"first.full", counts.full.first),
         row!(b"refused.lost", counts.lost.times),
         row!(b"first.lost", counts.lost.first),
+    ]
+}
+
+/// Returns the rows of all objects that were made.
+fn made_rows(totals: &Totals) -> [Row; 5]
+    ensures { rows_of result ≡ made_rows totals.now }
+{
+    let padding = parts_of(
+        totals.made_padded.saturating_sub(totals.made_asked),
+        totals.made_asked,
+    );
+    [
         row!(b"made", totals.made),
         row!(b"made.asked", totals.made_asked),
         row!(b"made.padded", totals.made_padded),
@@ -95,6 +134,14 @@ fn summary_rows(figures: &Figures) -> [Row; 42]
             name: b"padding.made.percent",
             value: Value::Percent(padding),
         },
+    ]
+}
+
+/// Returns the rows of the peaks and of the sweeps.
+fn peak_rows(totals: &Totals) -> [Row; 9]
+    ensures { rows_of result ≡ peak_rows totals.now }
+{
+    [
         row!(b"peak.objects", totals.peak_objects),
         row!(b"peak.asked", totals.peak_asked),
         row!(b"peak.live", totals.peak_live),
@@ -104,6 +151,14 @@ fn summary_rows(figures: &Figures) -> [Row; 42]
         row!(b"swept.bytes", totals.swept),
         row!(b"swept.over", totals.swept_over),
         row!(b"high", totals.high),
+    ]
+}
+
+/// Returns the rows of the heap at the end.
+fn end_rows(usage: &Usage) -> [Row; 4]
+    ensures { rows_of result ≡ end_rows usage.now }
+{
+    [
         row!(b"end.objects", usage.objects),
         row!(b"end.asked", usage.asked),
         row!(b"end.live", usage.live),

@@ -13,7 +13,7 @@ pub enum Format {
 }
 
 /// The value of a row.
-#[derive(Clone, Copy, PartialEq, Eq, Debug)]
+#[derive(Clone, Copy)]
 pub(crate) enum Value {
     /// A number.
     Number(u128),
@@ -22,7 +22,7 @@ pub(crate) enum Value {
 }
 
 /// A part of the text of a table.
-#[derive(Clone, Copy, PartialEq, Eq, Debug)]
+#[derive(Clone, Copy)]
 pub(crate) enum Part {
     /// A line for each row.
     Line,
@@ -42,6 +42,15 @@ pub(crate) struct Row {
     /// The value.
     pub(crate) value: Value,
     ghost short: { length name.now ≤ 40 },
+}
+
+impl Default for Row {
+    fn default() -> Row {
+        Row {
+            name: b"",
+            value: Value::Number(0),
+        }
+    }
 }
 
 /// The row of a number.

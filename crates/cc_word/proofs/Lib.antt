@@ -3,6 +3,6 @@ pub mod UnpackLemmas
 pub mod TextLemmas
 pub mod PairLemmas
 pub mod ReadingLemmas
-pub mod WritingLemmas
 pub mod DigitLemmas
+pub mod LaneLemmas
 pub mod ReadBackLemmas

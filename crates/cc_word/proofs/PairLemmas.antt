@@ -10,7 +10,7 @@ use Rattle.std.specs.Str.Parse.{digits_value, digits_value_after}
 use Rattle.cc_word.proofs.TextLemmas.{twice, digit_value-hex}
 
 -- the number that bytes write after those of a number, the highest first
-pub bytes_value_after : (before : ℕ) (bytes : List ℕ) → ℕ
+unfoldable pub bytes_value_after : (before : ℕ) (bytes : List ℕ) → ℕ
 bytes_value_after before [] = before
 bytes_value_after before (byte ∷ bytes) = bytes_value_after (before * 256 + byte) bytes
 
@@ -51,7 +51,7 @@ decode_pairs-value before i (high ∷ low ∷ rest) bytes h =
     )
 
 -- sixteen bytes in the order of `from_be_bytes`
-from_be_bytes-value : (xs : List ℕ) → length xs ≡ 16 → from_be_bytes w128 xs ≡ bytes_value_after 0 xs
+pub from_be_bytes-value : (xs : List ℕ) → length xs ≡ 16 → from_be_bytes w128 xs ≡ bytes_value_after 0 xs
 unfolding bytes_value_after
 from_be_bytes-value (b0 ∷ b1 ∷ b2 ∷ b3 ∷ b4 ∷ b5 ∷ b6 ∷ b7 ∷ b8 ∷ b9 ∷ b10 ∷ b11 ∷ b12 ∷ b13 ∷ b14 ∷ b15 ∷ []) h = omega arith
 from_be_bytes-value _ h = absurd (omega arith)

@@ -1,11 +1,9 @@
--- Words read from their digits, eight at a time.
-use Rattle.std.proofs.Common.{◌-◌, ◌<◌, ◌≤◌, ◌≡◌, ◌↔◌, ℕ, Bool, true, false, ◌+◌, ◌*◌, ◌^◌, List, [], ◌∷◌, ◌++◌, length, drop, take, slice_index, ◌==◌, ◌&&◌, Option, Some, None, is_some, if◌then◌else◌, refl, sym, ◌∙◌, ap, arith}
+-- Numbers read from eight digits, two at a time.
+use Rattle.std.proofs.Common.{◌-◌, ◌<◌, ◌≤◌, ◌≡◌, ℕ, Bool, true, false, ◌+◌, ◌*◌, ◌^◌, List, [], ◌∷◌, length, drop, slice_index, ◌==◌, ◌&&◌, Option, Some, None, is_some, if◌then◌else◌, refl, sym, ◌∙◌, ap, arith}
 use Rattle.std.proofs.lemmas.Bool.{eqb-true, agree_below_at}
-use Rattle.std.proofs.lemmas.Nat.{pow-add, le_or_l, le_or_r, or_of_32}
-use Rattle.std.specs.Int.Bits.{bit_or}
-use Rattle.std.proofs.lemmas.List.{drop_all, drop_more, take_all, take-append-drop, length-drop, length-take}
+use Rattle.std.proofs.lemmas.Nat.{pow-add}
+use Rattle.std.proofs.lemmas.List.{drop_all, drop_more}
 use Rattle.std.proofs.lemmas.List.Sums.{AllPass-from_list_all, list_all-from_AllPass}
-use Rattle.std.proofs.lemmas.List.Folds.{list_all-append}
 use Rattle.std.proofs.Math.Pow.{pow_mono}
 use Rattle.std.specs.List.{list_all, AllPass}
 use Rattle.hex.specs.Hex.{hex_digit_value, is_hex_digit}
@@ -77,11 +75,11 @@ gathered-digits before (byte ∷ bytes) small =
     digits_one byte (list_all is_hex_digit bytes) (is_hex_digit byte) before (gathered (before * 16 + worth byte) bytes) refl
     (gathered-least (before * 16 + worth byte) bytes) small (gathered-digits (before * 16 + worth byte) bytes small)
 
-first_passes : (a b : Bool) → (a && b) ≡ true → a ≡ true
+pub first_passes : (a b : Bool) → (a && b) ≡ true → a ≡ true
 first_passes true b h = refl
 first_passes false b h = cc h
 
-second_passes : (a b : Bool) → (a && b) ≡ true → b ≡ true
+pub second_passes : (a b : Bool) → (a && b) ≡ true → b ≡ true
 second_passes true b h = h
 second_passes false b h = cc h
 
@@ -103,7 +101,7 @@ some_value None h = cc h
 hex-below : (byte value : ℕ) → hex_digit_value byte ≡ Some value → value < 16
 hex-below byte value h = grind (arith, h)
 
-digit-below : (byte : ℕ) → is_hex_digit byte ≡ true → digit_value byte < 16
+pub digit-below : (byte : ℕ) → is_hex_digit byte ≡ true → digit_value byte < 16
 digit-below byte h =
     let v = some_value (hex_digit_value byte) h in
     rw (digit_value-hex byte v.0 v.1) (hex-below byte v.0 v.1)
@@ -141,105 +139,6 @@ gathered_all number i bytes eight all same =
           rw (e, gathered-value 0 bytes all) (eight-small bytes eight all);
       value = λ small. e ∙ gathered-value 0 bytes (passes small);
     }
-
--- ---- a text in two parts
-
-value_parts : (before : ℕ) (first rest : List ℕ)
-    → digits_value_after 16 before (first ++ rest) ≡ digits_value_after 16 (digits_value_after 16 before first) rest
-value_parts before [] rest = refl
-value_parts before (digit ∷ first) rest = value_parts (before * 16 + digit_value digit) first rest
-
-after_eight : (n : ℕ) (ds : List ℕ) → length ds ≡ 8 → digits_value_after 16 n ds ≡ n * 2 ^ 32 + digits_value 16 ds
-after_eight n (d0 ∷ d1 ∷ d2 ∷ d3 ∷ d4 ∷ d5 ∷ d6 ∷ d7 ∷ []) h = omega arith
-after_eight n _ h = absurd (omega arith)
-
-after_sixteen : (n : ℕ) (ds : List ℕ) → length ds ≡ 16 → digits_value_after 16 n ds ≡ n * 2 ^ 64 + digits_value 16 ds
-after_sixteen n (d0 ∷ d1 ∷ d2 ∷ d3 ∷ d4 ∷ d5 ∷ d6 ∷ d7 ∷ d8 ∷ d9 ∷ d10 ∷ d11 ∷ d12 ∷ d13 ∷ d14 ∷ d15 ∷ []) h = omega arith
-after_sixteen n _ h = absurd (omega arith)
-
--- the parts as slices are read
-pub value_of_two_eights : (ds : List ℕ) → length ds ≡ 16
-    → digits_value 16 ds ≡ digits_value 16 (take 8 ds) * 2 ^ 32 + digits_value 16 (take 8 (drop 8 ds))
-value_of_two_eights ds h =
-    let all : take 8 (drop 8 ds) ≡ drop 8 ds = take_all 8 (drop 8 ds) (omega (arith, h, length-drop 8 ds)) in
-    rw all
-    (ap (digits_value_after 16 0) (sym (take-append-drop 8 ds)) ∙ value_parts 0 (take 8 ds) (drop 8 ds)
-    ∙ after_eight (digits_value 16 (take 8 ds)) (drop 8 ds) (omega (arith, h, length-drop 8 ds)))
-
-pub value_of_two_sixteens : (ds : List ℕ) → length ds ≡ 32
-    → digits_value 16 ds ≡ digits_value 16 (take 16 ds) * 2 ^ 64 + digits_value 16 (take 16 (drop 16 ds))
-value_of_two_sixteens ds h =
-    let all : take 16 (drop 16 ds) ≡ drop 16 ds = take_all 16 (drop 16 ds) (omega (arith, h, length-drop 16 ds)) in
-    rw all
-    (ap (digits_value_after 16 0) (sym (take-append-drop 16 ds)) ∙ value_parts 0 (take 16 ds) (drop 16 ds)
-    ∙ after_sixteen (digits_value 16 (take 16 ds)) (drop 16 ds) (omega (arith, h, length-drop 16 ds)))
-
--- both parts are digits exactly if the whole is
-pub parts_pass : (k : ℕ) (ds : List ℕ) → length ds ≡ k + k
-    → AllPass is_hex_digit ds ↔ (AllPass is_hex_digit (take k ds) × AllPass is_hex_digit (take k (drop k ds)))
-parts_pass k ds h =
-    let all : take k (drop k ds) ≡ drop k ds = take_all k (drop k ds) (omega (arith, h, length-drop k ds)) in
-    let whole : list_all is_hex_digit ds ≡ (list_all is_hex_digit (take k ds) && list_all is_hex_digit (drop k ds)) =
-    ap (list_all is_hex_digit) (sym (take-append-drop k ds)) ∙ list_all-append is_hex_digit (take k ds) (drop k ds) in
-    rw all (
-      λ passes.
-          let both = sym whole ∙ list_all-from_AllPass is_hex_digit ds passes in (
-            AllPass-from_list_all is_hex_digit (take k ds) (first_passes (list_all is_hex_digit (take k ds)) (list_all is_hex_digit (drop k ds)) both),
-            AllPass-from_list_all is_hex_digit (drop k ds) (second_passes (list_all is_hex_digit (take k ds)) (list_all is_hex_digit (drop k ds)) both),
-          ),
-      λ parts.
-          AllPass-from_list_all is_hex_digit ds (
-          whole
-          ∙ rw (list_all-from_AllPass is_hex_digit (take k ds) parts.0, list_all-from_AllPass is_hex_digit (drop k ds) parts.1) refl
-          ),
-    )
-
--- the four parts of a text, as slices are read
-pub record InEights (ds a b c d : List ℕ) : Type 0 where
-  pub digits : AllPass is_hex_digit ds → (AllPass is_hex_digit a × AllPass is_hex_digit b) × (AllPass is_hex_digit c × AllPass is_hex_digit d)
-  pub all : (AllPass is_hex_digit a × AllPass is_hex_digit b) × (AllPass is_hex_digit c × AllPass is_hex_digit d) → AllPass is_hex_digit ds
-  pub value : digits_value 16 ds
-      ≡ (digits_value 16 a * 2 ^ 32 + digits_value 16 b) * 2 ^ 64 + (digits_value 16 c * 2 ^ 32 + digits_value 16 d)
-
-pub in_eights : (ds : List ℕ) → length ds ≡ 32
-    → InEights ds (take 8 (take 16 ds)) (take 8 (drop 8 (take 16 ds))) (take 8 (take 16 (drop 16 ds))) (take 8 (drop 8 (take 16 (drop 16 ds))))
-in_eights ds h =
-    let high : length (take 16 ds) ≡ 16 = omega (arith, h, length-take 16 ds) in
-    let low : length (take 16 (drop 16 ds)) ≡ 16 = omega (arith, h, length-take 16 (drop 16 ds), length-drop 16 ds) in
-    let whole = parts_pass 16 ds h in
-    let first = parts_pass 8 (take 16 ds) high in
-    let second = parts_pass 8 (take 16 (drop 16 ds)) low in
-    record {
-      digits = λ passes. let both = whole.0 passes in (first.0 both.0, second.0 both.1);
-      all = λ parts. whole.1 (first.1 parts.0, second.1 parts.1);
-      value = omega (arith, value_of_two_sixteens ds h, value_of_two_eights (take 16 ds) high, value_of_two_eights (take 16 (drop 16 ds)) low);
-    }
-
--- numbers whose bits together are below 2 ^ 32 are each below it
-pub record AreSmall (a b c d : ℕ) : Type 0 where
-  pub first : a < 2 ^ 32
-  pub second : b < 2 ^ 32
-  pub third : c < 2 ^ 32
-  pub fourth : d < 2 ^ 32
-
-pub joined-small : (a b c d : ℕ) → bit_or (bit_or (bit_or a b) c) d < 2 ^ 32 → AreSmall a b c d
-joined-small a b c d small =
-    let d_below = le_or_r (bit_or (bit_or a b) c) d in
-    let c_below = le_or_r (bit_or a b) c in
-    let abc_below = le_or_l (bit_or (bit_or a b) c) d in
-    let ab_below = le_or_l (bit_or a b) c in
-    let a_below = le_or_l a b in
-    let b_below = le_or_r a b in
-    record {
-      first = omega (arith, small, abc_below, ab_below, a_below);
-      second = omega (arith, small, abc_below, ab_below, b_below);
-      third = omega (arith, small, abc_below, c_below);
-      fourth = omega (arith, small, d_below);
-    }
-
-pub small-joined : (a b c d : ℕ) → AreSmall a b c d → bit_or (bit_or (bit_or a b) c) d < 2 ^ 32
-small-joined a b c d h =
-    or_of_32 (bit_or (bit_or a b) c) d (or_of_32 (bit_or a b) c (or_of_32 a b h.first h.second) h.third) h.fourth
 
 -- ---- the overflows of the sum
 

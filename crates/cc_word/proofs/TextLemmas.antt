@@ -2,7 +2,7 @@
 use Rattle.std.proofs.Common.{◌-◌, ◌<◌, ◌≤◌, inl, inr, ◌≡◌, ℕ, zero, suc, ◌/◌, ◌%◌, ◌^◌, Some, None, refl, sym, arith, ap, ◌∙◌, ◌++◌, List, [], take, drop, length, append-nil}
 use Rattle.std.proofs.lemmas.List.{take_all, take-append-le, drop_all, drop_at, length-drop}
 use Rattle.std.proofs.Math.Nat.{pow-suc, div-div-eq-div-mul, div-one}
-use Rattle.std.specs.Int.{w64, w128, to_be_bytes, byte_at, bytes_high_first}
+use Rattle.std.specs.Int.{w128, to_be_bytes, byte_at, bytes_high_first}
 use Rattle.hex.specs.Hex.{encode_with, lower_digits, hex_digit_value}
 use Rattle.std.proofs.lemmas.Bool.{cases_lt, le-ltb, lt-ltb}
 use Rattle.std.specs.Char.{digit_value}
@@ -22,18 +22,18 @@ pow-twice (suc k) =
     let d = pow-suc 256 k in
     omega (arith, ih, a, b, d)
 
-byte_at-is : (k n : ℕ) → byte_at k n ≡ n / 256 ^ k % 256
+pub byte_at-is : (k n : ℕ) → byte_at k n ≡ n / 256 ^ k % 256
 byte_at-is zero n = rw (div-one n) refl
 byte_at-is (suc k) n = refl
 
 -- the two digits of a byte of a number
-byte-high : (k n : ℕ) → byte_at k n / 16 ≡ n / 16 ^ suc (twice k) % 16
+pub byte-high : (k n : ℕ) → byte_at k n / 16 ≡ n / 16 ^ suc (twice k) % 16
 byte-high k n =
     let y : ℕ = n / 16 ^ twice k in
     let e : n / 16 ^ suc (twice k) ≡ y / 16 = rw (pow-suc 16 (twice k)) (sym (div-div-eq-div-mul n (16 ^ twice k) 16)) in
     rw (byte_at-is k n, ← pow-twice k, e) (omega arith)
 
-byte-low : (k n : ℕ) → byte_at k n % 16 ≡ n / 16 ^ twice k % 16
+pub byte-low : (k n : ℕ) → byte_at k n % 16 ≡ n / 16 ^ twice k % 16
 byte-low k n = rw (byte_at-is k n, ← pow-twice k) (omega arith)
 
 -- the text of `k` bytes of a number, the highest first, is its last `2 * k` digits
@@ -42,9 +42,6 @@ unfolding encode_with digits_of
 encode-bytes_high_first zero n = refl
 encode-bytes_high_first (suc k) n =
     rw (byte-high k n, byte-low k n, encode-bytes_high_first k n) refl
-
-pub half_written : (half : ℕ) → encode_with lower_digits (to_be_bytes w64 half) ≡ digits_of 16 half
-half_written half = encode-bytes_high_first 8 half
 
 pub word_written : (word : ℕ) → encode_with lower_digits (to_be_bytes w128 word) ≡ digits_of 32 word
 word_written word = encode-bytes_high_first 16 word

@@ -1,11 +1,31 @@
-//! The digits of words by tables, for callers that read or write words by the million. The
-//! contracts are those of `text`.
-ghost use Rattle.std.specs.Prelude.{◌≡◌, ◌↔◌, ◌+◌, ◌*◌, ◌/◌, ◌%◌, ◌<◌, ◌^◌, ◌++◌, length, slice_index, if◌then◌else◌, IsSome, IfSome};
+//! The digits of words by vectors and tables, for callers that read or write words by the million.
+//! The contracts are those of `text`.
+ghost use Rattle.std.specs.Prelude.{◌≡◌, ◌↔◌, ◌*◌, ◌<◌, ◌^◌, ◌++◌, length, map, slice_index, if◌then◌else◌, IsSome, IfSome};
 ghost use Rattle.std.specs.Char.{digit_value};
 ghost use Rattle.std.specs.List.{AllPass};
 ghost use Rattle.std.specs.Str.Parse.{digits_value};
-ghost use Rattle.hex.specs.Hex.{is_hex_digit, encode_with, lower_digits};
+ghost use Rattle.std.specs.Simd.Lanes.{Each1, Each2};
+ghost use Rattle.hex.specs.Hex.{is_hex_digit, lower_digits};
 ghost use Rattle.cc_word.specs.WordText.{IsWordText, digits_of};
+ghost use Rattle.cc_word.specs.DigitValue.{IsValue};
+
+use std::simd::prelude::*;
+
+/// The places of the first digits of the pairs of a word's text.
+const FIRST_DIGITS: [usize; 16] = [0, 2, 4, 6, 8, 10, 12, 14, 16, 18, 20, 22, 24, 26, 28, 30];
+
+/// The places of the second digits of the pairs of a word's text.
+const SECOND_DIGITS: [usize; 16] = [1, 3, 5, 7, 9, 11, 13, 15, 17, 19, 21, 23, 25, 27, 29, 31];
+
+/// The places of the digits of eight bytes, the lowest byte first, in a vector of all first digits
+/// and one of all second digits.
+const HIGHEST_FIRST: [usize; 16] = [7, 23, 6, 22, 5, 21, 4, 20, 3, 19, 2, 18, 1, 17, 0, 16];
+
+/// The bits of a letter that are the same in both cases.
+const UPPER_CASE: u8 = 0xdf;
+
+/// What is added to the character of `0` plus a number from 10 to 15, so that it is a letter.
+const TO_LETTERS: u8 = b'a' - b'0' - 10;
 
 /// Table entry for a byte that is not a hexadecimal digit. Larger than any eight-digit value.
 const NONE: u64 = 1 << 32;
@@ -72,34 +92,15 @@ fn value_of_first_digit(byte: u8) -> u64
     FIRST_DIGIT_VALUES[usize::from(byte)]
 }
 
-/// Returns the hexadecimal digit of a number below 16, in lower case.
+/// Returns the hexadecimal digits of sixteen numbers below 16, in lower case.
 #[inline(always)]
-#[tactic(auto, using(crate::proofs::WritingLemmas::decimal_listed, crate::proofs::WritingLemmas::letter_listed))]
-fn digit_of(value: u8) -> u8
-    requires { value < 16 }
-    ensures { result ≡ slice_index lower_digits value }
+fn digits_of_values(values: u8x16) -> u8x16
+    requires { Each1 (λ value. value < 16) values }
+    ensures { result ≡ map (λ value. slice_index lower_digits value) values }
 {
-    if value < 10 {
-        b'0' + value
-    } else {
-        b'a' - 10 + value
-    }
-}
-
-/// Returns the first of the two hexadecimal digits of a byte.
-#[inline(always)]
-fn high_digit(byte: u8) -> u8
-    ensures { result ≡ slice_index lower_digits (byte / 16) }
-{
-    digit_of(byte / 16)
-}
-
-/// Returns the second of the two hexadecimal digits of a byte.
-#[inline(always)]
-fn low_digit(byte: u8) -> u8
-    ensures { result ≡ slice_index lower_digits (byte % 16) }
-{
-    digit_of(byte % 16)
+    let after_nine = values.simd_gt(u8x16::splat(9));
+    let decimal = values + u8x16::splat(b'0');
+    decimal + after_nine.select(u8x16::splat(TO_LETTERS), u8x16::splat(0))
 }
 
 /// Returns the number of eight hexadecimal digits, which is below 2^32, or a larger number if a
@@ -121,35 +122,25 @@ fn value_of_eight(digits: &[u8]) -> u64
     number
 }
 
-/// Writes the hexadecimal digits of bytes, two for each, in lower case.
+/// Returns the values of 32 bytes as hexadecimal digits of either case. That of a byte that is not a
+/// digit is more than 15.
 #[inline(always)]
-fn write_digits(bytes: &[u8], text: &mut [u8])
-    requires { length text.old ≡ 2 * length bytes.now }
-    ensures { text.new ≡ encode_with lower_digits bytes.now }
+fn values_of_digits(text: u8x32) -> u8x32
+    ensures all { length result ≡ 32 }
+    ensures values { Each2 IsValue text result }
 {
-    for (index, byte) in bytes.iter().enumerate() {
-        text[2 * index] = high_digit(*byte);
-        text[2 * index + 1] = low_digit(*byte);
-    }
-}
-
-/// Returns the hexadecimal digits of eight bytes.
-///
-/// Not inlined, so that the bytes are in memory and the compiler computes all 16 digits in one
-/// vector.
-#[inline(never)]
-fn digits_of_eight(bytes: &[u8; 8]) -> [u8; 16]
-    ensures { result ≡ encode_with lower_digits bytes.now }
-{
-    let mut text = [0; 16];
-    write_digits(bytes, &mut text);
-    text
+    // the digits 0 to 9 are moved to the last ten bytes, and from there to their values; any other
+    // byte gets 16 or more
+    let moved = text + u8x32::splat(u8::MAX - b'9');
+    let decimal = moved.simd_max(u8x32::splat(6)) - u8x32::splat(246);
+    // the letters, of either case, are moved to the first bytes; the sum of no other byte wraps
+    let moved = (text & u8x32::splat(UPPER_CASE)) - u8x32::splat(b'A');
+    let letter = moved.simd_min(u8x32::splat(u8::MAX - 10)) + u8x32::splat(10);
+    decimal.simd_min(letter)
 }
 
 /// Writes the digits of a word's two halves.
-///
-/// Not inlined, so that the compiler swaps the bytes of each half once.
-#[inline(never)]
+#[inline(always)]
 fn write_halves(high: u64, low: u64, text: &mut [u8; 32])
     ensures { text.new ≡ digits_of 16 high ++ digits_of 16 low }
 {
@@ -159,8 +150,8 @@ fn write_halves(high: u64, low: u64, text: &mut [u8; 32])
 
 /// Returns the word of 32 hexadecimal digits of either case, or `None` for any other input.
 ///
-/// The contract is that of [`read_word`](crate::read_word). Reads eight digits at a time through
-/// two tables, with one test of all 32: 108 instructions per word.
+/// The contract is that of [`read_word`](crate::read_word). Reads all 32 digits at once, by vectors
+/// of bytes.
 pub fn read_word_fast(text: &[u8]) -> Option<u128>
     ensures found { IsSome result ↔ IsWordText text.now }
     ensures value { IfSome result (λ word. word ≡ digits_value 16 text.now) }
@@ -168,17 +159,12 @@ pub fn read_word_fast(text: &[u8]) -> Option<u128>
     if text.len() != 32 {
         return None;
     }
-    let (high, low) = (&text[..16], &text[16..32]);
-    let a = value_of_eight(&high[..8]);
-    let b = value_of_eight(&high[8..16]);
-    let c = value_of_eight(&low[..8]);
-    let d = value_of_eight(&low[8..16]);
-    // One test of all four: a byte that is not a digit leaves a bit above the low 32.
-    if a | b | c | d < NONE {
-        Some((u128::from(a * NONE + b) << 64) + u128::from(c * NONE + d))
-    } else {
-        None
+    let values = values_of_digits(u8x32::from_slice(text));
+    if values.simd_gt(u8x32::splat(15)).to_bitmask() != 0 {
+        return None;
     }
+    let bytes = values.swizzle(FIRST_DIGITS) * u8x16::splat(16) + values.swizzle(SECOND_DIGITS);
+    Some(u128::from_be_bytes(bytes.to_array()))
 }
 
 /// Returns the number of eight hexadecimal digits of either case, or `None` if a byte is not a
@@ -221,9 +207,11 @@ pub fn write_word_fast_to(word: u128, text: &mut [u8; 32])
 /// Returns the 16 hexadecimal digits of half a word, such as an address, in lower case, the highest
 /// first.
 #[inline(always)]
-#[tactic(auto, using(crate::proofs::TextLemmas::half_written))]
 pub fn write_half(half: u64) -> [u8; 16]
     ensures { result ≡ digits_of 16 half }
 {
-    digits_of_eight(&half.to_be_bytes())
+    let bytes = u64x2::from_array([half, 0]).to_le_bytes();
+    let high = bytes >> u8x16::splat(4);
+    let low = bytes & u8x16::splat(15);
+    digits_of_values(high.shuffle(low, HIGHEST_FIRST)).to_array()
 }

@@ -1,0 +1,10 @@
+-- The value of a byte as a hexadecimal digit. No public clause cites this file.
+use Rattle.std.specs.Prelude.{ℕ, ◌≡◌, ◌<◌, true, false}
+use Rattle.std.specs.Char.{digit_value}
+use Rattle.hex.specs.Hex.{is_hex_digit}
+
+-- `IsValue` holds if `value` is that of the byte as a hexadecimal digit, or more than 15 if the byte
+-- is not a digit.
+pub record IsValue (byte value : ℕ) : Type 0 where
+  pub digit : is_hex_digit byte ≡ true → value ≡ digit_value byte
+  pub other : is_hex_digit byte ≡ false → 15 < value
