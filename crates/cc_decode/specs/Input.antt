@@ -1,10 +1,10 @@
 -- The words of an input, and the bytes after the last of them.
-use Rattle.std.specs.Prelude.{◌≡◌, ℕ, List, [], length, take, drop, codes, if◌then◌else◌}
+use Rattle.std.specs.Prelude.{◌≡◌, ℕ, List, [], length}
 use Rattle.std.specs.Int.{w128, from_be_bytes, from_le_bytes}
-use Rattle.std.specs.Str.{bytes_eq}
 use Rattle.std.specs.Str.Parse.{digits_value}
 use Rattle.cc_word.specs.WordText.{IsWordText}
 use Rattle.cc_io.specs.Frames.{Frame, lines, blocks}
+pub use Rattle.cc_explain.specs.Answer.{digits_in}
 use Rattle.cc_decode.specs.declared.input.ByteOrder.{ByteOrder}
 use Rattle.cc_decode.specs.declared.input.ByteOrder.TheVariants.{Little, Big}
 use Rattle.cc_decode.specs.declared.input.InputForm.{InputForm}
@@ -22,10 +22,6 @@ entries_of input text = (frame_of input).entries [] text
 -- The bytes of an input after its last entry.
 abbrev pub left_of : InputForm → List ℕ → List ℕ
 left_of input text = (frame_of input).left [] text
-
--- The digits of a line: the bytes after `0x` if it begins with `0x`, and otherwise all of them.
-abbrev pub digits_in : (line : List ℕ) → List ℕ
-digits_in line = if bytes_eq (take 2 line) (codes "0x") then drop 2 line else line
 
 -- IsWordEntry holds if the entry is a word: a line of 32 hexadecimal digits, with or without `0x`
 -- before them, or any block of sixteen bytes.

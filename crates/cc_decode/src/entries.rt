@@ -4,8 +4,8 @@ ghost use Rattle.std.specs.Str.Parse.{digits_value};
 ghost use Rattle.cc_word.specs.WordText.{IsWordText};
 ghost use Rattle.cc_decode.specs.Input.{IsWordEntry, block_value, digits_in, word_of_entry};
 
-use crate::annotator::after;
 use crate::input::{ByteOrder, InputForm};
+use cc_explain::digits_in;
 use cc_word::read_word_fast;
 
 /// The length of a word in bytes.
@@ -33,16 +33,6 @@ fn read_line(line: &[u8]) -> Option<u128>
     match read_word_fast(line) {
         Some(word) => Some(word),
         None => read_word_fast(digits_in(line)),
-    }
-}
-
-/// Returns the bytes of a line after `0x`, or all of them if it does not begin with `0x`.
-fn digits_in(line: &[u8]) -> &[u8]
-    ensures { result.now ≡ digits_in line.now }
-{
-    match after(b"0x", line) {
-        Some(digits) => digits,
-        None => line,
     }
 }
 

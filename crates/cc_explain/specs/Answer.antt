@@ -1,6 +1,7 @@
 -- The output of a command, which it writes to a sink.
-use Rattle.std.specs.Prelude.{◌≡◌, ◌⊎◌, ℕ, List, Option, Result, Ok, Err, OnOk, OnErr}
+use Rattle.std.specs.Prelude.{◌≡◌, ◌⊎◌, ℕ, List, Option, Result, Ok, Err, OnOk, OnErr, codes, drop, take, if◌then◌else◌}
 use Rattle.std.specs.Io.KnownBytes.{Appends}
+use Rattle.std.specs.Str.{bytes_eq}
 use Rattle.std.specs.Str.Parse.{digits_value}
 use Rattle.cc_word.specs.WordText.{IsWordText}
 use Rattle.cc_word.specs.declared.refusal.Refusal.{Refusal}
@@ -19,6 +20,20 @@ IsRefusalLine refusal answer = answer ≡ with_line_feed (refusal_text refusal)
 abbrev pub AnswersText : (IsAnswer : (word : ℕ) → (answer : List ℕ) → Type 0) → (text answer : List ℕ) → Type 0
 AnswersText IsAnswer text answer =
     (IsWordText text × IsAnswer (digits_value 16 text) answer) ⊎ ((¬ IsWordText text) × IsRefusalLine Syntax answer)
+
+-- The digits of a string: the bytes after `0x` if it begins with `0x`, and otherwise all of them.
+abbrev pub digits_in : (text : List ℕ) → List ℕ
+digits_in text = if bytes_eq (take 2 text) (codes "0x") then drop 2 text else text
+
+-- IsTypedWord holds if the string is a word as it is typed: 32 hexadecimal digits of either case,
+-- with or without `0x` in front of them.
+abbrev pub IsTypedWord : (text : List ℕ) → Type 0
+IsTypedWord text = IsWordText (digits_in text)
+
+-- AnswersTyped holds if `answer` is the output for a string as it is typed. For a word, with or
+-- without `0x`, it satisfies `IsAnswer`, and for any other string it is the refusal `error 1 syntax`.
+abbrev pub AnswersTyped : (IsAnswer : (word : ℕ) → (answer : List ℕ) → Type 0) → (text answer : List ℕ) → Type 0
+AnswersTyped IsAnswer text answer = AnswersText IsAnswer (digits_in text) answer
 
 -- AnswersResult holds if `answer` is the output for a result. For a value it satisfies `IsAnswer`,
 -- and otherwise it is the line of the refusal.

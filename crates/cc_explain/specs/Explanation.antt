@@ -8,7 +8,7 @@ use Rattle.cc_bounds.specs.Span.{span_from}
 use Rattle.cc_bounds.specs.Window.{section_of}
 use Rattle.cc_text.specs.Text.{with_line_feed}
 use Rattle.cc_text.specs.Numbered.{line_feed, line_with_decimal, line_with_hexadecimal, with_decimal, with_digits, with_hexadecimal}
-use Rattle.cc_explain.specs.Answer.{AnswersText}
+use Rattle.cc_explain.specs.Answer.{AnswersTyped}
 use Rattle.cc_explain.specs.Picture.{IsPictureRow}
 use Rattle.cc_explain.specs.Standing.{IsStanding}
 use Rattle.cc_explain.specs.Steps.{AreSteps}
@@ -204,4 +204,4 @@ pub record IsWordExplanation (word : ℕ) (explanation : List ℕ) : Type 0 wher
 -- `IsExplanation` holds if the output for a string is the explanation of the word that it is, or the
 -- line of the refusal.
 abbrev pub IsExplanation : (text explanation : List ℕ) → Type 0
-IsExplanation = AnswersText IsWordExplanation
+IsExplanation = AnswersTyped IsWordExplanation

@@ -2,7 +2,7 @@
 use Rattle.std.specs.Prelude.{◌≡◌, ℕ, List, true}
 use Rattle.cc_cap.specs.LineText.{IsWordLine}
 use Rattle.cc_text.specs.Text.{with_line_feed}
-use Rattle.cc_explain.specs.Answer.{AnswersText}
+use Rattle.cc_explain.specs.Answer.{AnswersTyped}
 
 -- IsTaggedLine holds if `answer` is the one-line form of a word whose tag is set, and the line
 -- feed.
@@ -12,4 +12,4 @@ IsTaggedLine word answer = (line : List ℕ) × IsWordLine word true line × (an
 -- IsLineAnswer holds if `answer` is the output for a string: for a word its one-line form, and for
 -- any other string `error 1 syntax`.
 abbrev pub IsLineAnswer : (text answer : List ℕ) → Type 0
-IsLineAnswer = AnswersText IsTaggedLine
+IsLineAnswer = AnswersTyped IsTaggedLine

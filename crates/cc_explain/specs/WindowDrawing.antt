@@ -8,7 +8,7 @@ use Rattle.cc_bounds.specs.declared.span.Span.{Span}
 use Rattle.cc_bounds.specs.Decoding.{DecodesTo, raised}
 use Rattle.cc_bounds.specs.Window.{section_of}
 use Rattle.cc_text.specs.Numbered.{line_with_decimal, line_with_hexadecimal, with_decimal, with_digits, with_hexadecimal}
-use Rattle.cc_explain.specs.Answer.{AnswersText}
+use Rattle.cc_explain.specs.Answer.{AnswersTyped}
 use Rattle.cc_explain.specs.Steps.{AreSteps}
 use Rattle.cc_explain.specs.declared.steps.Steps.{Steps}
 
@@ -143,4 +143,4 @@ pub record IsWordDrawing (word : ℕ) (drawing : List ℕ) : Type 0 where
 -- `IsWindowDrawing` holds if the output for a string is the drawing of the window of the word that it
 -- is, or the line of the refusal.
 abbrev pub IsWindowDrawing : (text drawing : List ℕ) → Type 0
-IsWindowDrawing = AnswersText IsWordDrawing
+IsWindowDrawing = AnswersTyped IsWordDrawing

@@ -1,12 +1,14 @@
-//! Writes the output of a command all at once, and output that is a refusal.
-ghost use Rattle.std.specs.Prelude.{◌≡◌, ◌↔◌, [], false, true, IfOk, IsErr, OnOk, OnErr};
+//! Reads a word as it is typed, writes the output of a command all at once, and output that is a
+//! refusal.
+ghost use Rattle.std.specs.Prelude.{◌≡◌, ◌↔◌, [], false, true, IfOk, IfSome, IsErr, IsSome, OnOk, OnErr};
 ghost use Rattle.std.specs.Io.KnownBytes.{Appends};
+ghost use Rattle.std.specs.Str.Parse.{digits_value};
 ghost use Rattle.cc_io.specs.Devices.{TakesBeginning};
-ghost use Rattle.cc_explain.specs.Answer.{IsRefusalLine, WritesAnswer};
+ghost use Rattle.cc_explain.specs.Answer.{IsRefusalLine, IsTypedWord, WritesAnswer, digits_in};
 
 use cc_io::{IoError, Sink, Summary, write_all};
 use cc_text::{Text, refusal_bytes};
-use cc_word::Refusal;
+use cc_word::{Refusal, read_word};
 
 /// Writes the line of a refusal, `error CODE NAME`, and flushes the sink once after it. The summary
 /// reports an error.
@@ -33,6 +35,22 @@ pub fn push_refusal(text: &mut Text, refusal: Refusal)
     ensures { IsRefusalLine refusal text.new }
 {
     text.push(refusal_bytes(refusal));
+}
+
+/// Returns the bytes of a string after `0x`, or all of them if it does not begin with `0x`.
+pub fn digits_in(text: &[u8]) -> &[u8]
+    ensures { result.now ≡ digits_in text.now }
+{
+    text.strip_prefix(b"0x").unwrap_or(text)
+}
+
+/// Returns the word that a string is as it is typed: 32 hexadecimal digits of either case, with or
+/// without `0x` in front of them.
+pub(crate) fn read_typed_word(text: &[u8]) -> Option<u128>
+    ensures found { IsSome result ↔ IsTypedWord text.now }
+    ensures value { IfSome result (λ word. word ≡ digits_value 16 (digits_in text.now)) }
+{
+    read_word(digits_in(text))
 }
 
 /// Writes an output, then flushes the sink.

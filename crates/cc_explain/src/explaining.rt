@@ -1,11 +1,10 @@
 //! The explanation of a word: each step of decoding it, with its numbers, and a picture of its
 //! window.
 ghost use Rattle.std.specs.Prelude.{◌≡◌, ◌↔◌, [], false, true, IfOk, IsErr, IsTrue, OnErr, OnOk};
-ghost use Rattle.cc_explain.specs.Answer.{WritesAnswer};
+ghost use Rattle.cc_explain.specs.Answer.{IsTypedWord, WritesAnswer};
 ghost use Rattle.cc_explain.specs.Explanation.{IsExplanation, IsWordExplanation};
-ghost use Rattle.cc_explain.specs.Listing.{IsWordText};
 
-use crate::answers::{push_refusal, write_answer};
+use crate::answers::{push_refusal, read_typed_word, write_answer};
 use crate::explained_steps::{push_fields, push_mantissas, push_window_lines};
 use crate::picture::{push_picture, rows_of};
 use crate::standing::standing_of;
@@ -13,21 +12,21 @@ use crate::steps::decoding_steps;
 use cc_bounds::decode;
 use cc_io::{IoError, Sink, Summary};
 use cc_text::Text;
-use cc_word::{Refusal, read_word, unpack};
+use cc_word::{Refusal, unpack};
 
 /// Writes how a word is decoded: its fields, each step with its numbers, the bounds, whether the
 /// word is canonical and if not why, and a picture of its window. Flushes the sink once after the
 /// last line.
 ///
-/// A word is 32 hexadecimal digits of either case. For any other string, the output is the line
-/// `error 1 syntax`. No line has more than 100 bytes.
+/// A word is 32 hexadecimal digits of either case, with or without `0x` in front. For any other
+/// string, the output is the line `error 1 syntax`. No line has more than 100 bytes.
 ///
 /// Requires: the sink has not failed.
 /// Errors: `Write` if and only if the sink fails. A prefix of the output is then written.
 pub fn explain_word<W: Sink>(text: &[u8], sink: &mut W) -> Result<Summary, IoError>
     requires { W.has_failed sink.old ≡ false }
     ensures shown { WritesAnswer (IsExplanation text.now) (W.taken_bytes sink.old) (W.taken_bytes sink.new) result }
-    ensures any_error { IfOk result (λ summary. IsTrue summary.any_error ↔ (¬ IsWordText text.now)) }
+    ensures any_error { IfOk result (λ summary. IsTrue summary.any_error ↔ (¬ IsTypedWord text.now)) }
     ensures flushed { OnOk result (W.is_flushed sink.new ≡ true) }
     ensures fails { IsErr result ↔ (W.has_failed sink.new ≡ true) }
     ensures write { OnErr result (result ≡ Err IoError.Write) }
@@ -43,9 +42,9 @@ pub fn explain_word<W: Sink>(text: &[u8], sink: &mut W) -> Result<Summary, IoErr
 fn push_explanation(answer: &mut Text, text: &[u8]) -> Summary
     requires { answer.old ≡ [] }
     ensures explanation { IsExplanation text.now answer.new }
-    ensures any_error { IsTrue result.any_error ↔ (¬ IsWordText text.now) }
+    ensures any_error { IsTrue result.any_error ↔ (¬ IsTypedWord text.now) }
 {
-    match read_word(text) {
+    match read_typed_word(text) {
         Some(word) => {
             push_explained_word(answer, word);
             Summary { any_error: false }

@@ -15,7 +15,7 @@ mod steps;
 mod window_drawing;
 mod word_line;
 
-pub use answers::{push_refusal, write_answer, write_refusal};
+pub use answers::{digits_in, push_refusal, write_answer, write_refusal};
 pub use explained_request::push_explained_request;
 pub use explained_steps::{push_fields, push_mantissas, push_window_lines, push_word};
 pub use explaining::{explain_word, push_explained_word};

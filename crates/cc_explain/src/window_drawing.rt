@@ -1,31 +1,30 @@
 //! A drawing of the window of a word: an SVG document with its bounds and its address.
 ghost use Rattle.std.specs.Prelude.{◌≡◌, ◌+◌, ◌-◌, ◌<◌, ◌≤◌, ◌^◌, ◌++◌, ◌↔◌, [], false, true, length, IfOk, IsErr, IsTrue, OnErr, OnOk};
-ghost use Rattle.cc_explain.specs.Answer.{WritesAnswer};
-ghost use Rattle.cc_explain.specs.Listing.{IsWordText};
+ghost use Rattle.cc_explain.specs.Answer.{IsTypedWord, WritesAnswer};
 ghost use Rattle.cc_explain.specs.WindowDrawing.{IsWindowDrawing, IsWordDrawing, address_mark_text, addresses_text, bounds_marks_text, bytes_text, closing_text, ends_text, heading_text, mark_text, number_text, numbers_text, opening_text, section_lines_text, sheet_text, side_text, title_text, units_to, window_drawing_of, window_ground_text};
 
-use crate::answers::{push_refusal, write_answer};
+use crate::answers::{push_refusal, read_typed_word, write_answer};
 use crate::steps::{LAPS, Steps, decoding_steps, section, unit};
 use cc_bounds::{Span, decode};
 use cc_io::{IoError, Sink, Summary};
 use cc_text::{
     ROOM, Text, end_with_decimal, end_with_hexadecimal, push_decimal, push_digits, push_hexadecimal,
 };
-use cc_word::{Fields, Refusal, read_word, unpack};
+use cc_word::{Fields, Refusal, unpack};
 
 /// Writes a drawing of the window of a word, and flushes the sink once after it.
 ///
 /// The drawing is an SVG document. It shows the eight sections of the window and their numbers, the
 /// bounds, the address, and the first and the last address of the window. A unit of its width is
-/// 2^E bytes, so the ends of the bounds are exact. A word is 32 hexadecimal digits of either case.
-/// For any other string, the output is the line `error 1 syntax`.
+/// 2^E bytes, so the ends of the bounds are exact. A word is 32 hexadecimal digits of either case,
+/// with or without `0x` in front. For any other string, the output is the line `error 1 syntax`.
 ///
 /// Requires: the sink has not failed.
 /// Errors: `Write` if and only if the sink fails. A prefix of the output is then written.
 pub fn draw_window<W: Sink>(text: &[u8], sink: &mut W) -> Result<Summary, IoError>
     requires { W.has_failed sink.old ≡ false }
     ensures shown { WritesAnswer (IsWindowDrawing text.now) (W.taken_bytes sink.old) (W.taken_bytes sink.new) result }
-    ensures any_error { IfOk result (λ summary. IsTrue summary.any_error ↔ (¬ IsWordText text.now)) }
+    ensures any_error { IfOk result (λ summary. IsTrue summary.any_error ↔ (¬ IsTypedWord text.now)) }
     ensures flushed { OnOk result (W.is_flushed sink.new ≡ true) }
     ensures fails { IsErr result ↔ (W.has_failed sink.new ≡ true) }
     ensures write { OnErr result (result ≡ Err IoError.Write) }
@@ -41,9 +40,9 @@ pub fn draw_window<W: Sink>(text: &[u8], sink: &mut W) -> Result<Summary, IoErro
 fn push_drawing(answer: &mut Text, text: &[u8]) -> Summary
     requires { answer.old ≡ [] }
     ensures drawing { IsWindowDrawing text.now answer.new }
-    ensures any_error { IsTrue result.any_error ↔ (¬ IsWordText text.now) }
+    ensures any_error { IsTrue result.any_error ↔ (¬ IsTypedWord text.now) }
 {
-    match read_word(text) {
+    match read_typed_word(text) {
         Some(word) => {
             push_window_drawing(answer, word);
             Summary { any_error: false }

@@ -1,27 +1,26 @@
 //! The output of `show --line`: the one-line form of a word.
 ghost use Rattle.std.specs.Prelude.{◌≡◌, ◌↔◌, [], false, true, IfOk, IsErr, IsTrue, OnErr, OnOk};
-ghost use Rattle.cc_explain.specs.Answer.{WritesAnswer};
+ghost use Rattle.cc_explain.specs.Answer.{IsTypedWord, WritesAnswer};
 ghost use Rattle.cc_explain.specs.LineAnswer.{IsLineAnswer};
-ghost use Rattle.cc_explain.specs.Listing.{IsWordText};
 
-use crate::answers::{push_refusal, write_answer};
+use crate::answers::{push_refusal, read_typed_word, write_answer};
 use cc_cap::WordLine;
 use cc_io::{IoError, Sink, Summary};
 use cc_text::Text;
-use cc_word::{Refusal, read_word};
+use cc_word::Refusal;
 
 /// Writes the one-line form of a word, such as `0x10070 [rwxRW,0x10070-0x12070]`, and flushes the
 /// sink once after it.
 ///
-/// It is the form of a word whose tag is set. A word is 32 hexadecimal digits of either case. For
-/// any other string, the output is the line `error 1 syntax`.
+/// It is the form of a word whose tag is set. A word is 32 hexadecimal digits of either case, with or
+/// without `0x` in front. For any other string, the output is the line `error 1 syntax`.
 ///
 /// Requires: the sink has not failed.
 /// Errors: `Write` if and only if the sink fails. A prefix of the line is then written.
 pub fn show_line<W: Sink>(text: &[u8], sink: &mut W) -> Result<Summary, IoError>
     requires { W.has_failed sink.old ≡ false }
     ensures shown { WritesAnswer (IsLineAnswer text.now) (W.taken_bytes sink.old) (W.taken_bytes sink.new) result }
-    ensures any_error { IfOk result (λ summary. IsTrue summary.any_error ↔ (¬ IsWordText text.now)) }
+    ensures any_error { IfOk result (λ summary. IsTrue summary.any_error ↔ (¬ IsTypedWord text.now)) }
     ensures flushed { OnOk result (W.is_flushed sink.new ≡ true) }
     ensures fails { IsErr result ↔ (W.has_failed sink.new ≡ true) }
     ensures write { OnErr result (result ≡ Err IoError.Write) }
@@ -37,9 +36,9 @@ pub fn show_line<W: Sink>(text: &[u8], sink: &mut W) -> Result<Summary, IoError>
 fn push_line_answer(answer: &mut Text, text: &[u8]) -> Summary
     requires { answer.old ≡ [] }
     ensures line { IsLineAnswer text.now answer.new }
-    ensures any_error { IsTrue result.any_error ↔ (¬ IsWordText text.now) }
+    ensures any_error { IsTrue result.any_error ↔ (¬ IsTypedWord text.now) }
 {
-    match read_word(text) {
+    match read_typed_word(text) {
         Some(word) => {
             let line = WordLine::of_word(word, true);
             answer.push(line.bytes());

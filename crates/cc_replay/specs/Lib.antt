@@ -5,6 +5,7 @@ pub mod Formats
 pub mod Counts
 pub mod Rows
 pub mod Summary
+pub mod SizeTable
 pub mod Reading
 pub mod Replay
 pub mod Summarizing

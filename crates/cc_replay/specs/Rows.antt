@@ -2,7 +2,7 @@
 use Rattle.std.specs.Prelude.{ℕ, zero, suc, ◌*◌, ◌/◌, ◌%◌, ◌^◌, List, [], ◌∷◌, ◌++◌, codes, decimal, map, min}
 use Rattle.cc_text.specs.Text.{with_line_feed}
 use Rattle.cc_replay.specs.declared.table.Part.{Part}
-use Rattle.cc_replay.specs.declared.table.Part.TheVariants.{Line, Name, Quantity, Member}
+use Rattle.cc_replay.specs.declared.table.Part.TheVariants.{Line, Name, Quantity, Member, Heading, Cell}
 use Rattle.cc_replay.specs.declared.table.Row.{Row as RowValue}
 use Rattle.cc_replay.specs.declared.table.Value.{Value}
 use Rattle.cc_replay.specs.declared.table.Value.TheVariants.{Number, Percent}
@@ -40,6 +40,8 @@ unfoldable pub item_text : Part → Row → List ℕ
 item_text Line row = with_line_feed (row.name ++ codes " " ++ value_text row.value)
 item_text Name row = row.name
 item_text Quantity row = value_text row.value
+item_text Heading row = row.name
+item_text Cell row = value_text row.value
 item_text Member row = codes "\"" ++ row.name ++ codes "\": " ++ value_text row.value
 
 -- The bytes between two rows.
@@ -48,6 +50,8 @@ separator_of Line = []
 separator_of Name = codes ","
 separator_of Quantity = codes ","
 separator_of Member = codes ", "
+separator_of Heading = codes " "
+separator_of Cell = codes " "
 
 -- The rows after another, each with a separator before it.
 abbrev pub more_items : Part → List Row → List ℕ

@@ -15,7 +15,7 @@ use crate::formats::{Entry, read_entry};
 use crate::reading::{Progress, Reading};
 use crate::series::{MOST_SAMPLE, push_sample, push_series_header};
 use crate::summary::{Figures, write_page};
-use cc_heap::{Event, Heap, Making, Outcome, Run, Settings};
+use cc_heap::{Event, Heap, Making, Outcome, Run, Settings, SizeTotals};
 use cc_io::{Answerer, IoError, Lines, Sink, Source, Summary, pump};
 use cc_placer::Placer;
 use cc_text::{Page, Waiting};
@@ -110,6 +110,14 @@ impl<P: Placer> Replay<P> {
             usage: self.run.usage(),
             has_pointers: self.reading.format.has_pointers(),
         }
+    }
+
+    /// Returns the numbers of the objects that were made, with a row for each power of two: that of
+    /// objects whose sizes are at least the power, and below the next.
+    pub fn sizes(&self) -> &[SizeTotals; 64]
+        ensures { result.now ≡ self.now.run.sizes }
+    {
+        self.run.sizes()
     }
 
     /// Writes the sample of the end, if there is a series and the last event has no sample, and

@@ -64,7 +64,7 @@ pub(crate) fn push_values<const N: usize>(page: &mut Page<N>, rows: &[Row])
 }
 
 /// Appends a part of a table: its rows, with the separator between.
-fn push_items<const N: usize>(page: &mut Page<N>, part: Part, rows: &[Row])
+pub(crate) fn push_items<const N: usize>(page: &mut Page<N>, part: Part, rows: &[Row])
     requires { length page.old + 100 * length rows.now ≤ N }
     ensures value { page.new ≡ page.old ++ items_text part (rows_of rows.now) }
     ensures fits { length page.new ≤ length page.old + 100 * length rows.now }
@@ -98,6 +98,7 @@ fn separator_of(part: Part) -> &'static [u8]
         Part::Line => b"",
         Part::Name | Part::Quantity => b",",
         Part::Member => b", ",
+        Part::Heading | Part::Cell => b" ",
     }
 }
 
@@ -115,8 +116,8 @@ fn push_item<const N: usize>(page: &mut Page<N>, part: Part, row: &Row)
             push_value(page, row.value);
             page.push(b"\n");
         }
-        Part::Name => page.push(row.name),
-        Part::Quantity => push_value(page, row.value),
+        Part::Name | Part::Heading => page.push(row.name),
+        Part::Quantity | Part::Cell => push_value(page, row.value),
         Part::Member => {
             page.push(b"\"");
             page.push(row.name);

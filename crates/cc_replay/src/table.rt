@@ -32,6 +32,10 @@ pub(crate) enum Part {
     Quantity,
     /// The members of an object of JSON.
     Member,
+    /// The names, with spaces between.
+    Heading,
+    /// The values, with spaces between.
+    Cell,
 }
 
 /// A row of a table.

@@ -5,7 +5,7 @@ ghost use Rattle.cc_ops.specs.declared.reply.Reply.TheVariants.{Refused};
 ghost use Rattle.cc_word.specs.Refusal.{code_of};
 ghost use Rattle.cc_word.specs.declared.refusal.Refusal.TheVariants.{Full};
 ghost use Rattle.cc_syntax.specs.Replies.{is_error};
-ghost use Rattle.cc_syntax.specs.Tally.{Exchange, HasOneMore, IsTally, count_more, first_after, is_refusal};
+ghost use Rattle.cc_syntax.specs.Tally.{Exchange, HasOneMore, IsTally, first_after, is_refusal};
 
 use crate::line_hints::{ends_in_return, has_marked_word};
 use cc_ops::Reply;
@@ -102,27 +102,16 @@ fn first_after(first: u64, passes: bool, number: u64) -> u64
     if first == 0 && passes { number } else { first }
 }
 
-impl Count {
-    /// Returns this count with one more reply, to the line with this number. The number of a setup
-    /// operation is 0.
-    fn more(self, number: u64) -> Count
-        ensures { result ≡ count_more number self }
-    {
-        Count {
-            refusal: self.refusal,
-            times: self.times.saturating_add(1),
-            first: if self.times == 0 { number } else { self.first },
-        }
-    }
-}
-
 /// Counts one more reply that is this refusal, to the line with this number. The number of a setup
 /// operation is 0.
 fn add_reply(counts: &mut [Count; 22], refusal: Refusal, number: u64)
     ensures { HasOneMore refusal number counts.old counts.new }
 {
-    let index = index_of(refusal);
-    counts[index] = counts[index].more(number);
+    let count = &mut counts[index_of(refusal)];
+    if count.times == 0 {
+        count.first = number;
+    }
+    count.times = count.times.saturating_add(1);
 }
 
 impl Tally {

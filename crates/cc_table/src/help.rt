@@ -19,7 +19,8 @@ and 3 if the program ran out of memory, a file cannot be opened, or its input or
 pub(crate) const SHOW_ABOUT: &str = "Shows the fields of a capability word, one on each line";
 
 pub(crate) const WORD_HELP: &str = "\
-The word: its 128 bits as 32 hexadecimal digits, the highest first, in either case and without 0x";
+The word: its 128 bits as 32 hexadecimal digits, the highest first, in either case, with or without
+0x";
 
 pub(crate) const LINE_HELP: &str =
     "Show the word on one line: its address, permissions, base and top";

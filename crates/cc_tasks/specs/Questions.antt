@@ -3,7 +3,8 @@ use Rattle.std.specs.Prelude.{ℕ, true, false, IsErr, List}
 use Rattle.cc_syntax.specs.Commands.{length_in}
 use Rattle.cc_explain.specs.Explanation.{IsExplanation}
 use Rattle.cc_explain.specs.LineAnswer.{IsLineAnswer}
-use Rattle.cc_explain.specs.Listing.{IsListing, IsWordText}
+use Rattle.cc_explain.specs.Answer.{IsTypedWord}
+use Rattle.cc_explain.specs.Listing.{IsListing}
 use Rattle.cc_explain.specs.WindowDrawing.{IsWindowDrawing}
 use Rattle.cc_command.specs.Request.{IsLengthExplanation, request_in}
 use Rattle.cc_command.specs.Rounding.{IsRounding}
@@ -22,8 +23,8 @@ IsAnswerTo (Round size) answer = IsRounding size.now answer
 -- IsUnanswerable holds if the output is an error: the texts are not those of a word, of bounds that can be requested, or
 -- of a length.
 abbrev pub IsUnanswerable : Question → Type 0
-IsUnanswerable (Show word as_line) = ¬ IsWordText word.now
-IsUnanswerable (Explain word) = ¬ IsWordText word.now
-IsUnanswerable (DrawWindow word) = ¬ IsWordText word.now
+IsUnanswerable (Show word as_line) = ¬ IsTypedWord word.now
+IsUnanswerable (Explain word) = ¬ IsTypedWord word.now
+IsUnanswerable (DrawWindow word) = ¬ IsTypedWord word.now
 IsUnanswerable (ExplainLength base size) = IsErr (request_in base.now size.now)
 IsUnanswerable (Round size) = IsErr (length_in size.now)

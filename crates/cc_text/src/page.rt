@@ -176,13 +176,14 @@ impl<const N: usize> Page<N> {
         ensures value { self.new ≡ self.old ++ decimal number }
         ensures fits { length self.new ≤ length self.old + 6 }
     {
+        let pair = second_pair(number);
         if number < 100_000 {
             self.push_second_digit(number / 10_000);
-            self.push_pair(number / 100 % 100);
+            self.push_pair(pair);
             return self.push_pair(number % 100);
         }
         self.push_pair(number / 10_000);
-        self.push_pair(number / 100 % 100);
+        self.push_pair(pair);
         self.push_pair(number % 100);
     }
 
@@ -303,7 +304,7 @@ impl<const N: usize> Page<N> {
     }
 
     /// Appends `0x` and the hexadecimal digits of a number of at most 64 bits.
-    #[inline(never)]
+    #[inline(always)]
     fn push_short_hexadecimal(&mut self, number: u64)
         requires { length self.old + 34 ≤ N }
         ensures value { self.new ≡ self.old ++ hexadecimal number }
@@ -360,6 +361,17 @@ fn digits_of_pair(number: u32) -> (u8, u8)
 {
     let at = 2 * number as usize;
     (PAIRS[at], PAIRS[at + 1])
+}
+
+/// Returns the two decimal digits before the last two, as a number.
+///
+/// One quotient is that of the digits before these, so that the compiler divides once for both.
+#[inline(always)]
+fn second_pair(number: u32) -> u32
+    ensures value { result ≡ number / 100 % 100 }
+    ensures small { result < 100 }
+{
+    number / 100 - number / 10_000 * 100
 }
 
 /// Returns the number of hexadecimal digits, without leading zeros.

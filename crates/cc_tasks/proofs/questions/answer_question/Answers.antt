@@ -3,9 +3,8 @@ use Rattle.std.specs.Borrow.{Bor}
 use Rattle.std.specs.Prelude.{Result, IfOk, IsTrue, ◌↔◌}
 use Rattle.cc_io.specs.declared.summary.IoError.{IoError}
 use Rattle.cc_io.specs.declared.summary.Summary.{Summary}
-use Rattle.cc_explain.specs.Answer.{WritesAnswer}
+use Rattle.cc_explain.specs.Answer.{IsTypedWord, WritesAnswer}
 use Rattle.cc_explain.specs.Explanation.{IsExplanation}
-use Rattle.cc_explain.specs.Listing.{IsWordText}
 use Rattle.cc_explain.specs.WindowDrawing.{IsWindowDrawing}
 use Rattle.cc_arguments.specs.declared.question.Question.{Question}
 use Rattle.cc_tasks.specs.Questions.{IsAnswerTo, IsUnanswerable}
@@ -13,9 +12,9 @@ use Rattle.cc_tasks.proofs.questions.answer_question.Goals as goal
 
 -- A claim on the summary for the bytes of a word holds for the word.
 word_told : (result : Result Summary IoError) (bytes word : List ℕ) → bytes ≡ word
-    → IfOk result (λ summary. IsTrue summary.any_error ↔ (¬ IsWordText bytes))
-    → IfOk result (λ summary. IsTrue summary.any_error ↔ (¬ IsWordText word))
-word_told result bytes word same told = subst (λ (text : List ℕ). IfOk result (λ summary. IsTrue summary.any_error ↔ (¬ IsWordText text))) same told
+    → IfOk result (λ summary. IsTrue summary.any_error ↔ (¬ IsTypedWord bytes))
+    → IfOk result (λ summary. IsTrue summary.any_error ↔ (¬ IsTypedWord word))
+word_told result bytes word same told = subst (λ (text : List ℕ). IfOk result (λ summary. IsTrue summary.any_error ↔ (¬ IsTypedWord text))) same told
 
 -- A claim on the summary for a question holds for an equal question.
 question_told : (result : Result Summary IoError) (question other : Question) → question ≡ other

@@ -1,0 +1,140 @@
+//! The table of the objects that were made, by the powers of two of their sizes.
+ghost use Rattle.std.specs.Prelude.{◌≡◌, ◌≤◌, ◌<◌, ◌+◌, ◌^◌, ◌++◌, ◌↔◌, length, false, true, Err, OnOk, OnErr, IsErr};
+ghost use Rattle.std.specs.Io.KnownBytes.{Appends};
+ghost use Rattle.cc_io.specs.Devices.{TakesBeginning};
+ghost use Rattle.cc_replay.specs.Rows.{rows_of};
+ghost use Rattle.cc_replay.specs.SizeTable.{all_sizes, between_sizes, size_rows, size_text, sizes_text};
+
+use crate::row;
+use crate::rows::{push_items, push_names, push_values};
+use crate::summary::write_page;
+use crate::table::{Format, Part, Row, Value};
+use cc_heap::{NO_OBJECTS, SizeTotals};
+use cc_io::{IoError, Sink};
+use cc_text::Page;
+
+/// The maximum number of bytes of a table.
+const MOST_SIZES: usize = 40960;
+
+/// Writes the table of the objects that were made, by the powers of two of their sizes, in a format,
+/// and flushes the sink. A power without an object has no row.
+///
+/// Requires: the sink has not failed.
+/// Errors: `Write` if the sink fails. A prefix of the table is then written.
+pub fn write_sizes<W: Sink>(
+    sizes: &[SizeTotals; 64],
+    format: Format,
+    sink: &mut W,
+) -> Result<(), IoError>
+    requires { W.has_failed sink.old ≡ false }
+    ensures ok { OnOk result (Appends (W.taken_bytes sink.old) (W.taken_bytes sink.new) (sizes_text format sizes.now)) }
+    ensures err { OnErr result (TakesBeginning (W.taken_bytes sink.old) (W.taken_bytes sink.new) (sizes_text format sizes.now)) }
+    ensures flushed { OnOk result (W.is_flushed sink.new ≡ true) }
+    ensures fails { IsErr result ↔ (W.has_failed sink.new ≡ true) }
+    ensures write { OnErr result (result ≡ Err IoError.Write) }
+{
+    let mut page: Page<MOST_SIZES> = Page::new();
+    push_sizes(&mut page, format, sizes);
+    write_page(&page, sink)
+}
+
+/// Appends the table in a format.
+fn push_sizes<const N: usize>(page: &mut Page<N>, format: Format, sizes: &[SizeTotals; 64])
+    requires { length page.old + 40000 ≤ N }
+    ensures { page.new ≡ page.old ++ sizes_text format sizes.now }
+{
+    let any = size_rows(0, &NO_OBJECTS);
+    match format {
+        Format::Text => {
+            push_items(page, Part::Heading, &any);
+            page.push(b"\n");
+            push_rows(page, format, sizes);
+        }
+        Format::Csv => {
+            push_names(page, &any);
+            push_rows(page, format, sizes);
+        }
+        Format::Json => {
+            page.push(b"[");
+            push_rows(page, format, sizes);
+            page.push(b"]\n");
+        }
+    }
+}
+
+/// Appends the rows that have an object, with the separator between.
+fn push_rows<const N: usize>(page: &mut Page<N>, format: Format, sizes: &[SizeTotals; 64])
+    requires { length page.old + 39000 ≤ N }
+    ensures value { page.new ≡ page.old ++ all_sizes format sizes.now }
+    ensures fits { length page.new ≤ length page.old + 39000 }
+{
+    let mut before: &[u8] = b"";
+    let mut rest: &[SizeTotals] = sizes;
+    let mut power: u32 = 0;
+    'rows: while let Some((totals, after)) = rest.split_first() {
+        if totals.made != 0 {
+            page.push(before);
+            push_size(page, format, &size_rows(power, totals));
+            before = between_sizes(format);
+        }
+        power += 1;
+        rest = after;
+    }
+}
+
+/// Returns the bytes between two rows.
+fn between_sizes(format: Format) -> &'static [u8]
+    ensures value { result.now ≡ between_sizes format }
+    ensures fits { length result.now ≤ 2 }
+{
+    match format {
+        Format::Text | Format::Csv => b"",
+        Format::Json => b",\n",
+    }
+}
+
+/// Appends a row.
+fn push_size<const N: usize>(page: &mut Page<N>, format: Format, row: &[Row; 6])
+    requires { length page.old + 602 ≤ N }
+    ensures value { page.new ≡ page.old ++ size_text format (rows_of row.now) }
+    ensures fits { length page.new ≤ length page.old + 602 }
+{
+    match format {
+        Format::Text => {
+            push_items(page, Part::Cell, row);
+            page.push(b"\n");
+        }
+        Format::Csv => push_values(page, row),
+        Format::Json => {
+            page.push(b"{");
+            push_items(page, Part::Member, row);
+            page.push(b"}");
+        }
+    }
+}
+
+/// Returns the names and values of the row of a power of two.
+fn size_rows(power: u32, totals: &SizeTotals) -> [Row; 6]
+    requires { power < 64 }
+    ensures { rows_of result ≡ size_rows power totals.now }
+{
+    let from = power_of_two(power);
+    [
+        row!(b"from", from),
+        row!(b"to", 2 * from - 1),
+        row!(b"made", totals.made),
+        row!(b"made.asked", totals.asked),
+        row!(b"made.padded", totals.padded),
+        row!(b"inexact", totals.inexact),
+    ]
+}
+
+/// Returns a power of two.
+fn power_of_two(power: u32) -> u128
+    requires { power < 64 }
+    ensures value { result ≡ 2 ^ power }
+    ensures some { 0 < result }
+    ensures fits { result ≤ 2 ^ 64 }
+{
+    1 << power
+}

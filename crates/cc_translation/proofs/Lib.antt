@@ -1,0 +1,6 @@
+pub mod HoldLemmas
+pub mod StepLemmas
+pub mod OpeningLemmas
+pub mod LawLemmas
+pub mod EventLemmas
+pub mod TraceLemmas

@@ -1,0 +1,51 @@
+-- The changes that a heap passes, one after another, each with the object that it makes or frees.
+use Rattle.std.specs.Prelude.{ℕ, ◌≡◌, List, [], ◌∷◌, ◌++◌, Some, IsNone}
+use Rattle.cc_heap.specs.declared.event.Event.{Event}
+use Rattle.cc_heap.specs.declared.object.Object.{Object}
+use Rattle.cc_heap.specs.declared.outcome.Outcome.{Outcome}
+use Rattle.cc_heap.specs.Memory.{object_at}
+use Rattle.cc_heap.specs.Heap.{FreesObject, Heap, MakesObject, object_under, swept}
+use Rattle.cc_heap.specs.Events.{IsEvent}
+
+-- A change: an object is made under an id, an object is freed, an object is made in place of another
+-- under the same id, or the quarantine is swept.
+pub data Change : Type 0 where
+  Make : (id : ℕ) (object : Object) → Change
+  Free : (id : ℕ) (object : Object) → Change
+  Replace : (id : ℕ) (before object : Object) → Change
+  Sweep : Change
+
+-- MakesThis holds if `object` is made under the id.
+pub record MakesThis (old : Heap) (id : ℕ) (object : Object) (new : Heap) : Type 0 where
+  pub makes : MakesObject old id object.align object.size new
+  pub is : object ≡ object_at old.settings.align object.align makes.start object.size
+
+-- ReplacesThis holds if `object` is made under a live id while the one before it is held, and then that
+-- one is freed.
+pub record ReplacesThis (old : Heap) (id : ℕ) (before object : Object) (new : Heap) : Type 0 where
+  pub is_live : object_under old id ≡ Some before
+  pub made : Heap
+  pub makes : MakesThis old id object made
+  pub frees : FreesObject made id before new
+
+-- IsChange holds if the change turns the heap `old` into `new`.
+abbrev pub IsChange : Heap → Change → Heap → Type 0
+IsChange old (Make id object) new = IsNone (object_under old id) × MakesThis old id object new
+IsChange old (Free id object) new = FreesObject old id object new
+IsChange old (Replace id before object) new = ReplacesThis old id before object new
+IsChange old Sweep new = new ≡ swept old
+
+-- Changes holds if the changes turn the heap `old` into `new`, each from the heap that the one before
+-- left.
+abbrev pub Changes : Heap → List Change → Heap → Type 0
+Changes old [] new = new ≡ old
+Changes old (change ∷ changes) new = (next : Heap) × IsChange old change next × Changes next changes new
+
+-- AreChangesOf holds if the changes are those of the events: each event has changes that lead from the heap
+-- before it to the heap after it.
+abbrev pub AreChangesOf : Heap → List Event → List Change → Heap → Type 0
+AreChangesOf old [] changes new = (changes ≡ []) × (new ≡ old)
+AreChangesOf old (event ∷ events) changes new =
+    (mine : List Change) × (rest : List Change) × (outcome : Outcome) × (next : Heap)
+    × (changes ≡ mine ++ rest) × IsEvent old event outcome next × Changes old mine next
+    × AreChangesOf next events rest new
