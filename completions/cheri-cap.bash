@@ -11,7 +11,7 @@ _cheri_cap() {
     run) options+=' --slots --stats' ;;
     plan) options+=' --slots --align --stats' ;;
     map) options+=' --slots --align --svg' ;;
-    replay) options+=' --align --sweep --min --pool --strict --summary --each' ;;
+    replay) options+=' --format --align --sweep --min --pool --strict --summary --each' ;;
     decode) options+=' --format --bytes --skip --at --holds --perms' ;;
     show) options+=' --line' ;;
     explain) options+=' --svg --length --base' ;;
@@ -22,7 +22,13 @@ _cheri_cap() {
   case $before in
     --slots | --length | --base | --skip | --at | --holds | --perms | --sweep | --min | --pool | --each) ;;
     --summary) mapfile -t COMPREPLY < <(compgen -W 'text csv json' -- "$word") ;;
-    --format) mapfile -t COMPREPLY < <(compgen -W 'columns text fixed csv' -- "$word") ;;
+    --format)
+      if [[ $command == replay ]]; then
+        mapfile -t COMPREPLY < <(compgen -W 'own mtrace heaptrack ltrace' -- "$word")
+      else
+        mapfile -t COMPREPLY < <(compgen -W 'columns text fixed csv' -- "$word")
+      fi
+      ;;
     --bytes) mapfile -t COMPREPLY < <(compgen -W 'little big' -- "$word") ;;
     --align) mapfile -t COMPREPLY < <(compgen -W '1 16' -- "$word") ;;
     *)

@@ -122,6 +122,7 @@ pub record HasReplayTexts (rows : List Row) (texts : ReplayTexts) : Type 0 where
   pub least : first_of (codes "min") rows ≡ option_map (λ text. text.now) texts.least
   pub pool : first_of (codes "pool") rows ≡ option_map (λ text. text.now) texts.pool
   pub each : first_of (codes "each") rows ≡ option_map (λ text. text.now) texts.each
+  pub format : first_of (codes "format") rows ≡ option_map (λ text. text.now) texts.format
 
 -- `HasTexts` holds if the texts of the question are the values that clap found. The arguments of `explain` that the
 -- question has no text for have no value, and a missing `--base` is `0`. The N of `round` is not `-`, which is a list.

@@ -36,7 +36,7 @@ pub enum SummaryFormat {
     Json,
 }
 
-/// The values of the options of `replay` that are numbers, a policy or a pool, as they were typed.
+/// The values of the options of `replay` that are numbers, a policy, a pool or the trace's format, as they were typed.
 #[derive(Clone, Copy)]
 pub struct ReplayTexts<'a> {
     /// The policy.
@@ -47,6 +47,8 @@ pub struct ReplayTexts<'a> {
     pub pool: Option<&'a str>,
     /// The number of events from one sample to the next.
     pub each: Option<&'a str>,
+    /// The name of the trace's format.
+    pub format: Option<&'a str>,
 }
 
 /// A command and its values.
@@ -89,8 +91,8 @@ pub enum Invocation<'a> {
         /// The script's file; `None` and `-` are standard input.
         file: Option<&'a str>,
     },
-    /// `replay [--align ALIGN] [--sweep POLICY] [--min BYTES] [--pool BASE:LENGTH] [--strict] [--summary FORMAT] [--each N]
-    /// [FILE]`: replays the trace of an allocator.
+    /// `replay [--format FORMAT] [--align ALIGN] [--sweep POLICY] [--min BYTES] [--pool BASE:LENGTH] [--strict]
+    /// [--summary FORMAT] [--each N] [FILE]`: replays the trace of an allocator.
     Replay {
         /// The alignment of each object.
         align: Align,

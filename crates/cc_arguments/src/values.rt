@@ -59,7 +59,7 @@ pub(crate) fn decode_texts<'a>(matches: &ArgMatches<'a>) -> DecodeTexts<'a>
     }
 }
 
-/// Returns the values of the options of `replay` that are numbers, a policy or a pool.
+/// Returns the values of the options of `replay` that are numbers, a policy, a pool or a format.
 pub(crate) fn replay_texts<'a>(matches: &ArgMatches<'a>) -> ReplayTexts<'a>
     ensures { HasReplayTexts (rows_of (found_of matches.now)) result }
 {
@@ -68,6 +68,7 @@ pub(crate) fn replay_texts<'a>(matches: &ArgMatches<'a>) -> ReplayTexts<'a>
         least: value_of(matches, "min"),
         pool: value_of(matches, "pool"),
         each: value_of(matches, "each"),
+        format: value_of(matches, "format"),
     }
 }
 

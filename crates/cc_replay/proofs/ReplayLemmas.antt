@@ -1,21 +1,24 @@
 -- An event that was taken.
-use Rattle.std.proofs.Common.{◌≡◌, ℕ, Bool, List, ◌++◌, refl, ◌∙◌, ap, inl}
+use Rattle.std.proofs.Common.{◌≡◌, ℕ, Bool, List, ◌++◌, Option, refl, ◌∙◌, ap, inl, subst}
 use Rattle.cc_replay.specs.declared.counts.Counts.{Counts}
 use Rattle.cc_heap.specs.declared.event.Event.{Event}
+use Rattle.cc_io.specs.Answers.{AnswersInto}
+use Rattle.cc_replay.specs.declared.formats.Entry.{Entry}
 use Rattle.cc_heap.specs.declared.outcome.Outcome.{Outcome}
 use Rattle.cc_replay.specs.declared.reading.Progress.{Progress}
 use Rattle.cc_replay.specs.declared.reading.Reading.{Reading}
 use Rattle.cc_replay.specs.Counts.{with_event, with_outcome}
 use Rattle.cc_heap.specs.Lost.{IsRunEvent, RunState}
 use Rattle.cc_replay.specs.Reading.{is_due, progress_after}
-use Rattle.cc_replay.specs.Replay.{AppendsEvent, ReplayState, is_refused, sample_text, time_after}
+use Rattle.cc_replay.specs.Replay.{AppendsEntry, AppendsEvent, ReplayState, TakesNext, next_entry, is_refused, sample_text, time_after}
 
 -- the state after an event, by its parts
-abbrev pub state_of : RunState → Reading → Counts → ℕ → Progress → Bool → ReplayState
-state_of run reading counts time progress is_sampled = record {
+abbrev pub state_of : RunState → Reading → Counts → (pending : Option ℕ) → ℕ → Progress → Bool → ReplayState
+state_of run reading counts pending time progress is_sampled = record {
   run = run;
   reading = reading;
   counts = counts;
+  pending = pending;
   time = time;
   progress = progress;
   is_sampled = is_sampled;
@@ -29,11 +32,11 @@ pub event_taken : (old : ReplayState) (event : Event) (outcome : Outcome) (run :
     → refused ≡ is_refused outcome
     → progress ≡ progress_after old.reading refused
     → sampled ≡ is_due old.reading counts.events old.run.heap.totals.sweeps run.heap.totals.sweeps
-    → out_now ≡ out ++ sample_text sampled (state_of run old.reading counts time progress sampled)
-    → AppendsEvent old event out out_now refused (state_of run old.reading counts time progress sampled)
+    → out_now ≡ out ++ sample_text sampled (state_of run old.reading counts old.pending time progress sampled)
+    → AppendsEvent old event out out_now refused (state_of run old.reading counts old.pending time progress sampled)
 event_taken old event outcome run counts time progress sampled out out_now refused is_event counts_is time_is refused_is progress_is sampled_is out_is =
     record {
-      text = sample_text sampled (state_of run old.reading counts time progress sampled);
+      text = sample_text sampled (state_of run old.reading counts old.pending time progress sampled);
       out_is = out_is;
       takes = inl (record {
         outcome = outcome;
@@ -43,6 +46,7 @@ event_taken old event outcome run counts time progress sampled out out_now refus
           run = run;
           reading = old.reading;
           counts = counts_is i;
+          pending = old.pending;
           time = time_is i;
           progress = (progress_is ∙ ap (progress_after old.reading) refused_is) i;
           is_sampled = (sampled_is ∙ ap (λ (c : Counts). is_due old.reading c.events old.run.heap.totals.sweeps run.heap.totals.sweeps) counts_is) i;
@@ -51,3 +55,11 @@ event_taken old event outcome run counts time progress sampled out out_now refus
         text_is = refl;
       });
     }
+
+-- the next line is taken as its entry is
+pub entry_answers : (old : ReplayState) (entry : Entry) (line out out_now : List ℕ) (is_error : Bool) (new : ReplayState)
+    → entry ≡ next_entry old line → AppendsEntry old entry out out_now is_error new → AnswersInto TakesNext old line out out_now is_error new
+entry_answers old entry line out out_now is_error new is taken =
+    let next : AppendsEntry old (next_entry old line) out out_now is_error new =
+    subst (λ (e : Entry). AppendsEntry old e out out_now is_error new) is taken in
+    record { text = next.text; out_is = next.out_is; answered = next.takes }

@@ -5,55 +5,73 @@ use Rattle.cc_io.specs.Answers.{Answer, AnswersAll, EndsWith, Output, entries_of
 use Rattle.cc_io.specs.Frames.{lines}
 use Rattle.cc_io.specs.Lines.{lines_of}
 use Rattle.cc_heap.specs.declared.event.Event.{Event}
+use Rattle.cc_replay.specs.declared.formats.Entry.{Entry}
+use Rattle.cc_replay.specs.declared.formats.TraceFormat.{TraceFormat}
 use Rattle.cc_heap.specs.declared.outcome.Outcome.{Outcome}
 use Rattle.cc_replay.specs.declared.reading.Progress.{Progress}
 use Rattle.cc_replay.specs.declared.reading.Progress.TheVariants.{Running, Stopped, OutOfMemory}
+use Rattle.cc_replay.specs.declared.reading.Reading.{Reading}
+use Rattle.cc_replay.specs.Formats.{entry_in}
 use Rattle.cc_heap.specs.Lost.{IsRunEvent, RunState, RunsNoting}
-use Rattle.cc_replay.specs.Replay.{ReplayState, TakesEntry, TakesLine, TakesLineIn, TakesRest, TakesRestIn, at_line, event_before, events_in}
+use Rattle.cc_replay.specs.Replay.{ReplayState, TakesEntry, TakesLine, TakesLineIn, TakesRest, TakesRestIn, at_entry, event_before, events_in, next_entry}
 use Rattle.cc_heap.specs.Run.{Runs}
-use Rattle.cc_replay.specs.Trace.{entry_of}
-use Rattle.cc_replay.proofs.TraceLemmas.{first_bytes}
+use Rattle.cc_replay.proofs.FormatLemmas.{entry_start}
 
 -- the event of a line's entry happens, or the run does not change
-abbrev EntryRuns : Result (Option Event) Refusal → RunState → RunState → Type 0
-EntryRuns (Ok (Some event)) old new = (outcome : Outcome) × IsRunEvent old event outcome new
-EntryRuns _ old new = new ≡ old
+abbrev EventRuns : Result (Option Event) Refusal → RunState → RunState → Type 0
+EventRuns (Ok (Some event)) old new = (outcome : Outcome) × IsRunEvent old event outcome new
+EventRuns _ old new = new ≡ old
 
-entry_runs : (entry : Result (Option Event) Refusal) (old new : ReplayState) (text : List ℕ) (is_error : Bool) → TakesEntry (at_line old) entry text is_error new
-    → new.progress ≡ Running → EntryRuns entry old.run new.run
-entry_runs (Ok (Some event)) old new text is_error (inl t) r =
-    (t.outcome, subst (λ (run : RunState). IsRunEvent old.run event t.outcome run) (sym (ap (λ (s : ReplayState). s.run) t.is_new)) t.is_event)
-entry_runs (Ok (Some event)) old new text is_error (inr t) r =
+-- the trace is read as before, and the half of a reallocation that is pending is that of the entry
+abbrev ReadsOn : Entry → ReplayState → ReplayState → Type 0
+ReadsOn entry old new = (new.reading ≡ old.reading) × (new.pending ≡ entry.pending)
+
+event_runs : (entry : Entry) (event : Result (Option Event) Refusal) (old new : ReplayState) (text : List ℕ) (is_error : Bool)
+    → TakesEntry (at_entry entry old) event text is_error new → new.progress ≡ Running
+    → ReadsOn entry old new × EventRuns event old.run new.run
+event_runs entry (Ok (Some event)) old new text is_error (inl t) r = (
+  (ap (λ (s : ReplayState). s.reading) t.is_new, ap (λ (s : ReplayState). s.pending) t.is_new),
+  (t.outcome, subst (λ (run : RunState). IsRunEvent old.run event t.outcome run) (sym (ap (λ (s : ReplayState). s.run) t.is_new)) t.is_event),
+)
+event_runs entry (Ok (Some event)) old new text is_error (inr t) r =
     let ran_out : OutOfMemory ≡ Running = sym (ap (λ (s : ReplayState). s.progress) t.is_new) ∙ r in absurd cc
-entry_runs (Ok None) old new text is_error t r = ap (λ (s : ReplayState). s.run) t.2
-entry_runs (Err refusal) old new text is_error t r = ap (λ (s : ReplayState). s.run) t.is_new
+event_runs entry (Ok None) old new text is_error t r =
+    ((ap (λ (s : ReplayState). s.reading) t.2, ap (λ (s : ReplayState). s.pending) t.2), ap (λ (s : ReplayState). s.run) t.2)
+event_runs entry (Err refusal) old new text is_error t r =
+    ((ap (λ (s : ReplayState). s.reading) t.is_new, ap (λ (s : ReplayState). s.pending) t.is_new), ap (λ (s : ReplayState). s.run) t.is_new)
 
 line_runs : (old new : ReplayState) (line text : List ℕ) (is_error : Bool) → TakesLine old line text is_error new → new.progress ≡ Running
-    → (old.progress ≡ Running) × EntryRuns (entry_of line) old.run new.run
+    → (old.progress ≡ Running) × (ReadsOn (next_entry old line) old new × EventRuns (next_entry old line).event old.run new.run)
 line_runs old new line text is_error t r = by old.progress refl t where
   by : (progress : Progress) → old.progress ≡ progress → TakesLineIn progress old line text is_error new
-      → (old.progress ≡ Running) × EntryRuns (entry_of line) old.run new.run
-  by Running is t = (is, entry_runs (entry_of line) old new text is_error t r)
+      → (old.progress ≡ Running) × (ReadsOn (next_entry old line) old new × EventRuns (next_entry old line).event old.run new.run)
+  by Running is t = (is, event_runs (next_entry old line) (next_entry old line).event old new text is_error t r)
   by Stopped is t =
       let stopped : Stopped ≡ Running = sym is ∙ sym (ap (λ (s : ReplayState). s.progress) t.2) ∙ r in absurd cc
   by OutOfMemory is t =
       let stopped : OutOfMemory ≡ Running = sym is ∙ sym (ap (λ (s : ReplayState). s.progress) t.2) ∙ r in absurd cc
 
-joined : (entry : Result (Option Event) Refusal) (old mid new : RunState) (events : List Event) → EntryRuns entry old mid
-    → RunsNoting mid events new → RunsNoting old (event_before entry events) new
+joined : (event : Result (Option Event) Refusal) (old mid new : RunState) (events : List Event) → EventRuns event old mid
+    → RunsNoting mid events new → RunsNoting old (event_before event events) new
 joined (Ok (Some event)) old mid new events first later = (first.0, mid, first.1, later)
 joined (Ok None) old mid new events first later = subst (λ (run : RunState). RunsNoting run events new) first later
 joined (Err refusal) old mid new events first later = subst (λ (run : RunState). RunsNoting run events new) first later
 
+-- the events of lines in the format of a state, after the half of a reallocation that is pending in it
+abbrev events_from : ReplayState → (entries : List (List ℕ)) → List Event
+events_from state entries = events_in state.reading.format state.pending entries
+
 lines_run : (old new : ReplayState) (entries : List (List ℕ)) (answers : List Answer) → AnswersAll TakesLine old entries answers new → new.progress ≡ Running
-    → (old.progress ≡ Running) × RunsNoting old.run (events_in entries) new.run
+    → (old.progress ≡ Running) × RunsNoting old.run (events_from old entries) new.run
 lines_run old new [] [] t r = (sym (ap (λ (s : ReplayState). s.progress) t) ∙ r, ap (λ (s : ReplayState). s.run) t)
-lines_run old new (entry ∷ entries) (answer ∷ answers) t r =
+lines_run old new (line ∷ entries) (answer ∷ answers) t r =
     let later = lines_run t.0 new entries answers t.2 r in
-    let first = line_runs old t.0 entry answer.text answer.is_error t.1 later.0 in
-    (first.0, joined (entry_of entry) old.run t.0.run new.run (events_in entries) first.1 later.1)
+    let first = line_runs old t.0 line answer.text answer.is_error t.1 later.0 in
+    let after = subst (λ (reading : Reading). RunsNoting t.0.run (events_in reading.format t.0.pending entries) new.run) first.1.0.0 later.1 in
+    let then = subst (λ (pending : Option ℕ). RunsNoting t.0.run (events_in old.reading.format pending entries) new.run) first.1.0.1 after in
+    (first.0, joined (next_entry old line).event old.run t.0.run new.run (events_in old.reading.format (next_entry old line).pending entries) first.1.1 then)
 lines_run old new [] (answer ∷ answers) t r = absurd t
-lines_run old new (entry ∷ entries) [] t r = absurd t
+lines_run old new (line ∷ entries) [] t r = absurd t
 
 rest_runs : (old new : ReplayState) (rest : List ℕ) (ending : Answer) → EndsWith TakesRest old rest ending new → new.progress ≡ Running
     → (old.progress ≡ Running) × (new.run ≡ old.run)
@@ -69,20 +87,20 @@ rest_runs old new (byte ∷ rest) ending t r = by old.progress refl t where
   by OutOfMemory is t = stays t.2
 
 -- the first bytes of lines have the events of the lines
-events_seen : (ls : List (List ℕ)) → events_in (map (take 129) ls) ≡ events_in ls
-events_seen [] = refl
-events_seen (line ∷ ls) =
-    ap (λ (entry : Result (Option Event) Refusal). event_before entry (events_in (map (take 129) ls))) (first_bytes line)
-    ∙ ap (event_before (entry_of line)) (events_seen ls)
+events_seen : (format : TraceFormat) (pending : Option ℕ) (ls : List (List ℕ)) → events_in format pending (map (take 129) ls) ≡ events_in format pending ls
+events_seen format pending [] = refl
+events_seen format pending (line ∷ ls) =
+    ap (λ (entry : Entry). event_before entry.event (events_in format entry.pending (map (take 129) ls))) (entry_start format pending line)
+    ∙ ap (event_before (entry_in format pending line).event) (events_seen format (entry_in format pending line).pending ls)
 
 pub replays_are_runs : (old new : ReplayState) (text output : List ℕ) (any_error : Bool)
     → Output TakesLine TakesRest lines old text output any_error new → new.progress ≡ Running
-    → RunsNoting old.run (events_in (lines_of text)) new.run
+    → RunsNoting old.run (events_from old (lines_of text)) new.run
 replays_are_runs old new text output any_error o r =
     let end = rest_runs o.mid new (rest_of lines text) o.ending o.ends r in
     let all = lines_run old o.mid (entries_of lines text) o.answers o.takes end.0 in
-    subst (λ (run : RunState). RunsNoting old.run (events_in (lines_of text)) run) (sym end.1)
-    (subst (λ (events : List Event). RunsNoting old.run events o.mid.run) (events_seen (lines_of text)) all.1)
+    subst (λ (run : RunState). RunsNoting old.run (events_from old (lines_of text)) run) (sym end.1)
+    (subst (λ (events : List Event). RunsNoting old.run events o.mid.run) (events_seen old.reading.format old.pending (lines_of text)) all.1)
 
 -- the heap of a run takes the events, whatever ids are lost
 heap_runs : (old new : RunState) (events : List Event) → RunsNoting old events new → Runs old.heap events new.heap
@@ -92,6 +110,6 @@ heap_runs old new (event ∷ events) (outcome, next, is, later) =
 
 pub replays_run_heaps : (old new : ReplayState) (text output : List ℕ) (any_error : Bool)
     → Output TakesLine TakesRest lines old text output any_error new → new.progress ≡ Running
-    → Runs old.run.heap (events_in (lines_of text)) new.run.heap
+    → Runs old.run.heap (events_from old (lines_of text)) new.run.heap
 replays_run_heaps old new text output any_error o r =
-    heap_runs old.run new.run (events_in (lines_of text)) (replays_are_runs old new text output any_error o r)
+    heap_runs old.run new.run (events_from old (lines_of text)) (replays_are_runs old new text output any_error o r)

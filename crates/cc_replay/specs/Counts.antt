@@ -26,15 +26,19 @@ counted_if is_one line count = if is_one then counted line count else count
 abbrev pub with_line : Counts → Counts
 with_line counts = record counts { lines = capped_count (counts.lines + 1) }
 
+-- 1 if it holds, otherwise 0.
+abbrev pub one_if : Bool → ℕ
+one_if holds = if holds then 1 else 0
+
+-- The counts with one more object that the program could not make, if the last line reports one.
+abbrev pub with_failure : (is_failure : Bool) → Counts → Counts
+with_failure is_failure counts = record counts { failed = capped_count (counts.failed + one_if is_failure) }
+
 -- The counts with the last line as one that is refused.
 abbrev pub with_refusal : Refusal → Counts → Counts
 with_refusal OutOfRange counts = record counts { range = counted counts.lines counts.range }
 with_refusal Unfinished counts = record counts { unfinished = counted counts.lines counts.unfinished }
 with_refusal _ counts = record counts { syntax = counted counts.lines counts.syntax }
-
--- 1 if it holds, otherwise 0.
-abbrev pub one_if : Bool → ℕ
-one_if holds = if holds then 1 else 0
 
 -- The counts with one more event of the kind.
 abbrev pub with_kind : Event → Counts → Counts

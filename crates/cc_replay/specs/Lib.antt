@@ -1,6 +1,7 @@
 -- In reading order.
 pub mod PolicyText
 pub mod Trace
+pub mod Formats
 pub mod Counts
 pub mod Rows
 pub mod Summary

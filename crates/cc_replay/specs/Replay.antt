@@ -6,25 +6,29 @@ use Rattle.cc_replay.specs.declared.counts.Count.{Count}
 use Rattle.cc_replay.specs.declared.counts.Counts.{Counts}
 use Rattle.cc_heap.specs.declared.event.Event.{Event}
 use Rattle.cc_heap.specs.declared.event.Event.TheVariants.{Clock}
+use Rattle.cc_replay.specs.declared.formats.Entry.{Entry}
+use Rattle.cc_replay.specs.declared.formats.TraceFormat.{TraceFormat}
 use Rattle.cc_heap.specs.declared.outcome.Outcome.{Outcome}
 use Rattle.cc_replay.specs.declared.reading.Progress.{Progress}
 use Rattle.cc_replay.specs.declared.reading.Progress.TheVariants.{Running, OutOfMemory}
 use Rattle.cc_replay.specs.declared.reading.Reading.{Reading}
 use Rattle.cc_replay.specs.declared.summary.Figures.{Figures}
-use Rattle.cc_replay.specs.Counts.{is_full, is_no_room, with_event, with_line, with_outcome, with_refusal}
+use Rattle.cc_replay.specs.Counts.{is_full, is_no_room, with_event, with_failure, with_line, with_outcome, with_refusal}
+use Rattle.cc_replay.specs.Formats.{entry_in, has_pointers}
 use Rattle.cc_heap.specs.Lost.{IsRunEvent, RunState}
 use Rattle.cc_heap.specs.Memory.{IsSound, usage_of}
 use Rattle.cc_replay.specs.Reading.{is_due, progress_after}
 use Rattle.cc_replay.specs.Rows.{names_line, values_line}
 use Rattle.cc_replay.specs.Summary.{sample_rows}
-use Rattle.cc_replay.specs.Trace.{entry_of}
 
 -- The state of a replay: the heap with the lost ids, how the trace is read, the counts of its lines, the
--- time that it gave last, whether further lines are taken, and whether the last event has a sample.
+-- pointer of the first half of a reallocation whose second half has not come, the time that the trace gave
+-- last, whether further lines are taken, and whether the last event has a sample.
 pub record ReplayState : Type 0 where
   pub run : RunState
   pub reading : Reading
   pub counts : Counts
+  pub pending : Option ℕ
   pub time : ℕ
   pub progress : Progress
   pub is_sampled : Bool
@@ -40,6 +44,7 @@ no_counts = record {
   frees = 0;
   aligned = 0;
   zero = 0;
+  failed = 0;
   syntax = none;
   range = none;
   unfinished = none;
@@ -58,6 +63,7 @@ begun run reading = record {
   run = run;
   reading = reading;
   counts = no_counts;
+  pending = None;
   time = 0;
   progress = Running;
   is_sampled = true;
@@ -65,8 +71,12 @@ begun run reading = record {
 
 -- The numbers of a replay.
 abbrev pub figures_of : ReplayState → Figures
-figures_of state =
-    record { counts = state.counts; totals = state.run.heap.totals; usage = usage_of state.run.heap.memory }
+figures_of state = record {
+  counts = state.counts;
+  totals = state.run.heap.totals;
+  usage = usage_of state.run.heap.memory;
+  has_pointers = has_pointers state.reading.format;
+}
 
 -- Whether an event is refused: the id of its object is not live or is lost, or is that of a live one, or
 -- the object cannot be made.
@@ -131,15 +141,30 @@ TakesEntry old (Err refusal) text is_error new = Refuses old refusal text is_err
 abbrev pub at_line : ReplayState → ReplayState
 at_line state = record state { counts = with_line state.counts }
 
+-- The state with one more line, which has this entry.
+abbrev pub at_entry : Entry → ReplayState → ReplayState
+at_entry entry state = record state { counts = with_failure entry.is_failure (with_line state.counts); pending = entry.pending }
+
+-- The entry of the next line, in the format of the trace.
+abbrev pub next_entry : ReplayState → (line : List ℕ) → Entry
+next_entry state line = entry_in state.reading.format state.pending line
+
 -- AppendsEvent holds if an event is taken, or memory ran out, and its text is appended to the output.
 pub record AppendsEvent (old : ReplayState) (event : Event) (out out_now : List ℕ) (is_error : Bool) (new : ReplayState) : Type 0 where
   pub text : List ℕ
   pub out_is : out_now ≡ out ++ text
   pub takes : TakesEvent old event text is_error new ⊎ RunsOut old text is_error new
 
+-- AppendsEntry holds if a line of this entry is counted and taken, and its text is appended to the output.
+pub record AppendsEntry (old : ReplayState) (entry : Entry) (out out_now : List ℕ) (is_error : Bool) (new : ReplayState) : Type 0 where
+  pub text : List ℕ
+  pub out_is : out_now ≡ out ++ text
+  pub takes : TakesEntry (at_entry entry old) entry.event text is_error new
+
 -- TakesNext holds if a line is counted and taken.
 abbrev pub TakesNext : (old : ReplayState) → (line text : List ℕ) → (is_error : Bool) → (new : ReplayState) → Type 0
-TakesNext old line text is_error new = TakesEntry (at_line old) (entry_of line) text is_error new
+TakesNext old line text is_error new =
+    TakesEntry (at_entry (next_entry old line) old) (next_entry old line).event text is_error new
 
 -- TakesLine holds if a line is counted and taken, unless no further line is.
 abbrev pub TakesLineIn : Progress → (old : ReplayState) → (line text : List ℕ) → (is_error : Bool) → (new : ReplayState) → Type 0
@@ -171,7 +196,8 @@ abbrev pub event_before : Result (Option Event) Refusal → List Event → List 
 event_before (Ok (Some event)) events = event ∷ events
 event_before _ events = events
 
--- The events of lines, in order.
-abbrev pub events_in : (lines : List (List ℕ)) → List Event
-events_in [] = []
-events_in (line ∷ lines) = event_before (entry_of line) (events_in lines)
+-- The events of lines in a format, in order.
+abbrev pub events_in : TraceFormat → (pending : Option ℕ) → (lines : List (List ℕ)) → List Event
+events_in format pending [] = []
+events_in format pending (line ∷ lines) =
+    event_before (entry_in format pending line).event (events_in format (entry_in format pending line).pending lines)

@@ -1,5 +1,5 @@
 -- The tables of a replay: the summary, and the rows of a series.
-use Rattle.std.specs.Prelude.{ℕ, ◌+◌, ◌-◌, List, [], ◌∷◌, ◌++◌, codes}
+use Rattle.std.specs.Prelude.{ℕ, Bool, ◌+◌, ◌-◌, List, [], ◌∷◌, ◌++◌, codes, if◌then◌else◌}
 use Rattle.cc_replay.specs.declared.counts.Counts.{Counts}
 use Rattle.cc_replay.specs.declared.table.Value.TheVariants.{Number, Percent}
 use Rattle.cc_replay.specs.declared.summary.Figures.{Figures}
@@ -83,11 +83,15 @@ end_rows usage =
     ∷ number_row (codes "end.quarantine") usage.quarantine
     ∷ []
 
+-- The row of the objects that the program could not make, if the format has pointers.
+abbrev pub failure_rows : (has_pointers : Bool) → Counts → List Row
+failure_rows has_pointers counts = if has_pointers then number_row (codes "failed") counts.failed ∷ [] else []
+
 -- The rows of a summary.
 abbrev pub summary_rows : Figures → List Row
 summary_rows figures =
     line_rows figures.counts ++ refusal_rows figures.counts ++ made_rows figures.totals ++ peak_rows figures.totals
-    ++ end_rows figures.usage
+    ++ end_rows figures.usage ++ failure_rows figures.has_pointers figures.counts
 
 -- The rows of a sample: the state of a heap after an event, which becomes one line of a series.
 abbrev pub sample_rows : (time : ℕ) → Figures → List Row

@@ -1,6 +1,6 @@
 //! The counts of the lines of a trace, and of what comes of its events.
 ghost use Rattle.std.specs.Prelude.{◌≡◌};
-ghost use Rattle.cc_replay.specs.Counts.{counted, counted_if, is_full, is_no_room, with_event, with_line, with_outcome, with_refusal};
+ghost use Rattle.cc_replay.specs.Counts.{counted, counted_if, is_full, is_no_room, with_event, with_failure, with_line, with_outcome, with_refusal};
 
 use cc_heap::{Event, Making, Outcome};
 use cc_word::Refusal;
@@ -33,6 +33,8 @@ pub struct Counts {
     pub aligned: u64,
     /// The number of events that ask for 0 bytes.
     pub zero: u64,
+    /// The number of lines that report that the program could not make an object.
+    pub failed: u64,
     /// The lines that are not events.
     pub syntax: Count,
     /// The lines with a number out of range.
@@ -77,6 +79,17 @@ impl Counts {
     {
         Counts {
             lines: self.lines.saturating_add(1),
+            ..self
+        }
+    }
+
+    /// Returns the counts with one more object that the program could not make, if the last line
+    /// reports one.
+    pub(crate) fn with_failure(self, is_failure: bool) -> Counts
+        ensures { result ≡ with_failure is_failure self }
+    {
+        Counts {
+            failed: self.failed.saturating_add(u64::from(is_failure)),
             ..self
         }
     }

@@ -16,8 +16,8 @@ ghost use Rattle.cc_replay.specs.declared.reading.Progress.TheVariants.{Running}
 pub fn replays_are_runs()
     ensures heap { (old new : ReplayState) (text output : List ℕ) (any_error : Bool)
         → Output TakesLine TakesRest lines old text output any_error new → new.progress ≡ Running
-        → Runs old.run.heap (events_in (lines_of text)) new.run.heap }
+        → Runs old.run.heap (events_in old.reading.format old.pending (lines_of text)) new.run.heap }
     ensures lost { (old new : ReplayState) (text output : List ℕ) (any_error : Bool)
         → Output TakesLine TakesRest lines old text output any_error new → new.progress ≡ Running
-        → RunsNoting old.run (events_in (lines_of text)) new.run }
+        → RunsNoting old.run (events_in old.reading.format old.pending (lines_of text)) new.run }
 {}

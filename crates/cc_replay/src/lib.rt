@@ -3,6 +3,7 @@
 #![tactic(auto)]
 
 mod counts;
+mod formats;
 mod laws;
 mod policy_text;
 mod reading;
@@ -20,6 +21,7 @@ pub use cc_heap::{
     totals_are_of_all_states,
 };
 pub use counts::{Count, Counts};
+pub use formats::{Entry, TraceFormat, read_entry};
 pub use laws::replays_are_runs;
 pub use policy_text::read_policy;
 pub use reading::{Progress, Reading};

@@ -2,9 +2,13 @@
 ghost use Rattle.std.specs.Prelude.{◌≡◌};
 ghost use Rattle.cc_replay.specs.Reading.{is_due, progress_after};
 
+use crate::formats::TraceFormat;
+
 /// How a trace is read.
 #[derive(Clone, Copy, PartialEq, Eq, Debug)]
 pub struct Reading {
+    /// The format of the trace.
+    pub format: TraceFormat,
     /// Whether no line is taken after the first that is refused.
     pub is_strict: bool,
     /// The number of events from a sample of the series to the next, or 0 if there is no series.

@@ -1,5 +1,5 @@
 //! A heap over a trace that takes the lines of it.
-ghost use Rattle.std.specs.Prelude.{◌≡◌, ◌≤◌, ◌+◌, ◌↔◌, ◌++◌, ◌^◌, [], true, false, length, Err, IfOk, IsErr, IsTrue, OnErr, OnOk};
+ghost use Rattle.std.specs.Prelude.{◌≡◌, ◌≤◌, ◌+◌, ◌↔◌, ◌++◌, ◌^◌, [], true, false, length, Err, IfOk, IfSome, IsErr, IsTrue, OnErr, OnOk};
 ghost use Rattle.cc_io.specs.Answers.{AnswersInto};
 ghost use Rattle.cc_io.specs.Correct.{Pumps};
 ghost use Rattle.cc_io.specs.Frames.{lines};
@@ -8,13 +8,13 @@ ghost use Rattle.std.specs.Io.KnownBytes.{Appends};
 ghost use Rattle.cc_replay.specs.declared.reading.Progress.TheVariants.{OutOfMemory};
 ghost use Rattle.cc_heap.specs.Events.{HasAlignment};
 ghost use Rattle.cc_heap.specs.Lost.{empty_run};
-ghost use Rattle.cc_replay.specs.Replay.{AppendsEvent, Refuses, TakesLine, TakesNext, TakesRest, begun, figures_of, is_refused, last_sample, series_header, time_after};
+ghost use Rattle.cc_replay.specs.Replay.{AppendsEntry, AppendsEvent, Refuses, TakesLine, TakesNext, TakesRest, begun, figures_of, is_refused, last_sample, series_header, time_after};
 
 use crate::counts::{Count, Counts};
+use crate::formats::{Entry, read_entry};
 use crate::reading::{Progress, Reading};
 use crate::series::{MOST_SAMPLE, push_sample, push_series_header};
 use crate::summary::{Figures, write_page};
-use crate::trace::read_event;
 use cc_heap::{Event, Heap, Making, Outcome, Run, Settings, SizeTotals};
 use cc_io::{Answerer, IoError, Lines, Sink, Source, Summary, pump};
 use cc_placer::Placer;
@@ -32,6 +32,7 @@ pub struct Replay<P: Placer> {
     run: Run<P>,
     reading: Reading,
     counts: Counts,
+    pending: Option<u64>,
     time: u64,
     progress: Progress,
     is_sampled: bool,
@@ -42,7 +43,7 @@ impl<P: Placer> Model for Replay<P> {
 
     ghost Value = { ReplayState };
 
-    ghost view = { λ s. record { run = s.run; reading = s.reading; counts = s.counts; time = s.time; progress = s.progress; is_sampled = s.is_sampled } };
+    ghost view = { λ s. record { run = s.run; reading = s.reading; counts = s.counts; pending = s.pending; time = s.time; progress = s.progress; is_sampled = s.is_sampled } };
 }
 
 impl<P: Placer> Replay<P> {
@@ -82,6 +83,7 @@ impl<P: Placer> Replay<P> {
                 frees: 0,
                 aligned: 0,
                 zero: 0,
+                failed: 0,
                 syntax: NONE,
                 range: NONE,
                 unfinished: NONE,
@@ -91,6 +93,7 @@ impl<P: Placer> Replay<P> {
                 full: NONE,
                 lost: NONE,
             },
+            pending: None,
             time: 0,
             progress: Progress::Running,
             is_sampled: true,
@@ -105,6 +108,7 @@ impl<P: Placer> Replay<P> {
             counts: self.counts,
             totals: self.run.totals(),
             usage: self.run.usage(),
+            has_pointers: self.reading.format.has_pointers(),
         }
     }
 
@@ -173,12 +177,24 @@ impl<P: Placer> Replay<P> {
     }
 
     /// Takes a line while lines are taken.
+    #[tactic(auto, using(crate::proofs::ReplayLemmas::entry_answers))]
     fn take_next<const N: usize>(&mut self, line: &[u8], out: &mut Page<N>) -> bool
         requires room { length out.old + 1301 ≤ N }
         ensures { AnswersInto TakesNext self.old line.now out.old out.new result self.new }
     {
-        self.counts = self.counts.with_line();
-        match read_event(line) {
+        let entry = read_entry(self.reading.format, self.pending, line);
+        self.take_entry(entry, out)
+    }
+
+    /// Counts a line and takes its entry.
+    fn take_entry<const N: usize>(&mut self, entry: Entry, out: &mut Page<N>) -> bool
+        requires aligned { IfOk entry.event (λ event. IfSome event HasAlignment) }
+        requires room { length out.old + 1301 ≤ N }
+        ensures { AppendsEntry self.old entry out.old out.new result self.new }
+    {
+        self.counts = self.counts.with_line().with_failure(entry.is_failure);
+        self.pending = entry.pending;
+        match entry.event {
             Ok(None) => false,
             Ok(Some(event)) => self.take_event(event, out),
             Err(refusal) => self.refuse(refusal),
@@ -290,7 +306,7 @@ impl<P: Placer, const N: usize> Answerer<N> for Replay<P> {
 
 /// Replays the trace that the source gives, and writes the samples of its series to the sink.
 ///
-/// Each line is taken as [`read_event`] reads it. The replay counts a line that is not an event, and
+/// Each line is taken as [`read_entry`] reads it in the format of the trace. The replay counts a line that is not an event, and
 /// an event that the heap refuses, and takes the next line unless reading is strict. If an allocation
 /// fails, [`Replay::progress`] says so, and no further line is taken. The source is read
 /// in chunks of up to 16 KiB. Before each read, all samples of earlier events are written. The sink

@@ -39,6 +39,7 @@ fn sample_rows(time: u64, figures: &Figures) -> [Row; 13]
         counts,
         totals,
         usage,
+        ..
     } = figures;
     [
         row!(b"line", counts.lines),

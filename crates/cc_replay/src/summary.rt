@@ -4,7 +4,7 @@ ghost use Rattle.std.specs.Io.KnownBytes.{Appends};
 ghost use Rattle.arrayvec.specs.ArrayVec.{array_vec_len};
 ghost use Rattle.cc_io.specs.Devices.{TakesBeginning};
 ghost use Rattle.cc_replay.specs.Rows.{rows_of, table_text};
-ghost use Rattle.cc_replay.specs.Summary.{end_rows, line_rows, made_rows, peak_rows, refusal_rows, summary_rows};
+ghost use Rattle.cc_replay.specs.Summary.{end_rows, failure_rows, line_rows, made_rows, peak_rows, refusal_rows, summary_rows};
 
 use crate::counts::Counts;
 use crate::row;
@@ -19,7 +19,7 @@ use cc_text::Page;
 const MOST_SUMMARY: usize = 16384;
 
 /// The number of rows of a summary.
-const MOST_ROWS: usize = 42;
+const MOST_ROWS: usize = 43;
 
 /// The numbers of a replay.
 #[derive(Clone, Copy, PartialEq, Eq, Debug)]
@@ -30,6 +30,8 @@ pub struct Figures {
     pub totals: Totals,
     /// The number of objects and of bytes that the heap holds.
     pub usage: Usage,
+    /// Whether the trace names objects by pointers.
+    pub has_pointers: bool,
 }
 
 /// Writes the summary of a replay in a format, and flushes the sink.
@@ -64,13 +66,16 @@ fn summary_rows(figures: &Figures) -> ArrayVec<Row, MOST_ROWS>
     append_rows(&mut rows, &made_rows(&figures.totals));
     append_rows(&mut rows, &peak_rows(&figures.totals));
     append_rows(&mut rows, &end_rows(&figures.usage));
+    if figures.has_pointers {
+        append_rows(&mut rows, &failure_rows(&figures.counts));
+    }
     rows
 }
 
 /// Appends rows to those of a summary.
 #[tactic(auto, using(crate::proofs::RowLemmas::rows_after))]
 fn append_rows(rows: &mut ArrayVec<Row, MOST_ROWS>, more: &[Row])
-    requires { array_vec_len rows.old + length more.now ≤ 42 }
+    requires { array_vec_len rows.old + length more.now ≤ 43 }
     ensures value { rows_of rows.new.items ≡ rows_of rows.old.items ++ rows_of more.now }
     ensures len { array_vec_len rows.new ≡ array_vec_len rows.old + length more.now }
 {
@@ -152,6 +157,13 @@ fn peak_rows(totals: &Totals) -> [Row; 9]
         row!(b"swept.over", totals.swept_over),
         row!(b"high", totals.high),
     ]
+}
+
+/// Returns the row of the objects that the program could not make.
+fn failure_rows(counts: &Counts) -> [Row; 1]
+    ensures { rows_of result ≡ failure_rows true counts.now }
+{
+    [row!(b"failed", counts.failed)]
 }
 
 /// Returns the rows of the heap at the end.

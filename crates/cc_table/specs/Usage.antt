@@ -84,11 +84,11 @@ with_heap_options command =
     let swept = with_rule (with_rule command (valued_option (codes "sweep"))) (valued_option (codes "min")) in
     with_rule swept (valued_option (codes "pool"))
 
--- The command `replay [--align ALIGN] [--sweep POLICY] [--min BYTES] [--pool BASE:LENGTH] [--strict]
--- [--summary FORMAT] [--each N] [FILE]`.
+-- The command `replay [--format FORMAT] [--align ALIGN] [--sweep POLICY] [--min BYTES] [--pool BASE:LENGTH]
+-- [--strict] [--summary FORMAT] [--each N] [FILE]`.
 abbrev pub replay_command : (aligns summaries : Bor (List (Bor Text))) → App
 replay_command aligns summaries =
-    let heap = with_heap_options (with_rule (new_app (codes "replay")) (choice_option (codes "align") aligns)) in
+    let heap = with_heap_options (with_rule (with_rule (new_app (codes "replay")) (valued_option (codes "format"))) (choice_option (codes "align") aligns)) in
     let told = with_rule (with_rule heap (flag_option (codes "strict"))) (choice_option (codes "summary") summaries) in
     with_rule (with_rule told (valued_option (codes "each"))) (optional_argument (codes "file"))
 

@@ -192,6 +192,10 @@ Examples:
 pub(crate) const REPLAY_ABOUT: &str =
     "Replays the trace of an allocator on a heap with exact bounds, and prints the heap's numbers";
 
+pub(crate) const TRACE_FORMAT_HELP: &str = "\
+Format of the trace: `own`, or that of another recorder: `mtrace` of the GNU C library, `heaptrack`
+(the raw file of `heaptrack -r`), or `ltrace` [default: own]";
+
 pub(crate) const SWEEP_HELP: &str = "\
 When the quarantine is swept: `none` (there is no quarantine), `never`, `trace` (at each event `s`),
 N% (if more bytes are quarantined than N percent of the held ones), N%:live or N%:high (of the live
@@ -228,6 +232,15 @@ that. An object of SIZE bytes, or of one byte if SIZE is 0, takes its representa
 lowest place with the alignment that exact bounds need, or with ALIGN if that is larger. The policy
 is examined after each free and each realloc. If an object has no place, the quarantine is swept once
 for it.
+
+A line of `mtrace` is an event after the words `@ CALLER`, if it has them:
+  + PTR SIZE             makes an object; if PTR is (nil), none was made, which counts as `failed`
+  - PTR                  frees an object
+  < PTR, > PTR SIZE      makes an object in place of another: the old one, and the new one
+  ! PTR SIZE             could not make an object in place of another, which counts as `failed`
+One that begins with `=` is nothing. A pointer is an ID. For `heaptrack` the lines are those of a raw
+file, `+ SIZE TRACE PTR`, `- PTR` and `c TIME` in hexadecimal, and for `ltrace` the calls of malloc,
+calloc, realloc and free with their results. Their other lines are nothing.
 
 The summary has counts of lines and events, sums over all objects that were made, peaks of the bytes
 that are held, the sweeps, and what is held at the end. It counts each kind of refused line and has

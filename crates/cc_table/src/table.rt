@@ -10,7 +10,8 @@ use crate::help::{
     POOL_LENGTH_HELP, REPLAY_ABOUT, REPLAY_AFTER_HELP, REQUEST_BASE_HELP, REQUEST_LENGTH_HELP,
     ROUND_ABOUT, ROUND_AFTER_HELP, RUN_ABOUT, RUN_AFTER_HELP, SHOW_ABOUT, SHOW_AFTER_HELP,
     SKIP_HELP, SLOTS_HELP, STATS_HELP, STRICT_HELP, SUMMARY_HELP, SVG_HELP, SWEEP_HELP,
-    TEXT_FILE_HELP, TRACE_FILE_HELP, WINDOW_SVG_HELP, WORD_HELP, WORDS_FILE_HELP,
+    TEXT_FILE_HELP, TRACE_FILE_HELP, TRACE_FORMAT_HELP, WINDOW_SVG_HELP, WORD_HELP,
+    WORDS_FILE_HELP,
 };
 
 /// The subject of the help of an argument.
@@ -58,6 +59,8 @@ pub(crate) enum Topic {
     RequestLength,
     /// `REQUEST_BASE_HELP`.
     RequestBase,
+    /// `TRACE_FORMAT_HELP`.
+    TraceFormat,
     /// `SWEEP_HELP`.
     Sweep,
     /// `LEAST_HELP`.
@@ -119,6 +122,7 @@ pub(crate) fn help<'a>(topic: Topic) -> &'a str {
         Topic::TextFile => TEXT_FILE_HELP,
         Topic::RequestLength => REQUEST_LENGTH_HELP,
         Topic::RequestBase => REQUEST_BASE_HELP,
+        Topic::TraceFormat => TRACE_FORMAT_HELP,
         Topic::Sweep => SWEEP_HELP,
         Topic::Least => LEAST_HELP,
         Topic::Pool => POOL_HELP,
@@ -348,6 +352,12 @@ const COMMANDS: &[CommandRow] = &[
         name: "replay",
         page: Page::Replay,
         rows: &[
+            Row {
+                kind: Kind::Valued,
+                name: "format",
+                placeholder: "FORMAT",
+                topic: Topic::TraceFormat,
+            },
             Row {
                 kind: Kind::Align,
                 name: "align",

@@ -1,12 +1,12 @@
 //! The heap and the reading that the arguments of `replay` ask for.
 ghost use Rattle.std.specs.Prelude.{◌≡◌, ◌^◌, IfOk};
 ghost use Rattle.cc_bounds.specs.Span.{IsSpan};
-ghost use Rattle.cc_tasks.specs.ReplayTexts.{each_in, least_in, replay_in, span_given, span_in, sweep_in};
+ghost use Rattle.cc_tasks.specs.ReplayTexts.{each_in, format_in, format_named, least_in, replay_in, span_given, span_in, sweep_in};
 
 use cc_arguments::ReplayTexts;
 use cc_bounds::{Align, Span};
 use cc_command::read_request;
-use cc_replay::{Policy, Reading, Settings, Share, read_policy};
+use cc_replay::{Policy, Reading, Settings, Share, TraceFormat, read_policy};
 use cc_syntax::{both, read_address};
 use cc_word::Refusal;
 
@@ -21,7 +21,7 @@ const ALL_ABOVE: Span = Span {
 
 /// Returns the settings of the heap, and how the trace is read.
 ///
-/// Errors, in order: `Syntax` if a text is not a number, not a policy or not a pool; `OutOfBounds` if the pool ends past 2^64;
+/// Errors, in order: `Syntax` if a text is not a number, not a policy, not a pool or not a format; `OutOfBounds` if the pool ends past 2^64;
 /// `OutOfRange` if a number is too large, or that of `--each` is 0.
 pub(crate) fn replay_of(
     align: Align,
@@ -33,8 +33,9 @@ pub(crate) fn replay_of(
     ensures pool { IfOk result (λ found. IsSpan found.0.pool) }
 {
     let sweeping = both(policy_of(texts.sweep), least_of(texts.least));
-    match both(sweeping, both(each_of(texts.each), pool_of(texts.pool))) {
-        Ok(((policy, least_quarantine), (each, pool))) => Ok((
+    let placing = both(pool_of(texts.pool), format_of(texts.format));
+    match both(sweeping, both(each_of(texts.each), placing)) {
+        Ok(((policy, least_quarantine), (each, (pool, format)))) => Ok((
             Settings {
                 limit: MOST_HELD,
                 pool,
@@ -43,6 +44,7 @@ pub(crate) fn replay_of(
                 least_quarantine,
             },
             Reading {
+                format,
                 is_strict: strict,
                 each,
             },
@@ -85,6 +87,33 @@ fn each_of(text: Option<&str>) -> Result<u64, Refusal>
             Err(refusal) => Err(refusal),
         },
         None => Ok(0),
+    }
+}
+
+/// Returns the format of the trace that `--format` names, or the crate's own.
+fn format_of(text: Option<&str>) -> Result<TraceFormat, Refusal>
+    ensures { result ≡ format_in text.entry }
+{
+    match text {
+        Some(text) => read_format(text.as_bytes()),
+        None => Ok(TraceFormat::Own),
+    }
+}
+
+/// Parses the name of a format.
+fn read_format(name: &[u8]) -> Result<TraceFormat, Refusal>
+    ensures { result ≡ format_named name.now }
+{
+    if name == b"own".as_slice() {
+        Ok(TraceFormat::Own)
+    } else if name == b"mtrace".as_slice() {
+        Ok(TraceFormat::Mtrace)
+    } else if name == b"heaptrack".as_slice() {
+        Ok(TraceFormat::Heaptrack)
+    } else if name == b"ltrace".as_slice() {
+        Ok(TraceFormat::Ltrace)
+    } else {
+        Err(Refusal::Syntax)
     }
 }
 

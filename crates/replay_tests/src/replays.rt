@@ -3,8 +3,8 @@ use cc_bounds::{Align, Span};
 use cc_io::{IoError, SliceSink, SliceSource, Summary};
 use cc_placer::ScanPlacer;
 use cc_replay::{
-    Format, Policy, Progress, Reading, Replay, Settings, Share, read_policy, replay_trace,
-    summarize_trace, write_summary,
+    Format, Policy, Progress, Reading, Replay, Settings, Share, TraceFormat, read_policy,
+    replay_trace, summarize_trace, write_summary,
 };
 use std::alloc::{AllocError, Global};
 
@@ -197,7 +197,15 @@ fn replay(alloc: Global, case: usize, is_strict: bool) -> Result<Replay<ScanPlac
         policy: policy(case),
         least_quarantine: if case == 3 { 6000 } else { 0 },
     };
-    Replay::with_settings(alloc, settings, Reading { is_strict, each: 4 })
+    Replay::with_settings(
+        alloc,
+        settings,
+        Reading {
+            format: TraceFormat::Own,
+            is_strict,
+            each: 4,
+        },
+    )
 }
 
 /// Returns how the replay ends, and the number of bytes of the series that were then taken, or

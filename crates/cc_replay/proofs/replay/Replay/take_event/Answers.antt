@@ -14,7 +14,7 @@ pub returns-in-Err : goal.returns-in-Err
 returns-in-Err g c =
     let inside = c.self.inside in
     subst (λ (old : ReplayState). AppendsEvent old c.args.event c.args.out.now c.args.out.now false
-    (state_of c.event.new.self inside.reading inside.counts inside.time OutOfMemory inside.is_sampled)) c.self.view_is (record {
+    (state_of c.event.new.self inside.reading inside.counts inside.pending inside.time OutOfMemory inside.is_sampled)) c.self.view_is (record {
       text = [];
       out_is = sym (append-nil c.args.out.now);
       takes = inr (record { run = c.event.new.self; sound = c.event.ensures.sound; is_new = refl; error_is = refl; text_is = refl });
@@ -28,7 +28,7 @@ returns-then-self g c =
     let time = c.time_after-self-inside.result in
     let progress = c.progress_after-self-inside.result in
     let sampled = c.is_due-self-inside.result in
-    let new = state_of run inside.reading counts time progress sampled in
+    let new = state_of run inside.reading counts inside.pending time progress sampled in
     let counts_is = c.with_outcome-self-inside.ensures ∙ ap (with_outcome c.in-Ok.outcome) c.with_event.ensures in
     let sampled_is = c.is_due-self-inside.ensures
     ∙ ap (λ (t : Totals). is_due inside.reading counts.events t.sweeps c.totals.result.sweeps) c.totals-sweeps.ensures
@@ -36,7 +36,7 @@ returns-then-self g c =
     let text_is : values_line (sample_rows time c.figures.result) ≡ sample_text sampled new =
     ap (λ (f : Figures). values_line (sample_rows time f)) c.figures.ensures ∙ sym (ap (λ (b : Bool). sample_text b new) c.if-self.true) in
     subst (λ (old : ReplayState). AppendsEvent old c.args.event c.args.out.now c.push_sample.new.page c.is_refused-is_refused.result new) c.self.view_is
-    (event_taken (state_of inside.run inside.reading inside.counts inside.time inside.progress inside.is_sampled) c.args.event c.in-Ok.outcome run counts time
+    (event_taken (state_of inside.run inside.reading inside.counts inside.pending inside.time inside.progress inside.is_sampled) c.args.event c.in-Ok.outcome run counts time
     progress sampled c.args.out.now c.push_sample.new.page c.is_refused-is_refused.result c.in-Ok.ensures.is_event counts_is c.time_after-self-inside.ensures
     c.is_refused-is_refused.ensures c.progress_after-self-inside.ensures sampled_is
     (c.push_sample.ensures.value ∙ ap (λ (l : List ℕ). c.args.out.now ++ l) text_is))
@@ -49,14 +49,14 @@ returns-else-self g c =
     let time = c.time_after-self-inside.result in
     let progress = c.progress_after-self-inside.result in
     let sampled = c.is_due-self-inside.result in
-    let new = state_of run inside.reading counts time progress sampled in
+    let new = state_of run inside.reading counts inside.pending time progress sampled in
     let counts_is = c.with_outcome-self-inside.ensures ∙ ap (with_outcome c.in-Ok.outcome) c.with_event.ensures in
     let sampled_is = c.is_due-self-inside.ensures
     ∙ ap (λ (t : Totals). is_due inside.reading counts.events t.sweeps c.totals.result.sweeps) c.totals-sweeps.ensures
     ∙ ap (λ (t : Totals). is_due inside.reading counts.events inside.run.heap.totals.sweeps t.sweeps) c.totals.ensures in
     let text_is : [] ≡ sample_text sampled new = sym (ap (λ (b : Bool). sample_text b new) c.if-self.false) in
     subst (λ (old : ReplayState). AppendsEvent old c.args.event c.args.out.now c.args.out.now c.is_refused-is_refused.result new) c.self.view_is
-    (event_taken (state_of inside.run inside.reading inside.counts inside.time inside.progress inside.is_sampled) c.args.event c.in-Ok.outcome run counts time
+    (event_taken (state_of inside.run inside.reading inside.counts inside.pending inside.time inside.progress inside.is_sampled) c.args.event c.in-Ok.outcome run counts time
     progress sampled c.args.out.now c.args.out.now c.is_refused-is_refused.result c.in-Ok.ensures.is_event counts_is c.time_after-self-inside.ensures
     c.is_refused-is_refused.ensures c.progress_after-self-inside.ensures sampled_is
     (sym (append-nil c.args.out.now) ∙ ap (λ (l : List ℕ). c.args.out.now ++ l) text_is))
