@@ -17,7 +17,7 @@ use Rattle.cc_heap.specs.Memory.{object_at, usage_of}
 use Rattle.cc_heap.specs.Policy.{is_of_the_trace}
 use Rattle.cc_heap.specs.Heap.{Attempts, FreesObject, Heap, MakesObject, empty_heap, swept}
 use Rattle.cc_heap.specs.Events.{Allocates, AttemptsToReplace, FollowsPolicy, FollowsReplacing, Frees, FreesIfLive, IsEvent, Reallocates, Replaces, ReplacesLive, Tries, TriesToReplace}
-use Rattle.cc_heap.specs.Run.{HasTotals, IsFreeing, IsMaking, IsSweeping, Moment, Passes, Runs, greatest, of_made, of_swept, totals_after, usage_in}
+use Rattle.cc_heap.specs.Run.{ArePassedBy, HasTotals, IsFreeing, IsMaking, IsSweeping, Moment, Passes, Runs, greatest, of_made, of_swept, totals_after, usage_in}
 
 -- ---- the changes that an event is
 
@@ -146,10 +146,22 @@ event old new (Free id) outcome is = frees_if_live old new id is.is_live is.free
 event old new Sweep outcome (is, told) = asked old new (is_of_the_trace old.settings.policy) is
 event old new (Clock time) outcome (is, told) = same old new is
 
-pub runs : (old new : Heap) (events : List Event) → Runs old events new → HasHistory old new
-runs old new [] is = same old new is
+-- the states that events pass
+record HasPassed (old : Heap) (events : List Event) (new : Heap) : Type 0 where
+  moments : List Moment
+  passes : Passes old moments new
+  passed : ArePassedBy old events moments new
+
+runs : (old new : Heap) (events : List Event) → Runs old events new → HasPassed old events new
+runs old new [] is = record { moments = []; passes = is; passed = (refl, is) }
 runs old new (first ∷ events) (outcome, next, is, rest) =
-    follow old next new (event old next first outcome is) (runs next new events rest)
+    let mine = event old next first outcome is in
+    let others = runs next new events rest in
+    record {
+      moments = mine.moments ++ others.moments;
+      passes = joined old next new mine.moments others.moments mine.passes others.passes;
+      passed = (mine.moments, others.moments, outcome, next, refl, is, mine.passes, others.passed);
+    }
 
 -- ---- the totals of one state more
 
@@ -391,7 +403,7 @@ passed old new (moment ∷ moments) capped (next, change, rest) =
 -- ---- the law
 
 pub has_totals : (settings : Settings) (events : List Event) (heap : Heap) → Runs (empty_heap settings) events heap
-    → HasTotals heap
+    → HasTotals events heap
 has_totals settings events heap run =
     let history = runs (empty_heap settings) heap events run in
     let after_all = passed (empty_heap settings) heap history.moments (record {
@@ -405,8 +417,8 @@ has_totals settings events heap run =
     }) history.passes in
     record {
       moments = history.moments;
-      passes = subst (λ (s : Settings). Passes (empty_heap s) history.moments heap) (sym after_all.settings)
-          history.passes;
+      passed = subst (λ (s : Settings). ArePassedBy (empty_heap s) events history.moments heap)
+          (sym after_all.settings) history.passed;
       totals = subst (λ (s : Settings). heap.totals ≡ totals_after s.pool (empty_heap s).totals history.moments)
           (sym after_all.settings) after_all.totals;
     }

@@ -18,7 +18,7 @@ use Rattle.cc_heap.specs.Memory.{object_at, usage_of}
 use Rattle.cc_heap.specs.Policy.{is_of_the_trace}
 use Rattle.cc_heap.specs.Heap.{Attempts, FreesObject, Heap, MakesObject, empty_heap, swept}
 use Rattle.cc_heap.specs.Events.{Allocates, AttemptsToReplace, FollowsPolicy, FollowsReplacing, Frees, FreesIfLive, IsEvent, Reallocates, Replaces, ReplacesLive, Tries, TriesToReplace}
-use Rattle.cc_heap.specs.Run.{Moment, Passes}
+use Rattle.cc_heap.specs.Run.{ArePassedBy, Moment, Passes}
 use Rattle.cc_heap.specs.Sizes.{is_of_power, made_size, no_objects, no_sizes, of_size, sizes_after, with_made_size, with_object, with_size}
 use Rattle.cc_heap.specs.Lost.{HasSizes, IsRunEvent, RunState, RunsNoting, empty_run}
 use Rattle.cc_heap.proofs.HistoryLemmas.{capped_more, capped_same, joined}
@@ -325,18 +325,18 @@ made_row power align (Some size) rows within =
 made_row power align None rows within = refl
 
 -- the rows after a number of events
-record HasRows (old new : RunState) : Type 0 where
+record HasRows (old : RunState) (events : List Event) (new : RunState) : Type 0 where
   moments : List Moment
-  passes : Passes old.heap moments new.heap
+  passed : ArePassedBy old.heap events moments new.heap
   settings : new.heap.settings ≡ old.heap.settings
   many : length new.sizes ≡ length old.sizes
   rows : (power : ℕ) → power < length old.sizes → IsCappedRow (get_or old.sizes power no_objects)
       → get_or new.sizes power no_objects ≡ sizes_after power (get_or old.sizes power no_objects) moments
 
-rows_run : (old new : RunState) (events : List Event) → RunsNoting old events new → HasRows old new
+rows_run : (old new : RunState) (events : List Event) → RunsNoting old events new → HasRows old events new
 rows_run old new [] is = record {
   moments = [];
-  passes = ap (λ (r : RunState). r.heap) is;
+  passed = (refl, ap (λ (r : RunState). r.heap) is);
   settings = ap (λ (r : RunState). r.heap.settings) is;
   many = ap (λ (r : RunState). length r.sizes) is;
   rows = λ power within capped. ap (λ (r : RunState). get_or r.sizes power no_objects) is ∙ sym (no_moments power (get_or old.sizes power no_objects) capped);
@@ -349,7 +349,7 @@ rows_run old new (event ∷ events) (outcome, next, is, rest) =
     ap (λ (rows : List SizeTotals). length rows) is.sizes ∙ made_length old.heap.settings.align made old.sizes in
     record {
       moments = first.moments ++ others.moments;
-      passes = joined old.heap next.heap new.heap first.moments others.moments first.passes others.passes;
+      passed = (first.moments, others.moments, is.told, next.heap, refl, is.is_event, first.passes, others.passed);
       settings = others.settings ∙ first.settings;
       many = others.many ∙ longer;
       rows = λ power within capped.
@@ -366,12 +366,12 @@ rows_run old new (event ∷ events) (outcome, next, is, rest) =
 
 -- ---- the law
 
-pub has_sizes : (settings : Settings) (events : List Event) (run : RunState) → RunsNoting (empty_run settings) events run → HasSizes run
+pub has_sizes : (settings : Settings) (events : List Event) (run : RunState) → RunsNoting (empty_run settings) events run → HasSizes events run
 has_sizes settings events run noted =
     let all = rows_run (empty_run settings) run events noted in
     record {
       moments = all.moments;
-      passes = subst (λ (s : Settings). Passes (empty_heap s) all.moments run.heap) (sym all.settings) all.passes;
+      passed = subst (λ (s : Settings). ArePassedBy (empty_heap s) events all.moments run.heap) (sym all.settings) all.passed;
       rows = λ power below.
           let none : get_or no_sizes power no_objects ≡ no_objects = get_or-replicate 64 power no_objects no_objects below in
           all.rows power (omega (arith, length-replicate 64 no_objects, below))

@@ -10,7 +10,7 @@ use Rattle.cc_heap.specs.Events.{IsEvent}
 use Rattle.cc_heap.specs.declared.settings.Settings.{Settings}
 use Rattle.cc_heap.specs.declared.sizes.SizeTotals.{SizeTotals}
 use Rattle.cc_heap.specs.Heap.{Heap, empty_heap}
-use Rattle.cc_heap.specs.Run.{Moment, Passes}
+use Rattle.cc_heap.specs.Run.{ArePassedBy, Moment}
 use Rattle.cc_heap.specs.Sizes.{made_size, no_objects, no_sizes, sizes_after, with_made_size}
 
 -- A heap, the ids that are lost, in no order, and the numbers of the objects that were made by the powers
@@ -80,9 +80,9 @@ RunsNoting old [] new = new ≡ old
 RunsNoting old (event ∷ events) new =
     (outcome : Outcome) × (next : RunState) × IsRunEvent old event outcome next × RunsNoting next events new
 
--- HasSizes holds if the heap of a run comes from one that held nothing, and the row of each power of two has
--- the numbers of all states that the heap has passed.
-pub record HasSizes (run : RunState) : Type 0 where
+-- HasSizes holds if the events lead to the heap of the run from one that held nothing, and the row of each
+-- power of two has the numbers of all states that they pass.
+pub record HasSizes (events : List Event) (run : RunState) : Type 0 where
   pub moments : List Moment
-  pub passes : Passes (empty_heap run.heap.settings) moments run.heap
+  pub passed : ArePassedBy (empty_heap run.heap.settings) events moments run.heap
   pub rows : (power : ℕ) → power < 64 → get_or run.sizes power no_objects ≡ sizes_after power no_objects moments

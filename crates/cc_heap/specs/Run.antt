@@ -1,6 +1,6 @@
 -- The effect of a list of events on a heap, the states that the heap passes, and its totals as numbers of
 -- all these states.
-use Rattle.std.specs.Prelude.{ℕ, ◌≡◌, ◌⊎◌, ◌+◌, ◌-◌, max, List, [], ◌∷◌, Option, Some, None, sum_by}
+use Rattle.std.specs.Prelude.{ℕ, ◌≡◌, ◌⊎◌, ◌+◌, ◌-◌, max, List, [], ◌∷◌, ◌++◌, Option, Some, None, sum_by}
 use Rattle.cc_bounds.specs.declared.span.Span.{Span}
 use Rattle.cc_bounds.specs.Span.{length_of}
 use Rattle.cc_heap.specs.declared.event.Event.{Event}
@@ -58,6 +58,15 @@ Passes old (moment ∷ moments) new =
     (next : Heap) × (IsMaking old moment next ⊎ (IsFreeing old moment next ⊎ IsSweeping old moment next))
     × Passes next moments new
 
+-- ArePassedBy holds if these are the states that the heap passes by the events: each event has states of its
+-- own, from the heap before it to the heap after it, in order.
+abbrev pub ArePassedBy : Heap → List Event → List Moment → Heap → Type 0
+ArePassedBy old [] moments new = (moments ≡ []) × (new ≡ old)
+ArePassedBy old (event ∷ events) moments new =
+    (mine : List Moment) × (rest : List Moment) × (outcome : Outcome) × (next : Heap)
+    × (moments ≡ mine ++ rest) × IsEvent old event outcome next × Passes old mine next
+    × ArePassedBy next events rest new
+
 -- ---- The numbers of all states.
 
 -- The greatest value over a list, and 0 over none.
@@ -102,9 +111,9 @@ totals_after pool totals moments = record {
   high = max totals.high (greatest (of_made (λ object. object.span.top - pool.base)) moments);
 }
 
--- HasTotals holds if the heap comes from one that held nothing, and its totals are those of all states
--- that it has passed.
-pub record HasTotals (heap : Heap) : Type 0 where
+-- HasTotals holds if the events lead to the heap from one that held nothing, and its totals are those of all
+-- states that they pass.
+pub record HasTotals (events : List Event) (heap : Heap) : Type 0 where
   pub moments : List Moment
-  pub passes : Passes (empty_heap heap.settings) moments heap
+  pub passed : ArePassedBy (empty_heap heap.settings) events moments heap
   pub totals : heap.totals ≡ totals_after heap.settings.pool (empty_heap heap.settings).totals moments

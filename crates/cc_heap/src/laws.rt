@@ -13,7 +13,7 @@ ghost use Rattle.cc_heap.specs.Run.{HasTotals, Runs};
 /// one over all of them, up to the largest number that is kept.
 pub fn totals_are_of_all_states()
     ensures { (settings : Settings) (events : List Event) (heap : Heap)
-        → Runs (empty_heap settings) events heap → HasTotals heap }
+        → Runs (empty_heap settings) events heap → HasTotals events heap }
 {}
 
 /// Proves that the rows of the sizes of a run are numbers of all states that its heap has passed, for
@@ -23,5 +23,5 @@ pub fn totals_are_of_all_states()
 /// least the power, and below the next, up to the largest number that is kept.
 pub fn sizes_are_of_all_objects()
     ensures { (settings : Settings) (events : List Event) (run : RunState)
-        → RunsNoting (empty_run settings) events run → HasSizes run }
+        → RunsNoting (empty_run settings) events run → HasSizes events run }
 {}
