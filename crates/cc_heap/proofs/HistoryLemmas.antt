@@ -79,7 +79,7 @@ frees_if_live old new id false (none, is) = same old new is
 attempts : (old new : Heap) (id requested size : ℕ) (making : Making) → Attempts old id requested size making new
     → HasHistory old new
 attempts old new id requested size Made made = makes old new id requested size made
-attempts old new id requested size NoRoom (none, is) = same old new is
+attempts old new id requested size NoRoom (few, none, is) = same old new is
 attempts old new id requested size Full (many, is) = same old new is
 
 tries : (old new : Heap) (id requested size : ℕ) (making : Making) → Tries old id requested size making new
@@ -102,7 +102,7 @@ replaces old new id requested size is =
 attempts_to_replace : (old new : Heap) (id requested size : ℕ) (making : Making)
     → AttemptsToReplace old id requested size making new → HasHistory old new
 attempts_to_replace old new id requested size Made is = replaces old new id requested size is
-attempts_to_replace old new id requested size NoRoom (none, is) = same old new is
+attempts_to_replace old new id requested size NoRoom (few, none, is) = same old new is
 attempts_to_replace old new id requested size Full (many, is) = same old new is
 
 tries_to_replace : (old new : Heap) (id requested size : ℕ) (making : Making)

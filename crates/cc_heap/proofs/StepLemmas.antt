@@ -1,5 +1,5 @@
 -- What a heap is after an object was made, after one was freed, and after an event.
-use Rattle.std.proofs.Common.{ℕ, Bool, true, false, ◌≡◌, ◌-◌, if◌then◌else◌, nat_eq, List, [], ◌∷◌, ◌++◌, Option, Some, Result, Ok, Err, IfOk, IsSome, map, length, arith, refl, subst, ◌∙◌, sym, ap, inl, inr, IsPermutation}
+use Rattle.std.proofs.Common.{ℕ, Bool, true, false, ◌≡◌, ◌+◌, ◌-◌, ◌<◌, if◌then◌else◌, nat_eq, List, [], ◌∷◌, ◌++◌, Option, Some, Result, Ok, Err, IfOk, IsSome, map, length, arith, refl, subst, ◌∙◌, sym, ap, inl, inr, IsPermutation}
 use Rattle.std.specs.Map.{lookup}
 use Rattle.std.specs.Option.{is_some}
 use Rattle.std.proofs.lemmas.Bool.Decides.{nat_tests}
@@ -19,18 +19,19 @@ use Rattle.cc_heap.specs.Heap.{Attempts, FreesObject, Heap, MakesObject, is_made
 use Rattle.cc_heap.specs.Events.{AttemptsToReplace, FollowsPolicy, Frees, FreesIfLive, HasNoRoom, Replaces, Tries, TriesToReplace}
 use Rattle.cc_heap.specs.HeapState.{IsQuarantined, IsReplaced, PutsOver, QuarantinesLive, ReleasesLast, Settles}
 use Rattle.cc_heap.proofs.PlaceLemmas.{IsFound}
-use Rattle.cc_heap.proofs.HeapLemmas.{heap_of, memory_of}
+use Rattle.cc_heap.proofs.HeapLemmas.{heap_of, held_length, memory_of}
 
 -- ---- an object is made
 
 pub makes : (old new : Heap) (settings : Settings) (totals new_totals : Totals) (live more : List (ℕ × Object))
     (waiting new_waiting : List Span) (usage : Usage) (id : ℕ) (object : Object)
     → heap_of settings live waiting totals ≡ old → heap_of settings more new_waiting new_totals ≡ new
+    → length live + length waiting < settings.limit
     → IsFound settings.align settings.pool (map span_of live ++ waiting) object.align object.size object.span
     → IsPermutation ((id, object) ∷ live) more → new_waiting ≡ waiting → usage ≡ usage_of (memory_of more waiting)
     → new_totals ≡ with_made totals object (object.span.top - settings.pool.base) usage
     → MakesObject old id object.align object.size new
-makes old new settings totals new_totals live more waiting new_waiting usage id object old_is new_is found adds waiting_is
+makes old new settings totals new_totals live more waiting new_waiting usage id object old_is new_is below found adds waiting_is
     usage_is totals_is =
     let at : object ≡ object_at settings.align object.align object.span.base object.size =
     λ i. record {
@@ -46,6 +47,7 @@ makes old new settings totals new_totals live more waiting new_waiting usage id 
     rw (← old_is) (record {
       start = object.span.base;
       live = more;
+      few = omega (arith, held_length (memory_of live waiting), below);
       placement = found.placement;
       adds = subst (λ (o : Object). IsPermutation ((id, o) ∷ live) more) at adds;
       is_new = sym new_is ∙ (λ i. heap_of settings more (waiting_is i) ((totals_is ∙ counted) i));
@@ -68,21 +70,21 @@ quarantines old settings totals live fewer waiting new_waiting id object result 
 -- an object is made under a live id, and the one before it quarantined
 pub replaced : (old : Heap) (settings : Settings) (totals new_totals : Totals) (live more : List (ℕ × Object))
     (waiting new_waiting : List Span) (usage : Usage) (id : ℕ) (before object : Object) (result : Option Object)
-    → heap_of settings live waiting totals ≡ old
+    → heap_of settings live waiting totals ≡ old → length live + length waiting < settings.limit
     → IsFound settings.align settings.pool (map span_of live ++ waiting) object.align object.size object.span
     → result ≡ lookup (nat_eq id) live → result ≡ Some before
     → IsPermutation ((id, object) ∷ live) ((id, before) ∷ more) → new_waiting ≡ waiting ++ before.span ∷ []
     → usage ≡ usage_of (memory_of ((id, object) ∷ live) waiting)
     → new_totals ≡ with_made totals object (object.span.top - settings.pool.base) usage
     → IsReplaced old id object.align object.size (heap_of settings more new_waiting new_totals)
-replaced old settings totals new_totals live more waiting new_waiting usage id before object result old_is found result_is is
+replaced old settings totals new_totals live more waiting new_waiting usage id before object result old_is below found result_is is
     takes waiting_is usage_is totals_is =
     rw (← old_is) (record {
       before = before;
       is_live = sym result_is ∙ is;
       made = heap_of settings ((id, object) ∷ live) waiting new_totals;
       makes = makes (heap_of settings live waiting totals) (heap_of settings ((id, object) ∷ live) waiting new_totals)
-          settings totals new_totals live ((id, object) ∷ live) waiting waiting usage id object refl refl found
+          settings totals new_totals live ((id, object) ∷ live) waiting waiting usage id object refl refl below found
           (IsPermutation-refl ((id, object) ∷ live)) refl usage_is totals_is;
       quarantines = record { live = more; takes = takes; is_new = rw waiting_is refl };
     })
@@ -184,7 +186,7 @@ pub record IsRefused (old : Heap) (requested size : ℕ) (new : Heap) : Type 0 w
 refused : (old new : Heap) (id requested size : ℕ) (making : Making) → is_made making ≡ false
     → Attempts old id requested size making new → IsRefused old requested size new
 refused old new id requested size Made not attempts = absurd (never true refl not)
-refused old new id requested size NoRoom not (none, same) = record { why = inl none; same = same }
+refused old new id requested size NoRoom not (few, none, same) = record { why = inl none; same = same }
 refused old new id requested size Full not (many, same) = record { why = inr many; same = same }
 
 pub tries_again : {E : Type 0} (old between after new : Heap) (id requested size : ℕ) (first : Making)
@@ -208,7 +210,7 @@ replaces_first old new id requested size Full is attempts = absurd (never false 
 not_replaced : (old new : Heap) (id requested size : ℕ) (making : Making) → is_made making ≡ false
     → AttemptsToReplace old id requested size making new → IsRefused old requested size new
 not_replaced old new id requested size Made not attempts = absurd (never true refl not)
-not_replaced old new id requested size NoRoom not (none, same) = record { why = inl none; same = same }
+not_replaced old new id requested size NoRoom not (few, none, same) = record { why = inl none; same = same }
 not_replaced old new id requested size Full not (many, same) = record { why = inr many; same = same }
 
 pub replaces_again : {E : Type 0} (old between after new : Heap) (id requested size : ℕ) (first : Making)

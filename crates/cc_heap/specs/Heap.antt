@@ -1,6 +1,6 @@
 -- A heap, and the three changes of it: an object is made, an object is freed, and the quarantine is
 -- swept.
-use Rattle.std.specs.Prelude.{ℕ, Bool, true, false, ◌≡◌, ◌+◌, ◌-◌, ◌≤◌, List, [], ◌∷◌, ◌++◌, length, nat_eq, if◌then◌else◌, Option}
+use Rattle.std.specs.Prelude.{ℕ, Bool, true, false, ◌≡◌, ◌+◌, ◌-◌, ◌<◌, ◌≤◌, List, [], ◌∷◌, ◌++◌, length, nat_eq, if◌then◌else◌, Option}
 use Rattle.std.specs.List.Sorted.{IsPermutation}
 use Rattle.std.specs.Map.{lookup}
 use Rattle.cc_bounds.specs.declared.span.Span.{Span}
@@ -55,10 +55,11 @@ object_under heap id = lookup (nat_eq id) heap.memory.live
 -- ---- An object is made.
 
 -- MakesObject holds if an object of this size and requested alignment is made under an id, at the
--- placement of its padded size next to all that is held.
+-- placement of its padded size next to all that is held, while fewer spans are held than the limit.
 pub record MakesObject (old : Heap) (id requested size : ℕ) (new : Heap) : Type 0 where
   pub start : ℕ
   pub live : List (ℕ × Object)
+  pub few : length (held_spans old.memory) < old.settings.limit
   pub placement :
       IsPlacement old.settings.pool (held_spans old.memory) (padded_size_for old.settings.align size)
       (start_unit old.settings.align requested size) start
@@ -75,12 +76,13 @@ abbrev pub is_made : Making → Bool
 is_made Made = true
 is_made _ = false
 
--- Attempts holds if an object is made, or there is no place for it, or as many spans are held as may
--- be. In both latter cases nothing changes.
+-- Attempts holds if an object is made, or as many spans are held as may be, or fewer are held and there is
+-- no place for it. In both latter cases nothing changes.
 abbrev pub Attempts : Heap → (id requested size : ℕ) → Making → Heap → Type 0
 Attempts old id requested size Made new = MakesObject old id requested size new
 Attempts old id requested size NoRoom new =
-    HasNoPlace old.settings.pool (held_spans old.memory) (padded_size_for old.settings.align size)
+    (length (held_spans old.memory) < old.settings.limit)
+    × HasNoPlace old.settings.pool (held_spans old.memory) (padded_size_for old.settings.align size)
     (start_unit old.settings.align requested size)
     × (new ≡ old)
 Attempts old id requested size Full new = (old.settings.limit ≤ length (held_spans old.memory)) × (new ≡ old)

@@ -5,12 +5,14 @@ use Rattle.std.proofs.lemmas.List.Sorted.{IsPermutation-refl}
 use Rattle.cc_heap.specs.Heap.{Heap, object_under}
 use Rattle.cc_heap.specs.Memory.{held_spans}
 use Rattle.cc_heap.proofs.PlaceLemmas.{IsFound, found, no_room}
-use Rattle.cc_heap.proofs.HeapLemmas.{below_limit, kept_made, memory_of, puts_new, small}
+use Rattle.cc_heap.proofs.HeapLemmas.{below_limit, held_length, kept_made, memory_of, puts_new, small}
 use Rattle.cc_heap.proofs.StepLemmas.{makes}
 use Rattle.cc_heap.proofs.heap.Heap.make.Goals as goal
 
 pub returns-in_default-clause-attempts : goal.returns-in_default-clause-attempts
 returns-in_default-clause-attempts g c = (
+  rw (← c.self.view_is)
+      (omega (arith, held_length (memory_of c.self.inside.objects.entries c.self.inside.quarantine.items), c.if-len-self.false, c.len.ensures.len, c.len-2.ensures)),
   rw (← c.self.view_is)
       (no_room (g.P.Placer.pool c.self.inside.placer) c.self.inside.settings.align c.self.inside.settings.pool
       (held_spans (memory_of c.self.inside.objects.entries c.self.inside.quarantine.items)) c.args.align c.args.size
@@ -163,7 +165,7 @@ returns-clause-attempts g c =
     makes _ _ c.self.inside.settings c.self.inside.totals c.with_made-self-inside-2.result
     c.self.inside.objects.entries c.insert.new.self.entries c.self.inside.quarantine.items c.reserve.new.self.items
     c.with_made-self-inside.result c.args.id (record { size = c.args.size; align = c.args.align; span = c.in-Some.span })
-    c.self.view_is refl at more c.in_ok-reserve.ensures.items
+    c.self.view_is refl (omega (arith, c.if-len-self.false, c.len.ensures.len, c.len-2.ensures)) at more c.in_ok-reserve.ensures.items
     (rw (← c.in_ok-reserve.ensures.items) kept.usage_is)
     (rw c.from.ensures at c.with_made-self-inside-2.ensures)
 

@@ -5,12 +5,14 @@ use Rattle.std.proofs.lemmas.List.Sorted.{IsPermutation-refl}
 use Rattle.cc_heap.specs.Memory.{held_spans}
 use Rattle.cc_heap.proofs.MemoryLemmas.{found_first}
 use Rattle.cc_heap.proofs.PlaceLemmas.{IsFound, found, no_room}
-use Rattle.cc_heap.proofs.HeapLemmas.{fit, below_limit, kept_replaced, live_object, memory_of, puts_over, small, usage_made}
+use Rattle.cc_heap.proofs.HeapLemmas.{fit, below_limit, held_length, kept_replaced, live_object, memory_of, puts_over, small, usage_made}
 use Rattle.cc_heap.proofs.StepLemmas.{replaced}
 use Rattle.cc_heap.proofs.heap.Heap.put_over.Goals as goal
 
 pub returns-in_default-clause-attempts : goal.returns-in_default-clause-attempts
 returns-in_default-clause-attempts g c = (
+  rw (← c.self.view_is)
+      (omega (arith, held_length (memory_of c.self.inside.objects.entries c.self.inside.quarantine.items), c.if-len-self.false, c.len.ensures.len, c.len-2.ensures)),
   rw (← c.self.view_is)
       (no_room (g.P.Placer.pool c.self.inside.placer) c.self.inside.settings.align c.self.inside.settings.pool
       (held_spans (memory_of c.self.inside.objects.entries c.self.inside.quarantine.items)) c.args.align c.args.size
@@ -213,7 +215,8 @@ returns-clause-attempts g c =
     replaced _ c.self.inside.settings c.self.inside.totals c.with_made-self-inside.result
     c.self.inside.objects.entries c.insert.new.self.entries c.self.inside.quarantine.items
     c.push_reserved.new.self.items c.with_made-usage.result c.args.id c.in-Some-2.before
-    (record { size = c.args.size; align = c.args.align; span = c.in-Some.span }) c.in_ok-before.field-0 c.self.view_is at c.in_ok-before.ensures.old c.in-Some-2.is takes
+    (record { size = c.args.size; align = c.args.align; span = c.in-Some.span }) c.in_ok-before.field-0 c.self.view_is
+    (omega (arith, c.if-len-self.false, c.len.ensures.len, c.len-2.ensures)) at c.in_ok-before.ensures.old c.in-Some-2.is takes
     (rw c.in_ok-reserve.ensures.items at c.push_reserved.ensures.items)
     (usage_made c.self.inside.objects.entries ((c.args.id, (record { size = c.args.size; align = c.args.align; span = c.in-Some.span })) ∷ c.self.inside.objects.entries)
     c.self.inside.quarantine.items c.args.id (record { size = c.args.size; align = c.args.align; span = c.in-Some.span }) c.self.inside.usage c.with_made-usage.result
