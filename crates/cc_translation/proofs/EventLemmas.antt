@@ -260,7 +260,7 @@ free_then old new id false once (none, is) =
 attempts : (old new : Heap) (id requested size : ℕ) (making : Making) → AreOnce old → IsFree old id → 0 < size
     → requested ≤ unit_of old.settings.align size → Attempts old id requested size making new → HasHistory old new
 attempts old new id requested size Made once free some aligned made = makes old new id requested size once free some aligned made
-attempts old new id requested size NoRoom once free some aligned (none, is) = same old new once is
+attempts old new id requested size NoRoom once free some aligned (few, none, is) = same old new once is
 attempts old new id requested size Full once free some aligned (many, is) = same old new once is
 
 tries : (old new : Heap) (id requested size : ℕ) (making : Making) → AreOnce old → IsFree old id → 0 < size
@@ -283,7 +283,7 @@ attempts_to_replace : (old new : Heap) (id requested size : ℕ) (making : Makin
     → requested ≤ unit_of old.settings.align size → AttemptsToReplace old id requested size making new
     → HasHistory old new
 attempts_to_replace old new id requested size Made once some aligned is = replaces old new id requested size once some aligned is
-attempts_to_replace old new id requested size NoRoom once some aligned (none, is) = same old new once is
+attempts_to_replace old new id requested size NoRoom once some aligned (few, none, is) = same old new once is
 attempts_to_replace old new id requested size Full once some aligned (many, is) = same old new once is
 
 tries_to_replace : (old new : Heap) (id requested size : ℕ) (making : Making) → AreOnce old → 0 < size
