@@ -1,98 +1,13 @@
--- The result of a command, from that of its devices.
-use Rattle.std.proofs.Common.{◌≡◌, ℕ, Bool, true, false, List, Option, Some, None, Result, Ok, MatchResult, refl, subst, sym}
-use Rattle.std.specs.Prelude.{IfSome}
-use Rattle.std.specs.Borrow.{Bor}
-use Rattle.std.specs.Io.KnownBytes.{Appends}
-use Rattle.std.proofs.lemmas.Bool.{false≢true}
-use Rattle.clap.specs.Words.{Text}
-use Rattle.cc_word.specs.declared.refusal.Refusal.{Refusal}
+-- The result of a command, from that of an equal one.
+use Rattle.std.proofs.Common.{◌≡◌, Result, subst, sym}
 use Rattle.cc_io.specs.declared.summary.Summary.{Summary}
-use Rattle.cc_bounds.specs.declared.align.Align.{Align}
-use Rattle.cc_ops.specs.declared.op.Op.{Op}
-use Rattle.cc_machine.specs.State.{State, initial_state}
-use Rattle.cc_syntax.specs.Planning.{plan_opening, pool_of}
-use Rattle.cc_script.specs.Session.{AnswersSession, SessionState}
 use Rattle.cc_arguments.specs.declared.invocation.Invocation.{Invocation}
-use Rattle.cc_arguments.specs.declared.invocation.PoolTexts.{PoolTexts}
-use Rattle.cc_tasks.specs.Devices.{Console, FromInput, OnDevices, Traffic, traffic_of}
-use Rattle.cc_tasks.specs.Input.{file_input}
-use Rattle.cc_tasks.specs.Tasks.{WritesRefusal}
-use Rattle.cc_tasks.specs.declared.fault.Fault.{Fault}
-use Rattle.cc_tasks.specs.declared.input.InputName.{InputName}
-use Rattle.cc_tasks.proofs.DeviceLemmas.{from_input, on_devices-map}
-use Rattle.cc_program.specs.Execution.{DrawsEnd, DrawsMap, DrawsPage, DrawsPool, DrawsRun, Executes, MapsFile, ReportsRun}
-use Rattle.cc_program.specs.declared.report.Report.{Report}
-use Rattle.cc_program.specs.declared.report.Terminals.{Terminals}
-
--- ---- drawings
-
-pub draws_page : (svg : Bool) (session : SessionState) (output output_now : Option (List ℕ)) → svg ≡ true → DrawsPage session output output_now
-    → DrawsPool svg session output output_now
-draws_page true session output output_now is drawn = drawn
-draws_page false session output output_now is drawn = absurd (false≢true is)
-
-pub draws_map : (svg : Bool) (session : SessionState) (output output_now : Option (List ℕ)) → svg ≡ false → DrawsMap session output output_now
-    → DrawsPool svg session output output_now
-draws_map true session output output_now is drawn = absurd (false≢true (sym is))
-draws_map false session output output_now is drawn = drawn
-
--- The end of a drawing, for the traffic of the devices.
-pub draws_end : (svg : Bool) (opening : List Op) (start : State) (traffic : Traffic) (unread left output output_now : Option (List ℕ)) (summary : Summary)
-    (session : SessionState) → traffic.unread ≡ unread → traffic.left ≡ left → traffic.output ≡ output → traffic.output_now ≡ output_now
-    → AnswersSession 65536 start opening unread left (Appends None None) (Ok summary) session.tally session.machine → DrawsPool svg session output output_now
-    → DrawsEnd svg opening start traffic summary
-draws_end svg opening start traffic unread left output output_now summary session u l o n answers drawn = record {
-  session = session;
-  answers = subst (λ (b : Option (List ℕ)). AnswersSession 65536 start opening b traffic.left (Appends None None) (Ok summary) session.tally session.machine) (sym u)
-      (subst (λ (b : Option (List ℕ)). AnswersSession 65536 start opening unread b (Appends None None) (Ok summary) session.tally session.machine) (sym l) answers);
-  drawn = subst (λ (b : Option (List ℕ)). DrawsPool svg session b traffic.output_now) (sym o)
-      (subst (λ (b : Option (List ℕ)). DrawsPool svg session output b) (sym n) drawn);
-}
-
--- A drawing after a run that read an input.
-pub draws_input : (svg : Bool) (opening : List Op) (start new : State) (input : InputName) (console : Console) (bytes_of : InputName → Option (List ℕ))
-    (unread remaining left output output_now : Option (List ℕ)) (result : Result Summary Fault) → start ≡ new → console.input ≡ bytes_of → unread ≡ remaining
-    → IfSome (bytes_of input) (λ bytes. remaining ≡ Some bytes) → console.output ≡ output → console.output_now ≡ output_now
-    → ((traffic : Traffic) → traffic.unread ≡ unread → traffic.left ≡ left → traffic.output ≡ output → traffic.output_now ≡ output_now
-    → OnDevices (DrawsRun svg opening start traffic) result)
-    → OnDevices (FromInput input console (DrawsRun svg opening new)) result
-draws_input svg opening start new input console bytes_of unread remaining left output output_now result is same has told o n draws =
-    on_devices-map (DrawsRun svg opening start (traffic_of console unread left)) (FromInput input console (DrawsRun svg opening new))
-    (λ io holds. from_input input console (DrawsRun svg opening new) bytes_of unread remaining left io same has told
-    (subst (λ (state : State). DrawsRun svg opening state (traffic_of console unread left) io) is holds))
-    result (draws (traffic_of console unread left) refl refl o n)
-
--- ---- commands
+use Rattle.cc_devices.specs.Devices.{Console, OnDevices}
+use Rattle.cc_devices.specs.declared.fault.Fault.{Fault}
+use Rattle.cc_program.specs.Execution.{Executes}
+use Rattle.cc_runs.specs.declared.report.Terminals.{Terminals}
 
 pub by_invocation : (one other : Invocation) → one ≡ other → (terminals : Terminals) (console : Console) (result : Result Summary Fault)
     → OnDevices (Executes other terminals console) result → OnDevices (Executes one terminals console) result
 by_invocation one other same terminals console result holds =
     subst (λ (invocation : Invocation). OnDevices (Executes invocation terminals console) result) (sym same) holds
-
--- The drawing of the pool that BASE and LENGTH name, from that of the pool of these numbers.
-pub maps_file : (limit : ℕ) (pool : PoolTexts) (align : Align) (svg : Bool) (file : Option (Bor Text)) (console : Console) (numbers : ℕ × ℕ)
-    (opening : List Op) (input : InputName) (result : Result Summary Fault) → pool_of pool.base.now pool.length.now ≡ Ok numbers
-    → opening ≡ plan_opening numbers.0 numbers.1 align → input ≡ file_input file
-    → OnDevices (FromInput input console (DrawsRun svg opening (initial_state limit))) result
-    → OnDevices (MapsFile limit pool align svg file console) result
-maps_file limit pool align svg file console numbers opening input result is_pool is_opening is_input draws =
-    on_devices-map (FromInput input console (DrawsRun svg opening (initial_state limit))) (MapsFile limit pool align svg file console)
-    (λ io holds.
-    subst (λ (found : Result (ℕ × ℕ) Refusal). MatchResult found
-    (λ pair. FromInput (file_input file) console (DrawsRun svg (plan_opening pair.0 pair.1 align) (initial_state limit)) io)
-    (λ refusal. WritesRefusal console.output console.output_now refusal io)) (sym is_pool)
-    (subst (λ (name : InputName). FromInput name console (DrawsRun svg (plan_opening numbers.0 numbers.1 align) (initial_state limit)) io) is_input
-    (subst (λ (ops : List Op). FromInput input console (DrawsRun svg ops (initial_state limit)) io) is_opening holds)))
-    result draws
-
--- A run that read an input.
-pub runs_input : (report : Report) (opening : List Op) (pool : Option ℕ) (start new : State) (input : InputName) (console : Console)
-    (bytes_of : InputName → Option (List ℕ)) (unread remaining left : Option (List ℕ)) (result : Result Summary Fault) → start ≡ new → console.input ≡ bytes_of
-    → unread ≡ remaining → IfSome (bytes_of input) (λ bytes. remaining ≡ Some bytes)
-    → OnDevices (ReportsRun report opening pool start (traffic_of console unread left)) result
-    → OnDevices (FromInput input console (ReportsRun report opening pool new)) result
-runs_input report opening pool start new input console bytes_of unread remaining left result is same has told runs =
-    on_devices-map (ReportsRun report opening pool start (traffic_of console unread left)) (FromInput input console (ReportsRun report opening pool new))
-    (λ io holds. from_input input console (ReportsRun report opening pool new) bytes_of unread remaining left io same has told
-    (subst (λ (state : State). ReportsRun report opening pool state (traffic_of console unread left) io) is holds))
-    result runs

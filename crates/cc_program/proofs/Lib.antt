@@ -1,4 +1,2 @@
 mod OutcomeLemmas
-mod PlacedLemmas
-mod ReportLemmas
 mod ExecutionLemmas

@@ -1,92 +1,18 @@
 -- The output of a command, by its input: the program's own theorem.
-use Rattle.std.specs.Prelude.{◌≡◌, ⊤, ℕ, Bool, true, false, List, [], ◌++◌, Option, Some, None, Result, Ok, Err, OnOk, MatchResult}
-use Rattle.std.specs.Borrow.{Bor}
-use Rattle.std.specs.Io.KnownBytes.{Appends}
-use Rattle.clap.specs.Words.{Text}
+use Rattle.std.specs.Prelude.{[], None, Result}
 use Rattle.cc_io.specs.declared.summary.IoError.{IoError}
-use Rattle.cc_io.specs.declared.summary.IoError.TheVariants.{Read, Write}
 use Rattle.cc_io.specs.declared.summary.Summary.{Summary}
-use Rattle.cc_bounds.specs.declared.align.Align.{Align}
-use Rattle.cc_ops.specs.declared.op.Op.{Op}
-use Rattle.cc_ops.specs.declared.reply.Reply.{Reply}
-use Rattle.cc_machine.specs.State.{State, initial_state}
-use Rattle.cc_machine.specs.Planned.{plan_of}
-use Rattle.cc_draw.specs.Drawing.{IsDrawing}
-use Rattle.cc_draw.specs.Map.{IsMap}
-use Rattle.cc_syntax.specs.Planning.{plan_opening, pool_of}
-use Rattle.cc_script.specs.Session.{AnswersSession, SessionState}
-use Rattle.cc_command.specs.Statistics.{statistics_text}
-use Rattle.cc_syntax.specs.Tally.{Exchange, IsTally}
-use Rattle.cc_ops.specs.declared.usage.Usage.{Usage}
-use Rattle.cc_arguments.specs.declared.invocation.PoolTexts.{PoolTexts}
+use Rattle.cc_machine.specs.State.{initial_state}
 use Rattle.cc_arguments.specs.declared.invocation.Invocation.{Invocation}
 use Rattle.cc_arguments.specs.declared.invocation.Invocation.TheVariants.{Annotate, Ask, Decode, Map, Plan, Replay, RoundList, Run}
-use Rattle.cc_tasks.specs.Devices.{Console, FromInput, Traffic}
-use Rattle.cc_tasks.specs.Input.{file_input}
-use Rattle.cc_tasks.specs.Replaying.{ReplaysTrace, WithReplay}
-use Rattle.cc_tasks.specs.Tasks.{AnnotatesWords, AnswersQuestion, ListsWords, RoundsLengths, WithListing, WritesRefusal}
-use Rattle.cc_tasks.specs.declared.input.InputName.TheVariants.{Standard}
-use Rattle.cc_program.specs.Report.{IsMachineUsage, WritesReport, report_of}
-use Rattle.cc_program.specs.declared.report.Report.{Report}
-use Rattle.cc_program.specs.declared.report.Terminals.{Terminals}
-
--- ReportsRun holds if a machine in the state `start` took the operations of `opening` and then the script, the bytes written are
--- its replies, up to a failure, and a run that came to its end was reported.
-pub record ReportsRun (report : Report) (opening : List Op) (pool : Option ℕ) (start : State) (traffic : Traffic) (result : Result Summary IoError) : Type 0 where
-  pub session : SessionState
-  pub answers : AnswersSession 65536 start opening traffic.unread traffic.left (Appends traffic.output traffic.output_now) result session.tally session.machine
-  pub reported : OnOk result (traffic.errors_failed ≡ false → (first : List Reply) (exchanges : List Exchange)
-      → IsTally first exchanges session.tally → WritesReport report session first exchanges pool traffic.errors traffic.errors_now)
-
--- DrawsMap holds if the map of the machine's pool was written, and then the summary of the run: what the machine uses, and the
--- tally of the replies.
-pub record DrawsMap (session : SessionState) (output output_now : Option (List ℕ)) : Type 0 where
-  pub map : List ℕ
-  pub usage : Usage
-  pub is_map : IsMap (plan_of session.machine) map
-  pub is_usage : IsMachineUsage session.machine usage
-  pub written : Appends output output_now (map ++ statistics_text usage session.tally)
-
--- DrawsPage holds if the drawing of the machine's pool was written.
-pub record DrawsPage (session : SessionState) (output output_now : Option (List ℕ)) : Type 0 where
-  pub page : List ℕ
-  pub is_drawing : IsDrawing (plan_of session.machine) page
-  pub written : Appends output output_now page
-
--- DrawsPool holds if the pool was drawn: as an SVG document, or as a map.
-abbrev pub DrawsPool : (svg : Bool) → SessionState → (output output_now : Option (List ℕ)) → Type 0
-DrawsPool true session output output_now = DrawsPage session output output_now
-DrawsPool false session output output_now = DrawsMap session output output_now
-
--- DrawsEnd holds if a machine in the state `start` took the operations of `opening` and then the script to its end, and its pool was
--- drawn as it is then. The summary says whether a reply is an error.
-pub record DrawsEnd (svg : Bool) (opening : List Op) (start : State) (traffic : Traffic) (summary : Summary) : Type 0 where
-  pub session : SessionState
-  pub answers : AnswersSession 65536 start opening traffic.unread traffic.left (Appends None None) (Ok summary) session.tally session.machine
-  pub drawn : DrawsPool svg session traffic.output traffic.output_now
-
--- DrawsRun holds if the pool was drawn at the end of the run. Nothing was written if a read failed.
-abbrev pub DrawsRun : (svg : Bool) (opening : List Op) (start : State) → Traffic → Result Summary IoError → Type 0
-DrawsRun svg opening start traffic (Ok summary) = DrawsEnd svg opening start traffic summary
-DrawsRun svg opening start traffic (Err Read) = traffic.output_now ≡ traffic.output
-DrawsRun svg opening start traffic (Err Write) = ⊤
-
--- WithPool holds if `Does` holds for BASE and LENGTH, or if they are not numbers that a pool can have and are refused.
-abbrev pub WithPool : (pool : PoolTexts) → Console → (Does : (base size : ℕ) → Result Summary IoError → Type 0) → Result Summary IoError → Type 0
-WithPool pool console Does result =
-    MatchResult (pool_of pool.base.now pool.length.now) (λ numbers. Does numbers.0 numbers.1 result)
-    (λ refusal. WritesRefusal console.output console.output_now refusal result)
-
--- PlansFile holds if the script that FILE names ran on a machine with a pool, and the run was reported, or the pool was refused.
-abbrev pub PlansFile : Report → (limit : ℕ) → PoolTexts → Align → (file : Option (Bor Text)) → Console → Result Summary IoError → Type 0
-PlansFile report limit pool align file console result =
-    WithPool pool console
-    (λ base size. FromInput (file_input file) console (ReportsRun report (plan_opening base size align) (Some size) (initial_state limit))) result
-
--- MapsFile holds if the script that FILE names ran on a machine with a pool, and the pool was drawn, or was refused.
-abbrev pub MapsFile : (limit : ℕ) → PoolTexts → Align → (svg : Bool) → (file : Option (Bor Text)) → Console → Result Summary IoError → Type 0
-MapsFile limit pool align svg file console result =
-    WithPool pool console (λ base size. FromInput (file_input file) console (DrawsRun svg (plan_opening base size align) (initial_state limit))) result
+use Rattle.cc_devices.specs.Devices.{Console, FromInput}
+use Rattle.cc_devices.specs.Input.{file_input}
+use Rattle.cc_traces.specs.Replaying.{ReplaysTrace, WithReplay}
+use Rattle.cc_tasks.specs.Tasks.{AnnotatesWords, AnswersQuestion, ListsWords, RoundsLengths, WithListing}
+use Rattle.cc_devices.specs.declared.input.InputName.TheVariants.{Standard}
+use Rattle.cc_runs.specs.Report.{report_of}
+use Rattle.cc_runs.specs.Runs.{MapsFile, PlansFile, ReportsRun}
+use Rattle.cc_runs.specs.declared.report.Terminals.{Terminals}
 
 -- Executes holds if the bytes written and the summary are those of the command for its input, up to a failure.
 abbrev pub Executes : Invocation → Terminals → Console → Result Summary IoError → Type 0

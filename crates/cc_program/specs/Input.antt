@@ -3,9 +3,9 @@ use Rattle.std.specs.Prelude.{IsOk, IsSome, ⊤}
 use Rattle.cc_syntax.specs.Planning.{pool_of}
 use Rattle.cc_arguments.specs.declared.invocation.Invocation.{Invocation}
 use Rattle.cc_arguments.specs.declared.invocation.Invocation.TheVariants.{Annotate, Ask, Decode, Map, Plan, Replay, RoundList, Run}
-use Rattle.cc_tasks.specs.Input.{IsFile, file_input}
+use Rattle.cc_devices.specs.Input.{IsFile, file_input}
 use Rattle.cc_tasks.specs.Listing.{listing_in}
-use Rattle.cc_tasks.specs.ReplayTexts.{replay_in}
+use Rattle.cc_traces.specs.ReplayTexts.{replay_in}
 
 -- ReadsFile holds if the command reads a file: FILE names one, BASE and LENGTH of `plan` and `map` are those of a pool, and the
 -- numbers and names of `decode` and `replay` are such.

@@ -1,6 +1,5 @@
 -- In reading order.
 pub mod Outcome
 pub mod Input
-pub mod Report
 pub mod Execution
 pub mod Ending

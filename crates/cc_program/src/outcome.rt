@@ -2,8 +2,8 @@
 ghost use Rattle.std.specs.Prelude.{◌≡◌};
 ghost use Rattle.cc_program.specs.Outcome.{ending_of, status_of};
 
+use cc_devices::Fault;
 use cc_io::Summary;
-use cc_tasks::Fault;
 
 /// The end of the program.
 #[derive(Clone, Copy)]

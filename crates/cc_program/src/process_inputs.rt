@@ -1,14 +1,14 @@
 //! The files and the standard input of the process, as inputs of commands.
 ghost use Rattle.std.specs.Prelude.{◌≡◌, None, IfErr, IfOk, IsTrue, ◌↔◌};
 ghost use Rattle.either.specs.Either.{is_left};
-ghost use Rattle.cc_tasks.specs.Input.{IsFile};
+ghost use Rattle.cc_devices.specs.Input.{IsFile};
 ghost use Rattle.cc_program.specs.Input.{IsRunOrPlan};
 
 use crate::error_writer::ErrorWriter;
-use crate::report::announce;
 use cc_arguments::Invocation;
+use cc_devices::{Fault, InputName, Inputs};
 use cc_io::FromWriter;
-use cc_tasks::{Fault, InputName, Inputs};
+use cc_runs::announce;
 use either::{Either, Left, Right};
 use std::fs;
 use std::rt::Files;

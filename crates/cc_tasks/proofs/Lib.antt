@@ -1,5 +1,2 @@
 mod ListingLemmas
-pub mod DeviceLemmas
 mod TaskLemmas
-mod ReplayTextsLemmas
-mod ReplayingLemmas

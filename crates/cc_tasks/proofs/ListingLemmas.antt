@@ -10,7 +10,8 @@ use Rattle.cc_decode.specs.declared.input.InputForm.{InputForm}
 use Rattle.cc_decode.specs.declared.options.Options.{Options}
 use Rattle.cc_decode.specs.declared.options.Search.{Search}
 use Rattle.cc_arguments.specs.declared.invocation.DecodeTexts.{DecodeTexts}
-use Rattle.cc_tasks.specs.Listing.{changed, listing_in, named_in, place_in, search_in, skipped_in}
+use Rattle.cc_devices.specs.Refused.{changed}
+use Rattle.cc_tasks.specs.Listing.{listing_in, named_in, place_in, search_in, skipped_in}
 
 changed_refusal : {A B : Type 0} (change : A → B) (result : Result A Refusal) (refusal : Refusal) → result ≡ Err refusal → Err refusal ≡ changed change result
 changed_refusal change result refusal told = ap (changed change) (sym told)

@@ -8,13 +8,14 @@ use Rattle.cc_decode.specs.declared.format.Format.{Format}
 use Rattle.cc_decode.specs.declared.input.InputForm.{InputForm}
 use Rattle.cc_decode.specs.declared.options.Options.{Options}
 use Rattle.cc_arguments.specs.declared.invocation.DecodeTexts.{DecodeTexts}
-use Rattle.cc_tasks.specs.Devices.{Console, FromInput, OnDevices}
-use Rattle.cc_tasks.specs.Input.{file_input}
+use Rattle.cc_devices.specs.Devices.{Console, FromInput, OnDevices}
+use Rattle.cc_devices.specs.Input.{file_input}
 use Rattle.cc_tasks.specs.Listing.{listing_in}
-use Rattle.cc_tasks.specs.Tasks.{ListsWords, WithListing, WritesRefusal}
-use Rattle.cc_tasks.specs.declared.fault.Fault.{Fault}
-use Rattle.cc_tasks.specs.declared.input.InputName.{InputName}
-use Rattle.cc_tasks.proofs.DeviceLemmas.{on_devices-map}
+use Rattle.cc_devices.specs.Refused.{WritesRefusal}
+use Rattle.cc_tasks.specs.Tasks.{ListsWords, WithListing}
+use Rattle.cc_devices.specs.declared.fault.Fault.{Fault}
+use Rattle.cc_devices.specs.declared.input.InputName.{InputName}
+use Rattle.cc_devices.proofs.DeviceLemmas.{on_devices-map}
 
 -- The rows of the words of the input that FILE names, in the listing that the texts give.
 pub decodes : (input : InputForm) (format : Format) (texts : DecodeTexts) (file : Option (Bor Text)) (console : Console)

@@ -1,20 +1,16 @@
 -- The listing that the arguments of `decode` ask for.
 use Rattle.std.specs.Prelude.{ℕ, Option, Some, None, Result, Ok, Err}
 use Rattle.std.specs.Borrow.{Bor}
-use Rattle.std.specs.Result.{result_map_both}
 use Rattle.clap.specs.Words.{Text}
 use Rattle.cc_word.specs.declared.perms.Perms.{Perms}
 use Rattle.cc_word.specs.declared.refusal.Refusal.{Refusal}
 use Rattle.cc_syntax.specs.Commands.{address_in, both, permissions_in}
+use Rattle.cc_devices.specs.Refused.{changed}
 use Rattle.cc_decode.specs.declared.format.Format.{Format}
 use Rattle.cc_decode.specs.declared.input.InputForm.{InputForm}
 use Rattle.cc_decode.specs.declared.options.Options.{Options}
 use Rattle.cc_decode.specs.declared.options.Search.{Search}
 use Rattle.cc_arguments.specs.declared.invocation.DecodeTexts.{DecodeTexts}
-
--- The value with a change, or the error.
-abbrev pub changed : {A B : Type 0} → (A → B) → Result A Refusal → Result B Refusal
-changed change result = result_map_both change (λ refusal. refusal) result
 
 -- The number of bytes to skip that `--skip` gives: an address, or 0 if the option is not given.
 abbrev pub skipped_in : Option (Bor Text) → Result ℕ Refusal

@@ -1,10 +1,9 @@
 -- The output of the commands that run no script, by their input.
-use Rattle.std.specs.Prelude.{◌≡◌, ℕ, true, List, Option, IfSome, Result, Err, IfOk, IsTrue, ◌↔◌, MatchResult, OnErr}
-use Rattle.cc_word.specs.declared.refusal.Refusal.{Refusal}
+use Rattle.std.specs.Prelude.{◌≡◌, ℕ, List, Option, IfSome, Result, Err, IfOk, IsTrue, ◌↔◌, MatchResult, OnErr}
 use Rattle.cc_io.specs.declared.summary.IoError.{IoError}
 use Rattle.cc_io.specs.declared.summary.IoError.TheVariants.{Write}
 use Rattle.cc_io.specs.declared.summary.Summary.{Summary}
-use Rattle.cc_explain.specs.Answer.{IsRefusalLine, WritesAnswer}
+use Rattle.cc_explain.specs.Answer.{WritesAnswer}
 use Rattle.cc_command.specs.RoundList.{RoundsList}
 use Rattle.cc_decode.specs.declared.options.Options.{Options}
 use Rattle.cc_decode.specs.Annotate.{AnnotatesGiven}
@@ -13,7 +12,8 @@ use Rattle.cc_decode.specs.declared.format.Format.{Format}
 use Rattle.cc_decode.specs.declared.input.InputForm.{InputForm}
 use Rattle.cc_arguments.specs.declared.invocation.DecodeTexts.{DecodeTexts}
 use Rattle.cc_arguments.specs.declared.question.Question.{Question}
-use Rattle.cc_tasks.specs.Devices.{Console, Traffic}
+use Rattle.cc_devices.specs.Devices.{Console, Traffic}
+use Rattle.cc_devices.specs.Refused.{WritesRefusal}
 use Rattle.cc_tasks.specs.Listing.{listing_in}
 use Rattle.cc_tasks.specs.Questions.{IsAnswerTo, IsUnanswerable}
 
@@ -22,13 +22,6 @@ use Rattle.cc_tasks.specs.Questions.{IsAnswerTo, IsUnanswerable}
 pub record AnswersQuestion (question : Question) (output output_now : Option (List ℕ)) (result : Result Summary IoError) : Type 0 where
   pub written : WritesAnswer (IsAnswerTo question) output output_now result
   pub error_is : IfOk result (λ summary. IsTrue summary.any_error ↔ IsUnanswerable question)
-  pub fails : OnErr result (result ≡ Err Write)
-
--- WritesRefusal holds if the line of the refusal was written, or a prefix of it if a write failed. The summary says that it is an
--- error.
-pub record WritesRefusal (output output_now : Option (List ℕ)) (refusal : Refusal) (result : Result Summary IoError) : Type 0 where
-  pub written : WritesAnswer (IsRefusalLine refusal) output output_now result
-  pub error_is : IfOk result (λ summary. summary.any_error ≡ true)
   pub fails : OnErr result (result ≡ Err Write)
 
 -- ListsWords holds if the rows of the words that the input gave after the skipped bytes were written, up to a failure.

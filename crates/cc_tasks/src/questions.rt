@@ -1,13 +1,13 @@
 //! `show`, `explain` and `round`: the call for each question.
 ghost use Rattle.std.specs.Prelude.{◌≡◌, ◌≢◌, ◌↔◌, [], Err, false, true, IfOk, IsErr, IsTrue, OnErr, OnOk};
 ghost use Rattle.cc_explain.specs.Answer.{WritesAnswer};
-ghost use Rattle.cc_tasks.specs.Devices.{OnDevices};
+ghost use Rattle.cc_devices.specs.Devices.{OnDevices};
 ghost use Rattle.cc_tasks.specs.Questions.{IsAnswerTo, IsUnanswerable};
 ghost use Rattle.cc_tasks.specs.Tasks.{AnswersQuestion};
 
-use crate::fault::Fault;
 use cc_arguments::Question;
 use cc_command::{draw_window, explain_length, explain_word, show_line, show_round, show_word};
+use cc_devices::Fault;
 use cc_io::{IoError, Sink, Summary};
 
 /// Writes the listing, line, explanation, drawing or rounding that a question asks for.

@@ -1,17 +1,16 @@
 //! `decode`, `annotate` and `round -`: the call for the words or the lengths of an input.
 ghost use Rattle.std.specs.Prelude.{◌≡◌, ◌≢◌, ◌↔◌, false, true, Err, IsOk, OnOk};
-ghost use Rattle.cc_tasks.specs.Devices.{FromInput, OnOutput};
-ghost use Rattle.cc_tasks.specs.Input.{IsFile, file_input};
+ghost use Rattle.cc_devices.specs.Devices.{FromInput, OnOutput};
+ghost use Rattle.cc_devices.specs.Input.{IsFile, file_input};
 ghost use Rattle.cc_tasks.specs.Listing.{listing_in};
 ghost use Rattle.cc_tasks.specs.Tasks.{AnnotatesWords, ListsWords, RoundsLengths, WithListing};
-ghost use Rattle.cc_tasks.specs.declared.input.InputName.TheVariants as input_name;
+ghost use Rattle.cc_devices.specs.declared.input.InputName.TheVariants as input_name;
 
-use crate::fault::Fault;
-use crate::input::{InputName, Inputs, file_input};
 use crate::listing::listing_of;
 use cc_arguments::DecodeTexts;
 use cc_command::{round_list, write_refusal};
 use cc_decode::{Format, InputForm, Options, annotate, decode_words_after};
+use cc_devices::{Fault, InputName, Inputs, file_input};
 use cc_io::{FromReader, Sink, Summary};
 
 /// The maximum number of bytes of the input of `decode`, of `annotate` and of `round -`, more than any file or pipe gives.

@@ -4,12 +4,12 @@ use Rattle.cc_program.proofs.ExecutionLemmas.{by_invocation}
 use Rattle.cc_program.proofs.execution.execute.Goals as goal
 
 pub returns-in-Plan-clause-silent : goal.returns-in-Plan-clause-silent
-returns-in-Plan-clause-silent g c = λ unreported. c.execute_plan.ensures.silent (λ is. unreported (subst IsReported (sym c.in-Plan.is) is))
+returns-in-Plan-clause-silent g c = λ unreported. c.plan_file.ensures.silent (λ is. unreported (subst IsReported (sym c.in-Plan.is) is))
 
 pub returns-in-Map-clause-executes : goal.returns-in-Map-clause-executes
 returns-in-Map-clause-executes g c =
-    by_invocation _ _ c.in-Map.is c.args.terminals _ c.execute_map.result
-    (c.execute_map.ensures.executes (g.E.Sink.taken_bytes c.args.errors.now) (g.E.Sink.taken_bytes c.args.errors.now) (g.E.Sink.has_failed c.args.errors.now))
+    by_invocation _ _ c.in-Map.is c.args.terminals _ c.map_file.result
+    (c.map_file.ensures.executes (g.E.Sink.taken_bytes c.args.errors.now) (g.E.Sink.taken_bytes c.args.errors.now) (g.E.Sink.has_failed c.args.errors.now))
 
 pub returns-in-Replay-clause-executes : goal.returns-in-Replay-clause-executes
 returns-in-Replay-clause-executes g c =

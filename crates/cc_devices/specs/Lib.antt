@@ -1,0 +1,4 @@
+-- In reading order.
+pub mod Input
+pub mod Devices
+pub mod Refused

@@ -1,0 +1,3 @@
+mod PlacedLemmas
+mod ReportLemmas
+mod RunLemmas

@@ -1,0 +1,18 @@
+use Rattle.std.proofs.Common.{refl}
+use Rattle.cc_machine.specs.State.{initial_state}
+use Rattle.cc_runs.proofs.RunLemmas.{draws_input}
+use Rattle.cc_runs.proofs.maps.draw.Goals as goal
+
+pub returns-clause-draws : goal.returns-clause-draws
+returns-clause-draws g c = λ errors errors_now errors_failed.
+    draws_input c.args.svg c.args.opening.now c.in_ok-session.session.machine (initial_state c.args.limit) c.args.input
+    (record {
+      input = g.I.Inputs.bytes_of c.args.inputs.now;
+      output = g.W.Sink.taken_bytes c.args.sink.now;
+      output_now = g.W.Sink.taken_bytes c.draw_end.new.sink;
+      errors = errors;
+      errors_now = errors_now;
+      errors_failed = errors_failed;
+    })
+    (g.I.Inputs.bytes_of c.args.inputs.now) _ _ _ _ _ c.draw_end.result c.in_ok-session.ensures.machine refl c.new-source.ensures.to_come
+    c.in_ok-open.ensures.opened refl refl c.draw_end.ensures.draws

@@ -1,0 +1,3 @@
+-- In reading order.
+pub mod Report
+pub mod Runs

@@ -1,0 +1,92 @@
+//! Reports on standard error: that a script is read from the terminal, and the summary of a run and hints.
+ghost use Rattle.std.specs.Prelude.{◌≡◌, ◌≤◌, ◌^◌, List, ℕ, IfOk, OnErr, OnOk, false};
+ghost use Rattle.std.specs.Io.KnownBytes.{Appends};
+ghost use Rattle.cc_ops.specs.declared.reply.Reply.{Reply};
+ghost use Rattle.cc_syntax.specs.Tally.{Exchange, IsTally};
+ghost use Rattle.cc_runs.specs.Report.{IsMachineUsage, WritesReport, report_of, waiting_text};
+
+use cc_command::{Hints, show_hints, show_statistics};
+use cc_draw::usage_of;
+use cc_io::{Sink, write_all};
+use cc_machine::{Len, Machine};
+use cc_ops::Usage;
+use cc_script::Session;
+use std::alloc::{AllocError, Global};
+
+/// Which standard streams are terminals.
+#[derive(Clone, Copy)]
+pub struct Terminals {
+    /// Standard input.
+    pub input: bool,
+    /// Standard error.
+    pub errors: bool,
+}
+
+/// The parts of the report of a run on standard error.
+#[derive(Clone, Copy)]
+pub struct Report {
+    /// Whether the summary is written.
+    pub stats: bool,
+    /// Whether hints are written.
+    pub hints: bool,
+}
+
+impl Report {
+    /// Creates the report of a run with or without `--stats`. Hints are also written if standard error is a terminal.
+    pub fn new(stats: bool, terminals: Terminals) -> Self
+        ensures { result ≡ report_of stats terminals }
+    {
+        Report {
+            stats,
+            hints: stats || terminals.errors,
+        }
+    }
+}
+
+/// Writes that the script is read from the terminal. Errors of the sink are ignored.
+pub fn announce<E: Sink>(errors: &mut E)
+    requires { E.has_failed errors.old ≡ false }
+    ensures { E.has_failed errors.new ≡ false → Appends (E.taken_bytes errors.old) (E.taken_bytes errors.new) waiting_text }
+{
+    let _ = write_all(
+        errors,
+        b"hint: reading a script from the terminal, a command on each line; Control-D ends it\n",
+    );
+}
+
+/// Writes the summary of a run and hints, if the report has them. `pool` is the length of the pool that the opening
+/// requests, if any. Errors of the sink are ignored, and nothing is written after one.
+///
+/// Errors: `AllocError` if an allocation fails; nothing is written then.
+pub fn write_report<R: AllocGlobal, E: Sink>(
+    rt: &R,
+    session: &Session,
+    pool: Option<Len>,
+    report: Report,
+    errors: &mut E,
+) -> Result<(), AllocError>
+    requires { E.has_failed errors.old ≡ false }
+    ensures written { OnOk result (E.has_failed errors.new ≡ false → (opening : List Reply) (exchanges : List Exchange) → IsTally opening exchanges session.now.tally → WritesReport report session.now opening exchanges pool (E.taken_bytes errors.old) (E.taken_bytes errors.new)) }
+    ensures unwritten { OnErr result (E.taken_bytes errors.new ≡ E.taken_bytes errors.old) }
+{
+    if report.stats {
+        let usage = machine_usage(rt.alloc(), session.machine())?;
+        if show_statistics(&usage, session.tally(), errors).is_err() {
+            return Ok(());
+        }
+    }
+    if report.hints {
+        let _ = show_hints(&Hints::of(session.tally(), pool), errors);
+    }
+    Ok(())
+}
+
+/// Returns the use of a machine's slots, objects and pool. At most 2^80 bytes are held.
+///
+/// Errors: `AllocError` if an allocation fails.
+pub(crate) fn machine_usage(alloc: Global, machine: &Machine) -> Result<Usage, AllocError>
+    ensures usage { IfOk result (IsMachineUsage machine.now) }
+    ensures fits { IfOk result (λ usage. usage.held ≤ 2 ^ 80) }
+{
+    usage_of(alloc, machine.planner(), machine.slots())
+}

@@ -1,0 +1,196 @@
+//! `run` and `plan`: the run of a script on a new machine, and its report.
+ghost use Rattle.std.specs.Prelude.{◌≡◌, ◌≢◌, ◌≤◌, ◌*◌, ◌↔◌, [], false, length, true, Err, IsOk, None, OnErr, OnOk};
+ghost use Rattle.cc_machine.specs.State.{initial_state};
+ghost use Rattle.cc_syntax.specs.Planning.{pool_of};
+ghost use Rattle.cc_syntax.specs.Tally.{IsTally};
+ghost use Rattle.cc_devices.specs.Devices.{FromInput, OnDevices};
+ghost use Rattle.cc_devices.specs.Input.{IsFile, file_input};
+ghost use Rattle.cc_runs.specs.Runs.{PlansFile, ReportsRun};
+
+use crate::report::{Report, write_report};
+use crate::session::new_session;
+use cc_arguments::PoolTexts;
+use cc_bounds::Align;
+use cc_command::write_refusal;
+use cc_devices::{Fault, InputName, Inputs, file_input};
+use cc_io::{FromReader, Sink, Source, Summary};
+use cc_machine::{Len, Op};
+use cc_script::{Session, run_session};
+use cc_syntax::{plan_numbers, plan_opening};
+use cc_text::Waiting;
+
+/// Runs the script that FILE names on a new machine with at most `limit` slots and objects: writes the replies to `sink`, and the
+/// report of a run that came to its end to `errors`.
+///
+/// Requires: `limit` is from 1 to 65,536, and no device has failed.
+/// Errors: `Memory` if an allocation fails; `Open` if the input cannot be opened, and nothing was written then; `Read` if a read
+/// fails; `Write` if and only if the sink failed. Nothing is reported then.
+pub fn run_file<R: AllocGlobal, I: Inputs, W: Sink, E: Sink>(
+    rt: &R,
+    limit: u32,
+    report: Report,
+    inputs: &I,
+    file: Option<&str>,
+    sink: &mut W,
+    errors: &mut E,
+) -> Result<Summary, Fault>
+    requires from_one { 1 ≤ limit }
+    requires at_most { limit ≤ 65536 }
+    requires sink { W.has_failed sink.old ≡ false }
+    requires errors { E.has_failed errors.old ≡ false }
+    ensures executes { OnDevices (FromInput (file_input file.entry) (record {
+      input = I.bytes_of inputs.now;
+      output = W.taken_bytes sink.old;
+      output_now = W.taken_bytes sink.new;
+      errors = E.taken_bytes errors.old;
+      errors_now = E.taken_bytes errors.new;
+      errors_failed = E.has_failed errors.new;
+    }) (ReportsRun report [] None (initial_state limit))) result }
+    ensures open { result ≡ Err Fault.Open → IsFile (file_input file.entry) }
+    ensures untouched { result ≡ Err Fault.Open → W.taken_bytes sink.new ≡ W.taken_bytes sink.old }
+    ensures write { (result ≡ Err Fault.Write) ↔ (W.has_failed sink.new ≡ true) }
+    ensures flushed { OnOk result (W.is_flushed sink.new ≡ true) }
+    ensures unreported { OnErr result (E.taken_bytes errors.new ≡ E.taken_bytes errors.old) }
+{
+    let input = file_input(file);
+    run(rt, limit, &[], None, inputs, input, report, sink, errors)
+}
+
+/// Runs the script that FILE names as [`run_file`] does, on a new machine with a pool. BASE and LENGTH are read first. If one is
+/// refused, the output is that refusal, and nothing is read.
+///
+/// Requires: `limit` is from 1 to 65,536, and no device has failed.
+/// Errors: those of [`run_file`].
+pub fn plan_file<R: AllocGlobal, I: Inputs, W: Sink, E: Sink>(
+    rt: &R,
+    limit: u32,
+    pool: PoolTexts<'_>,
+    align: Align,
+    report: Report,
+    inputs: &I,
+    file: Option<&str>,
+    sink: &mut W,
+    errors: &mut E,
+) -> Result<Summary, Fault>
+    requires from_one { 1 ≤ limit }
+    requires at_most { limit ≤ 65536 }
+    requires sink { W.has_failed sink.old ≡ false }
+    requires errors { E.has_failed errors.old ≡ false }
+    ensures executes { OnDevices (PlansFile report limit pool.entry align file.entry (record {
+      input = I.bytes_of inputs.now;
+      output = W.taken_bytes sink.old;
+      output_now = W.taken_bytes sink.new;
+      errors = E.taken_bytes errors.old;
+      errors_now = E.taken_bytes errors.new;
+      errors_failed = E.has_failed errors.new;
+    })) result }
+    ensures memory { result ≡ Err Fault.Memory → IsOk (pool_of pool.entry.base.now pool.entry.length.now) }
+    ensures open { result ≡ Err Fault.Open → IsOk (pool_of pool.entry.base.now pool.entry.length.now) × IsFile (file_input file.entry) }
+    ensures untouched { result ≡ Err Fault.Open → W.taken_bytes sink.new ≡ W.taken_bytes sink.old }
+    ensures write { (result ≡ Err Fault.Write) ↔ (W.has_failed sink.new ≡ true) }
+    ensures flushed { OnOk result (W.is_flushed sink.new ≡ true) }
+    ensures unreported { OnErr result (E.taken_bytes errors.new ≡ E.taken_bytes errors.old) }
+    ensures silent { ¬ IsOk (pool_of pool.entry.base.now pool.entry.length.now) → errors.new ≡ errors.old }
+{
+    match plan_numbers(pool.base.as_bytes(), pool.length.as_bytes()) {
+        Ok((base, length)) => {
+            let opening = plan_opening(base, length, align);
+            run(
+                rt,
+                limit,
+                &opening,
+                Some(length),
+                inputs,
+                file_input(file),
+                report,
+                sink,
+                errors,
+            )
+        }
+        Err(refusal) => Ok(write_refusal(refusal, sink)?),
+    }
+}
+
+/// Runs a script on a new machine, and reports the run if it came to its end.
+// not inlined, so that other commands do not touch the pages of its buffers on the stack
+#[inline(never)]
+fn run<R: AllocGlobal, I: Inputs, W: Sink, E: Sink>(
+    rt: &R,
+    limit: u32,
+    opening: &[Op],
+    pool: Option<Len>,
+    inputs: &I,
+    input: InputName<'_>,
+    report: Report,
+    sink: &mut W,
+    errors: &mut E,
+) -> Result<Summary, Fault>
+    requires from_one { 1 ≤ limit }
+    requires at_most { limit ≤ 65536 }
+    requires few { 193 * length opening.now ≤ 65536 }
+    requires sink { W.has_failed sink.old ≡ false }
+    requires errors { E.has_failed errors.old ≡ false }
+    ensures runs { OnDevices (FromInput input.entry (record {
+      input = I.bytes_of inputs.now;
+      output = W.taken_bytes sink.old;
+      output_now = W.taken_bytes sink.new;
+      errors = E.taken_bytes errors.old;
+      errors_now = E.taken_bytes errors.new;
+      errors_failed = E.has_failed errors.new;
+    }) (ReportsRun report opening.now pool (initial_state limit))) result }
+    ensures open { result ≡ Err Fault.Open → IsFile input.entry }
+    ensures untouched { result ≡ Err Fault.Open → W.taken_bytes sink.new ≡ W.taken_bytes sink.old }
+    ensures write { (result ≡ Err Fault.Write) ↔ (W.has_failed sink.new ≡ true) }
+    ensures flushed { OnOk result (W.is_flushed sink.new ≡ true) }
+    ensures unreported { OnErr result (E.taken_bytes errors.new ≡ E.taken_bytes errors.old) }
+{
+    let mut session = new_session(rt.alloc(), limit)?;
+    let mut source = FromReader::new(inputs.open(input)?);
+    run_and_report(
+        rt,
+        opening,
+        pool,
+        report,
+        &mut session,
+        &mut source,
+        sink,
+        errors,
+    )
+}
+
+/// Runs a script, and reports the run if it came to its end.
+fn run_and_report<R: AllocGlobal, S: Source, W: Sink, E: Sink>(
+    rt: &R,
+    opening: &[Op],
+    pool: Option<Len>,
+    report: Report,
+    session: &mut Session,
+    source: &mut S,
+    sink: &mut W,
+    errors: &mut E,
+) -> Result<Summary, Fault>
+    requires fresh { IsTally [] [] session.old.tally }
+    requires few { 193 * length opening.now ≤ 65536 }
+    requires source { S.has_failed source.old ≡ false }
+    requires sink { W.has_failed sink.old ≡ false }
+    requires errors { E.has_failed errors.old ≡ false }
+    ensures runs { OnDevices (ReportsRun report opening.now pool session.old.machine (record {
+      unread = S.to_come source.old;
+      left = S.to_come source.new;
+      output = W.taken_bytes sink.old;
+      output_now = W.taken_bytes sink.new;
+      errors = E.taken_bytes errors.old;
+      errors_now = E.taken_bytes errors.new;
+      errors_failed = E.has_failed errors.new;
+    })) result }
+    ensures open { result ≢ Err Fault.Open }
+    ensures read { (result ≡ Err Fault.Read) ↔ (S.has_failed source.new ≡ true) }
+    ensures write { (result ≡ Err Fault.Write) ↔ (W.has_failed sink.new ≡ true) }
+    ensures flushed { OnOk result (W.is_flushed sink.new ≡ true) }
+    ensures unreported { OnErr result (E.taken_bytes errors.new ≡ E.taken_bytes errors.old) }
+{
+    let mut page = Waiting::new();
+    let summary = run_session(opening, session, source, sink, &mut page)?;
+    write_report(rt, session, pool, report, errors)?;
+    Ok(summary)
+}

@@ -1,0 +1,2 @@
+mod ReplayTextsLemmas
+mod ReplayingLemmas

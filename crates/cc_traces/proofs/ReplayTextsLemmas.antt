@@ -1,0 +1,61 @@
+-- The values of the texts of `replay`, and their refusals.
+use Rattle.std.proofs.Common.{◌≡◌, ◌∙◌, Bool, Option, Some, None, Result, Ok, Err, ap, refl, subst, sym}
+use Rattle.std.specs.Prelude.{ℕ, ◌^◌, IfOk}
+use Rattle.cc_word.specs.declared.refusal.Refusal.{Refusal}
+use Rattle.cc_word.specs.declared.refusal.Refusal.TheVariants.{Syntax}
+use Rattle.cc_bounds.specs.declared.align.Align.{Align}
+use Rattle.cc_bounds.specs.declared.span.Span.{Span}
+use Rattle.cc_syntax.specs.Commands.{both}
+use Rattle.cc_heap.specs.declared.policy.Policy.{Policy}
+use Rattle.cc_replay.specs.declared.formats.TraceFormat.{TraceFormat}
+use Rattle.cc_replay.specs.declared.reading.Reading.{Reading}
+use Rattle.cc_heap.specs.declared.settings.Settings.{Settings}
+use Rattle.cc_arguments.specs.declared.invocation.ReplayTexts.{ReplayTexts}
+use Rattle.cc_devices.specs.Refused.{changed}
+use Rattle.cc_traces.specs.ReplayTexts.{each_in, format_in, least_in, replay_in, span_given, sweep_in}
+
+-- Both values are those of the two results.
+pub parts_of_both : {A B : Type 0} (first : Result A Refusal) (second : Result B Refusal) (found : A × B) → both first second ≡ Ok found
+    → (first ≡ Ok found.0) × (second ≡ Ok found.1)
+parts_of_both (Ok a) (Ok b) found e = let same : (a, b) ≡ found = cc e in (ap (λ pair. Ok pair.0) same, ap (λ pair. Ok pair.1) same)
+parts_of_both (Ok a) (Err fault) found e = cc e
+parts_of_both (Err Syntax) second found e = cc e
+parts_of_both (Err fault) (Ok b) found e = cc e
+parts_of_both (Err fault) (Err other) found e = cc e
+
+from_changed : {A B : Type 0} (change : A → B) (result : Result A Refusal) (found : B) → changed change result ≡ Ok found
+    → (value : A) × (result ≡ Ok value) × (change value ≡ found)
+from_changed change (Ok value) found e = (value, refl, cc e)
+from_changed change (Err refusal) found e = cc e
+
+-- A claim on the value of a result holds for its value.
+pub of_value : {A : Type 0} (P : A → Type 0) (result : Result A Refusal) (value : A) → IfOk result P → result ≡ Ok value → P value
+of_value P (Ok other) value holds e = let same : other ≡ value = cc e in subst P same holds
+of_value P (Err refusal) value holds e = cc e
+
+-- Without `--each` there is no series.
+pub no_series : (align : Align) (strict : Bool) (texts : ReplayTexts) (found : Settings × Reading) → replay_in align strict texts ≡ Ok found → texts.each ≡ None
+    → found.1.each ≡ 0
+no_series align strict texts found e none =
+    let made = from_changed _ (both (both (sweep_in texts.sweep) (least_in texts.least)) (both (each_in texts.each) (both (span_given texts.pool) (format_in texts.format)))) found e in
+    let outer = parts_of_both (both (sweep_in texts.sweep) (least_in texts.least)) (both (each_in texts.each) (both (span_given texts.pool) (format_in texts.format))) made.0 made.1 in
+    let inner = parts_of_both (each_in texts.each) (both (span_given texts.pool) (format_in texts.format)) made.0.1 outer.1 in
+    let zero : Ok 0 ≡ Ok made.0.1.0 = ap each_in (sym none) ∙ inner.0 in
+    let same : 0 ≡ made.0.1.0 = cc zero in
+    ap (λ pair. pair.1.each) (sym made.2) ∙ sym same
+
+-- A refusal of one of the texts.
+pub replay_refused : (align : Align) (strict : Bool) (texts : ReplayTexts) (refusal : Refusal)
+    → both (both (sweep_in texts.sweep) (least_in texts.least)) (both (each_in texts.each) (both (span_given texts.pool) (format_in texts.format))) ≡ Err refusal
+    → Err refusal ≡ replay_in align strict texts
+replay_refused align strict texts refusal told = ap (changed _) (sym told)
+
+-- The values of all texts.
+pub replay_found : (align : Align) (strict : Bool) (texts : ReplayTexts) (policy : Policy) (least each : ℕ) (pool : Span) (format : TraceFormat)
+    → both (both (sweep_in texts.sweep) (least_in texts.least)) (both (each_in texts.each) (both (span_given texts.pool) (format_in texts.format)))
+    ≡ Ok ((policy, least), (each, (pool, format)))
+    → Ok (
+      record { limit = 2 ^ 24; pool = pool; align = align; policy = policy; least_quarantine = least },
+      record { format = format; is_strict = strict; each = each },
+    ) ≡ replay_in align strict texts
+replay_found align strict texts policy least each pool format told = ap (changed _) (sym told)

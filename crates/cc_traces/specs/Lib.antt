@@ -1,0 +1,3 @@
+-- In reading order.
+pub mod ReplayTexts
+pub mod Replaying

@@ -1,0 +1,108 @@
+-- The output of `replay`, by its trace.
+use Rattle.std.specs.Prelude.{◌≡◌, ◌≢◌, ◌⊎◌, ℕ, Bool, zero, suc, List, Option, None, Result, Ok, Err, MatchResult}
+use Rattle.std.specs.Io.KnownBytes.{Appends}
+use Rattle.cc_word.specs.declared.refusal.Refusal.{Refusal}
+use Rattle.cc_bounds.specs.declared.align.Align.{Align}
+use Rattle.cc_io.specs.Correct.{Pumps}
+use Rattle.cc_io.specs.Devices.{TakesBeginning}
+use Rattle.cc_io.specs.Frames.{lines}
+use Rattle.cc_io.specs.declared.summary.IoError.{IoError}
+use Rattle.cc_io.specs.declared.summary.IoError.TheVariants.{Read, Write}
+use Rattle.cc_io.specs.declared.summary.Summary.{Summary}
+use Rattle.cc_heap.specs.Lost.{empty_run}
+use Rattle.cc_replay.specs.Replay.{ReplayState, TakesLine, TakesRest, begun, figures_of, last_sample, series_header}
+use Rattle.cc_replay.specs.Rows.{table_text}
+use Rattle.cc_replay.specs.Summary.{summary_rows}
+use Rattle.cc_replay.specs.declared.reading.Progress.TheVariants.{OutOfMemory}
+use Rattle.cc_replay.specs.declared.reading.Reading.{Reading}
+use Rattle.cc_heap.specs.declared.settings.Settings.{Settings}
+use Rattle.cc_replay.specs.declared.table.Format.{Format}
+use Rattle.cc_replay.specs.declared.table.Format.TheVariants.{Text, Csv, Json}
+use Rattle.cc_arguments.specs.declared.invocation.ReplayTexts.{ReplayTexts}
+use Rattle.cc_arguments.specs.declared.invocation.SummaryFormat.{SummaryFormat}
+use Rattle.cc_arguments.specs.declared.invocation.SummaryFormat.TheVariants as summary
+use Rattle.cc_devices.specs.Devices.{Console, Traffic}
+use Rattle.cc_traces.specs.ReplayTexts.{replay_in}
+use Rattle.cc_devices.specs.Refused.{WritesRefusal}
+
+-- The format of a table.
+abbrev pub table_format : SummaryFormat → Format
+table_format summary.Text = Text
+table_format summary.Csv = Csv
+table_format summary.Json = Json
+
+-- The text of the summary of a replay.
+abbrev pub summary_text : SummaryFormat → ReplayState → List ℕ
+summary_text format state = table_text (table_format format) (summary_rows (figures_of state))
+
+-- Replays holds if the replay took the lines that the source gave, and the bytes after the last of them, until it had the state `new`.
+-- The samples were written. With a result that is `Ok` the source was read to its end.
+abbrev pub Replays : (old : ReplayState) (unread left output output_now : Option (List ℕ)) → Result Summary IoError → (new : ReplayState) → Type 0
+Replays old unread left output output_now result new =
+    Pumps TakesLine TakesRest lines 65536 1301 old (series_header old) unread left output output_now result new
+
+-- ReplaysAll holds if the replay took the whole trace, and no allocation failed.
+pub record ReplaysAll (old : ReplayState) (unread left output output_now : Option (List ℕ)) (summary : Summary) (new : ReplayState) : Type 0 where
+  pub replays : Replays old unread left output output_now (Ok summary) new
+  pub has_memory : new.progress ≢ OutOfMemory
+
+-- SumsUpAll holds if the replay took the whole trace, and the summary of its end was written.
+pub record SumsUpAll (format : SummaryFormat) (old : ReplayState) (traffic : Traffic) (summary : Summary) : Type 0 where
+  pub new : ReplayState
+  pub all : ReplaysAll old traffic.unread traffic.left None None summary new
+  pub written : Appends traffic.output traffic.output_now (summary_text format new)
+
+-- StopsInSummary holds if the replay took the whole trace, and a prefix of the summary was written.
+pub record StopsInSummary (format : SummaryFormat) (old : ReplayState) (traffic : Traffic) : Type 0 where
+  pub summary : Summary
+  pub new : ReplayState
+  pub all : ReplaysAll old traffic.unread traffic.left None None summary new
+  pub written : TakesBeginning traffic.output traffic.output_now (summary_text format new)
+
+-- SumsUp holds if the summary of the trace's replay was written, up to a failed write. Nothing was written if a read failed.
+abbrev pub SumsUp : SummaryFormat → (old : ReplayState) → Traffic → Result Summary IoError → Type 0
+SumsUp format old traffic (Ok summary) = SumsUpAll format old traffic summary
+SumsUp format old traffic (Err Read) = traffic.output_now ≡ traffic.output
+SumsUp format old traffic (Err Write) = StopsInSummary format old traffic
+
+-- SamplesAll holds if the replay took the whole trace, and its series was written, with the last sample.
+pub record SamplesAll (old : ReplayState) (traffic : Traffic) (summary : Summary) : Type 0 where
+  pub new : ReplayState
+  pub output_then : Option (List ℕ)
+  pub all : ReplaysAll old traffic.unread traffic.left traffic.output output_then summary new
+  pub written : Appends output_then traffic.output_now (last_sample new)
+
+-- StopsInLast holds if the replay took the whole trace, and its series was written, but of the last sample only a prefix.
+pub record StopsInLast (old : ReplayState) (traffic : Traffic) : Type 0 where
+  pub summary : Summary
+  pub new : ReplayState
+  pub output_then : Option (List ℕ)
+  pub all : ReplaysAll old traffic.unread traffic.left traffic.output output_then summary new
+  pub written : TakesBeginning output_then traffic.output_now (last_sample new)
+
+-- StopsSampling holds if the replay stopped with an error of a device, and the samples before it were written.
+pub record StopsSampling (old : ReplayState) (traffic : Traffic) (error : IoError) : Type 0 where
+  pub new : ReplayState
+  pub replays : Replays old traffic.unread traffic.left traffic.output traffic.output_now (Err error) new
+
+-- Samples holds if the series of the trace's replay was written, up to a failure.
+abbrev pub Samples : (old : ReplayState) → Traffic → Result Summary IoError → Type 0
+Samples old traffic (Ok summary) = SamplesAll old traffic summary
+Samples old traffic (Err Read) = StopsSampling old traffic Read
+Samples old traffic (Err Write) = StopsSampling old traffic Write ⊎ StopsInLast old traffic
+
+-- WritesReplay holds if the summary was written, or the series, if samples were asked for.
+abbrev pub WritesReplay : (each : ℕ) → SummaryFormat → (old : ReplayState) → Traffic → Result Summary IoError → Type 0
+WritesReplay zero format old traffic result = SumsUp format old traffic result
+WritesReplay (suc less) format old traffic result = Samples old traffic result
+
+-- ReplaysTrace holds if the trace was replayed on a heap of these settings that held nothing, and the summary or the series was written.
+abbrev pub ReplaysTrace : SummaryFormat → Settings → Reading → Traffic → Result Summary IoError → Type 0
+ReplaysTrace format settings reading traffic result = WritesReplay reading.each format (begun (empty_run settings) reading) traffic result
+
+-- WithReplay holds if `Does` holds for the settings and the reading of a replay, or if one of their texts is refused.
+abbrev pub WithReplay : Align → (strict : Bool) → ReplayTexts → Console → (Does : Settings → Reading → Result Summary IoError → Type 0)
+    → Result Summary IoError → Type 0
+WithReplay align strict texts console Does result =
+    MatchResult (replay_in align strict texts) (λ found. Does found.0 found.1 result)
+    (λ refusal. WritesRefusal console.output console.output_now refusal result)

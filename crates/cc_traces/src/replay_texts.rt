@@ -1,0 +1,140 @@
+//! The heap and the reading that the arguments of `replay` ask for.
+ghost use Rattle.std.specs.Prelude.{◌≡◌, ◌^◌, IfOk};
+ghost use Rattle.cc_bounds.specs.Span.{IsSpan};
+ghost use Rattle.cc_traces.specs.ReplayTexts.{each_in, format_in, format_named, least_in, replay_in, span_given, span_in, sweep_in};
+
+use cc_arguments::ReplayTexts;
+use cc_bounds::{Align, Span};
+use cc_command::read_request;
+use cc_replay::{Policy, Reading, Settings, Share, TraceFormat, read_policy};
+use cc_syntax::{both, read_address};
+use cc_word::Refusal;
+
+/// The maximum number of spans that a heap holds.
+const MOST_HELD: u32 = 1 << 24;
+
+/// The pool if `--pool` is not given.
+const ALL_ABOVE: Span = Span {
+    base: 1 << 44,
+    top: 1 << 64,
+};
+
+/// Returns the settings of the heap, and how the trace is read.
+///
+/// Errors, in order: `Syntax` if a text is not a number, not a policy, not a pool or not a format; `OutOfBounds` if the pool ends past 2^64;
+/// `OutOfRange` if a number is too large, or that of `--each` is 0.
+pub(crate) fn replay_of(
+    align: Align,
+    strict: bool,
+    texts: ReplayTexts<'_>,
+) -> Result<(Settings, Reading), Refusal>
+    ensures value { result ≡ replay_in align strict texts.entry }
+    ensures limit { IfOk result (λ found. found.0.limit ≡ 2 ^ 24) }
+    ensures pool { IfOk result (λ found. IsSpan found.0.pool) }
+{
+    let sweeping = both(policy_of(texts.sweep), least_of(texts.least));
+    let placing = both(pool_of(texts.pool), format_of(texts.format));
+    match both(sweeping, both(each_of(texts.each), placing)) {
+        Ok(((policy, least_quarantine), (each, (pool, format)))) => Ok((
+            Settings {
+                limit: MOST_HELD,
+                pool,
+                align,
+                policy,
+                least_quarantine,
+            },
+            Reading {
+                format,
+                is_strict: strict,
+                each,
+            },
+        )),
+        Err(refusal) => Err(refusal),
+    }
+}
+
+/// Returns the policy that `--sweep` names, or 25 percent of the held bytes.
+fn policy_of(text: Option<&str>) -> Result<Policy, Refusal>
+    ensures { result ≡ sweep_in text.entry }
+{
+    match text {
+        Some(text) => read_policy(text.as_bytes()),
+        None => Ok(Policy::Percent {
+            percent: 25,
+            of: Share::Held,
+        }),
+    }
+}
+
+/// Returns the number of quarantined bytes that `--min` gives, or 0.
+fn least_of(text: Option<&str>) -> Result<u64, Refusal>
+    ensures { result ≡ least_in text.entry }
+{
+    match text {
+        Some(text) => read_address(text.as_bytes()),
+        None => Ok(0),
+    }
+}
+
+/// Returns the number of events from one sample to the next, or 0 if `--each` is not given.
+fn each_of(text: Option<&str>) -> Result<u64, Refusal>
+    ensures { result ≡ each_in text.entry }
+{
+    match text {
+        Some(text) => match read_address(text.as_bytes()) {
+            Ok(0) => Err(Refusal::OutOfRange),
+            Ok(each) => Ok(each),
+            Err(refusal) => Err(refusal),
+        },
+        None => Ok(0),
+    }
+}
+
+/// Returns the format of the trace that `--format` names, or the crate's own.
+fn format_of(text: Option<&str>) -> Result<TraceFormat, Refusal>
+    ensures { result ≡ format_in text.entry }
+{
+    match text {
+        Some(text) => read_format(text.as_bytes()),
+        None => Ok(TraceFormat::Own),
+    }
+}
+
+/// Parses the name of a format.
+fn read_format(name: &[u8]) -> Result<TraceFormat, Refusal>
+    ensures { result ≡ format_named name.now }
+{
+    if name == b"own".as_slice() {
+        Ok(TraceFormat::Own)
+    } else if name == b"mtrace".as_slice() {
+        Ok(TraceFormat::Mtrace)
+    } else if name == b"heaptrack".as_slice() {
+        Ok(TraceFormat::Heaptrack)
+    } else if name == b"ltrace".as_slice() {
+        Ok(TraceFormat::Ltrace)
+    } else {
+        Err(Refusal::Syntax)
+    }
+}
+
+/// Returns the pool that `--pool` gives, or all bytes from 2^44 on.
+fn pool_of(text: Option<&str>) -> Result<Span, Refusal>
+    ensures value { result ≡ span_given text.entry }
+    ensures pool { IfOk result IsSpan }
+{
+    match text {
+        Some(text) => read_pool(text),
+        None => Ok(ALL_ABOVE),
+    }
+}
+
+/// Parses a base and a length with a colon between.
+fn read_pool(text: &str) -> Result<Span, Refusal>
+    ensures value { result ≡ span_in text.now }
+    ensures pool { IfOk result IsSpan }
+{
+    match text.split_once(':') {
+        Some((base, length)) => read_request(base, length),
+        None => Err(Refusal::Syntax),
+    }
+}

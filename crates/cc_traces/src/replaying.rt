@@ -1,0 +1,153 @@
+//! `replay`: the call for the trace of an allocator.
+ghost use Rattle.std.specs.Prelude.{◌≡◌, ◌≢◌, ◌≤◌, ◌^◌, ◌↔◌, false, true, Err, IsOk, None, OnOk};
+ghost use Rattle.cc_bounds.specs.Span.{IsSpan};
+ghost use Rattle.cc_heap.specs.Lost.{empty_run};
+ghost use Rattle.cc_replay.specs.Replay.{begun};
+ghost use Rattle.cc_devices.specs.Devices.{FromInput, OnDevices, OnOutput, Traffic};
+ghost use Rattle.cc_devices.specs.Input.{IsFile, file_input};
+ghost use Rattle.cc_traces.specs.ReplayTexts.{replay_in};
+ghost use Rattle.cc_traces.specs.Replaying.{ReplaysTrace, Samples, SumsUp, WithReplay, table_format};
+
+use crate::replay_texts::replay_of;
+use cc_arguments::{ReplayTexts, SummaryFormat};
+use cc_bounds::Align;
+use cc_command::write_refusal;
+use cc_devices::{Discard, Fault, InputName, Inputs, file_input};
+use cc_gaps::GapPlacer;
+use cc_io::{FromReader, Sink, Source, Summary};
+use cc_placer::Placer;
+use cc_replay::{Format, Progress, Reading, Replay, Settings, replay_trace, write_summary};
+
+/// The maximum number of bytes of a trace, more than any file or pipe gives.
+const MOST_REPLAYED: usize = 1 << 62;
+
+/// Replays the trace that FILE names on a heap with exact bounds, and writes the summary, or the series if `--each` is given.
+/// The texts are read first. If one is refused, the output is that refusal, and nothing is read.
+///
+/// The summary of the result has an error if a line of the trace is refused.
+///
+/// Requires: the sink has not failed.
+/// Errors: `Memory` if an allocation fails, and without `--each` nothing was written then; `Open` if the input cannot be opened,
+/// and nothing was written then; `Read` if a read fails; `Write` if and only if the sink failed.
+pub fn replay_file<R: AllocGlobal, I: Inputs, W: Sink>(
+    rt: &R,
+    align: Align,
+    strict: bool,
+    format: SummaryFormat,
+    texts: ReplayTexts<'_>,
+    inputs: &I,
+    file: Option<&str>,
+    sink: &mut W,
+) -> Result<Summary, Fault>
+    requires { W.has_failed sink.old ≡ false }
+    ensures replays { OnOutput (I.bytes_of inputs.now) (W.taken_bytes sink.old) (W.taken_bytes sink.new)
+        (λ console. WithReplay align strict texts.entry console (λ settings reading. FromInput (file_input file.entry) console (ReplaysTrace format settings reading))) result }
+    ensures memory { result ≡ Err Fault.Memory → IsOk (replay_in align strict texts.entry) }
+    ensures open { result ≡ Err Fault.Open → IsOk (replay_in align strict texts.entry) × IsFile (file_input file.entry) }
+    ensures untouched { result ≡ Err Fault.Open → W.taken_bytes sink.new ≡ W.taken_bytes sink.old }
+    ensures starved { texts.entry.each ≡ None → result ≡ Err Fault.Memory → W.taken_bytes sink.new ≡ W.taken_bytes sink.old }
+    ensures write { (result ≡ Err Fault.Write) ↔ (W.has_failed sink.new ≡ true) }
+    ensures flushed { OnOk result (W.is_flushed sink.new ≡ true) }
+{
+    match replay_of(align, strict, texts) {
+        Ok((settings, reading)) => {
+            let input = file_input(file);
+            replay(rt, settings, reading, format, inputs, input, sink)
+        }
+        Err(refusal) => Ok(write_refusal(refusal, sink)?),
+    }
+}
+
+/// Replays a trace on a heap of these settings, and writes the summary, or the series if samples are asked for.
+// not inlined, so that other commands do not touch the pages of its buffers on the stack
+#[inline(never)]
+fn replay<R: AllocGlobal, I: Inputs, W: Sink>(
+    rt: &R,
+    settings: Settings,
+    reading: Reading,
+    format: SummaryFormat,
+    inputs: &I,
+    input: InputName<'_>,
+    sink: &mut W,
+) -> Result<Summary, Fault>
+    requires some { 1 ≤ settings.limit }
+    requires few { settings.limit ≤ 2 ^ 24 }
+    requires pool { IsSpan settings.pool }
+    requires sink { W.has_failed sink.old ≡ false }
+    ensures replays { OnOutput (I.bytes_of inputs.now) (W.taken_bytes sink.old) (W.taken_bytes sink.new)
+        (λ console. FromInput input.entry console (ReplaysTrace format settings reading)) result }
+    ensures open { result ≡ Err Fault.Open → IsFile input.entry }
+    ensures untouched { result ≡ Err Fault.Open → W.taken_bytes sink.new ≡ W.taken_bytes sink.old }
+    ensures starved { reading.each ≡ 0 → result ≡ Err Fault.Memory → W.taken_bytes sink.new ≡ W.taken_bytes sink.old }
+    ensures write { (result ≡ Err Fault.Write) ↔ (W.has_failed sink.new ≡ true) }
+    ensures flushed { OnOk result (W.is_flushed sink.new ≡ true) }
+{
+    let mut replay: Replay<GapPlacer> = Replay::with_settings(rt.alloc(), settings, reading)?;
+    let mut source = FromReader::with_limit(inputs.open(input)?, MOST_REPLAYED);
+    if reading.each == 0 {
+        sum_up(format, &mut replay, &mut source, sink)
+    } else {
+        sample(&mut replay, &mut source, sink)
+    }
+}
+
+/// Replays a trace, and writes the summary of its end.
+fn sum_up<P: Placer, S: Source, W: Sink>(
+    format: SummaryFormat,
+    replay: &mut Replay<P>,
+    source: &mut S,
+    sink: &mut W,
+) -> Result<Summary, Fault>
+    requires source { S.has_failed source.old ≡ false }
+    requires sink { W.has_failed sink.old ≡ false }
+    ensures sums_up { (traffic : Traffic) → traffic.unread ≡ S.to_come source.old → traffic.left ≡ S.to_come source.new
+        → traffic.output ≡ W.taken_bytes sink.old → traffic.output_now ≡ W.taken_bytes sink.new
+        → OnDevices (SumsUp format replay.old traffic) result }
+    ensures open { result ≢ Err Fault.Open }
+    ensures starved { result ≡ Err Fault.Memory → W.taken_bytes sink.new ≡ W.taken_bytes sink.old }
+    ensures read { (result ≡ Err Fault.Read) ↔ (S.has_failed source.new ≡ true) }
+    ensures write { (result ≡ Err Fault.Write) ↔ (W.has_failed sink.new ≡ true) }
+    ensures flushed { OnOk result (W.is_flushed sink.new ≡ true) }
+{
+    let summary = replay_trace(replay, source, &mut Discard)?;
+    if let Progress::OutOfMemory = replay.progress() {
+        return Err(Fault::Memory);
+    }
+    write_summary(&replay.figures(), table_format(format), sink)?;
+    Ok(summary)
+}
+
+/// Replays a trace, and writes its series.
+fn sample<P: Placer, S: Source, W: Sink>(
+    replay: &mut Replay<P>,
+    source: &mut S,
+    sink: &mut W,
+) -> Result<Summary, Fault>
+    requires source { S.has_failed source.old ≡ false }
+    requires sink { W.has_failed sink.old ≡ false }
+    ensures samples { (traffic : Traffic) → traffic.unread ≡ S.to_come source.old → traffic.left ≡ S.to_come source.new
+        → traffic.output ≡ W.taken_bytes sink.old → traffic.output_now ≡ W.taken_bytes sink.new
+        → OnDevices (Samples replay.old traffic) result }
+    ensures open { result ≢ Err Fault.Open }
+    ensures read { (result ≡ Err Fault.Read) ↔ (S.has_failed source.new ≡ true) }
+    ensures write { (result ≡ Err Fault.Write) ↔ (W.has_failed sink.new ≡ true) }
+    ensures flushed { OnOk result (W.is_flushed sink.new ≡ true) }
+{
+    let summary = replay_trace(replay, source, sink)?;
+    if let Progress::OutOfMemory = replay.progress() {
+        return Err(Fault::Memory);
+    }
+    replay.end_series(sink)?;
+    Ok(summary)
+}
+
+/// Returns the format of a table.
+fn table_format(format: SummaryFormat) -> Format
+    ensures { result ≡ table_format format }
+{
+    match format {
+        SummaryFormat::Text => Format::Text,
+        SummaryFormat::Csv => Format::Csv,
+        SummaryFormat::Json => Format::Json,
+    }
+}
