@@ -936,7 +936,7 @@ def _addresses_of(addresses: Union["ReadableBuffer", SupportsIndex], count: int)
         return array("Q", [_address(addresses)]) * count  # type: ignore[arg-type]
     except TypeError:
         view = memoryview(addresses)  # type: ignore[arg-type]
-    if view.itemsize != 8 or view.format.lstrip("@=") not in ("Q", "L"):
+    if view.itemsize != 8 or view.format[-1:] not in tuple("QLN") or _ORDERS.get(view.format[:-1] or "@") != sys.byteorder:
         raise ValueError(f"addresses must be unsigned 64-bit numbers of this machine, not of format {view.format!r}")
     if view.nbytes != 8 * count:
         raise ValueError(f"each of {count} words must have an address, not {view.nbytes // 8} of them")
