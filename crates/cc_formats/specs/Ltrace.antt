@@ -56,19 +56,19 @@ abbrev pub product_of : Result (ℕ × ℕ) Refusal → Result ℕ Refusal
 product_of (Ok numbers) = if nat_lt (numbers.0 * numbers.1) (2 ^ 64) then Ok (numbers.0 * numbers.1) else Err OutOfRange
 product_of (Err refusal) = Err refusal
 
--- `NUMBER, SIZE`: the product.
+-- The product of `NUMBER, SIZE`.
 abbrev pub product_in : (arguments : List ℕ) → Result ℕ Refusal
 product_in arguments = product_of (both (address_in (first_of arguments)) (spaced_number (further_of arguments)))
 
--- `OLD, SIZE`
+-- The old pointer and the size of `OLD, SIZE`.
 abbrev pub resized_in : (arguments : List ℕ) → Result (ℕ × ℕ) Refusal
 resized_in arguments = both (address_or_nil (first_of arguments)) (spaced_number (further_of arguments))
 
--- `malloc(SIZE) = PTR`
+-- The report of a call `malloc(SIZE) = PTR`.
 abbrev pub malloc_in : (call : List ℕ) → Result Report Refusal
 malloc_in call = reported (λ all. allocation all.1 all.0) (both (address_in (arguments_of call)) (result_in call))
 
--- `calloc(NUMBER, SIZE) = PTR`
+-- The report of a call `calloc(NUMBER, SIZE) = PTR`.
 abbrev pub calloc_in : (call : List ℕ) → Result Report Refusal
 calloc_in call =
     reported (λ all. clearing all.1 all.0) (both (product_in (arguments_of call)) (result_in call))
@@ -78,11 +78,11 @@ abbrev pub reallocated : Result ((ℕ × ℕ) × ℕ) Refusal → Result Report 
 reallocated (Ok values) = Ok (reallocation values.0.0 values.1 values.0.1)
 reallocated (Err refusal) = Err refusal
 
--- `realloc(OLD, SIZE) = PTR`
+-- The report of a call `realloc(OLD, SIZE) = PTR`.
 abbrev pub realloc_in : (call : List ℕ) → Result Report Refusal
 realloc_in call = reallocated (both (resized_in (arguments_of call)) (result_in call))
 
--- `free(PTR)`
+-- The report of a call `free(PTR)`.
 abbrev pub free_in : (call : List ℕ) → Result Report Refusal
 free_in call = reported free (address_or_nil (arguments_of call))
 

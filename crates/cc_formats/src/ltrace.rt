@@ -11,7 +11,7 @@ use cc_word::Refusal;
 const MOST_BYTES: usize = 128;
 
 /// Parses a line of ltrace, without its line feed: a call of `malloc`, `calloc`, `realloc` or `free`.
-/// Other lines report nothing.
+/// Other lines of at most 128 bytes report nothing.
 ///
 /// Only the first 129 bytes of a line matter.
 ///

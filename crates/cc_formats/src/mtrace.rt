@@ -15,7 +15,7 @@ const MOST_BYTES: usize = 128;
 ///
 /// Only the first 129 bytes of a line matter.
 ///
-/// Errors, in order: `Syntax` if the line is not one that `mtrace` writes, or has more than 128
+/// Errors, in order: `Syntax` if the line has another shape than those of `mtrace`, or more than 128
 /// bytes; `OutOfRange` if a number is above 2^64 - 1.
 #[tactic(auto, using(crate::proofs::StartLemmas::mtrace_start), unfolding(crate::specs::Mtrace::mtrace_in))]
 pub fn read_mtrace(line: &[u8]) -> Result<Report, Refusal>

@@ -4,10 +4,11 @@ ghost use Rattle.cc_formats.specs.Reports.{allocation, clearing, free, reallocat
 
 /// The report of a line of a trace: what happened to the heap of the program.
 ///
-/// An object is named by its pointer, which is not 0.
+/// An object is named by its pointer. It is not 0 in the reports of the readers, except in `From` and
+/// `To`.
 #[derive(Clone, Copy, PartialEq, Eq, Debug)]
 pub enum Report {
-    /// Nothing.
+    /// The line reports no change.
     Nothing,
     /// An object could not be made.
     Failure,
