@@ -1,5 +1,5 @@
 -- The lines that ltrace writes for calls of `malloc`, `calloc`, `realloc` and `free`.
-use Rattle.std.specs.Prelude.{ℕ, zero, suc, ◌*◌, ◌^◌, ◌==◌, nat_lt, codes, List, [], ◌∷◌, length, if◌then◌else◌, Result, Ok, Err}
+use Rattle.std.specs.Prelude.{ℕ, Bool, zero, suc, ◌*◌, ◌^◌, ◌==◌, nat_lt, codes, List, [], ◌∷◌, length, if◌then◌else◌, Result, Ok, Err}
 use Rattle.std.specs.List.{after_first, before_first, position_or_len}
 use Rattle.std.specs.Str.{bytes_eq}
 use Rattle.cc_word.specs.declared.refusal.Refusal.{Refusal}
@@ -27,6 +27,10 @@ spaced_number (space ∷ text) = if space == 32 then address_in text else Err Sy
 abbrev pub after_or_all : (at : ℕ) → (text : List ℕ) → List ℕ
 after_or_all at text =
     if nat_lt (position_or_len (λ byte. byte == at) text) (length text) then after_first (λ byte. byte == at) text else text
+
+-- Whether a byte of this value is among the bytes.
+abbrev pub has_byte : (at : ℕ) → (text : List ℕ) → Bool
+has_byte at text = nat_lt (position_or_len (λ byte. byte == at) text) (length text)
 
 -- The name of a function, in the bytes before its arguments: after `>` and after a space, if there are such.
 abbrev pub name_of : (head : List ℕ) → List ℕ
@@ -82,9 +86,9 @@ reallocated (Err refusal) = Err refusal
 abbrev pub realloc_in : (call : List ℕ) → Result Report Refusal
 realloc_in call = reallocated (both (resized_in (arguments_of call)) (result_in call))
 
--- The report of a call `free(PTR)`.
+-- The report of a call `free(PTR)`. A call without `)` is not one.
 abbrev pub free_in : (call : List ℕ) → Result Report Refusal
-free_in call = reported free (address_or_nil (arguments_of call))
+free_in call = if has_byte 41 call then reported free (address_or_nil (arguments_of call)) else Err Syntax
 
 -- The report of a function's name, and of what follows the first `(`. Other functions report nothing.
 abbrev pub called_in : (name call : List ℕ) → Result Report Refusal
