@@ -83,8 +83,8 @@ pub(crate) fn reallocation(old: u64, new: u64, size: u64) -> Report
     ensures { result ≡ reallocation old new size }
 {
     if new == 0 {
-        if size == 0 {
-            free(old)
+        if size == 0 && old != 0 {
+            Report::Free { pointer: old }
         } else {
             Report::Failure
         }
