@@ -1,5 +1,5 @@
 -- The lines that ltrace writes for calls of `malloc`, `calloc`, `realloc` and `free`.
-use Rattle.std.specs.Prelude.{ℕ, zero, suc, ◌*◌, ◌^◌, ◌==◌, nat_lt, codes, List, [], ◌∷◌, length, if◌then◌else◌, Result, Ok, Err}
+use Rattle.std.specs.Prelude.{ℕ, Bool, zero, suc, ◌*◌, ◌^◌, ◌==◌, nat_lt, codes, List, [], ◌∷◌, length, if◌then◌else◌, Result, Ok, Err}
 use Rattle.std.specs.List.{after_first, before_first, position_or_len}
 use Rattle.std.specs.Str.{bytes_eq}
 use Rattle.cc_word.specs.declared.refusal.Refusal.{Refusal}
@@ -27,6 +27,10 @@ spaced_number (space ∷ text) = if space == 32 then address_in text else Err Sy
 abbrev pub after_or_all : (at : ℕ) → (text : List ℕ) → List ℕ
 after_or_all at text =
     if nat_lt (position_or_len (λ byte. byte == at) text) (length text) then after_first (λ byte. byte == at) text else text
+
+-- Whether a byte of this value is among the bytes.
+abbrev pub has_byte : (at : ℕ) → (text : List ℕ) → Bool
+has_byte at text = nat_lt (position_or_len (λ byte. byte == at) text) (length text)
 
 -- The name of a function, in the bytes before its arguments: after `>` and after a space, if there are such.
 abbrev pub name_of : (head : List ℕ) → List ℕ
@@ -56,19 +60,19 @@ abbrev pub product_of : Result (ℕ × ℕ) Refusal → Result ℕ Refusal
 product_of (Ok numbers) = if nat_lt (numbers.0 * numbers.1) (2 ^ 64) then Ok (numbers.0 * numbers.1) else Err OutOfRange
 product_of (Err refusal) = Err refusal
 
--- `NUMBER, SIZE`: the product.
+-- The product of `NUMBER, SIZE`.
 abbrev pub product_in : (arguments : List ℕ) → Result ℕ Refusal
 product_in arguments = product_of (both (address_in (first_of arguments)) (spaced_number (further_of arguments)))
 
--- `OLD, SIZE`
+-- The old pointer and the size of `OLD, SIZE`.
 abbrev pub resized_in : (arguments : List ℕ) → Result (ℕ × ℕ) Refusal
 resized_in arguments = both (address_or_nil (first_of arguments)) (spaced_number (further_of arguments))
 
--- `malloc(SIZE) = PTR`
+-- The report of a call `malloc(SIZE) = PTR`.
 abbrev pub malloc_in : (call : List ℕ) → Result Report Refusal
 malloc_in call = reported (λ all. allocation all.1 all.0) (both (address_in (arguments_of call)) (result_in call))
 
--- `calloc(NUMBER, SIZE) = PTR`
+-- The report of a call `calloc(NUMBER, SIZE) = PTR`.
 abbrev pub calloc_in : (call : List ℕ) → Result Report Refusal
 calloc_in call =
     reported (λ all. clearing all.1 all.0) (both (product_in (arguments_of call)) (result_in call))
@@ -78,13 +82,13 @@ abbrev pub reallocated : Result ((ℕ × ℕ) × ℕ) Refusal → Result Report 
 reallocated (Ok values) = Ok (reallocation values.0.0 values.1 values.0.1)
 reallocated (Err refusal) = Err refusal
 
--- `realloc(OLD, SIZE) = PTR`
+-- The report of a call `realloc(OLD, SIZE) = PTR`.
 abbrev pub realloc_in : (call : List ℕ) → Result Report Refusal
 realloc_in call = reallocated (both (resized_in (arguments_of call)) (result_in call))
 
--- `free(PTR)`
+-- The report of a call `free(PTR)`. A call without `)` is not one.
 abbrev pub free_in : (call : List ℕ) → Result Report Refusal
-free_in call = reported free (address_or_nil (arguments_of call))
+free_in call = if has_byte 41 call then reported free (address_or_nil (arguments_of call)) else Err Syntax
 
 -- The report of a function's name, and of what follows the first `(`. Other functions report nothing.
 abbrev pub called_in : (name call : List ℕ) → Result Report Refusal

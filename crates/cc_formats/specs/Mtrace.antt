@@ -28,9 +28,14 @@ abbrev pub spaced_in : (text : List ℕ) → Result Report Refusal
 spaced_in [] = Err Syntax
 spaced_in (space ∷ text) = if space == 32 then operation_in text else Err Syntax
 
--- `CALLER OPERATION`: the caller ends with the first `]`.
+-- The report of `CALLER OPERATION`: the caller ends with the first `]`.
+abbrev pub after_caller : (text : List ℕ) → Result Report Refusal
+after_caller text = spaced_in (after_first (λ byte. byte == 93) text)
+
+-- The report of `CALLER OPERATION` after a space.
 abbrev pub called_in : (text : List ℕ) → Result Report Refusal
-called_in text = spaced_in (after_first (λ byte. byte == 93) text)
+called_in [] = Err Syntax
+called_in (space ∷ text) = if space == 32 then after_caller text else Err Syntax
 
 -- The report of a line, or its error: `OPERATION` or `@ CALLER OPERATION`.
 -- An empty line, and one that begins with `=`, report nothing. A line of more than 128 bytes that does not

@@ -1,5 +1,5 @@
 -- The report of a line of a trace, from its values.
-use Rattle.std.specs.Prelude.{ℕ, zero, suc, ◌==◌, List, codes, if◌then◌else◌, Result, Ok, Err}
+use Rattle.std.specs.Prelude.{ℕ, zero, suc, not, ◌&&◌, ◌==◌, List, codes, if◌then◌else◌, Result, Ok, Err}
 use Rattle.std.specs.List.{after_first, before_first}
 use Rattle.std.specs.Str.{bytes_eq}
 use Rattle.cc_word.specs.declared.refusal.Refusal.{Refusal}
@@ -27,11 +27,11 @@ clearing pointer size = if pointer == 0 then report.Failure else report.Clearing
 abbrev pub free : (pointer : ℕ) → Report
 free pointer = if pointer == 0 then report.Nothing else report.Free pointer
 
--- The report of `realloc`: the object `new` is made in place of `old`. If `new` is 0, no object is made, and a
--- size of 0 frees `old`. If `old` is 0, an object is made.
+-- The report of `realloc`: the object `new` is made in place of `old`. If `old` is 0, an object is made. If `new`
+-- is 0, a size of 0 frees `old`, if that is not 0, and otherwise no object could be made.
 abbrev pub reallocation : (old new size : ℕ) → Report
 reallocation old new size =
-    if new == 0 then (if size == 0 then free old else report.Failure)
+    if new == 0 then (if size == 0 && not (old == 0) then report.Free old else report.Failure)
     else if old == 0 then report.Allocation new size
     else report.Reallocation old new size
 

@@ -1,7 +1,7 @@
 //! Values that are separated by one byte.
 ghost use Rattle.std.specs.Prelude.{◌≡◌, ◌≤◌, ◌==◌, length};
 ghost use Rattle.std.specs.List.{after_first, before_first, position};
-ghost use Rattle.cc_formats.specs.Ltrace.{after_or_all};
+ghost use Rattle.cc_formats.specs.Ltrace.{after_or_all, has_byte};
 
 /// Returns the bytes before the first byte of this value, and those after it. If there is none,
 /// these are all bytes and no bytes.
@@ -25,6 +25,13 @@ pub(crate) fn after_or_all(text: &[u8], at: u8) -> &[u8]
         Some(count) => &text[count + 1..],
         None => text,
     }
+}
+
+/// Returns whether a byte of this value is among the bytes.
+pub(crate) fn has_byte(text: &[u8], at: u8) -> bool
+    ensures { result ≡ has_byte at text.now }
+{
+    position_of(text, at).is_some()
 }
 
 /// Returns the position of the first byte of this value.

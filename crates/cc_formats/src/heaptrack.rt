@@ -16,7 +16,8 @@ const MOST_BYTES: usize = 128;
 /// Only the first 129 bytes of a line matter.
 ///
 /// Errors, in order: `Syntax` if the line is one of an object or of the time and has another shape or
-/// more than 128 bytes, or if it is of an interpreted file; `OutOfRange` if a number is above 2^64 - 1.
+/// more than 128 bytes, or if it begins with `a`, `i` or `s`, as lines of an interpreted file do;
+/// `OutOfRange` if a number is above 2^64 - 1.
 #[tactic(auto, using(crate::proofs::StartLemmas::heaptrack_start), unfolding(crate::specs::Heaptrack::heaptrack_in))]
 pub fn read_heaptrack(line: &[u8]) -> Result<Report, Refusal>
     ensures value { result ≡ heaptrack_in line.now }

@@ -2,7 +2,7 @@
 ghost use Rattle.std.specs.Prelude.{◌≡◌, take};
 ghost use Rattle.cc_formats.specs.Ltrace.{address_or_nil, assigned_in, called_in, calloc_in, free_in, ltrace_in, malloc_in, name_of, product_in, product_of, realloc_in, reallocated, resized_in, result_in, spaced_address, spaced_number};
 
-use crate::cutting::{after_or_all, cut};
+use crate::cutting::{after_or_all, cut, has_byte};
 use crate::report::{Report, allocation, clearing, free, reallocation};
 use cc_syntax::{both, read_address};
 use cc_word::Refusal;
@@ -11,7 +11,7 @@ use cc_word::Refusal;
 const MOST_BYTES: usize = 128;
 
 /// Parses a line of ltrace, without its line feed: a call of `malloc`, `calloc`, `realloc` or `free`.
-/// Other lines report nothing.
+/// Other lines of at most 128 bytes report nothing.
 ///
 /// Only the first 129 bytes of a line matter.
 ///
@@ -94,6 +94,9 @@ fn reallocated(values: Result<((u64, u64), u64), Refusal>) -> Result<Report, Ref
 fn read_free(call: &[u8]) -> Result<Report, Refusal>
     ensures { result ≡ free_in call.now }
 {
+    if !has_byte(call, b')') {
+        return Err(Refusal::Syntax);
+    }
     let (arguments, _) = cut(call, b')');
     read_pointer(arguments).map(free)
 }

@@ -1,6 +1,6 @@
 //! The lines that `mtrace` of the GNU C library writes.
 ghost use Rattle.std.specs.Prelude.{◌≡◌, take};
-ghost use Rattle.cc_formats.specs.Mtrace.{called_in, mtrace_in, operation_in, spaced_in};
+ghost use Rattle.cc_formats.specs.Mtrace.{after_caller, called_in, mtrace_in, operation_in, spaced_in};
 ghost use Rattle.cc_formats.specs.Reports.{object_in, pointer_in};
 
 use crate::cutting::cut;
@@ -15,7 +15,7 @@ const MOST_BYTES: usize = 128;
 ///
 /// Only the first 129 bytes of a line matter.
 ///
-/// Errors, in order: `Syntax` if the line is not one that `mtrace` writes, or has more than 128
+/// Errors, in order: `Syntax` if the line has another shape than those of `mtrace`, or more than 128
 /// bytes; `OutOfRange` if a number is above 2^64 - 1.
 #[tactic(auto, using(crate::proofs::StartLemmas::mtrace_start), unfolding(crate::specs::Mtrace::mtrace_in))]
 pub fn read_mtrace(line: &[u8]) -> Result<Report, Refusal>
@@ -30,9 +30,19 @@ pub fn read_mtrace(line: &[u8]) -> Result<Report, Refusal>
     }
 }
 
-/// Parses a caller and an operation.
+/// Parses a space, a caller and an operation.
 fn read_called(text: &[u8]) -> Result<Report, Refusal>
     ensures { result ≡ called_in text.now }
+{
+    match text {
+        [b' ', caller @ ..] => read_after_caller(caller),
+        _ => Err(Refusal::Syntax),
+    }
+}
+
+/// Parses a caller and an operation.
+fn read_after_caller(text: &[u8]) -> Result<Report, Refusal>
+    ensures { result ≡ after_caller text.now }
 {
     let (_, rest) = cut(text, b']');
     read_spaced(rest)

@@ -4,10 +4,11 @@ ghost use Rattle.cc_formats.specs.Reports.{allocation, clearing, free, reallocat
 
 /// The report of a line of a trace: what happened to the heap of the program.
 ///
-/// An object is named by its pointer, which is not 0.
+/// An object is named by its pointer. It is not 0 in the reports of the readers, except in `From` and
+/// `To`.
 #[derive(Clone, Copy, PartialEq, Eq, Debug)]
 pub enum Report {
-    /// Nothing.
+    /// The line reports no change.
     Nothing,
     /// An object could not be made.
     Failure,
@@ -82,8 +83,8 @@ pub(crate) fn reallocation(old: u64, new: u64, size: u64) -> Report
     ensures { result ≡ reallocation old new size }
 {
     if new == 0 {
-        if size == 0 {
-            free(old)
+        if size == 0 && old != 0 {
+            Report::Free { pointer: old }
         } else {
             Report::Failure
         }

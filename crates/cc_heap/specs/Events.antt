@@ -56,7 +56,7 @@ HasNoRoom heap requested size =
     (start_unit heap.settings.align requested size)
     ⊎ (heap.settings.limit ≤ length (held_spans heap.memory))
 
--- Tries holds if an object is made, or else the quarantine is swept once, and its making attempted
+-- Tries holds if an object is made, or otherwise the quarantine is swept once, and the making attempted
 -- again.
 abbrev pub Tries : Heap → (id requested size : ℕ) → Making → Heap → Type 0
 Tries old id requested size making new =
@@ -89,7 +89,7 @@ abbrev pub AttemptsToReplace : Heap → (id requested size : ℕ) → Making →
 AttemptsToReplace old id requested size Made new = Replaces old id requested size new
 AttemptsToReplace old id requested size making new = Attempts old id requested size making new
 
--- TriesToReplace holds if the object is replaced, or else the quarantine is swept once, and it is
+-- TriesToReplace holds if the object is replaced, or otherwise the quarantine is swept once, and it is
 -- attempted again.
 abbrev pub TriesToReplace : Heap → (id requested size : ℕ) → Making → Heap → Type 0
 TriesToReplace old id requested size making new =

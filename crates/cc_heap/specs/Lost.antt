@@ -51,7 +51,7 @@ is_not_made (Some NoRoom) = true
 is_not_made (Some Full) = true
 is_not_made _ = false
 
--- The lost ids once it is noted of the id, if there is one, whether it is lost.
+-- Whether an id is lost, once this id, if there is one, is noted as lost or not.
 abbrev pub noted : Option ℕ → (is_lost_now : Bool) → (ℕ → Bool) → ℕ → Bool
 noted (Some id) is_lost_now lost other = cond (nat_eq id other) is_lost_now (lost other)
 noted None is_lost_now lost other = lost other
@@ -63,9 +63,9 @@ with_lost told was_lost = record told {
   lost = told.unknown && was_lost;
 }
 
--- IsRunEvent holds if the event is taken by the heap, an id that it frees is lost no more, and the id of
--- an object that it could not make is. The outcome says of an id that it frees that
--- it was lost, and not unknown. An object that the event makes counts in the row of its size.
+-- IsRunEvent holds if the heap takes the event. An id that the event frees is then not lost, and the id of an
+-- object that it could not make is lost. The outcome says of an id that the event frees whether it was lost,
+-- and then not unknown. An object that the event makes counts in the row of its size.
 pub record IsRunEvent (old : RunState) (event : Event) (outcome : Outcome) (new : RunState) : Type 0 where
   pub told : Outcome
   pub is_event : IsEvent old.heap event told new.heap

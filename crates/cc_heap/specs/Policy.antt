@@ -29,7 +29,7 @@ share_of Held gauge = gauge.live + gauge.quarantine
 share_of Live gauge = gauge.live
 share_of High gauge = gauge.high
 
--- AsksForSweep holds if the policy sweeps.
+-- AsksForSweep holds if the policy asks for a sweep.
 abbrev pub AsksForSweep : Policy → Gauge → Type 0
 AsksForSweep Immediate gauge = ⊥
 AsksForSweep Never gauge = ⊥

@@ -58,8 +58,8 @@ Passes old (moment ∷ moments) new =
     (next : Heap) × (IsMaking old moment next ⊎ (IsFreeing old moment next ⊎ IsSweeping old moment next))
     × Passes next moments new
 
--- ArePassedBy holds if these are the states that the heap passes by the events: each event has states of its
--- own, from the heap before it to the heap after it, in order.
+-- ArePassedBy holds if these are the states that the heap passes by the events: the states of each event, in
+-- order, lead from the heap before it to the heap after it.
 abbrev pub ArePassedBy : Heap → List Event → List Moment → Heap → Type 0
 ArePassedBy old [] moments new = (moments ≡ []) × (new ≡ old)
 ArePassedBy old (event ∷ events) moments new =
@@ -69,7 +69,7 @@ ArePassedBy old (event ∷ events) moments new =
 
 -- ---- The numbers of all states.
 
--- The greatest value over a list, and 0 over none.
+-- The largest value over a list, and 0 over none.
 unfoldable pub greatest : (Moment → ℕ) → List Moment → ℕ
 greatest value [] = 0
 greatest value (moment ∷ moments) = max (value moment) (greatest value moments)
@@ -91,7 +91,7 @@ abbrev pub usage_in : Moment → Usage
 usage_in moment = usage_of moment.memory
 
 -- The totals of the states, from those before: counts and sums over the states in which an object was
--- made, or after a sweep, and the greatest values over all of them.
+-- made, or after a sweep, and the largest values over all of them.
 abbrev pub totals_after : Span → Totals → List Moment → Totals
 totals_after pool totals moments = record {
   made = capped_count (totals.made + sum_by (of_made (λ object. 1)) moments);

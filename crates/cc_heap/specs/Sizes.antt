@@ -26,7 +26,7 @@ with_object size padded totals = record {
   padded = capped_sum (totals.padded + padded);
 }
 
--- The rows of the powers of two from one on, with one more object: the row of its power has it too.
+-- The rows of the powers of two from 2^`power`, with one more object: the row of its power has it too.
 abbrev pub with_size : (power size padded : ℕ) → List SizeTotals → List SizeTotals
 with_size power size padded [] = []
 with_size power size padded (row ∷ rows) =

@@ -288,8 +288,8 @@ impl<P: Placer> Heap<P> {
         self.free(id);
     }
 
-    /// Makes an object under an id that is not live, with one sweep and one more attempt if it has
-    /// no room.
+    /// Makes an object under an id that is not live, with one sweep and one more attempt if there is
+    /// no place for it or the heap is full.
     fn try_to_make(&mut self, id: u64, align: u64, size: u64) -> Result<Making, AllocError>
         requires some { 0 < size }
         requires aligned { IsPowerOfTwo align }
@@ -306,8 +306,8 @@ impl<P: Placer> Heap<P> {
         self.make(id, align, size)
     }
 
-    /// Replaces the object under a live id, with one sweep and one more attempt if the new one has
-    /// no room.
+    /// Replaces the object under a live id, with one sweep and one more attempt if there is no place
+    /// for the new one or the heap is full.
     fn try_to_replace(&mut self, id: u64, align: u64, size: u64) -> Result<Making, AllocError>
         requires some { 0 < size }
         requires aligned { IsPowerOfTwo align }

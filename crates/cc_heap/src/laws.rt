@@ -9,7 +9,7 @@ ghost use Rattle.cc_heap.specs.Run.{HasTotals, Runs};
 /// Proves that the totals of a heap are numbers of all states that it has passed, for every list of
 /// events from a heap that held nothing.
 ///
-/// Each peak is the greatest value over these states, and each count and sum of objects or sweeps is
+/// Each peak is the largest value over these states, and each count and sum of objects or sweeps is
 /// one over all of them, up to the largest number that is kept.
 pub fn totals_are_of_all_states()
     ensures { (settings : Settings) (events : List Event) (heap : Heap)

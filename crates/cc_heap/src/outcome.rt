@@ -7,8 +7,8 @@ pub struct Outcome {
     /// Whether the id of the object that the event makes was live. The object under it was freed
     /// first.
     pub was_live: bool,
-    /// Whether the event frees an id, or makes an object in place of one, that is neither live nor
-    /// lost.
+    /// Whether the event frees an id, or makes an object in place of one, that is not live. A
+    /// [`Run`](crate::Run) knows the lost ids, and reports them by `lost` instead.
     pub unknown: bool,
     /// Whether the event frees an id, or makes an object in place of one, whose own object was not
     /// made: there was no place for it.

@@ -24,7 +24,7 @@ pub enum Policy {
     Immediate,
     /// The policy never sweeps.
     Never,
-    /// Sweeps when more bytes are quarantined than this percentage of others.
+    /// Sweeps when more bytes are quarantined than a percentage of the bytes of a share.
     Percent {
         /// The percentage.
         percent: u32,
@@ -54,7 +54,7 @@ impl Policy {
         matches!(self, Policy::Trace)
     }
 
-    /// Returns whether the policy sweeps a heap of this usage, with this number of bytes up to the
+    /// Returns whether the policy asks for a sweep of a heap of this usage, with this number of bytes up to the
     /// highest end of an object, and this number of quarantined objects.
     pub(crate) fn asks_for_sweep(self, usage: Usage, high: u128, waiting: usize) -> bool
         requires usage_fits { usage.live + usage.quarantine ≤ 2 ^ 90 }

@@ -11,7 +11,7 @@ use crate::making::Making;
 pub struct SizeTotals {
     /// The number of these objects, at most 2^64 - 1.
     pub made: u64,
-    /// How many of them take more bytes than were requested.
+    /// The number of them that take more bytes than were requested.
     pub inexact: u64,
     /// The sum of their requested sizes in bytes, at most 2^128 - 1.
     pub asked: u128,

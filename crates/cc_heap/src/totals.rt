@@ -15,7 +15,7 @@ use crate::usage::Usage;
 pub struct Totals {
     /// The number of objects that were made.
     pub made: u64,
-    /// How many of them take more bytes than were requested.
+    /// The number of them that take more bytes than were requested.
     pub inexact: u64,
     /// The sum of the requested sizes of the objects that were made, in bytes.
     pub made_asked: u128,
@@ -27,15 +27,15 @@ pub struct Totals {
     pub swept: u128,
     /// The sum of the held bytes at each sweep.
     pub swept_over: u128,
-    /// The greatest number of live objects in a state.
+    /// The largest number of live objects in a state.
     pub peak_objects: u64,
-    /// The greatest sum of the requested sizes of live objects, in bytes.
+    /// The largest sum of the requested sizes of live objects, in bytes.
     pub peak_asked: u128,
-    /// The greatest sum of the padded sizes of live objects, in bytes.
+    /// The largest sum of the padded sizes of live objects, in bytes.
     pub peak_live: u128,
-    /// The greatest number of quarantined bytes.
+    /// The largest number of quarantined bytes.
     pub peak_quarantine: u128,
-    /// The greatest number of held bytes: those of live objects and quarantined ones.
+    /// The largest number of held bytes: those of live objects and quarantined ones.
     pub peak_held: u128,
     /// The number of bytes from the pool's base to the highest end of an object that was made.
     pub high: u128,

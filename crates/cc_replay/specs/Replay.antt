@@ -23,7 +23,7 @@ use Rattle.cc_replay.specs.Summary.{sample_rows}
 
 -- The state of a replay: the heap with the lost ids, how the trace is read, the counts of its lines, the
 -- pointer of the first half of a reallocation whose second half has not come, the time that the trace gave
--- last, whether further lines are taken, and whether the last event has a sample.
+-- last, whether further lines are taken, and whether there was no event or the last has a sample.
 pub record ReplayState : Type 0 where
   pub run : RunState
   pub reading : Reading
@@ -187,7 +187,7 @@ TakesRest old = TakesRestIn old.progress old
 abbrev pub series_header : ReplayState → List ℕ
 series_header state = if state.reading.each == 0 then [] else names_line (sample_rows 0 (figures_of state))
 
--- The last sample of the series: that of the end, if the last event has none.
+-- The last sample of the series: that of the end, if there was an event and the last has none.
 abbrev pub last_sample : ReplayState → List ℕ
 last_sample state = sample_text (not (state.reading.each == 0) && not state.is_sampled) state
 

@@ -33,7 +33,7 @@ between_sizes Text = []
 between_sizes Csv = []
 between_sizes Json = codes ",\n"
 
--- The rows of the powers of two from one on, each after the bytes before it. A row without an object is
+-- The rows of the powers of two from 2^`power`, each after the bytes before it. A row without an object is
 -- omitted.
 abbrev pub more_sizes : Format → (before : List ℕ) → (power : ℕ) → List SizeTotals → List ℕ
 more_sizes format before power [] = []
@@ -41,7 +41,7 @@ more_sizes format before power (totals ∷ rows) =
     if totals.made == 0 then more_sizes format before (power + 1) rows
     else (before ++ size_text format (size_rows power totals) ++ more_sizes format (between_sizes format) (power + 1) rows)
 
--- The rows of the powers of two from 1 on, with a separator between two rows.
+-- The rows of all powers of two, with a separator between two rows.
 abbrev pub all_sizes : Format → List SizeTotals → List ℕ
 all_sizes format rows = more_sizes format [] 0 rows
 

@@ -26,30 +26,30 @@ abbrev pub with_values : {A : Type 0} → (make : A → Event) → Result A Refu
 with_values make (Ok values) = Ok (make values)
 with_values make (Err refusal) = Err refusal
 
--- `a ID SIZE [ALIGN]`: an alignment that is omitted is 1.
+-- The event of `a ID SIZE [ALIGN]`, from its values. An alignment that is omitted is 1.
 abbrev pub allocation_in : (values : List (List ℕ)) → Result Event Refusal
 allocation_in (id ∷ size ∷ []) = with_values (λ pair. event.Allocate pair.0 pair.1 1) (pair_in id size)
 allocation_in (id ∷ size ∷ align ∷ []) =
     with_values (λ all. event.Allocate all.0.0 all.0.1 all.1) (both (pair_in id size) (alignment_in align))
 allocation_in _ = Err Syntax
 
--- `c ID SIZE`
+-- The event of `c ID SIZE`, from its values.
 abbrev pub clearing_in : (values : List (List ℕ)) → Result Event Refusal
 clearing_in (id ∷ size ∷ []) = with_values (λ pair. event.Clear pair.0 pair.1) (pair_in id size)
 clearing_in _ = Err Syntax
 
--- `r OLD NEW SIZE`
+-- The event of `r OLD NEW SIZE`, from its values.
 abbrev pub reallocation_in : (values : List (List ℕ)) → Result Event Refusal
 reallocation_in (old ∷ new ∷ size ∷ []) =
     with_values (λ all. event.Reallocate all.0.0 all.0.1 all.1) (both (pair_in old new) (address_in size))
 reallocation_in _ = Err Syntax
 
--- A name and one number below 2^64.
+-- The event of a name and one number below 2^64, from its values.
 abbrev pub single_in : (make : ℕ → Event) → (values : List (List ℕ)) → Result Event Refusal
 single_in make (number ∷ []) = with_values make (address_in number)
 single_in make _ = Err Syntax
 
--- `s`
+-- The event of `s`, which has no values.
 abbrev pub sweep_in : (values : List (List ℕ)) → Result Event Refusal
 sweep_in [] = Ok event.Sweep
 sweep_in (value ∷ values) = Err Syntax
@@ -66,7 +66,7 @@ event_in (name ∷ values) =
     else if bytes_eq name (codes "s") then sweep_in values
     else Err Syntax
 
--- The event, where the line is one.
+-- The entry of a line with this event, or its error.
 abbrev pub as_entry : Result Event Refusal → Result (Option Event) Refusal
 as_entry (Ok event) = Ok (Some event)
 as_entry (Err refusal) = Err refusal

@@ -120,8 +120,8 @@ impl<P: Placer> Replay<P> {
         self.run.sizes()
     }
 
-    /// Writes the sample of the end, if there is a series and the last event has no sample, and
-    /// flushes the sink.
+    /// Writes the sample of the end, if there is a series, there was an event, and the last has no
+    /// sample. Flushes the sink.
     ///
     /// Requires: the sink has not failed.
     /// Errors: `Write` if the sink fails. A prefix of the sample is then written.
@@ -138,7 +138,8 @@ impl<P: Placer> Replay<P> {
         write_page(&page, series)
     }
 
-    /// Appends the sample of the end, if there is a series and the last event has no sample.
+    /// Appends the sample of the end, if there is a series, there was an event, and the last has no
+    /// sample.
     fn push_last<const N: usize>(&self, page: &mut Page<N>)
         requires { length page.old + 1301 ≤ N }
         ensures { page.new ≡ page.old ++ last_sample self.now }
@@ -306,11 +307,11 @@ impl<P: Placer, const N: usize> Answerer<N> for Replay<P> {
 
 /// Replays the trace that the source gives, and writes the samples of its series to the sink.
 ///
-/// Each line is taken as [`read_entry`] reads it in the format of the trace. The replay counts a line that is not an event, and
-/// an event that the heap refuses, and takes the next line unless reading is strict. If an allocation
-/// fails, [`Replay::progress`] says so, and no further line is taken. The source is read
-/// in chunks of up to 16 KiB. Before each read, all samples of earlier events are written. The sink
-/// is flushed once, at the end.
+/// Each line is taken as [`read_entry`] reads it in the format of the trace. The replay counts a line
+/// that is not an event, and an event that the heap refuses, and takes the next line unless reading is
+/// strict. If an allocation fails, [`Replay::progress`] says so, and no further line is taken. The
+/// source is read in chunks of up to 16 KiB. Before each read, all samples of earlier events are
+/// written. The sink is flushed once, at the end.
 ///
 /// Requires: neither the source nor the sink has failed.
 /// Errors: `Read` if and only if the source failed. `Write` if and only if the sink failed.

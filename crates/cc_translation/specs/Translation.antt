@@ -1,4 +1,4 @@
--- The operations of a machine that a heap's changes are, and their replies.
+-- The operations of a machine that correspond to the changes of a heap, and their replies.
 use Rattle.std.specs.Prelude.{ℕ, ◌≡◌, ◌+◌, ◌<◌, ◌≤◌, List, [], ◌∷◌, ◌++◌, nat_eq, if◌then◌else◌}
 use Rattle.std.specs.List.{AllByRecursion}
 use Rattle.cc_bounds.specs.declared.align.Align.{Align}
