@@ -25,12 +25,12 @@ use Rattle.clap.specs.declared.parser.matches.SubCommand.{SubCommand}
 use Rattle.clap.proofs.ValueTestLemmas.{accepts-Accepts}
 use Rattle.cc_bounds.specs.declared.align.Align.{Align}
 use Rattle.cc_bounds.specs.declared.align.Align.TheVariants.{One, Sixteen}
-use Rattle.cc_decode.specs.declared.input.InputForm.{InputForm}
-use Rattle.cc_decode.specs.declared.input.ByteOrder.TheVariants.{Little, Big}
-use Rattle.cc_decode.specs.declared.input.InputForm.TheVariants.{Bytes, Lines}
-use Rattle.cc_decode.specs.declared.format.Format.{Format}
-use Rattle.cc_decode.specs.declared.format.Format.TheVariants.{Columns}
-use Rattle.cc_decode.specs.declared.format.Format.TheVariants as format
+use Rattle.cc_io.specs.declared.input_form.InputForm.{InputForm}
+use Rattle.cc_io.specs.declared.input_form.ByteOrder.TheVariants.{Little, Big}
+use Rattle.cc_io.specs.declared.input_form.InputForm.TheVariants.{Bytes, Lines}
+use Rattle.cc_io.specs.declared.format.Format.{Format}
+use Rattle.cc_io.specs.declared.format.Format.TheVariants.{Columns}
+use Rattle.cc_io.specs.declared.format.Format.TheVariants as format
 use Rattle.cc_arguments.specs.Invocation.{HasChoice, HasItsTexts, HasLimit, HasValues, HasWanted, IsChosen, IsGiven, IsLimit, IsInvocation, IsLimitText, choice_fault_in, align_named, decimal_value, format_named, format_names, program, slots_option, choice_option, command_name_of, input_named, order_names, HasFlag, flag_option, summary_named, summary_names}
 use Rattle.cc_arguments.specs.declared.invocation.Invocation.{Invocation}
 use Rattle.cc_arguments.specs.declared.invocation.SummaryFormat.{SummaryFormat}

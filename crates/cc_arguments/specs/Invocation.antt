@@ -16,12 +16,12 @@ use Rattle.cc_arguments.specs.declared.invocation.PoolTexts.{PoolTexts}
 use Rattle.cc_arguments.specs.declared.invocation.ReplayTexts.{ReplayTexts}
 use Rattle.cc_arguments.specs.declared.invocation.SummaryFormat.{SummaryFormat}
 use Rattle.cc_arguments.specs.declared.invocation.SummaryFormat.TheVariants as summary
-use Rattle.cc_decode.specs.declared.input.ByteOrder.TheVariants.{Little, Big}
-use Rattle.cc_decode.specs.declared.input.InputForm.{InputForm}
-use Rattle.cc_decode.specs.declared.input.InputForm.TheVariants.{Lines, Bytes}
-use Rattle.cc_decode.specs.declared.format.Format.{Format}
-use Rattle.cc_decode.specs.declared.format.Format.TheVariants.{Columns, Csv, Fixed}
-use Rattle.cc_decode.specs.declared.format.Format.TheVariants as format
+use Rattle.cc_io.specs.declared.input_form.ByteOrder.TheVariants.{Little, Big}
+use Rattle.cc_io.specs.declared.input_form.InputForm.{InputForm}
+use Rattle.cc_io.specs.declared.input_form.InputForm.TheVariants.{Lines, Bytes}
+use Rattle.cc_io.specs.declared.format.Format.{Format}
+use Rattle.cc_io.specs.declared.format.Format.TheVariants.{Columns, Csv, Fixed}
+use Rattle.cc_io.specs.declared.format.Format.TheVariants as format
 use Rattle.cc_arguments.specs.declared.invocation.Invocation.{Invocation}
 use Rattle.cc_arguments.specs.declared.invocation.Invocation.TheVariants.{Annotate, Ask, Decode, Map, Plan, Replay, RoundList, Run}
 use Rattle.cc_arguments.specs.declared.question.Question.{Question}

@@ -1,7 +1,7 @@
 //! The command that a command line asks for.
 use crate::question::Question;
 use cc_bounds::Align;
-use cc_decode::{Format, InputForm};
+use cc_io::{Format, InputForm};
 
 /// The bounds of a pool, as they were typed.
 #[derive(Clone, Copy)]

@@ -5,7 +5,7 @@ ghost use Rattle.cc_arguments.specs.Invocation.{HasChoice, HasDecodeTexts, HasFl
 
 use crate::invocation::{DecodeTexts, PoolTexts, ReplayTexts, SummaryFormat};
 use cc_bounds::Align;
-use cc_decode::{ByteOrder, Format, InputForm};
+use cc_io::{ByteOrder, Format, InputForm};
 use clap::ArgMatches;
 
 /// The value of `--slots` if it is not given.

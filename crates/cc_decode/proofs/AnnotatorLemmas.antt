@@ -12,7 +12,7 @@ use Rattle.cc_decode.specs.Decoder.{AppendsRow}
 use Rattle.cc_io.specs.Answers.{AnswersInto}
 use Rattle.cc_decode.specs.declared.annotator.Annotator.{Annotator}
 use Rattle.cc_decode.specs.declared.annotator.Before.{Before}
-use Rattle.cc_decode.specs.declared.format.Format.TheVariants.{Text}
+use Rattle.cc_io.specs.declared.format.Format.TheVariants.{Text}
 use Rattle.std.proofs.lemmas.List.{get_or_at, take-append-drop, take_at}
 
 -- ---- a prefix

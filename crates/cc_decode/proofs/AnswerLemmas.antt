@@ -11,8 +11,8 @@ use Rattle.cc_decode.specs.Output.{IsAnswer, IsWordAnswer, AreAnswers}
 use Rattle.cc_decode.specs.Place.{after_entry, options_after}
 use Rattle.cc_decode.specs.Decoder.{AnswersEntry, AnswersPlainly, IsReply, RefusesRest, plain_options}
 use Rattle.cc_decode.specs.declared.decoder.Decoder.{Decoder}
-use Rattle.cc_decode.specs.declared.input.InputForm.{InputForm}
-use Rattle.cc_decode.specs.declared.input.InputForm.TheVariants.{Lines, Bytes}
+use Rattle.cc_io.specs.declared.input_form.InputForm.{InputForm}
+use Rattle.cc_io.specs.declared.input_form.InputForm.TheVariants.{Lines, Bytes}
 use Rattle.cc_decode.specs.declared.options.Options.{Options}
 use Rattle.cc_decode.proofs.EntryLemmas.{digits_short}
 

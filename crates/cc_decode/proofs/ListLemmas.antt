@@ -16,8 +16,8 @@ use Rattle.cc_decode.specs.Place.{header_of}
 use Rattle.cc_decode.specs.Correct.{WritesListing, WritesAnswers, StopsOnPage, StopsAfterAnswers, Lists, ListsText, ListsWhole}
 use Rattle.cc_decode.specs.Decoder.{AnswersPlainly, RefusesRest, plain_options}
 use Rattle.cc_decode.specs.declared.decoder.PlainDecoder.{PlainDecoder}
-use Rattle.cc_decode.specs.declared.input.InputForm.{InputForm}
-use Rattle.cc_decode.specs.declared.input.InputForm.TheVariants.{Lines, Bytes}
+use Rattle.cc_io.specs.declared.input_form.InputForm.{InputForm}
+use Rattle.cc_io.specs.declared.input_form.InputForm.TheVariants.{Lines, Bytes}
 use Rattle.cc_decode.specs.declared.options.Options.{Options}
 use Rattle.cc_decode.proofs.AnswerLemmas.{Answers, answers_plainly, are_answers, reached, rest_refused, rest_is_error}
 

@@ -16,8 +16,8 @@ use Rattle.cc_decode.specs.Input.{entries_of, left_of, word_of_entry}
 use Rattle.cc_decode.specs.Output.{IsAnswer, IsRowLine, IsWordAnswer, AreAnswers}
 use Rattle.cc_decode.specs.Place.{after_entry, header_of, place_text}
 use Rattle.cc_decode.specs.Row.{IsWordRow, columns_text, csv_text, fixed_text}
-use Rattle.cc_decode.specs.declared.format.Format.{Format}
-use Rattle.cc_decode.specs.declared.format.Format.TheVariants.{Columns, Csv, Fixed, Text}
+use Rattle.cc_io.specs.declared.format.Format.{Format}
+use Rattle.cc_io.specs.declared.format.Format.TheVariants.{Columns, Csv, Fixed, Text}
 use Rattle.cc_decode.specs.declared.options.Options.{Options}
 
 -- two tests of one fact have the same result

@@ -16,9 +16,9 @@ use Rattle.cc_decode.specs.Input.{frame_of, entries_of, left_of}
 use Rattle.cc_decode.specs.Output.{AreAnswers}
 use Rattle.cc_decode.specs.Place.{after_entry, header_of, options_after}
 use Rattle.cc_decode.specs.Parts.{AreListingRows, RowsInParts}
-use Rattle.cc_decode.specs.declared.input.ByteOrder.{ByteOrder}
-use Rattle.cc_decode.specs.declared.input.InputForm.{InputForm}
-use Rattle.cc_decode.specs.declared.input.InputForm.TheVariants.{Lines, Bytes}
+use Rattle.cc_io.specs.declared.input_form.ByteOrder.{ByteOrder}
+use Rattle.cc_io.specs.declared.input_form.InputForm.{InputForm}
+use Rattle.cc_io.specs.declared.input_form.InputForm.TheVariants.{Lines, Bytes}
 use Rattle.cc_decode.specs.declared.options.Options.{Options}
 
 -- The framing of an input form cuts parts as the whole.

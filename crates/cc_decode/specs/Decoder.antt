@@ -8,7 +8,7 @@ use Rattle.cc_decode.specs.Row.{IsWordRow}
 use Rattle.cc_decode.specs.Output.{IsAnswer, IsWordAnswer, refused_text}
 use Rattle.cc_decode.specs.declared.decoder.Decoder.{Decoder}
 use Rattle.cc_decode.specs.declared.decoder.PlainDecoder.{PlainDecoder}
-use Rattle.cc_decode.specs.declared.format.Format.{Format}
+use Rattle.cc_io.specs.declared.format.Format.{Format}
 use Rattle.cc_decode.specs.declared.options.Options.{Options}
 
 -- The options of a plain decoder: no addresses, and no search.

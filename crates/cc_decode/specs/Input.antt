@@ -5,10 +5,10 @@ use Rattle.std.specs.Str.Parse.{digits_value}
 use Rattle.cc_word.specs.WordText.{IsWordText}
 use Rattle.cc_io.specs.Frames.{Frame, lines, blocks}
 pub use Rattle.cc_explain.specs.Answer.{digits_in}
-use Rattle.cc_decode.specs.declared.input.ByteOrder.{ByteOrder}
-use Rattle.cc_decode.specs.declared.input.ByteOrder.TheVariants.{Little, Big}
-use Rattle.cc_decode.specs.declared.input.InputForm.{InputForm}
-use Rattle.cc_decode.specs.declared.input.InputForm.TheVariants.{Lines, Bytes}
+use Rattle.cc_io.specs.declared.input_form.ByteOrder.{ByteOrder}
+use Rattle.cc_io.specs.declared.input_form.ByteOrder.TheVariants.{Little, Big}
+use Rattle.cc_io.specs.declared.input_form.InputForm.{InputForm}
+use Rattle.cc_io.specs.declared.input_form.InputForm.TheVariants.{Lines, Bytes}
 
 -- The way to cut an input into entries: lines, or blocks of sixteen bytes.
 abbrev pub frame_of : InputForm → Frame

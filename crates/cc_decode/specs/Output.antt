@@ -7,7 +7,7 @@ use Rattle.cc_decode.specs.Input.{IsWordEntry, word_of_entry}
 use Rattle.cc_decode.specs.Place.{after_entry, place_text}
 use Rattle.cc_decode.specs.Row.{IsWordRow}
 use Rattle.cc_decode.specs.Search.{IsListed}
-use Rattle.cc_decode.specs.declared.format.Format.{Format}
+use Rattle.cc_io.specs.declared.format.Format.{Format}
 use Rattle.cc_decode.specs.declared.options.Options.{Options}
 use Rattle.cc_decode.specs.declared.options.Search.{Search}
 

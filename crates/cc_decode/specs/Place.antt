@@ -2,8 +2,8 @@
 use Rattle.std.specs.Prelude.{ℕ, zero, suc, ◌+◌, ◌%◌, ◌^◌, List, [], ◌++◌, Option, None, Some, codes, option_map, is_some, if◌then◌else◌}
 use Rattle.cc_word.specs.WordText.{hexadecimal}
 use Rattle.cc_decode.specs.Row.{header_text, padded}
-use Rattle.cc_decode.specs.declared.format.Format.{Format}
-use Rattle.cc_decode.specs.declared.format.Format.TheVariants.{Columns, Csv, Fixed, Text}
+use Rattle.cc_io.specs.declared.format.Format.{Format}
+use Rattle.cc_io.specs.declared.format.Format.TheVariants.{Columns, Csv, Fixed, Text}
 use Rattle.cc_decode.specs.declared.options.Options.{Options}
 
 -- The address of the next word, after that of the last word of memory 0.

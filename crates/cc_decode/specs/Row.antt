@@ -9,8 +9,8 @@ use Rattle.cc_cap.specs.LineText.{IsWordLine}
 use Rattle.cc_text.specs.Text.{with_line_feed}
 use Rattle.cc_explain.specs.WordTelling.{TellsWord}
 use Rattle.cc_explain.specs.Permissions.{permissions_text}
-use Rattle.cc_decode.specs.declared.format.Format.{Format}
-use Rattle.cc_decode.specs.declared.format.Format.TheVariants.{Columns, Csv, Fixed, Text}
+use Rattle.cc_io.specs.declared.format.Format.{Format}
+use Rattle.cc_io.specs.declared.format.Format.TheVariants.{Columns, Csv, Fixed, Text}
 
 -- The word, base, top, permissions, flag, type and exponent, and whether the word is canonical,
 -- with the separator between.

@@ -3,11 +3,10 @@ ghost use Rattle.std.specs.Prelude.{◌≡◌, ◌≢◌, ◌≤◌, ◌<◌, �
 ghost use Rattle.cc_decode.specs.Annotate.{IsPrefix};
 ghost use Rattle.cc_decode.specs.Annotator.{AnswersRest, AnswersRun, AreHalves, Follows, IsAlone, IsHalf, IsJoined, PushesRun, RunIs};
 
-use crate::format::Format;
 use crate::rows::push_row;
 use crate::runs::{MOST_RUN, is_word_character};
 use crate::writers::{Batch, ROOM, push_byte};
-use cc_io::{Answerer, Page};
+use cc_io::{Answerer, Format, Page};
 use cc_word::read_word_fast;
 
 /// The number of digits of half a word.

@@ -5,14 +5,12 @@ ghost use Rattle.cc_word.specs.declared.refusal.Refusal.TheVariants as RefusalSp
 ghost use Rattle.cc_decode.specs.Decoder.{AnswersEntry, AnswersPlainly, AppendsReply, AppendsWord, RefusesRest};
 
 use crate::entries::read_entry;
-use crate::format::Format;
-use crate::input::InputForm;
 use crate::options::Options;
 use crate::places::{next_place, push_place};
 use crate::rows::push_row;
 use crate::search::is_listed;
 use crate::writers::{Batch, ROOM, push_byte};
-use cc_io::Answerer;
+use cc_io::{Answerer, Format, InputForm};
 use cc_text::refusal_bytes;
 use cc_word::Refusal;
 

@@ -4,8 +4,8 @@ ghost use Rattle.std.specs.Str.Parse.{digits_value};
 ghost use Rattle.cc_word.specs.WordText.{IsWordText};
 ghost use Rattle.cc_decode.specs.Input.{IsWordEntry, block_value, digits_in, word_of_entry};
 
-use crate::input::{ByteOrder, InputForm};
 use cc_explain::digits_in;
+use cc_io::{ByteOrder, InputForm};
 use cc_word::read_word_fast;
 
 /// The length of a word in bytes.

@@ -8,8 +8,8 @@ ghost use Rattle.cc_decode.specs.Input.{left_of};
 ghost use Rattle.cc_decode.specs.Place.{header_of};
 ghost use Rattle.cc_decode.specs.Parts.{AreListingRows, RowsInParts};
 ghost use Rattle.cc_decode.specs.Skip.{ListsAfter};
-ghost use Rattle.cc_decode.specs.declared.input.ByteOrder.{ByteOrder as ByteOrderSpec};
-ghost use Rattle.cc_decode.specs.declared.input.InputForm.TheVariants as form;
+ghost use Rattle.cc_io.specs.declared.input_form.ByteOrder.{ByteOrder as ByteOrderSpec};
+ghost use Rattle.cc_io.specs.declared.input_form.InputForm.TheVariants as form;
 ghost use Rattle.cc_decode.specs.declared.options.Options.{Options as OptionsSpec};
 
 /// Proves that an input has one listing. Two sinks that had taken the same bytes before it have

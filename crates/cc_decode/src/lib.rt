@@ -7,8 +7,6 @@ mod annotator;
 mod decoder;
 mod decoding;
 mod entries;
-mod format;
-mod input;
 mod laws;
 mod options;
 mod places;
@@ -19,8 +17,7 @@ mod skipping;
 mod writers;
 
 pub use annotating::annotate;
+pub use cc_io::{ByteOrder, Format, InputForm};
 pub use decoding::{decode_words, decode_words_after};
-pub use format::Format;
-pub use input::{ByteOrder, InputForm};
 pub use laws::{listing_in_parts, one_listing, skipping_none};
 pub use options::{Options, Search};

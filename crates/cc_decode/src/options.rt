@@ -1,6 +1,5 @@
 //! The choices of a caller of [`decode_words`](crate::decode_words).
-use crate::format::Format;
-use crate::input::InputForm;
+use cc_io::{Format, InputForm};
 use cc_word::Perms;
 
 /// The form of the input, the format of the replies, and the words that get a reply.

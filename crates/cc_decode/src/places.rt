@@ -2,8 +2,8 @@
 ghost use Rattle.std.specs.Prelude.{◌≡◌, ◌≤◌, ◌+◌, ◌++◌, length, option_map};
 ghost use Rattle.cc_decode.specs.Place.{next_address, place_of, place_text};
 
-use crate::format::Format;
 use crate::writers::{Batch, push_byte, push_hexadecimal, push_padded};
+use cc_io::Format;
 
 /// The number of bytes of an entry in memory.
 const WORD_BYTES: u64 = 16;

@@ -8,7 +8,6 @@ ghost use Rattle.cc_explain.specs.Permissions.{permissions_text};
 ghost use Rattle.cc_decode.specs.Decoder.{AppendsRow};
 ghost use Rattle.cc_decode.specs.Row.{columns_text, csv_text, fixed_text, padded, values_text};
 
-use crate::format::Format;
 use crate::writers::{
     Batch, push_byte, push_byte_if, push_decimal, push_digits, push_hexadecimal, push_padded,
 };
@@ -16,6 +15,7 @@ use bitflags::Flags;
 use cc_bounds::{Span, decode, exponent};
 use cc_cap::is_canonical;
 use cc_explain::push_permissions;
+use cc_io::Format;
 use cc_text::Line;
 use cc_word::{Fields, Perms, SENTRY_TYPE, UNSEALED_TYPE, unpack};
 

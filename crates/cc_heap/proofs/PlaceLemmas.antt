@@ -14,9 +14,9 @@ use Rattle.cc_bounds.specs.Granule.{IsSound as IsSoundSpan, exponent_of, granule
 use Rattle.cc_bounds.proofs.ComputingLemmas.{granule_of-long, granule_of-short}
 use Rattle.cc_placer.specs.Placement.{HasNoPlace, IsApartFrom, IsPlacement}
 use Rattle.cc_placer.specs.PlacerState.{IsPoolSpan}
-use Rattle.cc_plan.specs.PlannerState.{padded_size_for, unit_of}
-use Rattle.cc_plan.proofs.AlignLemmas.{ends_at_unit, padded_for-sound, padded_for_law}
-use Rattle.cc_plan.proofs.UnitLemmas.{IsUnit-unit_of}
+use Rattle.cc_placer.specs.Align.{padded_size_for, unit_of}
+use Rattle.cc_placer.proofs.AlignLemmas.{ends_at_unit, padded_for-sound, padded_for_law}
+use Rattle.cc_placer.proofs.UnitLemmas.{IsUnit-unit_of}
 use Rattle.cc_heap.specs.Memory.{IsExact, start_unit}
 use Rattle.cc_heap.specs.HeapState.{IsRoomFor}
 

@@ -8,7 +8,7 @@ use Rattle.cc_heap.specs.declared.making.Making.{Making}
 use Rattle.cc_heap.specs.declared.making.Making.TheVariants.{Made}
 use Rattle.cc_heap.specs.declared.object.Object.{Object}
 use Rattle.cc_heap.specs.declared.outcome.Outcome.{Outcome}
-use Rattle.cc_plan.specs.PlannerState.{padded_size_for}
+use Rattle.cc_placer.specs.Align.{padded_size_for}
 use Rattle.cc_heap.specs.Memory.{held_spans, start_unit}
 use Rattle.cc_heap.specs.Policy.{is_of_the_trace}
 use Rattle.cc_heap.specs.Heap.{Attempts, FreesObject, Heap, MakesObject, MustSweep, object_under, swept}

@@ -13,7 +13,7 @@ use Rattle.cc_heap.specs.declared.making.Making.{Making}
 use Rattle.cc_heap.specs.declared.making.Making.TheVariants.{Made, NoRoom, Full}
 use Rattle.cc_heap.specs.Policy.{AsksForSweep, Gauge, is_immediate}
 use Rattle.cc_heap.specs.Totals.{with_made, with_sweep, with_usage}
-use Rattle.cc_plan.specs.PlannerState.{padded_size_for}
+use Rattle.cc_placer.specs.Align.{padded_size_for}
 use Rattle.cc_heap.specs.Memory.{Memory, held_spans, object_at, start_unit, usage_of}
 
 -- A heap: its settings, what it holds, and the numbers of all that it has held.

@@ -11,7 +11,7 @@ use Rattle.cc_heap.specs.declared.making.Making.{Making}
 use Rattle.cc_heap.specs.declared.making.Making.TheVariants.{Made}
 use Rattle.cc_heap.specs.Totals.{with_usage}
 use Rattle.cc_bounds.specs.declared.align.Align.{Align}
-use Rattle.cc_plan.specs.PlannerState.{padded_size_for}
+use Rattle.cc_placer.specs.Align.{padded_size_for}
 use Rattle.cc_heap.specs.Memory.{IsSound, held_spans, start_unit, usage_of}
 use Rattle.cc_heap.specs.Heap.{Attempts, Heap, MakesObject, object_under, quarantined_with}
 

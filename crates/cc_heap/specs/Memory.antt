@@ -6,9 +6,7 @@ use Rattle.std.specs.Map.{keys_of}
 use Rattle.cc_bounds.specs.declared.span.Span.{Span}
 use Rattle.cc_bounds.specs.declared.align.Align.{Align}
 use Rattle.cc_bounds.specs.Span.{IsSpan, length_of, span_from}
-use Rattle.cc_plan.specs.declared.object.ObjectState.TheVariants.{Live}
-use Rattle.cc_plan.specs.Plan.{HasExactBounds}
-use Rattle.cc_plan.specs.PlannerState.{padded_size_for, unit_of}
+use Rattle.cc_placer.specs.Align.{HasExactSpan, padded_size_for, unit_of}
 use Rattle.cc_heap.specs.declared.object.Object.{Object}
 use Rattle.cc_heap.specs.declared.usage.Usage.{Usage}
 
@@ -30,7 +28,7 @@ object_at align requested start size = record {
 -- IsExact holds if an object has exact bounds, as the objects of a plan have them, and begins at a
 -- multiple of the requested alignment.
 pub record IsExact (align : Align) (object : Object) : Type 0 where
-  pub bounds : HasExactBounds align (record { size = object.size; span = object.span; state = Live })
+  pub bounds : HasExactSpan align object.size object.span
   pub aligned : object.span.base % object.align ≡ 0
   pub size_fits : object.size < 2 ^ 64
 

@@ -2,7 +2,7 @@
 use Rattle.std.specs.Prelude.{ℕ, Bool, ◌≡◌, ◌+◌, ◌*◌, ◌^◌, ◌&&◌, nat_eq, nat_le, nat_lt, List, [], ◌∷◌, replicate, Option, Some, None, if◌then◌else◌, sum_by}
 use Rattle.cc_bounds.specs.declared.align.Align.{Align}
 use Rattle.cc_bounds.specs.Span.{length_of}
-use Rattle.cc_plan.specs.PlannerState.{padded_size_for}
+use Rattle.cc_placer.specs.Align.{padded_size_for}
 use Rattle.cc_heap.specs.declared.event.Event.{Event}
 use Rattle.cc_heap.specs.declared.event.Event.TheVariants.{Allocate, Clear, Reallocate}
 use Rattle.cc_heap.specs.declared.making.Making.{Making}

@@ -1,7 +1,7 @@
 //! The place of an object.
 ghost use Rattle.std.specs.Prelude.{◌≡◌, ◌<◌, List, IfSome, IsSome};
 ghost use Rattle.cc_bounds.specs.declared.span.Span.{Span as SpanSpec};
-ghost use Rattle.cc_plan.specs.PlannerState.{padded_size_for};
+ghost use Rattle.cc_placer.specs.Align.{padded_size_for};
 ghost use Rattle.cc_heap.specs.HeapState.{IsRoomFor};
 
 use cc_bounds::{Align, Span, granule};

@@ -3,7 +3,9 @@
 
 mod answerer;
 mod devices;
+mod format;
 mod framing;
+mod input_form;
 mod laws;
 mod line_start;
 mod pumping;
@@ -14,7 +16,9 @@ mod summary;
 pub use answerer::Answerer;
 pub use cc_text::Page;
 pub use devices::{Failed, Sink, Source, write_all};
+pub use format::Format;
 pub use framing::{Blocks, Framing, Lines};
+pub use input_form::{ByteOrder, InputForm};
 pub use laws::{one_cut, one_on_page, one_split, parts, stops_begins};
 pub use line_start::{LineStart, split_at_line_feed};
 pub use pumping::pump;

@@ -12,7 +12,7 @@ use Rattle.cc_plan.specs.declared.object.ObjectId.{ObjectId}
 use Rattle.cc_plan.specs.declared.object.ObjectState.TheVariants.{Live}
 use Rattle.cc_plan.specs.declared.object.PlannedObject.{PlannedObject}
 use Rattle.cc_bounds.specs.declared.align.Align.{Align}
-use Rattle.cc_plan.specs.Align.{rounded_up}
+use Rattle.cc_placer.specs.Align.{rounded_up}
 use Rattle.cc_placer.specs.Placement.{IsPlacement, HasNoPlace}
 use Rattle.cc_plan.specs.Plan.{Plan, GivesPool, PlanAllocates, RefusesCall, PlanMakesObject, PlanHasNoRoom, held_spans as planned_spans, held_bytes_of as planned_bytes, capability_over, span_at}
 use Rattle.cc_ops.specs.declared.reply.Reply.{Reply}

@@ -15,8 +15,8 @@ use Rattle.cc_word.specs.Permissions.{unseal_permission}
 use Rattle.cc_cap.specs.Capability.{Capability, root_capability, at_address, sealed_with}
 use Rattle.cc_cap.specs.Derivation.{SetsAddress}
 use Rattle.cc_cap.proofs.BoundsLemmas.{root-IsCapability}
-use Rattle.cc_plan.specs.PlannerState.{unit_of}
-use Rattle.cc_plan.proofs.UnitLemmas.{IsUnit-one}
+use Rattle.cc_placer.specs.Align.{unit_of}
+use Rattle.cc_placer.proofs.UnitLemmas.{IsUnit-one}
 use Rattle.cc_bounds.specs.declared.align.Align.TheVariants.{Sixteen}
 use Rattle.cc_plan.specs.declared.object.ObjectState.TheVariants.{Live, Swept}
 use Rattle.cc_machine.specs.declared.object.Object.{Object}

@@ -17,8 +17,8 @@ use Rattle.cc_cap.proofs.ResultLemmas.{HasResult, has_word, SetsAddress-result, 
 use Rattle.cc_bounds.specs.declared.align.Align.{Align}
 use Rattle.cc_plan.specs.declared.object.ObjectState.{ObjectState}
 use Rattle.cc_plan.specs.declared.object.ObjectState.TheVariants.{Live, Freed, Swept}
-use Rattle.cc_plan.specs.Align.{IsUnit, rounded_up}
-use Rattle.cc_plan.proofs.UnitLemmas.{size-HasUnit}
+use Rattle.cc_placer.specs.Align.{IsUnit, rounded_up}
+use Rattle.cc_placer.proofs.UnitLemmas.{size-HasUnit}
 use Rattle.cc_placer.specs.Placement.{HasNoPlace}
 use Rattle.cc_plan.specs.Plan.{span_at, capability_over}
 use Rattle.cc_placer.proofs.SearchLemmas.{HasPlacement, placement_or_none}

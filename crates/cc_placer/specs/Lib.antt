@@ -1,3 +1,4 @@
 -- In reading order.
 pub mod Placement
 pub mod PlacerState
+pub mod Align

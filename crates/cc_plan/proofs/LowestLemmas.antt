@@ -7,9 +7,9 @@ use Rattle.cc_bounds.specs.Granule.{IsSound, granule_of, padded_size}
 use Rattle.cc_bounds.proofs.PaddedLemmas.{sound-padded_size}
 use Rattle.cc_bounds.specs.declared.align.Align.TheVariants.{One}
 use Rattle.cc_placer.specs.Placement.{HasNoPlace, IsApartFrom, IsPlace, IsPlacement}
-use Rattle.cc_plan.specs.Align.{IsUnit, rounded_up}
-use Rattle.cc_plan.proofs.AlignLemmas.{unit-one}
-use Rattle.cc_plan.proofs.UnitLemmas.{IsUnit-one}
+use Rattle.cc_placer.specs.Align.{IsUnit, rounded_up}
+use Rattle.cc_placer.proofs.AlignLemmas.{unit-one}
+use Rattle.cc_placer.proofs.UnitLemmas.{IsUnit-one}
 
 sound-place : (pool span : Span) (held : List Span) (size unit : ℕ) → IsUnit One size unit → IsSpan span → IsSound span
     → size ≤ length_of span → IsWithin span pool → IsApartFrom held span

@@ -11,11 +11,10 @@ use Rattle.cc_bounds.proofs.ComputingLemmas.{exponent_of-long, granule_of-long, 
 use Rattle.cc_bounds.proofs.GranuleLemmas.{div_ceil-le, granule_count-within, le-div_ceil}
 use Rattle.cc_bounds.specs.declared.align.Align.{Align}
 use Rattle.cc_bounds.specs.declared.align.Align.TheVariants.{One, Sixteen}
-use Rattle.cc_plan.specs.Align.{IsUnit, rounded_up}
-use Rattle.cc_plan.specs.PlannerState.{padded_size_for, unit_of}
+use Rattle.cc_placer.specs.Align.{IsUnit, padded_size_for, rounded_up, unit_of}
 use Rattle.cc_placer.specs.Placement.{IsPlace}
-use Rattle.cc_plan.proofs.AlignLemmas.{IsFine, IsGrown, fine_or_grown, granule-some, unit-one, unit-sixteen, unit-some, whole_smaller}
-use Rattle.cc_plan.proofs.UnitLemmas.{IsUnit-one}
+use Rattle.cc_placer.proofs.AlignLemmas.{IsFine, IsGrown, fine_or_grown, granule-some, unit-one, unit-sixteen, unit-some, whole_smaller}
+use Rattle.cc_placer.proofs.UnitLemmas.{IsUnit-one}
 
 -- the coarse unit is a multiple of the fine one
 record IsMultiple (fine coarse : ℕ) : Type 0 where

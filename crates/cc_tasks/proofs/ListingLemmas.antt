@@ -5,8 +5,8 @@ use Rattle.clap.specs.Words.{Text}
 use Rattle.cc_word.specs.declared.perms.Perms.{Perms}
 use Rattle.cc_word.specs.declared.refusal.Refusal.{Refusal}
 use Rattle.cc_syntax.specs.Commands.{both}
-use Rattle.cc_decode.specs.declared.format.Format.{Format}
-use Rattle.cc_decode.specs.declared.input.InputForm.{InputForm}
+use Rattle.cc_io.specs.declared.format.Format.{Format}
+use Rattle.cc_io.specs.declared.input_form.InputForm.{InputForm}
 use Rattle.cc_decode.specs.declared.options.Options.{Options}
 use Rattle.cc_decode.specs.declared.options.Search.{Search}
 use Rattle.cc_arguments.specs.declared.invocation.DecodeTexts.{DecodeTexts}

@@ -4,8 +4,8 @@ use Rattle.std.specs.Borrow.{Bor}
 use Rattle.clap.specs.Words.{Text}
 use Rattle.cc_word.specs.declared.refusal.Refusal.{Refusal}
 use Rattle.cc_io.specs.declared.summary.Summary.{Summary}
-use Rattle.cc_decode.specs.declared.format.Format.{Format}
-use Rattle.cc_decode.specs.declared.input.InputForm.{InputForm}
+use Rattle.cc_io.specs.declared.format.Format.{Format}
+use Rattle.cc_io.specs.declared.input_form.InputForm.{InputForm}
 use Rattle.cc_decode.specs.declared.options.Options.{Options}
 use Rattle.cc_arguments.specs.declared.invocation.DecodeTexts.{DecodeTexts}
 use Rattle.cc_devices.specs.Devices.{Console, FromInput, OnDevices}

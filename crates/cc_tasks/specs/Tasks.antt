@@ -8,8 +8,8 @@ use Rattle.cc_command.specs.RoundList.{RoundsList}
 use Rattle.cc_decode.specs.declared.options.Options.{Options}
 use Rattle.cc_decode.specs.Annotate.{AnnotatesGiven}
 use Rattle.cc_decode.specs.Skip.{ListsAfter, ListsWholeAfter}
-use Rattle.cc_decode.specs.declared.format.Format.{Format}
-use Rattle.cc_decode.specs.declared.input.InputForm.{InputForm}
+use Rattle.cc_io.specs.declared.format.Format.{Format}
+use Rattle.cc_io.specs.declared.input_form.InputForm.{InputForm}
 use Rattle.cc_arguments.specs.declared.invocation.DecodeTexts.{DecodeTexts}
 use Rattle.cc_arguments.specs.declared.question.Question.{Question}
 use Rattle.cc_devices.specs.Devices.{Console, Traffic}

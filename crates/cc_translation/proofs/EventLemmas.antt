@@ -5,8 +5,8 @@ use Rattle.std.specs.Map.{lookup}
 use Rattle.std.proofs.lemmas.List.Sums.{sum_by-cons}
 use Rattle.std.proofs.lemmas.Bool.Decides.{nat_tests}
 use Rattle.cc_bounds.specs.declared.align.Align.{Align}
-use Rattle.cc_plan.specs.PlannerState.{unit_of}
-use Rattle.cc_plan.proofs.AlignLemmas.{unit-some}
+use Rattle.cc_placer.specs.Align.{unit_of}
+use Rattle.cc_placer.proofs.AlignLemmas.{unit-some}
 use Rattle.cc_heap.specs.declared.event.Event.{Event}
 use Rattle.cc_heap.specs.declared.event.Event.TheVariants.{Allocate, Clear, Reallocate, Free, Sweep, Clock}
 use Rattle.cc_heap.specs.declared.making.Making.{Making}

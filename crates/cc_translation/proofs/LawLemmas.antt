@@ -13,7 +13,7 @@ use Rattle.cc_placer.proofs.SameSpansLemmas.{placement_along}
 use Rattle.cc_plan.specs.declared.object.ObjectState.TheVariants.{Live}
 use Rattle.cc_plan.specs.declared.object.PlannedObject.{PlannedObject}
 use Rattle.cc_plan.specs.Plan.{swept as planned_swept}
-use Rattle.cc_plan.specs.PlannerState.{padded_size_for, unit_of}
+use Rattle.cc_placer.specs.Align.{padded_size_for, unit_of}
 use Rattle.cc_plan.proofs.HeldSpanLemmas.{as_freed}
 use Rattle.cc_ops.specs.declared.op.Op.{Op}
 use Rattle.cc_ops.specs.declared.op.Op.TheVariants as op

@@ -10,12 +10,11 @@ use Rattle.cc_cap.specs.Capability.{Capability}
 use Rattle.cc_placer.specs.Placement.{IsPlacement}
 use Rattle.cc_plan.specs.declared.object.ObjectState.TheVariants.{Live, Freed}
 use Rattle.cc_plan.specs.declared.object.PlannedObject.{PlannedObject}
-use Rattle.cc_plan.specs.Align.{IsUnit, rounded_up}
+use Rattle.cc_placer.specs.Align.{IsUnit, padded_size_for, rounded_up, unit_of}
 use Rattle.cc_plan.specs.Plan.{Plan, capability_over, span_at, swept as planned_swept}
-use Rattle.cc_plan.specs.PlannerState.{padded_size_for, unit_of}
-use Rattle.cc_plan.proofs.AlignLemmas.{padded_for-enough}
+use Rattle.cc_placer.proofs.AlignLemmas.{padded_for-enough}
 use Rattle.cc_plan.proofs.HeldSpanLemmas.{as_freed}
-use Rattle.cc_plan.proofs.UnitLemmas.{IsUnit-one}
+use Rattle.cc_placer.proofs.UnitLemmas.{IsUnit-one}
 use Rattle.cc_ops.specs.declared.op.Op.TheVariants as op
 use Rattle.cc_ops.specs.declared.reply.Reply.{Reply}
 use Rattle.cc_ops.specs.declared.reply.Reply.TheVariants.{Allocated, Freed as ToldFreed, Swept as ToldSwept}

@@ -8,7 +8,7 @@ use Rattle.cc_ops.specs.declared.op.Op.TheVariants.{Alloc, Free, Sweep}
 use Rattle.cc_ops.specs.declared.reply.Reply.{Reply}
 use Rattle.cc_ops.specs.declared.reply.Reply.TheVariants.{Allocated, Refused}
 use Rattle.cc_placer.specs.Placement.{HaveSameSpans}
-use Rattle.cc_plan.specs.PlannerState.{unit_of}
+use Rattle.cc_placer.specs.Align.{unit_of}
 use Rattle.cc_machine.specs.State.{State}
 use Rattle.cc_machine.specs.Objects.{held_spans}
 use Rattle.cc_machine.specs.Run.{Run}

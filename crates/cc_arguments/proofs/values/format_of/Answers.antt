@@ -1,7 +1,7 @@
 use Rattle.std.proofs.Common.{◌∙◌, ◌≡◌, ap, codes, option_map, refl, subst, sym, Option, Some}
 use Rattle.clap.specs.Walk.{Text}
 use Rattle.clap.specs.Words.{first_of, found_of, rows_of}
-use Rattle.cc_decode.specs.declared.format.Format.TheVariants as format
+use Rattle.cc_io.specs.declared.format.Format.TheVariants as format
 use Rattle.cc_arguments.specs.Invocation.{IsChosen, format_named}
 use Rattle.cc_arguments.proofs.InvocationLemmas.{format_columns}
 use Rattle.cc_arguments.proofs.values.format_of.Goals as goal

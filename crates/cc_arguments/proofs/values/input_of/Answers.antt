@@ -2,8 +2,8 @@ use Rattle.std.proofs.Common.{◌∙◌, ◌≡◌, ap, codes, option_map, refl,
 use Rattle.clap.specs.Walk.{Text}
 use Rattle.clap.specs.Words.{first_of, found_of, rows_of}
 use Rattle.std.specs.Prelude.{IfSome, IsSome}
-use Rattle.cc_decode.specs.declared.input.ByteOrder.TheVariants.{Little, Big}
-use Rattle.cc_decode.specs.declared.input.InputForm.TheVariants.{Lines, Bytes}
+use Rattle.cc_io.specs.declared.input_form.ByteOrder.TheVariants.{Little, Big}
+use Rattle.cc_io.specs.declared.input_form.InputForm.TheVariants.{Lines, Bytes}
 use Rattle.cc_arguments.specs.Invocation.{IsChosen, input_named}
 use Rattle.cc_arguments.proofs.InvocationLemmas.{order_little}
 use Rattle.cc_arguments.proofs.values.input_of.Goals as goal

@@ -1,4 +1,4 @@
-use Rattle.cc_plan.proofs.UnitLemmas.{one-granule, one-padded, one_unit, sixteen-multiple}
+use Rattle.cc_placer.proofs.UnitLemmas.{one-granule, one-padded, one_unit, sixteen-multiple}
 use Rattle.cc_plan.proofs.laws.units_of_alignments.Goals as goal
 
 pub returns : goal.returns

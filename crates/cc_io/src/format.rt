@@ -1,4 +1,4 @@
-//! The formats of words in the output.
+//! The formats of words in an output.
 
 /// The format of the reply to a word. Each reply is one line.
 #[derive(Clone, Copy, Debug, PartialEq, Eq)]

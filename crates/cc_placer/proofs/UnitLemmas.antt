@@ -12,9 +12,8 @@ use Rattle.cc_bounds.specs.Decoding.{ExactlyOne}
 use Rattle.cc_bounds.proofs.ComputingLemmas.{from_zero-span, granule_of-is}
 use Rattle.cc_bounds.proofs.DecisionLemmas.{length-HasGranule}
 use Rattle.cc_bounds.proofs.GranuleLemmas.{granule_same}
-use Rattle.cc_plan.specs.Align.{IsUnit, rounded_up}
-use Rattle.cc_plan.specs.PlannerState.{unit_of}
-use Rattle.cc_plan.proofs.AlignLemmas.{multiple_of_sixteen}
+use Rattle.cc_placer.specs.Align.{IsUnit, rounded_up, unit_of}
+use Rattle.cc_placer.proofs.AlignLemmas.{multiple_of_sixteen}
 
 -- a size has at most one unit
 pub IsUnit-same : (align : Align) (size one other : ℕ) → IsUnit align size one → IsUnit align size other → one ≡ other

@@ -14,7 +14,7 @@ use Rattle.cc_bounds.proofs.SoundLemmas.{rounded_to-one, rounded_to-whole}
 use Rattle.cc_bounds.specs.declared.align.Align.{Align}
 use Rattle.cc_bounds.specs.declared.align.Align.TheVariants.{One, Sixteen}
 use Rattle.cc_bounds.specs.Align.{align_bytes}
-use Rattle.cc_plan.specs.PlannerState.{padded_size_for, unit_of}
+use Rattle.cc_placer.specs.Align.{padded_size_for, unit_of}
 
 -- whole units of an exponent are whole units of each lower one
 pub whole_smaller : (n e k : ℕ) → e ≤ k → n * 2 ^ (k - e) * 2 ^ (e + 3) ≡ n * 2 ^ (k + 3)
