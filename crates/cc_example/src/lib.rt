@@ -1,8 +1,6 @@
-//! The library in use: the example of the README, with a test.
+//! The library in use: the example of the README.
 #![tactic(auto)]
 
 mod reading;
-#[cfg(test)]
-mod tests;
 
 pub use reading::{bounds_of, read_only};
