@@ -164,6 +164,11 @@ held_length memory = omega (arith, joined (map span_of memory.live) memory.quara
     mapped [] = refl
     mapped (e ∷ es) = let rest = mapped es in omega (arith, rest)
 
+-- a heap holds no more spans than its limit
+pub few_held : (heap : Heap) (usage : Usage) (capacity placer_limit : ℕ) (pool : Option Span) (holds : List Span → Type 0)
+    → IsHeap heap usage capacity placer_limit pool holds → length (held_spans heap.memory) ≤ heap.settings.limit
+few_held heap usage capacity placer_limit pool holds is = omega (arith, held_length heap.memory, is.at_most)
+
 pub below_limit : (heap : Heap) (usage : Usage) (capacity placer_limit : ℕ) (placer_pool : Option Span)
     (holds : List Span → Type 0) → IsHeap heap usage capacity placer_limit placer_pool holds
     → length heap.memory.live + length heap.memory.quarantined < heap.settings.limit

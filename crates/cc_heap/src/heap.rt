@@ -2,7 +2,7 @@
 ghost use Rattle.std.specs.Prelude.{◌≡◌, ℕ, false, None, nat_eq, ◌+◌, ◌<◌, ◌≤◌, ◌^◌, ◌↔◌, length, All, IfOk, OnErr, OnOk, IsNone, IsSome, IsTrue};
 ghost use Rattle.std.specs.Bool.{OnFalse, OnTrue};
 ghost use Rattle.std.specs.Int.{IsPowerOfTwo};
-ghost use Rattle.cc_heap.specs.Memory.{IsSound, usage_of};
+ghost use Rattle.cc_heap.specs.Memory.{IsSound, held_spans, usage_of};
 ghost use Rattle.cc_heap.specs.Totals.{with_usage};
 ghost use Rattle.cc_heap.specs.Heap.{Attempts, MustSweep, empty_heap, object_under, swept, swept_memory};
 ghost use Rattle.cc_heap.specs.Events.{Allocates, AttemptsToReplace, FollowsPolicy, FollowsReplacing, FreesIfLive, FreesOrNot, HasAlignment, IsEvent, Moves, Reallocates, ReplacesLive, Tries, TriesToReplace, outcome_of, swept_if_asked};
@@ -105,9 +105,12 @@ impl<P: Placer> Heap<P> {
     }
 
     /// Returns the number of objects and of bytes that the heap holds.
+    ///
+    /// No heap holds more spans than its limit, whatever events it took.
     pub fn usage(&self) -> Usage
         ensures value { result ≡ usage_of self.now.memory }
         ensures fits { result.live + result.quarantine ≤ 2 ^ 127 }
+        ensures at_most { length (held_spans self.now.memory) ≤ self.now.settings.limit }
     {
         self.usage
     }

@@ -1,8 +1,8 @@
 //! A heap over a trace, and the ids whose objects were not made.
-ghost use Rattle.std.specs.Prelude.{◌≡◌, ℕ, [], IfOk, IfSome, OnOk, ◌<◌};
+ghost use Rattle.std.specs.Prelude.{◌≡◌, ℕ, [], length, IfOk, IfSome, OnOk, ◌<◌, ◌≤◌};
 ghost use Rattle.cc_heap.specs.Events.{HasAlignment};
 ghost use Rattle.cc_heap.specs.Lost.{IsRunEvent, freed_id, is_lost, is_lost_one, is_not_made, made_id, noted};
-ghost use Rattle.cc_heap.specs.Memory.{IsSound, usage_of};
+ghost use Rattle.cc_heap.specs.Memory.{IsSound, held_spans, usage_of};
 ghost use Rattle.cc_heap.specs.Sizes.{no_sizes, with_made_size};
 
 use crate::event::Event;
@@ -73,8 +73,11 @@ impl<P: Placer> Run<P> {
     }
 
     /// Returns the number of objects and of bytes that the heap holds.
+    ///
+    /// No heap holds more spans than its limit, whatever events it took.
     pub fn usage(&self) -> Usage
-        ensures { result ≡ usage_of self.now.heap.memory }
+        ensures value { result ≡ usage_of self.now.heap.memory }
+        ensures at_most { length (held_spans self.now.heap.memory) ≤ self.now.heap.settings.limit }
     {
         self.heap.usage()
     }
