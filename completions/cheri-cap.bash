@@ -11,7 +11,7 @@ _cheri_cap() {
     run) options+=' --slots --stats' ;;
     plan) options+=' --slots --align --stats' ;;
     map) options+=' --slots --align --svg' ;;
-    replay) options+=' --format --align --sweep --min --pool --strict --summary --each' ;;
+    replay) options+=' --format --align --sweep --min --pool --strict --summary --each --sizes' ;;
     decode) options+=' --format --bytes --skip --at --holds --perms' ;;
     show) options+=' --line' ;;
     explain) options+=' --svg --length --base' ;;

@@ -26,6 +26,7 @@ complete -c cheri-cap -n '__fish_seen_subcommand_from replay' -l pool -x -d 'Byt
 complete -c cheri-cap -n '__fish_seen_subcommand_from replay' -l strict -d 'Stop after a refused line'
 complete -c cheri-cap -n '__fish_seen_subcommand_from replay' -l summary -x -a 'text csv json' -d 'Format of the summary'
 complete -c cheri-cap -n '__fish_seen_subcommand_from replay' -l each -x -d 'Print a series instead of the summary'
+complete -c cheri-cap -n '__fish_seen_subcommand_from replay' -l sizes -d 'Print a table of sizes instead of the summary'
 complete -c cheri-cap -n '__fish_seen_subcommand_from decode' -l format -x -a 'columns text fixed csv' -d 'Format of the output'
 complete -c cheri-cap -n '__fish_seen_subcommand_from decode' -l bytes -x -a 'little big' -d 'Read raw words of 16 bytes'
 complete -c cheri-cap -n '__fish_seen_subcommand_from decode' -l skip -x -d 'Number of bytes that are not decoded'

@@ -36,7 +36,8 @@ pub enum SummaryFormat {
     Json,
 }
 
-/// The values of the options of `replay` that are numbers, a policy, a pool or the trace's format, as they were typed.
+/// The values of the options of `replay` that are numbers, a policy, a pool or the trace's format, as they were typed, and
+/// whether `--sizes` was given.
 #[derive(Clone, Copy)]
 pub struct ReplayTexts<'a> {
     /// The policy.
@@ -49,6 +50,8 @@ pub struct ReplayTexts<'a> {
     pub each: Option<&'a str>,
     /// The name of the trace's format.
     pub format: Option<&'a str>,
+    /// Whether the table of sizes takes the place of the summary.
+    pub sizes: bool,
 }
 
 /// A command and its values.
@@ -92,13 +95,13 @@ pub enum Invocation<'a> {
         file: Option<&'a str>,
     },
     /// `replay [--format FORMAT] [--align ALIGN] [--sweep POLICY] [--min BYTES] [--pool BASE:LENGTH] [--strict]
-    /// [--summary FORMAT] [--each N] [FILE]`: replays the trace of an allocator.
+    /// [--summary FORMAT] [--each N] [--sizes] [FILE]`: replays the trace of an allocator.
     Replay {
         /// The alignment of each object.
         align: Align,
         /// Whether no line is taken after one that is refused.
         strict: bool,
-        /// The format of the summary.
+        /// The format of the summary, or of the table of sizes.
         format: SummaryFormat,
         /// The values of the other options, as they were typed.
         texts: ReplayTexts<'a>,

@@ -85,12 +85,13 @@ with_heap_options command =
     with_rule swept (valued_option (codes "pool"))
 
 -- The command `replay [--format FORMAT] [--align ALIGN] [--sweep POLICY] [--min BYTES] [--pool BASE:LENGTH]
--- [--strict] [--summary FORMAT] [--each N] [FILE]`.
+-- [--strict] [--summary FORMAT] [--each N] [--sizes] [FILE]`.
 abbrev pub replay_command : (aligns summaries : Bor (List (Bor Text))) → App
 replay_command aligns summaries =
     let heap = with_heap_options (with_rule (with_rule (new_app (codes "replay")) (valued_option (codes "format"))) (choice_option (codes "align") aligns)) in
     let told = with_rule (with_rule heap (flag_option (codes "strict"))) (choice_option (codes "summary") summaries) in
-    with_rule (with_rule told (valued_option (codes "each"))) (optional_argument (codes "file"))
+    let chosen = with_rule (with_rule told (valued_option (codes "each"))) (flag_option (codes "sizes")) in
+    with_rule chosen (optional_argument (codes "file"))
 
 -- The names of the formats.
 abbrev pub format_names : List Text

@@ -217,6 +217,10 @@ pub(crate) const EACH_HELP: &str = "\
 Print a series in place of the summary, as comma-separated values: a sample at every N-th event, at
 each event that sweeps, and at the end";
 
+pub(crate) const SIZES_HELP: &str = "\
+Print a table of the objects that were made in place of the summary, in its format: a row for each
+power of two of their sizes; not with --each";
+
 pub(crate) const TRACE_FILE_HELP: &str = "Trace file; standard input if `-` or omitted";
 
 pub(crate) const REPLAY_AFTER_HELP: &str = "\

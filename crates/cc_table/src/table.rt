@@ -9,7 +9,7 @@ use crate::help::{
     LINE_HELP, MAP_ABOUT, MAP_AFTER_HELP, PERMISSIONS_HELP, PLAN_ABOUT, PLAN_AFTER_HELP, POOL_HELP,
     POOL_LENGTH_HELP, REPLAY_ABOUT, REPLAY_AFTER_HELP, REQUEST_BASE_HELP, REQUEST_LENGTH_HELP,
     ROUND_ABOUT, ROUND_AFTER_HELP, RUN_ABOUT, RUN_AFTER_HELP, SHOW_ABOUT, SHOW_AFTER_HELP,
-    SKIP_HELP, SLOTS_HELP, STATS_HELP, STRICT_HELP, SUMMARY_HELP, SVG_HELP, SWEEP_HELP,
+    SIZES_HELP, SKIP_HELP, SLOTS_HELP, STATS_HELP, STRICT_HELP, SUMMARY_HELP, SVG_HELP, SWEEP_HELP,
     TEXT_FILE_HELP, TRACE_FILE_HELP, TRACE_FORMAT_HELP, WINDOW_SVG_HELP, WORD_HELP,
     WORDS_FILE_HELP,
 };
@@ -73,6 +73,8 @@ pub(crate) enum Topic {
     Summary,
     /// `EACH_HELP`.
     Each,
+    /// `SIZES_HELP`.
+    Sizes,
     /// `TRACE_FILE_HELP`.
     TraceFile,
 }
@@ -129,6 +131,7 @@ pub(crate) fn help<'a>(topic: Topic) -> &'a str {
         Topic::Strict => STRICT_HELP,
         Topic::Summary => SUMMARY_HELP,
         Topic::Each => EACH_HELP,
+        Topic::Sizes => SIZES_HELP,
         Topic::TraceFile => TRACE_FILE_HELP,
     }
 }
@@ -399,6 +402,12 @@ const COMMANDS: &[CommandRow] = &[
                 name: "each",
                 placeholder: "N",
                 topic: Topic::Each,
+            },
+            Row {
+                kind: Kind::Flag,
+                name: "sizes",
+                placeholder: "",
+                topic: Topic::Sizes,
             },
             Row {
                 kind: Kind::Free,

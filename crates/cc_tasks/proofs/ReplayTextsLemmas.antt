@@ -37,22 +37,22 @@ of_value P (Err refusal) value holds e = cc e
 pub no_series : (align : Align) (strict : Bool) (texts : ReplayTexts) (found : Settings × Reading) → replay_in align strict texts ≡ Ok found → texts.each ≡ None
     → found.1.each ≡ 0
 no_series align strict texts found e none =
-    let made = from_changed _ (both (both (sweep_in texts.sweep) (least_in texts.least)) (both (each_in texts.each) (both (span_given texts.pool) (format_in texts.format)))) found e in
-    let outer = parts_of_both (both (sweep_in texts.sweep) (least_in texts.least)) (both (each_in texts.each) (both (span_given texts.pool) (format_in texts.format))) made.0 made.1 in
-    let inner = parts_of_both (each_in texts.each) (both (span_given texts.pool) (format_in texts.format)) made.0.1 outer.1 in
-    let zero : Ok 0 ≡ Ok made.0.1.0 = ap each_in (sym none) ∙ inner.0 in
+    let made = from_changed _ (both (both (sweep_in texts.sweep) (least_in texts.least)) (both (each_in texts.sizes texts.each) (both (span_given texts.pool) (format_in texts.format)))) found e in
+    let outer = parts_of_both (both (sweep_in texts.sweep) (least_in texts.least)) (both (each_in texts.sizes texts.each) (both (span_given texts.pool) (format_in texts.format))) made.0 made.1 in
+    let inner = parts_of_both (each_in texts.sizes texts.each) (both (span_given texts.pool) (format_in texts.format)) made.0.1 outer.1 in
+    let zero : Ok 0 ≡ Ok made.0.1.0 = ap (each_in texts.sizes) (sym none) ∙ inner.0 in
     let same : 0 ≡ made.0.1.0 = cc zero in
     ap (λ pair. pair.1.each) (sym made.2) ∙ sym same
 
 -- A refusal of one of the texts.
 pub replay_refused : (align : Align) (strict : Bool) (texts : ReplayTexts) (refusal : Refusal)
-    → both (both (sweep_in texts.sweep) (least_in texts.least)) (both (each_in texts.each) (both (span_given texts.pool) (format_in texts.format))) ≡ Err refusal
+    → both (both (sweep_in texts.sweep) (least_in texts.least)) (both (each_in texts.sizes texts.each) (both (span_given texts.pool) (format_in texts.format))) ≡ Err refusal
     → Err refusal ≡ replay_in align strict texts
 replay_refused align strict texts refusal told = ap (changed _) (sym told)
 
 -- The values of all texts.
 pub replay_found : (align : Align) (strict : Bool) (texts : ReplayTexts) (policy : Policy) (least each : ℕ) (pool : Span) (format : TraceFormat)
-    → both (both (sweep_in texts.sweep) (least_in texts.least)) (both (each_in texts.each) (both (span_given texts.pool) (format_in texts.format)))
+    → both (both (sweep_in texts.sweep) (least_in texts.least)) (both (each_in texts.sizes texts.each) (both (span_given texts.pool) (format_in texts.format)))
     ≡ Ok ((policy, least), (each, (pool, format)))
     → Ok (
       record { limit = 2 ^ 24; pool = pool; align = align; policy = policy; least_quarantine = least },

@@ -21,7 +21,8 @@ const ALL_ABOVE: Span = Span {
 
 /// Returns the settings of the heap, and how the trace is read.
 ///
-/// Errors, in order: `Syntax` if a text is not a number, not a policy, not a pool or not a format; `OutOfBounds` if the pool ends past 2^64;
+/// Errors, in order: `Syntax` if a text is not a number, not a policy, not a pool or not a format, or if both `--sizes` and `--each`
+/// are given; `OutOfBounds` if the pool ends past 2^64;
 /// `OutOfRange` if a number is too large, or that of `--each` is 0.
 pub(crate) fn replay_of(
     align: Align,
@@ -34,7 +35,7 @@ pub(crate) fn replay_of(
 {
     let sweeping = both(policy_of(texts.sweep), least_of(texts.least));
     let placing = both(pool_of(texts.pool), format_of(texts.format));
-    match both(sweeping, both(each_of(texts.each), placing)) {
+    match both(sweeping, both(each_of(texts.sizes, texts.each), placing)) {
         Ok(((policy, least_quarantine), (each, (pool, format)))) => Ok((
             Settings {
                 limit: MOST_HELD,
@@ -76,11 +77,12 @@ fn least_of(text: Option<&str>) -> Result<u64, Refusal>
     }
 }
 
-/// Returns the number of events from one sample to the next, or 0 if `--each` is not given.
-fn each_of(text: Option<&str>) -> Result<u64, Refusal>
-    ensures { result ≡ each_in text.entry }
+/// Returns the number of events from one sample to the next, or 0 if `--each` is not given. `--sizes` excludes it.
+fn each_of(sizes: bool, text: Option<&str>) -> Result<u64, Refusal>
+    ensures { result ≡ each_in sizes text.entry }
 {
     match text {
+        Some(_) if sizes => Err(Refusal::Syntax),
         Some(text) => match read_address(text.as_bytes()) {
             Ok(0) => Err(Refusal::OutOfRange),
             Ok(each) => Ok(each),
