@@ -20,6 +20,7 @@ complete -c cheri-cap -n '__fish_seen_subcommand_from run plan' -l stats -d 'Pri
 complete -c cheri-cap -n '__fish_seen_subcommand_from map explain' -l svg -d 'Draw a picture for a page'
 complete -c cheri-cap -n '__fish_seen_subcommand_from plan map replay' -l align -x -a '1 16' -d 'Minimum alignment of objects'
 complete -c cheri-cap -n '__fish_seen_subcommand_from replay' -l format -x -a 'own mtrace heaptrack ltrace' -d 'Format of the trace'
+complete -c cheri-cap -n '__fish_seen_subcommand_from replay' -l realloc -x -a 'move keep' -d 'Effect of a realloc'
 complete -c cheri-cap -n '__fish_seen_subcommand_from replay' -l sweep -x -d 'When the quarantine is swept'
 complete -c cheri-cap -n '__fish_seen_subcommand_from replay' -l min -x -d 'Quarantined bytes below which nothing is swept'
 complete -c cheri-cap -n '__fish_seen_subcommand_from replay' -l pool -x -d 'Bytes in which objects are placed'

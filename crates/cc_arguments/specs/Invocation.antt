@@ -119,6 +119,7 @@ pub record HasDecodeTexts (rows : List Row) (texts : DecodeTexts) : Type 0 where
 -- `HasReplayTexts` holds if the texts are the values of these options, or `None` for those that are not given, and it says of
 -- `--sizes` whether it is given.
 pub record HasReplayTexts (rows : List Row) (texts : ReplayTexts) : Type 0 where
+  pub realloc : first_of (codes "realloc") rows ≡ option_map (λ text. text.now) texts.realloc
   pub sweep : first_of (codes "sweep") rows ≡ option_map (λ text. text.now) texts.sweep
   pub least : first_of (codes "min") rows ≡ option_map (λ text. text.now) texts.least
   pub pool : first_of (codes "pool") rows ≡ option_map (λ text. text.now) texts.pool

@@ -7,11 +7,11 @@ use crate::help::{
     ALIGN_HELP, ANNOTATE_ABOUT, ANNOTATE_AFTER_HELP, AT_HELP, BASE_HELP, BYTES_HELP, DECODE_ABOUT,
     DECODE_AFTER_HELP, EACH_HELP, FILE_HELP, FORMAT_HELP, HOLDS_HELP, LEAST_HELP, LENGTH_HELP,
     LINE_HELP, MAP_ABOUT, MAP_AFTER_HELP, PERMISSIONS_HELP, PLAN_ABOUT, PLAN_AFTER_HELP, POOL_HELP,
-    POOL_LENGTH_HELP, REPLAY_ABOUT, REPLAY_AFTER_HELP, REQUEST_BASE_HELP, REQUEST_LENGTH_HELP,
-    ROUND_ABOUT, ROUND_AFTER_HELP, RUN_ABOUT, RUN_AFTER_HELP, SHOW_ABOUT, SHOW_AFTER_HELP,
-    SIZES_HELP, SKIP_HELP, SLOTS_HELP, STATS_HELP, STRICT_HELP, SUMMARY_HELP, SVG_HELP, SWEEP_HELP,
-    TEXT_FILE_HELP, TRACE_FILE_HELP, TRACE_FORMAT_HELP, WINDOW_SVG_HELP, WORD_HELP,
-    WORDS_FILE_HELP,
+    POOL_LENGTH_HELP, REALLOC_HELP, REPLAY_ABOUT, REPLAY_AFTER_HELP, REQUEST_BASE_HELP,
+    REQUEST_LENGTH_HELP, ROUND_ABOUT, ROUND_AFTER_HELP, RUN_ABOUT, RUN_AFTER_HELP, SHOW_ABOUT,
+    SHOW_AFTER_HELP, SIZES_HELP, SKIP_HELP, SLOTS_HELP, STATS_HELP, STRICT_HELP, SUMMARY_HELP,
+    SVG_HELP, SWEEP_HELP, TEXT_FILE_HELP, TRACE_FILE_HELP, TRACE_FORMAT_HELP, WINDOW_SVG_HELP,
+    WORD_HELP, WORDS_FILE_HELP,
 };
 
 /// The subject of the help of an argument.
@@ -61,6 +61,8 @@ pub(crate) enum Topic {
     RequestBase,
     /// `TRACE_FORMAT_HELP`.
     TraceFormat,
+    /// `REALLOC_HELP`.
+    Realloc,
     /// `SWEEP_HELP`.
     Sweep,
     /// `LEAST_HELP`.
@@ -125,6 +127,7 @@ pub(crate) fn help<'a>(topic: Topic) -> &'a str {
         Topic::RequestLength => REQUEST_LENGTH_HELP,
         Topic::RequestBase => REQUEST_BASE_HELP,
         Topic::TraceFormat => TRACE_FORMAT_HELP,
+        Topic::Realloc => REALLOC_HELP,
         Topic::Sweep => SWEEP_HELP,
         Topic::Least => LEAST_HELP,
         Topic::Pool => POOL_HELP,
@@ -366,6 +369,12 @@ const COMMANDS: &[CommandRow] = &[
                 name: "align",
                 placeholder: "ALIGN",
                 topic: Topic::Align,
+            },
+            Row {
+                kind: Kind::Valued,
+                name: "realloc",
+                placeholder: "MODE",
+                topic: Topic::Realloc,
             },
             Row {
                 kind: Kind::Valued,

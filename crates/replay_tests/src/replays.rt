@@ -3,8 +3,8 @@ use cc_bounds::{Align, Span};
 use cc_io::{IoError, SliceSink, SliceSource, Summary};
 use cc_placer::ScanPlacer;
 use cc_replay::{
-    Format, Policy, Progress, Reading, Replay, Settings, Share, TraceFormat, read_policy,
-    replay_trace, summarize_trace, write_summary,
+    Format, Policy, Progress, Reading, Reallocation, Replay, Settings, Share, TraceFormat,
+    read_policy, replay_trace, summarize_trace, write_summary,
 };
 use std::alloc::{AllocError, Global};
 
@@ -196,6 +196,7 @@ fn replay(alloc: Global, case: usize, is_strict: bool) -> Result<Replay<ScanPlac
         },
         policy: policy(case),
         least_quarantine: if case == 3 { 6000 } else { 0 },
+        realloc: Reallocation::Move,
     };
     Replay::with_settings(
         alloc,
