@@ -11,7 +11,7 @@ _cheri_cap() {
     run) options+=' --slots --stats' ;;
     plan) options+=' --slots --align --stats' ;;
     map) options+=' --slots --align --svg' ;;
-    replay) options+=' --format --align --sweep --min --pool --strict --summary --each' ;;
+    replay) options+=' --format --align --realloc --sweep --min --pool --strict --summary --each --sizes' ;;
     decode) options+=' --format --bytes --skip --at --holds --perms' ;;
     show) options+=' --line' ;;
     explain) options+=' --svg --length --base' ;;
@@ -21,6 +21,7 @@ _cheri_cap() {
   esac
   case $before in
     --slots | --length | --base | --skip | --at | --holds | --perms | --sweep | --min | --pool | --each) ;;
+    --realloc) mapfile -t COMPREPLY < <(compgen -W 'move keep' -- "$word") ;;
     --summary) mapfile -t COMPREPLY < <(compgen -W 'text csv json' -- "$word") ;;
     --format)
       if [[ $command == replay ]]; then

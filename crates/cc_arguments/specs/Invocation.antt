@@ -116,13 +116,16 @@ pub record HasDecodeTexts (rows : List Row) (texts : DecodeTexts) : Type 0 where
   pub holds : first_of (codes "holds") rows ≡ option_map (λ text. text.now) texts.holds
   pub perms : first_of (codes "perms") rows ≡ option_map (λ text. text.now) texts.perms
 
--- `HasReplayTexts` holds if the texts are the values of these options, or `None` for those that are not given.
+-- `HasReplayTexts` holds if the texts are the values of these options, or `None` for those that are not given, and it says of
+-- `--sizes` whether it is given.
 pub record HasReplayTexts (rows : List Row) (texts : ReplayTexts) : Type 0 where
+  pub realloc : first_of (codes "realloc") rows ≡ option_map (λ text. text.now) texts.realloc
   pub sweep : first_of (codes "sweep") rows ≡ option_map (λ text. text.now) texts.sweep
   pub least : first_of (codes "min") rows ≡ option_map (λ text. text.now) texts.least
   pub pool : first_of (codes "pool") rows ≡ option_map (λ text. text.now) texts.pool
   pub each : first_of (codes "each") rows ≡ option_map (λ text. text.now) texts.each
   pub format : first_of (codes "format") rows ≡ option_map (λ text. text.now) texts.format
+  pub sizes : texts.sizes ≡ is_on (first_of (codes "sizes") rows)
 
 -- `HasTexts` holds if the texts of the question are the values that clap found. The arguments of `explain` that the
 -- question has no text for have no value, and a missing `--base` is `0`. The N of `round` is not `-`, which is a list.

@@ -36,9 +36,12 @@ pub enum SummaryFormat {
     Json,
 }
 
-/// The values of the options of `replay` that are numbers, a policy, a pool or the trace's format, as they were typed.
+/// The values of the options of `replay` that are numbers, names, a policy or a pool, as they were typed, and whether `--sizes`
+/// was given.
 #[derive(Clone, Copy)]
 pub struct ReplayTexts<'a> {
+    /// The effect of a realloc.
+    pub realloc: Option<&'a str>,
     /// The policy.
     pub sweep: Option<&'a str>,
     /// The number of quarantined bytes below which the policy does not sweep.
@@ -49,6 +52,8 @@ pub struct ReplayTexts<'a> {
     pub each: Option<&'a str>,
     /// The name of the trace's format.
     pub format: Option<&'a str>,
+    /// Whether the table of sizes takes the place of the summary.
+    pub sizes: bool,
 }
 
 /// A command and its values.
@@ -91,14 +96,14 @@ pub enum Invocation<'a> {
         /// The script's file; `None` and `-` are standard input.
         file: Option<&'a str>,
     },
-    /// `replay [--format FORMAT] [--align ALIGN] [--sweep POLICY] [--min BYTES] [--pool BASE:LENGTH] [--strict]
-    /// [--summary FORMAT] [--each N] [FILE]`: replays the trace of an allocator.
+    /// `replay [--format FORMAT] [--align ALIGN] [--realloc MODE] [--sweep POLICY] [--min BYTES] [--pool BASE:LENGTH]
+    /// [--strict] [--summary FORMAT] [--each N] [--sizes] [FILE]`: replays the trace of an allocator.
     Replay {
         /// The alignment of each object.
         align: Align,
         /// Whether no line is taken after one that is refused.
         strict: bool,
-        /// The format of the summary.
+        /// The format of the summary, or of the table of sizes.
         format: SummaryFormat,
         /// The values of the other options, as they were typed.
         texts: ReplayTexts<'a>,

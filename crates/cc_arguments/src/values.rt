@@ -59,16 +59,18 @@ pub(crate) fn decode_texts<'a>(matches: &ArgMatches<'a>) -> DecodeTexts<'a>
     }
 }
 
-/// Returns the values of the options of `replay` that are numbers, a policy, a pool or a format.
+/// Returns the values of the options of `replay` that are numbers, names, a policy or a pool, and whether `--sizes` was given.
 pub(crate) fn replay_texts<'a>(matches: &ArgMatches<'a>) -> ReplayTexts<'a>
     ensures { HasReplayTexts (rows_of (found_of matches.now)) result }
 {
     ReplayTexts {
+        realloc: value_of(matches, "realloc"),
         sweep: value_of(matches, "sweep"),
         least: value_of(matches, "min"),
         pool: value_of(matches, "pool"),
         each: value_of(matches, "each"),
         format: value_of(matches, "format"),
+        sizes: is_on(matches, "sizes"),
     }
 }
 

@@ -1,8 +1,9 @@
 -- What a heap keeps when an object is made, when one is freed and when a span is released.
-use Rattle.std.proofs.Common.{ℕ, max, ◌≡◌, ◌+◌, ◌-◌, ◌<◌, ◌≤◌, ◌^◌, nat_eq, List, [], ◌∷◌, ◌++◌, Option, Some, None, All, Contains, map, sum_by, length, arith, refl, subst, ◌∙◌, sym, ap, IsPermutation}
+use Rattle.std.proofs.Common.{ℕ, false, max, ◌≡◌, ◌+◌, ◌-◌, ◌<◌, ◌≤◌, ◌^◌, nat_eq, List, [], ◌∷◌, ◌++◌, Option, Some, None, All, Contains, map, sum_by, length, arith, refl, subst, ◌∙◌, sym, ap, IsPermutation}
 use Rattle.std.specs.List.{IsDistinct}
 use Rattle.std.specs.Map.{keys_of, lookup, remove_entry, set_value}
 use Rattle.std.specs.Option.{MatchOption, IsNone, option_to_list}
+use Rattle.std.proofs.lemmas.Bool.Decides.{nat_tests}
 use Rattle.std.proofs.lemmas.List.{get_or_append_left, get_or_push, length_push}
 use Rattle.std.proofs.lemmas.List.Elements.{All-cons, All-push, All-tail}
 use Rattle.std.proofs.lemmas.List.Sums.{sum_by-cons, sum_by-le, sum_by_push}
@@ -20,7 +21,7 @@ use Rattle.cc_heap.specs.Memory.{IsExact, IsExactEntry, IsSound, Memory, ShareNo
 use Rattle.cc_heap.specs.Heap.{Heap}
 use Rattle.cc_heap.specs.HeapState.{HoldsSpans, IsHeap}
 use Rattle.cc_heap.proofs.PlaceLemmas.{IsFound}
-use Rattle.cc_heap.proofs.MemoryLemmas.{found_first, held_made, held_retired, held_swept, once_along, once_fewer, once_more, set_first}
+use Rattle.cc_heap.proofs.MemoryLemmas.{found_first, held_made, held_retired, held_swapped, held_swept, once_along, once_fewer, once_more, set_first}
 
 -- a memory and a heap of these parts
 abbrev pub memory_of : List (ℕ × Object) → List Span → Memory
@@ -101,6 +102,43 @@ usage_retired live fewer waiting id object usage new is new_is takes =
     ) in
     let rest : usage.quarantine + length_of object.span ≡ sum_by length_of (waiting ++ object.span ∷ []) =
     omega (arith, ap (λ (u : Usage). u.quarantine) is, sum_by_push length_of waiting object.span) in
+    new_is ∙ (λ i. record { objects = objects i; asked = asked i; live = bytes i; quarantine = rest i })
+
+-- with another size of one of them
+abbrev pub usage_resized : Usage → (before after : ℕ) → Usage
+usage_resized usage before after = record {
+  objects = usage.objects;
+  asked = usage.asked - before + after;
+  live = usage.live;
+  quarantine = usage.quarantine;
+}
+
+pub usage_swapped : (live more : List (ℕ × Object)) (waiting : List Span) (from to : ℕ) (before object : Object) (usage new : Usage)
+    → usage ≡ usage_of (memory_of live waiting) → new ≡ usage_resized usage before.size object.size
+    → before.size ≤ usage.asked → object.span ≡ before.span
+    → IsPermutation ((to, object) ∷ live) ((from, before) ∷ more) → new ≡ usage_of (memory_of more waiting)
+usage_swapped live more waiting from to before object usage new is new_is counted same swaps =
+    let objects : usage.objects ≡ length more =
+    omega (arith, ap (λ (u : Usage). u.objects) is, length_permutation ((to, object) ∷ live) ((from, before) ∷ more) swaps) in
+    let asked : usage.asked - before.size + object.size ≡ sum_by size_of_entry more =
+    omega (
+      arith,
+      counted,
+      ap (λ (u : Usage). u.asked) is,
+      sum_by-IsPermutation size_of_entry ((to, object) ∷ live) ((from, before) ∷ more) swaps,
+      sum_by-cons size_of_entry (to, object) live,
+      sum_by-cons size_of_entry (from, before) more,
+    ) in
+    let bytes : usage.live ≡ sum_by length_of_entry more =
+    omega (
+      arith,
+      ap (λ (u : Usage). u.live) is,
+      ap length_of same,
+      sum_by-IsPermutation length_of_entry ((to, object) ∷ live) ((from, before) ∷ more) swaps,
+      sum_by-cons length_of_entry (to, object) live,
+      sum_by-cons length_of_entry (from, before) more,
+    ) in
+    let rest : usage.quarantine ≡ sum_by length_of waiting = ap (λ (u : Usage). u.quarantine) is in
     new_is ∙ (λ i. record { objects = objects i; asked = asked i; live = bytes i; quarantine = rest i })
 
 -- and with its span released
@@ -333,6 +371,43 @@ kept_replaced settings totals new_totals live more waiting new_waiting usage bet
           (held_retired (id, before) entries more waiting takes) same);
     })
 
+-- when a live object gets another size and id
+pub kept_swapped : (settings : Settings) (totals new_totals : Totals) (live more : List (ℕ × Object)) (waiting : List Span)
+    (usage new_usage : Usage) (capacity placer_limit : ℕ) (placer_pool : Option Span) (holds : List Span → Type 0) (from to : ℕ)
+    (before object : Object)
+    → IsHeap (heap_of settings live waiting totals) usage capacity placer_limit placer_pool holds
+    → IsPermutation ((to, object) ∷ live) ((from, before) ∷ more) → IsDistinct nat_eq (keys_of more)
+    → IsExact settings.align object → object.span ≡ before.span
+    → new_usage ≡ usage_resized usage before.size object.size → before.size ≤ usage.asked
+    → new_totals.high ≡ totals.high
+    → IsHeap (heap_of settings more waiting new_totals) new_usage capacity placer_limit placer_pool holds
+kept_swapped settings totals new_totals live more waiting usage new_usage capacity placer_limit placer_pool holds from to
+    before object kept swaps distinct exact same usage_is counted high_is =
+    let entries : List (ℕ × Object) = (to, object) ∷ live in
+    let others : List (ℕ × Object) = (from, before) ∷ more in
+    let all = All-permutation (IsExactEntry settings.align) entries others swaps
+    (All-cons (IsExactEntry settings.align) (to, object) live exact kept.sound.exact) in
+    let along = held_swapped (to, object) (from, before) live more waiting swaps same in
+    let as_many = length_permutation entries others swaps in
+    record {
+      sound = record {
+        exact = All-tail (IsExactEntry settings.align) (from, before) more all;
+        spans = kept.sound.spans;
+        ids = distinct;
+        apart = once_along (map span_of live ++ waiting) (map span_of more ++ waiting) along kept.sound.apart;
+      };
+      usage_is = usage_swapped live more waiting from to before object usage new_usage kept.usage_is usage_is counted same swaps;
+      reserved = omega (arith, as_many, kept.reserved);
+      at_most = omega (arith, as_many, kept.at_most);
+      few = kept.few;
+      is_pool = kept.is_pool;
+      high_fits = omega (arith, high_is, kept.high_fits);
+      limit_is = kept.limit_is;
+      pool_is = kept.pool_is;
+      held_is = λ spans rest.
+          kept.held_is spans (IsPermutation-trans (map span_of live ++ waiting) (map span_of more ++ waiting) spans along rest);
+    }
+
 -- the object that is freed is one of the live ones
 pub record IsLiveObject (usage : Usage) (object : Object) : Type 0 where
   pub is_span : IsSpan object.span
@@ -458,6 +533,21 @@ taken id object live fewer result result_is is rest =
     IsPermutation-trans live ((id, object) ∷ remove_entry (nat_eq id) live) ((id, object) ∷ fewer)
     (found_first id object live (sym result_is ∙ is))
     (IsPermutation-cons (id, object) (remove_entry (nat_eq id) live) fewer rest)
+
+-- numbers that differ do so in either order
+pub apart_too : (one other : ℕ) → nat_eq one other ≡ false → nat_eq other one ≡ false
+apart_too one other is = grind (arith, nat_tests)
+
+-- an insert under a new id, and a removal of another
+pub puts_beside : (from to : ℕ) (before object : Object) (entries between more : List (ℕ × Object)) (old taken_out : Option Object)
+    → old ≡ lookup (nat_eq to) entries → IsNone (lookup (nat_eq to) entries)
+    → MatchOption old (IsPermutation ((to, object) ∷ entries) between) (λ _. between ≡ set_value (nat_eq to) entries object)
+    → taken_out ≡ lookup (nat_eq from) between → taken_out ≡ Some before → IsPermutation (remove_entry (nat_eq from) between) more
+    → IsPermutation ((to, object) ∷ entries) ((from, before) ∷ more)
+puts_beside from to before object entries between more old taken_out old_is none puts out_is out rest =
+    IsPermutation-trans ((to, object) ∷ entries) between ((from, before) ∷ more)
+    (puts_new to object entries between old old_is none puts)
+    (taken from before between more taken_out out_is out rest)
 
 -- the span that was popped
 pub popped : (spans rest : List Span) (last : Option Span) (span : Span) → spans ≡ rest ++ option_to_list last

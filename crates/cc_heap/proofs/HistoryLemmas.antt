@@ -1,5 +1,6 @@
 -- Every event is a number of changes, and the totals are those of the states after each.
-use Rattle.std.proofs.Common.{ℕ, max, min, Bool, true, false, ◌≡◌, ◌⊎◌, ◌+◌, ◌-◌, ◌≤◌, ◌^◌, if◌then◌else◌, List, [], ◌∷◌, ◌++◌, Some, None, sum_by, arith, refl, subst, ◌∙◌, sym, ap, inl, inr}
+use Rattle.std.proofs.Common.{ℕ, max, min, Bool, true, false, ◌≡◌, ◌⊎◌, ◌+◌, ◌-◌, ◌≤◌, ◌^◌, if◌then◌else◌, List, [], ◌∷◌, ◌++◌, Option, Some, None, sum_by, arith, refl, subst, ◌∙◌, sym, ap, inl, inr}
+use Rattle.std.specs.Option.{MatchOption}
 use Rattle.std.proofs.lemmas.List.Sums.{sum_by-cons}
 use Rattle.cc_bounds.specs.declared.span.Span.{Span}
 use Rattle.cc_bounds.specs.Span.{length_of}
@@ -15,9 +16,9 @@ use Rattle.cc_heap.specs.declared.usage.Usage.{Usage}
 use Rattle.cc_heap.specs.Totals.{inexact_of, with_made, with_sweep, with_usage}
 use Rattle.cc_heap.specs.Memory.{object_at, usage_of}
 use Rattle.cc_heap.specs.Policy.{is_of_the_trace}
-use Rattle.cc_heap.specs.Heap.{Attempts, FreesObject, Heap, MakesObject, empty_heap, swept}
-use Rattle.cc_heap.specs.Events.{Allocates, AttemptsToReplace, FollowsPolicy, FollowsReplacing, Frees, FreesIfLive, IsEvent, Reallocates, Replaces, ReplacesLive, Tries, TriesToReplace}
-use Rattle.cc_heap.specs.Run.{ArePassedBy, HasTotals, IsFreeing, IsMaking, IsSweeping, Moment, Passes, Runs, greatest, of_made, of_swept, totals_after, usage_in}
+use Rattle.cc_heap.specs.Heap.{Attempts, FreesObject, Heap, KeepsObject, MakesObject, empty_heap, kept_object, swept}
+use Rattle.cc_heap.specs.Events.{Allocates, AttemptsToReplace, ClearsOther, FollowsPolicy, FollowsReplacing, Frees, FreesIfLive, IsEvent, KeepsPlace, Reallocates, Remakes, Replaces, ReplacesLive, Tries, TriesToReplace}
+use Rattle.cc_heap.specs.Run.{ArePassedBy, HasTotals, IsFreeing, IsKeeping, IsMaking, IsSweeping, Moment, Passes, Runs, greatest, of_made, of_swept, totals_after, usage_in}
 
 -- ---- the changes that an event is
 
@@ -60,7 +61,7 @@ frees_object old new id object freed = record {
 sweeps : (old new : Heap) → new ≡ swept old → HasHistory old new
 sweeps old new is = record {
   moments = record { memory = new.memory; made = None; swept = Some (usage_of old.memory).quarantine } ∷ [];
-  passes = (new, inr (inr (record { sweeps = is; is = refl })), refl);
+  passes = (new, inr (inr (inl (record { sweeps = is; is = refl }))), refl);
 }
 
 follows : (old new : Heap) → FollowsPolicy old new → HasHistory old new
@@ -124,15 +125,45 @@ replaces_live old new id requested size outcome is =
     follow old is.tried new (tries_to_replace old is.tried id requested size is.making is.tries)
     (follows_replacing is.tried new id is.making is.follows)
 
-reallocates : (old new : Heap) (from to requested size : ℕ) (outcome : Outcome)
-    → Reallocates old from to requested size outcome new → HasHistory old new
-reallocates old new from to requested size outcome (inl (none, is)) =
+remakes : (old new : Heap) (from to requested size : ℕ) (outcome : Outcome)
+    → Remakes old from to requested size outcome new → HasHistory old new
+remakes old new from to requested size outcome (inl (none, is)) =
     allocates old new to requested size is.told is.allocates
-reallocates old new from to requested size outcome (inr (live, inl (one, is))) =
+remakes old new from to requested size outcome (inr (live, inl (one, is))) =
     replaces_live old new to requested size outcome is
-reallocates old new from to requested size outcome (inr (live, inr (two, is))) =
+remakes old new from to requested size outcome (inr (live, inr (two, is))) =
     follow old is.made new (allocates old is.made to requested size outcome is.allocates)
     (frees is.made new from is.frees)
+
+keeps_object : (old new : Heap) (from to : ℕ) (before : Object) (requested size : ℕ)
+    → KeepsObject old from to before requested size new → HasHistory old new
+keeps_object old new from to before requested size kept = record {
+  moments = record { memory = new.memory; made = None; swept = None } ∷ [];
+  passes = (
+    new,
+    inr (inr (inr (record { from = from; to = to; before = before; requested = requested; size = size; keeps = kept; is = refl }))),
+    refl,
+  );
+}
+
+clears_other : (old new : Heap) (from to : ℕ) (was_live : Bool) → ClearsOther old from to was_live new → HasHistory old new
+clears_other old new from to was_live (inl (one, none, is)) = same old new is
+clears_other old new from to was_live (inr (two, freed)) = frees_if_live old new to was_live freed
+
+keeps_place : (old new : Heap) (from to : ℕ) (object : Object) (requested size : ℕ) (outcome : Outcome)
+    → KeepsPlace old from to object requested size outcome new → HasHistory old new
+keeps_place old new from to object requested size outcome is =
+    follow old is.cleared new (clears_other old is.cleared from to is.was_live is.clears)
+    (keeps_object is.cleared new from to object requested size is.keeps)
+
+reallocates : (old new : Heap) (from to requested size : ℕ) (outcome : Outcome)
+    → Reallocates old from to requested size outcome new → HasHistory old new
+reallocates old new from to requested size outcome is = by (kept_object old from requested size) is
+  where
+    by : (kept : Option Object) → MatchOption kept (Remakes old from to requested size outcome new)
+        (λ object. KeepsPlace old from to object requested size outcome new) → HasHistory old new
+    by None is = remakes old new from to requested size outcome is
+    by (Some object) is = keeps_place old new from to object requested size outcome is
 
 asked : (old new : Heap) (of_trace : Bool) → new ≡ (if of_trace then swept old else old) → HasHistory old new
 asked old new true is = sweeps old new is
@@ -372,11 +403,23 @@ sweeps_step old moment next capped swept_is = record {
       (ap (λ (m : Moment). m.made) swept_is.is) (ap (λ (m : Moment). m.swept) swept_is.is);
 }
 
+keeps_step : (old : Heap) (moment : Moment) (next : Heap) → IsCapped old.totals → IsKeeping old moment next
+    → IsStep old moment next
+keeps_step old moment next capped kept = record {
+  settings = ap (λ (h : Heap). h.settings) kept.keeps.is_new;
+  totals = ap (λ (h : Heap). h.totals) kept.keeps.is_new
+      ∙ ap (λ (u : Usage). with_usage old.totals u)
+      (sym (ap (λ (h : Heap). usage_of h.memory) kept.keeps.is_new) ∙ sym (ap usage_in kept.is))
+      ∙ after_usage old.settings.pool old.totals moment capped (ap (λ (m : Moment). m.made) kept.is)
+      (ap (λ (m : Moment). m.swept) kept.is);
+}
+
 step : (old : Heap) (moment : Moment) (next : Heap) → IsCapped old.totals
-    → IsMaking old moment next ⊎ (IsFreeing old moment next ⊎ IsSweeping old moment next) → IsStep old moment next
+    → IsMaking old moment next ⊎ (IsFreeing old moment next ⊎ (IsSweeping old moment next ⊎ IsKeeping old moment next)) → IsStep old moment next
 step old moment next capped (inl is) = makes_step old moment next capped is
 step old moment next capped (inr (inl is)) = frees_step old moment next capped is
-step old moment next capped (inr (inr is)) = sweeps_step old moment next capped is
+step old moment next capped (inr (inr (inl is))) = sweeps_step old moment next capped is
+step old moment next capped (inr (inr (inr is))) = keeps_step old moment next capped is
 
 -- what all changes leave
 record IsAfter (old : Heap) (moments : List Moment) (new : Heap) : Type 0 where

@@ -1,5 +1,6 @@
 -- The objects that an event makes, and the rows of their sizes over all states.
 use Rattle.std.proofs.Common.{ℕ, zero, suc, min, max, Bool, true, false, ◌≡◌, ◌⊎◌, ◌+◌, ◌-◌, ◌*◌, ◌<◌, ◌≤◌, ◌^◌, nat_eq, if◌then◌else◌, List, [], ◌∷◌, ◌++◌, Option, Some, None, get_or, length, replicate, sum_by, arith, refl, subst, ◌∙◌, sym, ap, inl, inr}
+use Rattle.std.specs.Option.{MatchOption}
 use Rattle.std.proofs.lemmas.List.{get_or-replicate, length-replicate}
 use Rattle.std.proofs.lemmas.List.Sums.{sum_by-append, sum_by-cons}
 use Rattle.cc_bounds.specs.declared.align.Align.{Align}
@@ -16,8 +17,8 @@ use Rattle.cc_heap.specs.declared.sizes.SizeTotals.{SizeTotals}
 use Rattle.cc_heap.specs.Totals.{inexact_of}
 use Rattle.cc_heap.specs.Memory.{object_at, usage_of}
 use Rattle.cc_heap.specs.Policy.{is_of_the_trace}
-use Rattle.cc_heap.specs.Heap.{Attempts, FreesObject, Heap, MakesObject, empty_heap, swept}
-use Rattle.cc_heap.specs.Events.{Allocates, AttemptsToReplace, FollowsPolicy, FollowsReplacing, Frees, FreesIfLive, IsEvent, Reallocates, Replaces, ReplacesLive, Tries, TriesToReplace}
+use Rattle.cc_heap.specs.Heap.{Attempts, FreesObject, Heap, KeepsObject, MakesObject, empty_heap, kept_object, swept}
+use Rattle.cc_heap.specs.Events.{Allocates, AttemptsToReplace, ClearsOther, FollowsPolicy, FollowsReplacing, Frees, FreesIfLive, IsEvent, KeepsPlace, Reallocates, Remakes, Replaces, ReplacesLive, Tries, TriesToReplace}
 use Rattle.cc_heap.specs.Run.{ArePassedBy, Moment, Passes}
 use Rattle.cc_heap.specs.Sizes.{is_of_power, made_size, no_objects, no_sizes, of_size, sizes_after, with_made_size, with_object, with_size}
 use Rattle.cc_heap.specs.Lost.{HasSizes, IsRunEvent, RunState, RunsNoting, empty_run}
@@ -139,7 +140,7 @@ sweeps old new is =
     let moment : Moment = record { memory = new.memory; made = None; swept = Some (usage_of old.memory).quarantine } in
     record {
       moments = moment ∷ [];
-      passes = (new, inr (inr (record { sweeps = is; is = refl })), refl);
+      passes = (new, inr (inr (inl (record { sweeps = is; is = refl }))), refl);
       settings = ap (λ (h : Heap). h.settings) is;
       row = λ power totals capped. none_made power moment totals refl capped;
     }
@@ -243,13 +244,48 @@ replaces_live old new id requested size told is =
     (before old is.tried new (made_by is.making size) (tries_to_replace old is.tried id requested size is.making is.tries)
     (follows_replacing is.tried new id is.making is.follows))
 
+remakes : (old new : Heap) (from to requested size : ℕ) (told : Outcome)
+    → Remakes old from to requested size told new → HasMade (told_size told size) old new
+remakes old new from to requested size told (inl (none, is)) =
+    subst (λ (o : Outcome). HasMade (told_size o size) old new) (sym is.is_told) (allocates old new to requested size is.told is.allocates)
+remakes old new from to requested size told (inr (live, inl (one, is))) = replaces_live old new to requested size told is
+remakes old new from to requested size told (inr (live, inr (two, is))) =
+    before old is.made new (told_size told size) (allocates old is.made to requested size told is.allocates) (frees is.made new from is.frees)
+
+keeps_object : (old new : Heap) (from to : ℕ) (object : Object) (requested size : ℕ)
+    → KeepsObject old from to object requested size new → HasMade None old new
+keeps_object old new from to object requested size kept =
+    let moment : Moment = record { memory = new.memory; made = None; swept = None } in
+    record {
+      moments = moment ∷ [];
+      passes = (
+        new,
+        inr (inr (inr (record { from = from; to = to; before = object; requested = requested; size = size; keeps = kept; is = refl }))),
+        refl,
+      );
+      settings = ap (λ (h : Heap). h.settings) kept.is_new;
+      row = λ power totals capped. none_made power moment totals refl capped;
+    }
+
+clears_other : (old new : Heap) (from to : ℕ) (was_live : Bool) → ClearsOther old from to was_live new → HasMade None old new
+clears_other old new from to was_live (inl (one, none, is)) = same old new is
+clears_other old new from to was_live (inr (two, freed)) = frees_if_live old new to was_live freed
+
+keeps_place : (old new : Heap) (from to : ℕ) (object : Object) (requested size : ℕ) (told : Outcome)
+    → KeepsPlace old from to object requested size told new → HasMade (told_size told size) old new
+keeps_place old new from to object requested size told is =
+    subst (λ (o : Outcome). HasMade (told_size o size) old new) (sym is.is_told)
+    (later old is.cleared new None (clears_other old is.cleared from to is.was_live is.clears)
+    (keeps_object is.cleared new from to object requested size is.keeps))
+
 reallocates : (old new : Heap) (from to requested size : ℕ) (told : Outcome)
     → Reallocates old from to requested size told new → HasMade (told_size told size) old new
-reallocates old new from to requested size told (inl (none, is)) =
-    subst (λ (o : Outcome). HasMade (told_size o size) old new) (sym is.is_told) (allocates old new to requested size is.told is.allocates)
-reallocates old new from to requested size told (inr (live, inl (one, is))) = replaces_live old new to requested size told is
-reallocates old new from to requested size told (inr (live, inr (two, is))) =
-    before old is.made new (told_size told size) (allocates old is.made to requested size told is.allocates) (frees is.made new from is.frees)
+reallocates old new from to requested size told is = by (kept_object old from requested size) is
+  where
+    by : (kept : Option Object) → MatchOption kept (Remakes old from to requested size told new)
+        (λ object. KeepsPlace old from to object requested size told new) → HasMade (told_size told size) old new
+    by None is = remakes old new from to requested size told is
+    by (Some object) is = keeps_place old new from to object requested size told is
 
 asked : (old new : Heap) (of_trace : Bool) → new ≡ (if of_trace then swept old else old) → HasMade None old new
 asked old new true is = sweeps old new is

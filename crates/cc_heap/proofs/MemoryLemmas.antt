@@ -1,5 +1,5 @@
 -- Held spans, and entries under ids, in whatever order.
-use Rattle.std.proofs.Common.{ℕ, suc, Bool, true, false, cond, ◌≡◌, ◌≤◌, nat_eq, List, [], ◌∷◌, ◌++◌, Some, None, Contains, count_by, map, arith, refl, ap, IsPermutation}
+use Rattle.std.proofs.Common.{ℕ, suc, Bool, true, false, cond, ◌≡◌, ◌≤◌, nat_eq, List, [], ◌∷◌, ◌++◌, Some, None, Contains, count_by, map, sum_by, arith, refl, ap, IsPermutation}
 use Rattle.std.specs.Map.{lookup, remove_entry, set_value}
 use Rattle.std.proofs.lemmas.List.Sums.{sum_by-append, sum_by-cons, sum_by_push}
 use Rattle.std.proofs.lemmas.List.Sorted.{IsPermutation-append_left, IsPermutation-cons, IsPermutation-map, IsPermutation-middle, IsPermutation-refl, IsPermutation-sym, IsPermutation-trans, sum_by-IsPermutation}
@@ -113,6 +113,25 @@ held_swept xs ys span =
       sum_by-append weight xs ys,
       sum_by-append weight xs (ys ++ span ∷ []),
       sum_by_push weight ys span,
+    ))
+
+-- with an entry for another that has the same span
+pub held_swapped : (entry before : ℕ × Object) (live more : List (ℕ × Object)) (waiting : List Span)
+    → IsPermutation (entry ∷ live) (before ∷ more) → span_of entry ≡ span_of before
+    → IsPermutation (map span_of live ++ waiting) (map span_of more ++ waiting)
+held_swapped entry before live more waiting swaps same =
+    permutation_from_sums (map span_of live ++ waiting) (map span_of more ++ waiting) (λ weight.
+    let sums : sum_by weight (map span_of (before ∷ more)) ≡ sum_by weight (map span_of (entry ∷ live)) =
+    sum_by-IsPermutation weight (map span_of (entry ∷ live)) (map span_of (before ∷ more))
+    (IsPermutation-map span_of (entry ∷ live) (before ∷ more) swaps) in
+    omega (
+      arith,
+      sums,
+      ap weight same,
+      sum_by-cons weight (span_of entry) (map span_of live),
+      sum_by-cons weight (span_of before) (map span_of more),
+      sum_by-append weight (map span_of live) waiting,
+      sum_by-append weight (map span_of more) waiting,
     ))
 
 -- ---- entries under ids

@@ -1,15 +1,17 @@
 -- The place of an object: it begins at a multiple of the unit of its size, and of the requested alignment.
-use Rattle.std.proofs.Common.{ℕ, max, ◌≡◌, ◌+◌, ◌-◌, ◌*◌, ◌/◌, ◌%◌, ◌<◌, ◌≤◌, ◌^◌, List, Option, Some, None, IfSome, arith, refl, subst, ◌∙◌, sym, ap, inl, inr}
+use Rattle.std.proofs.Common.{ℕ, Bool, true, false, nat_eq, max, ◌≡◌, ◌+◌, ◌-◌, ◌*◌, ◌/◌, ◌%◌, ◌<◌, ◌≤◌, ◌^◌, List, Option, Some, None, IfSome, arith, refl, subst, ◌∙◌, sym, ap, inl, inr}
+use Rattle.std.specs.Prelude.{◌&&◌}
 use Rattle.std.specs.Int.{IsPowerOfTwo}
 use Rattle.std.proofs.Math.Nat.{div-add-mod, mul-mod_right}
 use Rattle.std.proofs.Math.Pow.{pow_mono}
 use Rattle.std.proofs.lemmas.Bool.{cases_lt}
+use Rattle.std.proofs.lemmas.Bool.Decides.{nat_tests}
 use Rattle.std.proofs.lemmas.Nat.{pow-add}
 use Rattle.cc_bounds.specs.declared.align.Align.{Align}
 use Rattle.cc_bounds.specs.declared.align.Align.TheVariants.{One, Sixteen}
 use Rattle.cc_bounds.specs.declared.span.Span.{Span}
 use Rattle.cc_bounds.specs.Align.{align_bytes}
-use Rattle.cc_bounds.specs.Span.{IsSpan, IsWithin, from_zero, span_from}
+use Rattle.cc_bounds.specs.Span.{IsSpan, IsWithin, from_zero, length_of, span_from}
 use Rattle.cc_bounds.specs.Granule.{IsSound as IsSoundSpan, exponent_of, granule_of}
 use Rattle.cc_bounds.proofs.ComputingLemmas.{granule_of-long, granule_of-short}
 use Rattle.cc_placer.specs.Placement.{HasNoPlace, IsApartFrom, IsPlacement}
@@ -19,6 +21,7 @@ use Rattle.cc_placer.proofs.AlignLemmas.{ends_at_unit, padded_for-sound, padded_
 use Rattle.cc_placer.proofs.UnitLemmas.{IsUnit-unit_of}
 use Rattle.cc_heap.specs.Memory.{IsExact, start_unit}
 use Rattle.cc_heap.specs.HeapState.{IsRoomFor}
+use Rattle.cc_heap.specs.Reallocation.{can_take}
 
 -- ---- powers of two
 
@@ -85,6 +88,36 @@ pub record IsFound (align : Align) (pool : Span) (spans : List Span) (requested 
   pub in_pool : pool.base ≤ span.top
   pub end_fits : span.top - pool.base ≤ 2 ^ 64
 
+-- an object of this size has exact bounds in bytes that it can take
+pub exact_in : (align : Align) (requested size : ℕ) (span : Span) → IsSpan span → IsPowerOfTwo requested → 0 < size → size < 2 ^ 64
+    → length_of span ≡ padded_size_for align size → span.base % start_unit align requested size ≡ 0
+    → IsExact align (record { size = size; align = requested; span = span })
+exact_in align requested size span is_span power some fits long starts =
+    let padding = padded_for_law align size (omega (arith, fits)) in
+    let top : span.top ≡ span.base + padded_size_for align size = omega (arith, long, is_span.in_order) in
+    let at : span_from span.base (padded_size_for align size) ≡ span =
+    λ i. record { base = span.base; top = sym top i } in
+    let unit = unit-power align size in
+    let multiple : span.base % unit_of align size ≡ 0 =
+    multiple_of_larger span.base (unit_of align size) requested unit power starts in
+    record {
+      bounds = record {
+        some = some;
+        unit = unit_of align size;
+        is_unit = IsUnit-unit_of align size (omega (arith, fits));
+        aligned = multiple;
+        ends = ap (λ (n : ℕ). n % unit_of align size) top ∙ ends_at_unit align span.base size multiple;
+        is_span = is_span;
+        sound = subst IsSoundSpan at (padded_for-sound align span.base size (omega (arith, fits)) multiple (subst IsSpan (sym at) is_span));
+        padded = omega (arith, top);
+        at_least = omega (arith, top, padding.enough);
+        at_most = omega (arith, top, padding.little);
+      };
+      aligned = multiple_of_larger span.base requested (unit_of align size) power unit
+          (ap (λ (n : ℕ). span.base % n) (max-flip requested (unit_of align size)) ∙ starts);
+      size_fits = fits;
+    }
+
 found_at : (align : Align) (pool : Span) (spans : List Span) (requested size : ℕ) (span : Span)
     → IsPoolSpan pool → IsPowerOfTwo requested → 0 < size → size < 2 ^ 64
     → IsPlacement pool spans (padded_size_for align size) (start_unit align requested size) span.base
@@ -99,32 +132,13 @@ found_at align pool spans requested size span is_pool power some fits placement 
       base_fits = omega (arith, within.to_top, is_pool.fits, padding.enough, some);
       top_fits = omega (arith, within.to_top, is_pool.fits);
     } in
-    let unit = unit-power align size in
-    let multiple : span.base % unit_of align size ≡ 0 =
-    multiple_of_larger span.base (unit_of align size) requested unit power placement.place.aligned in
     record {
       placement = placement;
       top = top;
       not_empty = omega (arith, padding.enough, top, some);
       within = subst (λ (s : Span). IsWithin s pool) at within;
       apart = subst (IsApartFrom spans) at placement.place.apart;
-      exact = record {
-        bounds = record {
-          some = some;
-          unit = unit_of align size;
-          is_unit = IsUnit-unit_of align size (omega (arith, fits));
-          aligned = multiple;
-          ends = ap (λ (n : ℕ). n % unit_of align size) top ∙ ends_at_unit align span.base size multiple;
-          is_span = subst IsSpan at is_span;
-          sound = subst IsSoundSpan at (padded_for-sound align span.base size (omega (arith, fits)) multiple is_span);
-          padded = omega (arith, top);
-          at_least = omega (arith, top, padding.enough);
-          at_most = omega (arith, top, padding.little);
-        };
-        aligned = multiple_of_larger span.base requested (unit_of align size) power unit
-            (ap (λ (n : ℕ). span.base % n) (max-flip requested (unit_of align size)) ∙ placement.place.aligned);
-        size_fits = fits;
-      };
+      exact = exact_in align requested size span (subst IsSpan at is_span) power some fits (omega (arith, top)) placement.place.aligned;
       in_pool = omega (arith, within.from_base, top);
       end_fits = omega (arith, within.to_top, is_pool.fits, top);
     }
@@ -146,3 +160,19 @@ pub no_room : (placer_pool : Option Span) (align : Align) (pool : Span) (spans :
     → IfSome placer_pool (λ p. IsRoomFor align requested p spans size result)
     → HasNoPlace pool spans (padded_size_for align size) (start_unit align requested size)
 no_room placer_pool align pool spans requested size result pool_is result_is room = rw (pool_is, result_is) at room
+
+-- ---- bytes that an object can take
+
+both_true : (one other : Bool) → (one && other) ≡ true → (one ≡ true) × (other ≡ true)
+both_true true other is = (refl, is)
+both_true false other is = cc is
+
+same_number : (one other : ℕ) → nat_eq one other ≡ true → one ≡ other
+same_number one other is = grind (arith, nat_tests)
+
+-- the bytes are as many as the padded size, and begin at a multiple of the unit
+pub takes_parts : (align : Align) (requested size : ℕ) (span : Span) → can_take align requested size span ≡ true
+    → (length_of span ≡ padded_size_for align size) × (span.base % start_unit align requested size ≡ 0)
+takes_parts align requested size span takes =
+    let parts = both_true (nat_eq (length_of span) (padded_size_for align size)) (nat_eq (span.base % start_unit align requested size) 0) takes in
+    (same_number (length_of span) (padded_size_for align size) parts.0, same_number (span.base % start_unit align requested size) 0 parts.1)

@@ -15,7 +15,8 @@ use Rattle.cc_heap.specs.declared.usage.Usage.{Usage}
 use Rattle.cc_heap.specs.Totals.{with_made, with_usage}
 use Rattle.cc_heap.specs.Memory.{object_at, span_of, usage_of}
 use Rattle.cc_heap.specs.Policy.{is_immediate}
-use Rattle.cc_heap.specs.Heap.{Attempts, FreesObject, Heap, MakesObject, is_made, object_under, quarantined_with, swept}
+use Rattle.cc_heap.specs.Reallocation.{can_take}
+use Rattle.cc_heap.specs.Heap.{Attempts, FreesObject, Heap, KeepsObject, MakesObject, is_made, object_under, quarantined_with, resized, swept}
 use Rattle.cc_heap.specs.Events.{AttemptsToReplace, FollowsPolicy, Frees, FreesIfLive, HasNoRoom, Replaces, Tries, TriesToReplace}
 use Rattle.cc_heap.specs.HeapState.{IsQuarantined, IsReplaced, PutsOver, QuarantinesLive, ReleasesLast, Settles}
 use Rattle.cc_heap.proofs.PlaceLemmas.{IsFound}
@@ -165,6 +166,33 @@ replaces old between new id requested size is settles = record {
   makes = is.makes;
   frees = frees_object is.made between new id is.before is.quarantines settles;
 }
+
+-- an object gets another size and id
+pub keeps : (old : Heap) (settings : Settings) (totals new_totals : Totals) (live more : List (ℕ × Object)) (waiting : List Span)
+    (usage : Usage) (from to : ℕ) (before : Object) (requested size : ℕ)
+    → heap_of settings live waiting totals ≡ old → lookup (nat_eq from) live ≡ Some before
+    → can_take settings.align requested size before.span ≡ true
+    → IsPermutation ((to, resized before requested size) ∷ live) ((from, before) ∷ more)
+    → usage ≡ usage_of (memory_of more waiting) → new_totals ≡ with_usage totals usage
+    → KeepsObject old from to before requested size (heap_of settings more waiting new_totals)
+keeps old settings totals new_totals live more waiting usage from to before requested size old_is is_live fits swaps usage_is
+    totals_is =
+    rw (← old_is) (record {
+      is_live = is_live;
+      fits = fits;
+      live = more;
+      swaps = swaps;
+      is_new = λ i. heap_of settings more waiting ((totals_is ∙ ap (λ (u : Usage). with_usage totals u) usage_is) i);
+    })
+
+-- a free changes no setting
+pub free_settings : (old new : Heap) (id : ℕ) (is_live : Bool) → FreesIfLive old id is_live new → new.settings ≡ old.settings
+free_settings old new id true freed = by_policy freed.follows ∙ ap (λ (h : Heap). h.settings) freed.frees.is_new
+  where
+    by_policy : FollowsPolicy freed.freed new → new.settings ≡ freed.freed.settings
+    by_policy (inl (must, is)) = ap (λ (h : Heap). h.settings) is
+    by_policy (inr (not, is)) = ap (λ (h : Heap). h.settings) is
+free_settings old new id false (none, is) = ap (λ (h : Heap). h.settings) is
 
 -- ---- attempts
 

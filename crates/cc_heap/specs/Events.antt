@@ -1,5 +1,5 @@
 -- The effect of an event on a heap.
-use Rattle.std.specs.Prelude.{ℕ, Bool, true, false, ◌≡◌, ◌≢◌, ◌⊎◌, ◌≤◌, max, Option, Some, None, IsSome, IsNone, length, if◌then◌else◌}
+use Rattle.std.specs.Prelude.{ℕ, Bool, true, false, ◌≡◌, ◌≢◌, ◌⊎◌, ◌≤◌, max, Option, Some, None, IsSome, IsNone, MatchOption, length, if◌then◌else◌}
 use Rattle.std.specs.Int.{IsPowerOfTwo}
 use Rattle.cc_placer.specs.Placement.{HasNoPlace}
 use Rattle.cc_heap.specs.declared.event.Event.{Event}
@@ -11,7 +11,7 @@ use Rattle.cc_heap.specs.declared.outcome.Outcome.{Outcome}
 use Rattle.cc_placer.specs.Align.{padded_size_for}
 use Rattle.cc_heap.specs.Memory.{held_spans, start_unit}
 use Rattle.cc_heap.specs.Policy.{is_of_the_trace}
-use Rattle.cc_heap.specs.Heap.{Attempts, FreesObject, Heap, MakesObject, MustSweep, object_under, swept}
+use Rattle.cc_heap.specs.Heap.{Attempts, FreesObject, Heap, KeepsObject, MakesObject, MustSweep, kept_object, object_under, swept}
 
 -- HasAlignment holds if an alignment that the event asks for is a power of two.
 abbrev pub HasAlignment : Event → Type 0
@@ -123,13 +123,34 @@ pub record AllocatesUnknown (old : Heap) (id requested size : ℕ) (outcome : Ou
   pub allocates : Allocates old id requested size told new
   pub is_told : outcome ≡ record told { unknown = true }
 
--- Reallocates holds if an object is made in place of the one under an id, if that is live.
-abbrev pub Reallocates : Heap → (from to requested size : ℕ) → Outcome → Heap → Type 0
-Reallocates old from to requested size outcome new =
+-- Remakes holds if an object is made in place of the one under an id, if that is live.
+abbrev pub Remakes : Heap → (from to requested size : ℕ) → Outcome → Heap → Type 0
+Remakes old from to requested size outcome new =
     (IsNone (object_under old from) × AllocatesUnknown old to requested size outcome new)
     ⊎ (IsSome (object_under old from)
     × (((from ≡ to) × ReplacesLive old to requested size outcome new)
     ⊎ ((from ≢ to) × Moves old from to requested size outcome new)))
+
+-- ClearsOther holds if the object under `to` is freed, if that is another id than `from` and live.
+abbrev pub ClearsOther : Heap → (from to : ℕ) → (was_live : Bool) → Heap → Type 0
+ClearsOther old from to was_live new =
+    ((from ≡ to) × (was_live ≡ false) × (new ≡ old)) ⊎ ((from ≢ to) × FreesIfLive old to was_live new)
+
+-- KeepsPlace holds if the object under `from` stays in its place and has the id `to` from then on. An object
+-- that was live under `to` is freed first.
+pub record KeepsPlace (old : Heap) (from to : ℕ) (object : Object) (requested size : ℕ) (outcome : Outcome) (new : Heap) : Type 0 where
+  pub was_live : Bool
+  pub cleared : Heap
+  pub clears : ClearsOther old from to was_live cleared
+  pub keeps : KeepsObject cleared from to object requested size new
+  pub is_told : outcome ≡ outcome_of was_live false None
+
+-- Reallocates holds if the object under an id keeps its bytes, if it can and shall, and otherwise an object is
+-- made in place of it.
+abbrev pub Reallocates : Heap → (from to requested size : ℕ) → Outcome → Heap → Type 0
+Reallocates old from to requested size outcome new =
+    MatchOption (kept_object old from requested size) (Remakes old from to requested size outcome new)
+    (λ object. KeepsPlace old from to object requested size outcome new)
 
 -- ---- An event.
 

@@ -1,6 +1,6 @@
--- A heap, and the three changes of it: an object is made, an object is freed, and the quarantine is
--- swept.
-use Rattle.std.specs.Prelude.{ℕ, Bool, true, false, ◌≡◌, ◌+◌, ◌-◌, ◌<◌, ◌≤◌, List, [], ◌∷◌, ◌++◌, length, nat_eq, if◌then◌else◌, Option}
+-- A heap, and the four changes of it: an object is made, an object is freed, an object keeps its place and
+-- has another size, and the quarantine is swept.
+use Rattle.std.specs.Prelude.{ℕ, Bool, true, false, ◌≡◌, ◌+◌, ◌-◌, ◌<◌, ◌≤◌, List, [], ◌∷◌, ◌++◌, length, nat_eq, if◌then◌else◌, Option, Some, None, option_and_then}
 use Rattle.std.specs.List.Sorted.{IsPermutation}
 use Rattle.std.specs.Map.{lookup}
 use Rattle.cc_bounds.specs.declared.span.Span.{Span}
@@ -12,6 +12,7 @@ use Rattle.cc_heap.specs.declared.totals.Totals.{Totals}
 use Rattle.cc_heap.specs.declared.making.Making.{Making}
 use Rattle.cc_heap.specs.declared.making.Making.TheVariants.{Made, NoRoom, Full}
 use Rattle.cc_heap.specs.Policy.{AsksForSweep, Gauge, is_immediate}
+use Rattle.cc_heap.specs.Reallocation.{can_take, is_keep}
 use Rattle.cc_heap.specs.Totals.{with_made, with_sweep, with_usage}
 use Rattle.cc_placer.specs.Align.{padded_size_for}
 use Rattle.cc_heap.specs.Memory.{Memory, held_spans, object_at, start_unit, usage_of}
@@ -107,6 +108,31 @@ pub record FreesObject (old : Heap) (id : ℕ) (object : Object) (new : Heap) : 
       live = live;
       quarantined = quarantined_with old.settings.policy old.memory.quarantined object.span;
     }));
+  }
+
+-- ---- An object keeps its place.
+
+-- The object with another size and requested alignment, and the same bytes.
+abbrev pub resized : Object → (requested size : ℕ) → Object
+resized object requested size = record { size = size; align = requested; span = object.span }
+
+-- The object under an id whose bytes a reallocation to this size and requested alignment keeps, or none.
+abbrev pub kept_object : Heap → (id requested size : ℕ) → Option Object
+kept_object heap id requested size =
+    if is_keep heap.settings.realloc
+    then option_and_then (λ object. if can_take heap.settings.align requested size object.span then Some object else None) (object_under heap id)
+    else None
+
+-- KeepsObject holds if the object under `from` keeps its bytes, and has this size and the id `to`. The entries
+-- are those before with the new one added and the old one taken away.
+pub record KeepsObject (old : Heap) (from to : ℕ) (before : Object) (requested size : ℕ) (new : Heap) : Type 0 where
+  pub is_live : object_under old from ≡ Some before
+  pub fits : can_take old.settings.align requested size before.span ≡ true
+  pub live : List (ℕ × Object)
+  pub swaps : IsPermutation ((to, resized before requested size) ∷ old.memory.live) ((from, before) ∷ live)
+  pub is_new : new ≡ record old {
+    memory = record { live = live; quarantined = old.memory.quarantined };
+    totals = with_usage old.totals (usage_of (record { live = live; quarantined = old.memory.quarantined }));
   }
 
 -- ---- The quarantine is swept.

@@ -1,6 +1,7 @@
 -- In reading order.
 pub mod Policy
 pub mod Memory
+pub mod Reallocation
 pub mod Totals
 pub mod Heap
 pub mod Events

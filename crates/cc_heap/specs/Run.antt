@@ -10,7 +10,7 @@ use Rattle.cc_heap.specs.declared.totals.Totals.{Totals}
 use Rattle.cc_heap.specs.declared.usage.Usage.{Usage}
 use Rattle.cc_heap.specs.Totals.{capped_count, capped_sum, inexact_of}
 use Rattle.cc_heap.specs.Memory.{Memory, object_at, usage_of}
-use Rattle.cc_heap.specs.Heap.{FreesObject, Heap, MakesObject, empty_heap, swept}
+use Rattle.cc_heap.specs.Heap.{FreesObject, Heap, KeepsObject, MakesObject, empty_heap, swept}
 use Rattle.cc_heap.specs.Events.{IsEvent}
 
 -- Runs holds if the events turn the heap `old` into `new`, each from the heap that the one before left.
@@ -27,8 +27,8 @@ pub record Moment : Type 0 where
   pub made : Option Object
   pub swept : Option ℕ
 
--- IsMaking holds if an object is made, IsFreeing if one is freed, and IsSweeping if the quarantine is
--- swept.
+-- IsMaking holds if an object is made, IsFreeing if one is freed, IsSweeping if the quarantine is swept, and
+-- IsKeeping if an object keeps its bytes and has another size.
 pub record IsMaking (old : Heap) (moment : Moment) (new : Heap) : Type 0 where
   pub id : ℕ
   pub requested : ℕ
@@ -50,12 +50,22 @@ pub record IsSweeping (old : Heap) (moment : Moment) (new : Heap) : Type 0 where
   pub sweeps : new ≡ swept old
   pub is : moment ≡ record { memory = new.memory; made = None; swept = Some (usage_of old.memory).quarantine }
 
+pub record IsKeeping (old : Heap) (moment : Moment) (new : Heap) : Type 0 where
+  pub from : ℕ
+  pub to : ℕ
+  pub before : Object
+  pub requested : ℕ
+  pub size : ℕ
+  pub keeps : KeepsObject old from to before requested size new
+  pub is : moment ≡ record { memory = new.memory; made = None; swept = None }
+
 -- Passes holds if the heap `old` becomes `new` by one change after the other, and these are the states
 -- after each.
 abbrev pub Passes : Heap → List Moment → Heap → Type 0
 Passes old [] new = new ≡ old
 Passes old (moment ∷ moments) new =
-    (next : Heap) × (IsMaking old moment next ⊎ (IsFreeing old moment next ⊎ IsSweeping old moment next))
+    (next : Heap)
+    × (IsMaking old moment next ⊎ (IsFreeing old moment next ⊎ (IsSweeping old moment next ⊎ IsKeeping old moment next)))
     × Passes next moments new
 
 -- ArePassedBy holds if these are the states that the heap passes by the events: the states of each event, in

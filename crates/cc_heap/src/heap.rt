@@ -1,19 +1,21 @@
 //! The heap.
-ghost use Rattle.std.specs.Prelude.{◌≡◌, ℕ, false, None, nat_eq, ◌+◌, ◌<◌, ◌≤◌, ◌^◌, ◌↔◌, length, All, IfOk, OnErr, OnOk, IsNone, IsSome, IsTrue};
+ghost use Rattle.std.specs.Prelude.{◌≡◌, ℕ, false, true, None, Some, nat_eq, ◌+◌, ◌<◌, ◌≤◌, ◌^◌, ◌↔◌, length, All, IfOk, OnErr, OnOk, IfSome, IsNone, IsSome, IsTrue};
 ghost use Rattle.std.specs.Bool.{OnFalse, OnTrue};
 ghost use Rattle.std.specs.Int.{IsPowerOfTwo};
 ghost use Rattle.cc_heap.specs.Memory.{IsSound, held_spans, usage_of};
 ghost use Rattle.cc_heap.specs.Totals.{with_usage};
-ghost use Rattle.cc_heap.specs.Heap.{Attempts, MustSweep, empty_heap, object_under, swept, swept_memory};
-ghost use Rattle.cc_heap.specs.Events.{Allocates, AttemptsToReplace, FollowsPolicy, FollowsReplacing, FreesIfLive, FreesOrNot, HasAlignment, IsEvent, Moves, Reallocates, ReplacesLive, Tries, TriesToReplace, outcome_of, swept_if_asked};
+ghost use Rattle.cc_heap.specs.Heap.{Attempts, KeepsObject, MustSweep, empty_heap, kept_object, object_under, swept, swept_memory};
+ghost use Rattle.cc_heap.specs.Reallocation.{can_take};
+ghost use Rattle.cc_heap.specs.Events.{Allocates, AttemptsToReplace, FollowsPolicy, FollowsReplacing, FreesIfLive, ClearsOther, FreesOrNot, HasAlignment, IsEvent, KeepsPlace, Moves, Reallocates, Remakes, ReplacesLive, Tries, TriesToReplace, outcome_of, swept_if_asked};
 ghost use Rattle.cc_heap.specs.Run.{Runs};
 ghost use Rattle.cc_heap.specs.HeapState.{PutsOver, QuarantinesLive, ReleasesLast, Settles};
 
+use crate::entries::put_for;
 use crate::event::Event;
 use crate::making::Making;
 use crate::object::Object;
 use crate::outcome::Outcome;
-use crate::placing::place;
+use crate::placing::{can_take, place};
 use crate::settings::Settings;
 use crate::totals::Totals;
 use crate::usage::Usage;
@@ -220,7 +222,8 @@ impl<P: Placer> Heap<P> {
         })
     }
 
-    /// Makes an object in place of that under `from`, if that is live.
+    /// Keeps the object under `from` in its place, if it can and shall stay, and otherwise makes an
+    /// object in place of it.
     fn reallocate(
         &mut self,
         from: u64,
@@ -231,6 +234,111 @@ impl<P: Placer> Heap<P> {
         requires some { 0 < size }
         requires aligned { IsPowerOfTwo align }
         ensures reallocates { IfOk result (λ outcome. Reallocates self.old from to align size outcome self.new) }
+        ensures sound { IsSound self.new.settings.align self.new.memory }
+    {
+        match self.kept_object(from, align, size) {
+            Some(object) => self.keep(from, to, object, align, size),
+            None => self.remake(from, to, align, size),
+        }
+    }
+
+    /// Returns the object under an id whose bytes a reallocation keeps, or `None`.
+    fn kept_object(&self, id: u64, align: u64, size: u64) -> Option<Object>
+        requires some { 0 < size }
+        ensures value { result ≡ kept_object self.now id align size }
+        ensures live { IfSome result (λ object. object_under self.now id ≡ Some object) }
+        ensures fits { IfSome result (λ object. can_take self.now.settings.align align size object.span ≡ true) }
+    {
+        if !self.settings.realloc.is_keep() {
+            return None;
+        }
+        let Some(object) = self.objects.get(&id).copied() else {
+            return None;
+        };
+        if can_take(self.settings.align, align, size, object.span) {
+            Some(object)
+        } else {
+            None
+        }
+    }
+
+    /// Keeps an object in its place, under another id if `to` is not `from`. The object under `to`
+    /// is then freed first, if that is live.
+    fn keep(
+        &mut self,
+        from: u64,
+        to: u64,
+        object: Object,
+        align: u64,
+        size: u64,
+    ) -> Result<Outcome, AllocError>
+        requires some { 0 < size }
+        requires aligned { IsPowerOfTwo align }
+        requires live { object_under self.old from ≡ Some object }
+        requires fits { can_take self.old.settings.align align size object.span ≡ true }
+        ensures keeps { IfOk result (λ outcome. KeepsPlace self.old from to object align size outcome self.new) }
+        ensures sound { IsSound self.new.settings.align self.new.memory }
+    {
+        let was_live = self.clear_other(from, to);
+        self.resize(from, to, object, align, size)?;
+        Ok(Outcome {
+            was_live,
+            unknown: false,
+            lost: false,
+            making: None,
+        })
+    }
+
+    /// Frees the object under `to`, if that is another id than `from` and live. Returns whether it did.
+    fn clear_other(&mut self, from: u64, to: u64) -> bool
+        ensures clears { ClearsOther self.old from to result self.new }
+        ensures from { object_under self.new from ≡ object_under self.old from }
+        ensures gone { nat_eq from to ≡ false → IsNone (object_under self.new to) }
+        ensures settings { self.new.settings ≡ self.old.settings }
+        ensures sound { IsSound self.new.settings.align self.new.memory }
+    {
+        let _ = &self.settings;
+        if from == to {
+            return false;
+        }
+        self.free(to)
+    }
+
+    /// Gives the object under `from` another size and the id `to`. Its bytes stay.
+    ///
+    /// On `Err` nothing changes.
+    fn resize(
+        &mut self,
+        from: u64,
+        to: u64,
+        before: Object,
+        align: u64,
+        size: u64,
+    ) -> Result<(), AllocError>
+        requires some { 0 < size }
+        requires aligned { IsPowerOfTwo align }
+        requires live { object_under self.old from ≡ Some before }
+        requires fits { can_take self.old.settings.align align size before.span ≡ true }
+        requires fresh { nat_eq from to ≡ false → IsNone (object_under self.old to) }
+        ensures keeps { OnOk result (KeepsObject self.old from to before align size self.new) }
+        ensures sound { IsSound self.new.settings.align self.new.memory }
+    {
+        let object = Object {
+            size,
+            align,
+            span: before.span,
+        };
+        put_for(&mut self.objects, from, to, object)?;
+        self.usage = self.usage.with_size(before.size, size);
+        self.totals = self.totals.with_usage(self.usage);
+        Ok(())
+    }
+
+    /// Makes an object in place of that under `from`, if that is live.
+    fn remake(&mut self, from: u64, to: u64, align: u64, size: u64) -> Result<Outcome, AllocError>
+        requires some { 0 < size }
+        requires aligned { IsPowerOfTwo align }
+        ensures remakes { IfOk result (λ outcome. Remakes self.old from to align size outcome self.new) }
         ensures sound { IsSound self.new.settings.align self.new.memory }
     {
         if !self.objects.contains_key(&from) {

@@ -2,6 +2,7 @@
 //! quarantine, and the numbers of both.
 #![tactic(auto)]
 
+mod entries;
 mod event;
 mod heap;
 mod laws;
@@ -10,6 +11,7 @@ mod object;
 mod outcome;
 mod placing;
 mod policy;
+mod reallocation;
 mod run;
 mod settings;
 mod sizes;
@@ -23,6 +25,7 @@ pub use making::Making;
 pub use object::Object;
 pub use outcome::Outcome;
 pub use policy::{Policy, Share};
+pub use reallocation::Reallocation;
 pub use run::Run;
 pub use settings::Settings;
 pub use sizes::{NO_OBJECTS, SizeTotals};

@@ -1,8 +1,9 @@
 //! The place of an object.
-ghost use Rattle.std.specs.Prelude.{◌≡◌, ◌<◌, List, IfSome, IsSome};
+ghost use Rattle.std.specs.Prelude.{◌≡◌, ◌<◌, ◌≤◌, List, IfSome, IsSome};
 ghost use Rattle.cc_bounds.specs.declared.span.Span.{Span as SpanSpec};
 ghost use Rattle.cc_placer.specs.Align.{padded_size_for};
 ghost use Rattle.cc_heap.specs.HeapState.{IsRoomFor};
+ghost use Rattle.cc_heap.specs.Reallocation.{can_take};
 
 use cc_bounds::{Align, Span, granule};
 use cc_placer::{Placer, round_up};
@@ -36,4 +37,15 @@ pub(crate) fn padded_size(align: Align, size: u64) -> u128
     let size = u128::from(size);
     let unit = granule(size).max(align.bytes());
     round_up(size, unit)
+}
+
+/// Returns whether these bytes are those that an object of `size` bytes with a requested alignment can take.
+pub(crate) fn can_take(align: Align, requested: u64, size: u64, span: Span) -> bool
+    requires some { 0 < size }
+    requires in_order { span.base ≤ span.top }
+    ensures { result ≡ can_take align requested size span }
+{
+    let size = u128::from(size);
+    let unit = granule(size).max(align.bytes());
+    span.len() == round_up(size, unit) && span.base % unit.max(requested) == 0
 }

@@ -1,5 +1,6 @@
 //! The settings of a heap.
 use crate::policy::Policy;
+use crate::reallocation::Reallocation;
 use cc_bounds::{Align, Span};
 
 /// The settings of a heap, which no event changes.
@@ -15,4 +16,6 @@ pub struct Settings {
     pub policy: Policy,
     /// The number of quarantined bytes below which the policy does not sweep.
     pub least_quarantine: u64,
+    /// The effect of a reallocation on an object that can stay.
+    pub realloc: Reallocation,
 }

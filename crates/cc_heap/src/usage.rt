@@ -71,6 +71,23 @@ impl Usage {
         }
     }
 
+    /// Returns the usage with another size of a live object, which takes the same bytes.
+    pub(crate) fn with_size(self, before: u64, after: u64) -> Usage
+        requires asked_is { before ≤ self.asked }
+        requires fits { self.asked + after < 2 ^ 128 }
+        ensures { result ≡ record {
+          objects = self.objects;
+          asked = self.asked - before + after;
+          live = self.live;
+          quarantine = self.quarantine;
+        } }
+    {
+        Usage {
+            asked: self.asked - u128::from(before) + u128::from(after),
+            ..self
+        }
+    }
+
     /// Returns the usage with this number of quarantined bytes released.
     pub(crate) fn with_released(self, bytes: u128) -> Usage
         requires { bytes ≤ self.quarantine }

@@ -22,7 +22,7 @@ Executes (Run limit stats file) terminals console result =
 Executes (Plan limit pool align stats file) terminals console result = PlansFile (report_of stats terminals) limit pool align file console result
 Executes (Map limit pool align svg file) terminals console result = MapsFile limit pool align svg file console result
 Executes (Replay align strict format texts file) terminals console result =
-    WithReplay align strict texts console (λ settings reading. FromInput (file_input file) console (ReplaysTrace format settings reading)) result
+    WithReplay align strict texts console (λ settings reading. FromInput (file_input file) console (ReplaysTrace texts.sizes format settings reading)) result
 Executes (Decode input format texts file) terminals console result =
     WithListing input format texts console (λ skipped options. FromInput (file_input file) console (ListsWords skipped options)) result
 Executes (Annotate file) terminals console result = FromInput (file_input file) console AnnotatesWords result

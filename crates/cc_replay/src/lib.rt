@@ -17,8 +17,8 @@ mod table;
 mod trace;
 
 pub use cc_heap::{
-    Event, Heap, Making, Object, Outcome, Policy, Run, Settings, Share, Totals, Usage,
-    totals_are_of_all_states,
+    Event, Heap, Making, Object, Outcome, Policy, Reallocation, Run, Settings, Share, Totals,
+    Usage, totals_are_of_all_states,
 };
 pub use counts::{Count, Counts};
 pub use formats::{Entry, TraceFormat, read_entry};

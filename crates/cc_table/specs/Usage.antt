@@ -78,19 +78,21 @@ map_command aligns = with_pool (with_rule (with_pool_options (new_app (codes "ma
 abbrev pub summary_names : List Text
 summary_names = codes "text" ∷ codes "csv" ∷ codes "json" ∷ []
 
--- A command with `[--sweep POLICY] [--min BYTES] [--pool BASE:LENGTH]` added.
+-- A command with `[--realloc MODE] [--sweep POLICY] [--min BYTES] [--pool BASE:LENGTH]` added.
 abbrev pub with_heap_options : App → App
 with_heap_options command =
-    let swept = with_rule (with_rule command (valued_option (codes "sweep"))) (valued_option (codes "min")) in
+    let made = with_rule command (valued_option (codes "realloc")) in
+    let swept = with_rule (with_rule made (valued_option (codes "sweep"))) (valued_option (codes "min")) in
     with_rule swept (valued_option (codes "pool"))
 
--- The command `replay [--format FORMAT] [--align ALIGN] [--sweep POLICY] [--min BYTES] [--pool BASE:LENGTH]
--- [--strict] [--summary FORMAT] [--each N] [FILE]`.
+-- The command `replay [--format FORMAT] [--align ALIGN] [--realloc MODE] [--sweep POLICY] [--min BYTES]
+-- [--pool BASE:LENGTH] [--strict] [--summary FORMAT] [--each N] [--sizes] [FILE]`.
 abbrev pub replay_command : (aligns summaries : Bor (List (Bor Text))) → App
 replay_command aligns summaries =
     let heap = with_heap_options (with_rule (with_rule (new_app (codes "replay")) (valued_option (codes "format"))) (choice_option (codes "align") aligns)) in
     let told = with_rule (with_rule heap (flag_option (codes "strict"))) (choice_option (codes "summary") summaries) in
-    with_rule (with_rule told (valued_option (codes "each"))) (optional_argument (codes "file"))
+    let chosen = with_rule (with_rule told (valued_option (codes "each"))) (flag_option (codes "sizes")) in
+    with_rule chosen (optional_argument (codes "file"))
 
 -- The names of the formats.
 abbrev pub format_names : List Text

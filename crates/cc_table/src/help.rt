@@ -196,6 +196,10 @@ pub(crate) const TRACE_FORMAT_HELP: &str = "\
 Format of the trace: `own`, or that of another recorder: `mtrace` of the GNU C library, `heaptrack`
 (the raw file of `heaptrack -r`), or `ltrace` [default: own]";
 
+pub(crate) const REALLOC_HELP: &str = "\
+Effect of a realloc: `move` (the new object is made while the old one is held), or `keep` (an object
+whose padded size and alignment stay right keeps its bytes) [default: move]";
+
 pub(crate) const SWEEP_HELP: &str = "\
 When the quarantine is swept: `none` (there is no quarantine), `never`, `trace` (at each event `s`),
 N% (if more bytes are quarantined than N percent of the held ones), N%:live or N%:high (of the live
@@ -216,6 +220,10 @@ pub(crate) const SUMMARY_HELP: &str = "Format of the summary [default: text]";
 pub(crate) const EACH_HELP: &str = "\
 Print a series in place of the summary, as comma-separated values: a sample at every N-th event, at
 each event that sweeps, and at the end";
+
+pub(crate) const SIZES_HELP: &str = "\
+Print a table of the objects that were made in place of the summary, in its format: a row for each
+power of two of their sizes; not with --each";
 
 pub(crate) const TRACE_FILE_HELP: &str = "Trace file; standard input if `-` or omitted";
 

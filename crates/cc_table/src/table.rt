@@ -7,11 +7,11 @@ use crate::help::{
     ALIGN_HELP, ANNOTATE_ABOUT, ANNOTATE_AFTER_HELP, AT_HELP, BASE_HELP, BYTES_HELP, DECODE_ABOUT,
     DECODE_AFTER_HELP, EACH_HELP, FILE_HELP, FORMAT_HELP, HOLDS_HELP, LEAST_HELP, LENGTH_HELP,
     LINE_HELP, MAP_ABOUT, MAP_AFTER_HELP, PERMISSIONS_HELP, PLAN_ABOUT, PLAN_AFTER_HELP, POOL_HELP,
-    POOL_LENGTH_HELP, REPLAY_ABOUT, REPLAY_AFTER_HELP, REQUEST_BASE_HELP, REQUEST_LENGTH_HELP,
-    ROUND_ABOUT, ROUND_AFTER_HELP, RUN_ABOUT, RUN_AFTER_HELP, SHOW_ABOUT, SHOW_AFTER_HELP,
-    SKIP_HELP, SLOTS_HELP, STATS_HELP, STRICT_HELP, SUMMARY_HELP, SVG_HELP, SWEEP_HELP,
-    TEXT_FILE_HELP, TRACE_FILE_HELP, TRACE_FORMAT_HELP, WINDOW_SVG_HELP, WORD_HELP,
-    WORDS_FILE_HELP,
+    POOL_LENGTH_HELP, REALLOC_HELP, REPLAY_ABOUT, REPLAY_AFTER_HELP, REQUEST_BASE_HELP,
+    REQUEST_LENGTH_HELP, ROUND_ABOUT, ROUND_AFTER_HELP, RUN_ABOUT, RUN_AFTER_HELP, SHOW_ABOUT,
+    SHOW_AFTER_HELP, SIZES_HELP, SKIP_HELP, SLOTS_HELP, STATS_HELP, STRICT_HELP, SUMMARY_HELP,
+    SVG_HELP, SWEEP_HELP, TEXT_FILE_HELP, TRACE_FILE_HELP, TRACE_FORMAT_HELP, WINDOW_SVG_HELP,
+    WORD_HELP, WORDS_FILE_HELP,
 };
 
 /// The subject of the help of an argument.
@@ -61,6 +61,8 @@ pub(crate) enum Topic {
     RequestBase,
     /// `TRACE_FORMAT_HELP`.
     TraceFormat,
+    /// `REALLOC_HELP`.
+    Realloc,
     /// `SWEEP_HELP`.
     Sweep,
     /// `LEAST_HELP`.
@@ -73,6 +75,8 @@ pub(crate) enum Topic {
     Summary,
     /// `EACH_HELP`.
     Each,
+    /// `SIZES_HELP`.
+    Sizes,
     /// `TRACE_FILE_HELP`.
     TraceFile,
 }
@@ -123,12 +127,14 @@ pub(crate) fn help<'a>(topic: Topic) -> &'a str {
         Topic::RequestLength => REQUEST_LENGTH_HELP,
         Topic::RequestBase => REQUEST_BASE_HELP,
         Topic::TraceFormat => TRACE_FORMAT_HELP,
+        Topic::Realloc => REALLOC_HELP,
         Topic::Sweep => SWEEP_HELP,
         Topic::Least => LEAST_HELP,
         Topic::Pool => POOL_HELP,
         Topic::Strict => STRICT_HELP,
         Topic::Summary => SUMMARY_HELP,
         Topic::Each => EACH_HELP,
+        Topic::Sizes => SIZES_HELP,
         Topic::TraceFile => TRACE_FILE_HELP,
     }
 }
@@ -366,6 +372,12 @@ const COMMANDS: &[CommandRow] = &[
             },
             Row {
                 kind: Kind::Valued,
+                name: "realloc",
+                placeholder: "MODE",
+                topic: Topic::Realloc,
+            },
+            Row {
+                kind: Kind::Valued,
                 name: "sweep",
                 placeholder: "POLICY",
                 topic: Topic::Sweep,
@@ -399,6 +411,12 @@ const COMMANDS: &[CommandRow] = &[
                 name: "each",
                 placeholder: "N",
                 topic: Topic::Each,
+            },
+            Row {
+                kind: Kind::Flag,
+                name: "sizes",
+                placeholder: "",
+                topic: Topic::Sizes,
             },
             Row {
                 kind: Kind::Free,

@@ -9,10 +9,11 @@ use Rattle.cc_syntax.specs.Commands.{both}
 use Rattle.cc_heap.specs.declared.policy.Policy.{Policy}
 use Rattle.cc_replay.specs.declared.formats.TraceFormat.{TraceFormat}
 use Rattle.cc_replay.specs.declared.reading.Reading.{Reading}
+use Rattle.cc_heap.specs.declared.reallocation.Reallocation.{Reallocation}
 use Rattle.cc_heap.specs.declared.settings.Settings.{Settings}
 use Rattle.cc_arguments.specs.declared.invocation.ReplayTexts.{ReplayTexts}
 use Rattle.cc_devices.specs.Refused.{changed}
-use Rattle.cc_traces.specs.ReplayTexts.{each_in, format_in, least_in, replay_in, span_given, sweep_in}
+use Rattle.cc_traces.specs.ReplayTexts.{each_in, format_in, least_in, realloc_in, replay_in, span_given, sweep_in}
 
 -- Both values are those of the two results.
 pub parts_of_both : {A B : Type 0} (first : Result A Refusal) (second : Result B Refusal) (found : A × B) → both first second ≡ Ok found
@@ -37,25 +38,26 @@ of_value P (Err refusal) value holds e = cc e
 pub no_series : (align : Align) (strict : Bool) (texts : ReplayTexts) (found : Settings × Reading) → replay_in align strict texts ≡ Ok found → texts.each ≡ None
     → found.1.each ≡ 0
 no_series align strict texts found e none =
-    let made = from_changed _ (both (both (sweep_in texts.sweep) (least_in texts.least)) (both (each_in texts.each) (both (span_given texts.pool) (format_in texts.format)))) found e in
-    let outer = parts_of_both (both (sweep_in texts.sweep) (least_in texts.least)) (both (each_in texts.each) (both (span_given texts.pool) (format_in texts.format))) made.0 made.1 in
-    let inner = parts_of_both (each_in texts.each) (both (span_given texts.pool) (format_in texts.format)) made.0.1 outer.1 in
-    let zero : Ok 0 ≡ Ok made.0.1.0 = ap each_in (sym none) ∙ inner.0 in
+    let made = from_changed _ (both (both (sweep_in texts.sweep) (least_in texts.least)) (both (each_in texts.sizes texts.each) (both (span_given texts.pool) (both (format_in texts.format) (realloc_in texts.realloc))))) found e in
+    let outer = parts_of_both (both (sweep_in texts.sweep) (least_in texts.least)) (both (each_in texts.sizes texts.each) (both (span_given texts.pool) (both (format_in texts.format) (realloc_in texts.realloc)))) made.0 made.1 in
+    let inner = parts_of_both (each_in texts.sizes texts.each) (both (span_given texts.pool) (both (format_in texts.format) (realloc_in texts.realloc))) made.0.1 outer.1 in
+    let zero : Ok 0 ≡ Ok made.0.1.0 = ap (each_in texts.sizes) (sym none) ∙ inner.0 in
     let same : 0 ≡ made.0.1.0 = cc zero in
     ap (λ pair. pair.1.each) (sym made.2) ∙ sym same
 
 -- A refusal of one of the texts.
 pub replay_refused : (align : Align) (strict : Bool) (texts : ReplayTexts) (refusal : Refusal)
-    → both (both (sweep_in texts.sweep) (least_in texts.least)) (both (each_in texts.each) (both (span_given texts.pool) (format_in texts.format))) ≡ Err refusal
+    → both (both (sweep_in texts.sweep) (least_in texts.least)) (both (each_in texts.sizes texts.each) (both (span_given texts.pool) (both (format_in texts.format) (realloc_in texts.realloc)))) ≡ Err refusal
     → Err refusal ≡ replay_in align strict texts
 replay_refused align strict texts refusal told = ap (changed _) (sym told)
 
 -- The values of all texts.
 pub replay_found : (align : Align) (strict : Bool) (texts : ReplayTexts) (policy : Policy) (least each : ℕ) (pool : Span) (format : TraceFormat)
-    → both (both (sweep_in texts.sweep) (least_in texts.least)) (both (each_in texts.each) (both (span_given texts.pool) (format_in texts.format)))
-    ≡ Ok ((policy, least), (each, (pool, format)))
+    (realloc : Reallocation)
+    → both (both (sweep_in texts.sweep) (least_in texts.least)) (both (each_in texts.sizes texts.each) (both (span_given texts.pool) (both (format_in texts.format) (realloc_in texts.realloc))))
+    ≡ Ok ((policy, least), (each, (pool, (format, realloc))))
     → Ok (
-      record { limit = 2 ^ 24; pool = pool; align = align; policy = policy; least_quarantine = least },
+      record { limit = 2 ^ 24; pool = pool; align = align; policy = policy; least_quarantine = least; realloc = realloc },
       record { format = format; is_strict = strict; each = each },
     ) ≡ replay_in align strict texts
-replay_found align strict texts policy least each pool format told = ap (changed _) (sym told)
+replay_found align strict texts policy least each pool format realloc told = ap (changed _) (sym told)

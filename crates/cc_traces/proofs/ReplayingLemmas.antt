@@ -20,7 +20,7 @@ use Rattle.cc_arguments.specs.declared.invocation.SummaryFormat.{SummaryFormat}
 use Rattle.cc_devices.specs.Devices.{Console, FromInput, OnDevices, Traffic, traffic_of}
 use Rattle.cc_devices.specs.Input.{file_input}
 use Rattle.cc_traces.specs.ReplayTexts.{replay_in}
-use Rattle.cc_traces.specs.Replaying.{Replays, ReplaysAll, ReplaysTrace, Samples, SamplesAll, StopsInSummary, StopsSampling, SumsUp, SumsUpAll, WithReplay, WritesReplay, summary_text}
+use Rattle.cc_traces.specs.Replaying.{Replays, ReplaysAll, ReplaysTrace, Samples, SamplesAll, StopsInSummary, StopsSampling, SumsUp, SumsUpAll, WithReplay, WritesReplay, end_text}
 use Rattle.cc_devices.specs.Refused.{WritesRefusal}
 use Rattle.cc_devices.specs.declared.fault.Fault.{Fault}
 use Rattle.cc_devices.specs.declared.input.InputName.{InputName}
@@ -36,28 +36,28 @@ replays_all old new unread unread_too left left_too output output_now summary u 
 }
 
 -- A summary that was written, for the traffic of the devices.
-pub sums_up_all : (format : SummaryFormat) (old new : ReplayState) (traffic : Traffic) (unread left output output_now : Option (List ℕ)) (summary : Summary)
+pub sums_up_all : (text_of : ReplayState → List ℕ) (old new : ReplayState) (traffic : Traffic) (unread left output output_now : Option (List ℕ)) (summary : Summary)
     → traffic.unread ≡ unread → traffic.left ≡ left → traffic.output ≡ output → traffic.output_now ≡ output_now
-    → Replays old unread left None None (Ok summary) new → new.progress ≢ OutOfMemory → Appends output output_now (summary_text format new)
-    → SumsUpAll format old traffic summary
-sums_up_all format old new traffic unread left output output_now summary u l o n replays has_memory written = record {
+    → Replays old unread left None None (Ok summary) new → new.progress ≢ OutOfMemory → Appends output output_now (text_of new)
+    → SumsUpAll text_of old traffic summary
+sums_up_all text_of old new traffic unread left output output_now summary u l o n replays has_memory written = record {
   new = new;
   all = replays_all old new unread traffic.unread left traffic.left None None summary u l replays has_memory;
-  written = subst (λ (b : Option (List ℕ)). Appends b traffic.output_now (summary_text format new)) (sym o)
-      (subst (λ (b : Option (List ℕ)). Appends output b (summary_text format new)) (sym n) written);
+  written = subst (λ (b : Option (List ℕ)). Appends b traffic.output_now (text_of new)) (sym o)
+      (subst (λ (b : Option (List ℕ)). Appends output b (text_of new)) (sym n) written);
 }
 
 -- A summary of which a prefix was written, for the traffic of the devices.
-pub stops_in_summary : (format : SummaryFormat) (old new : ReplayState) (traffic : Traffic) (unread left output output_now : Option (List ℕ)) (summary : Summary)
+pub stops_in_summary : (text_of : ReplayState → List ℕ) (old new : ReplayState) (traffic : Traffic) (unread left output output_now : Option (List ℕ)) (summary : Summary)
     → traffic.unread ≡ unread → traffic.left ≡ left → traffic.output ≡ output → traffic.output_now ≡ output_now
-    → Replays old unread left None None (Ok summary) new → new.progress ≢ OutOfMemory → TakesBeginning output output_now (summary_text format new)
-    → StopsInSummary format old traffic
-stops_in_summary format old new traffic unread left output output_now summary u l o n replays has_memory written = record {
+    → Replays old unread left None None (Ok summary) new → new.progress ≢ OutOfMemory → TakesBeginning output output_now (text_of new)
+    → StopsInSummary text_of old traffic
+stops_in_summary text_of old new traffic unread left output output_now summary u l o n replays has_memory written = record {
   summary = summary;
   new = new;
   all = replays_all old new unread traffic.unread left traffic.left None None summary u l replays has_memory;
-  written = subst (λ (b : Option (List ℕ)). TakesBeginning b traffic.output_now (summary_text format new)) (sym o)
-      (subst (λ (b : Option (List ℕ)). TakesBeginning output b (summary_text format new)) (sym n) written);
+  written = subst (λ (b : Option (List ℕ)). TakesBeginning b traffic.output_now (text_of new)) (sym o)
+      (subst (λ (b : Option (List ℕ)). TakesBeginning output b (text_of new)) (sym n) written);
 }
 
 -- A series that was written, for the traffic of the devices.
@@ -91,58 +91,58 @@ stops_sampling old new traffic unread left output output_now error u l o n repla
     by_error Write stops = inl stops
 
 -- The summary, if no samples are asked for.
-sums_up : (each : ℕ) (format : SummaryFormat) (old : ReplayState) (traffic : Traffic) (result : Result Summary IoError) → each ≡ 0 → SumsUp format old traffic result
-    → WritesReplay each format old traffic result
-sums_up zero format old traffic result none holds = holds
-sums_up (suc less) format old traffic result none holds = cc none
+sums_up : (each : ℕ) (text_of : ReplayState → List ℕ) (old : ReplayState) (traffic : Traffic) (result : Result Summary IoError) → each ≡ 0 → SumsUp text_of old traffic result
+    → WritesReplay each text_of old traffic result
+sums_up zero text_of old traffic result none holds = holds
+sums_up (suc less) text_of old traffic result none holds = cc none
 
 -- The series, if samples are asked for.
-samples : (each : ℕ) (format : SummaryFormat) (old : ReplayState) (traffic : Traffic) (result : Result Summary IoError) → each ≢ 0 → Samples old traffic result
-    → WritesReplay each format old traffic result
-samples zero format old traffic result some holds = absurd (some refl)
-samples (suc less) format old traffic result some holds = holds
+samples : (each : ℕ) (text_of : ReplayState → List ℕ) (old : ReplayState) (traffic : Traffic) (result : Result Summary IoError) → each ≢ 0 → Samples old traffic result
+    → WritesReplay each text_of old traffic result
+samples zero text_of old traffic result some holds = absurd (some refl)
+samples (suc less) text_of old traffic result some holds = holds
 
 -- A replay of an input, of which the summary was written.
-pub sums_up_input : (format : SummaryFormat) (settings : Settings) (reading : Reading) (old : ReplayState) (input : InputName) (console : Console)
+pub sums_up_input : (sizes : Bool) (format : SummaryFormat) (settings : Settings) (reading : Reading) (old : ReplayState) (input : InputName) (console : Console)
     (bytes_of : InputName → Option (List ℕ)) (unread remaining left output output_now : Option (List ℕ)) (result : Result Summary Fault)
     → old ≡ begun (empty_run settings) reading → reading.each ≡ 0 → console.input ≡ bytes_of → unread ≡ remaining
     → IfSome (bytes_of input) (λ bytes. remaining ≡ Some bytes) → console.output ≡ output → console.output_now ≡ output_now
     → ((traffic : Traffic) → traffic.unread ≡ unread → traffic.left ≡ left → traffic.output ≡ output → traffic.output_now ≡ output_now
-    → OnDevices (SumsUp format old traffic) result)
-    → OnDevices (FromInput input console (ReplaysTrace format settings reading)) result
-sums_up_input format settings reading old input console bytes_of unread remaining left output output_now result is none same has told o n holds =
-    on_devices-map (SumsUp format old (traffic_of console unread left)) (FromInput input console (ReplaysTrace format settings reading))
-    (λ io done. from_input input console (ReplaysTrace format settings reading) bytes_of unread remaining left io same has told
-    (sums_up reading.each format (begun (empty_run settings) reading) (traffic_of console unread left) io none
-    (subst (λ (state : ReplayState). SumsUp format state (traffic_of console unread left) io) is done)))
+    → OnDevices (SumsUp (end_text sizes format) old traffic) result)
+    → OnDevices (FromInput input console (ReplaysTrace sizes format settings reading)) result
+sums_up_input sizes format settings reading old input console bytes_of unread remaining left output output_now result is none same has told o n holds =
+    on_devices-map (SumsUp (end_text sizes format) old (traffic_of console unread left)) (FromInput input console (ReplaysTrace sizes format settings reading))
+    (λ io done. from_input input console (ReplaysTrace sizes format settings reading) bytes_of unread remaining left io same has told
+    (sums_up reading.each (end_text sizes format) (begun (empty_run settings) reading) (traffic_of console unread left) io none
+    (subst (λ (state : ReplayState). SumsUp (end_text sizes format) state (traffic_of console unread left) io) is done)))
     result (holds (traffic_of console unread left) refl refl o n)
 
 -- A replay of an input, of which the series was written.
-pub samples_input : (format : SummaryFormat) (settings : Settings) (reading : Reading) (old : ReplayState) (input : InputName) (console : Console)
+pub samples_input : (sizes : Bool) (format : SummaryFormat) (settings : Settings) (reading : Reading) (old : ReplayState) (input : InputName) (console : Console)
     (bytes_of : InputName → Option (List ℕ)) (unread remaining left output output_now : Option (List ℕ)) (result : Result Summary Fault)
     → old ≡ begun (empty_run settings) reading → reading.each ≢ 0 → console.input ≡ bytes_of → unread ≡ remaining
     → IfSome (bytes_of input) (λ bytes. remaining ≡ Some bytes) → console.output ≡ output → console.output_now ≡ output_now
     → ((traffic : Traffic) → traffic.unread ≡ unread → traffic.left ≡ left → traffic.output ≡ output → traffic.output_now ≡ output_now
     → OnDevices (Samples old traffic) result)
-    → OnDevices (FromInput input console (ReplaysTrace format settings reading)) result
-samples_input format settings reading old input console bytes_of unread remaining left output output_now result is some same has told o n holds =
-    on_devices-map (Samples old (traffic_of console unread left)) (FromInput input console (ReplaysTrace format settings reading))
-    (λ io done. from_input input console (ReplaysTrace format settings reading) bytes_of unread remaining left io same has told
-    (samples reading.each format (begun (empty_run settings) reading) (traffic_of console unread left) io some
+    → OnDevices (FromInput input console (ReplaysTrace sizes format settings reading)) result
+samples_input sizes format settings reading old input console bytes_of unread remaining left output output_now result is some same has told o n holds =
+    on_devices-map (Samples old (traffic_of console unread left)) (FromInput input console (ReplaysTrace sizes format settings reading))
+    (λ io done. from_input input console (ReplaysTrace sizes format settings reading) bytes_of unread remaining left io same has told
+    (samples reading.each (end_text sizes format) (begun (empty_run settings) reading) (traffic_of console unread left) io some
     (subst (λ (state : ReplayState). Samples state (traffic_of console unread left) io) is done)))
     result (holds (traffic_of console unread left) refl refl o n)
 
 -- The replay that the texts ask for, from that of these settings.
 pub with_replay : (align : Align) (strict : Bool) (format : SummaryFormat) (texts : ReplayTexts) (file : Option (Bor Text)) (console : Console)
     (found : Settings × Reading) (input : InputName) (result : Result Summary Fault) → replay_in align strict texts ≡ Ok found → input ≡ file_input file
-    → OnDevices (FromInput input console (ReplaysTrace format found.0 found.1)) result
-    → OnDevices (WithReplay align strict texts console (λ settings reading. FromInput (file_input file) console (ReplaysTrace format settings reading))) result
+    → OnDevices (FromInput input console (ReplaysTrace texts.sizes format found.0 found.1)) result
+    → OnDevices (WithReplay align strict texts console (λ settings reading. FromInput (file_input file) console (ReplaysTrace texts.sizes format settings reading))) result
 with_replay align strict format texts file console found input result is_found is_input holds =
-    on_devices-map (FromInput input console (ReplaysTrace format found.0 found.1))
-    (WithReplay align strict texts console (λ settings reading. FromInput (file_input file) console (ReplaysTrace format settings reading)))
+    on_devices-map (FromInput input console (ReplaysTrace texts.sizes format found.0 found.1))
+    (WithReplay align strict texts console (λ settings reading. FromInput (file_input file) console (ReplaysTrace texts.sizes format settings reading)))
     (λ io done.
     subst (λ (given : Result (Settings × Reading) Refusal). MatchResult given
-    (λ pair. FromInput (file_input file) console (ReplaysTrace format pair.0 pair.1) io)
+    (λ pair. FromInput (file_input file) console (ReplaysTrace texts.sizes format pair.0 pair.1) io)
     (λ refusal. WritesRefusal console.output console.output_now refusal io)) (sym is_found)
-    (subst (λ (name : InputName). FromInput name console (ReplaysTrace format found.0 found.1) io) is_input done))
+    (subst (λ (name : InputName). FromInput name console (ReplaysTrace texts.sizes format found.0 found.1) io) is_input done))
     result holds

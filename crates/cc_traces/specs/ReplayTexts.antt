@@ -1,5 +1,5 @@
 -- The heap and the reading that the arguments of `replay` ask for.
-use Rattle.std.specs.Prelude.{ℕ, Bool, ◌^◌, ◌==◌, nat_lt, codes, length, List, Option, Some, None, Result, Ok, Err, zero, suc, if◌then◌else◌}
+use Rattle.std.specs.Prelude.{ℕ, Bool, true, false, ◌^◌, ◌==◌, nat_lt, codes, length, List, Option, Some, None, Result, Ok, Err, zero, suc, if◌then◌else◌}
 use Rattle.std.specs.Borrow.{Bor}
 use Rattle.std.specs.Str.{bytes_eq}
 use Rattle.std.specs.List.{after_first, before_first, position_or_len}
@@ -17,6 +17,8 @@ use Rattle.cc_heap.specs.declared.policy.Policy.{Policy}
 use Rattle.cc_heap.specs.declared.policy.Policy.TheVariants.{Percent}
 use Rattle.cc_heap.specs.declared.policy.Share.TheVariants.{Held}
 use Rattle.cc_replay.specs.declared.reading.Reading.{Reading}
+use Rattle.cc_heap.specs.declared.reallocation.Reallocation.{Reallocation}
+use Rattle.cc_heap.specs.declared.reallocation.Reallocation.TheVariants.{Move, Keep}
 use Rattle.cc_heap.specs.declared.settings.Settings.{Settings}
 use Rattle.cc_arguments.specs.declared.invocation.ReplayTexts.{ReplayTexts}
 use Rattle.cc_devices.specs.Refused.{changed}
@@ -37,10 +39,12 @@ not_zero (Ok zero) = Err OutOfRange
 not_zero (Ok (suc less)) = Ok (suc less)
 not_zero (Err refusal) = Err refusal
 
--- The number of events from one sample to the next that `--each` gives, or 0 if there is no series.
-abbrev pub each_in : Option (Bor Text) → Result ℕ Refusal
-each_in None = Ok 0
-each_in (Some text) = not_zero (address_in text.now)
+-- The number of events from one sample to the next that `--each` gives, or 0 if there is no series. `--sizes` excludes a
+-- series.
+abbrev pub each_in : (sizes : Bool) → Option (Bor Text) → Result ℕ Refusal
+each_in sizes None = Ok 0
+each_in true (Some text) = Err Syntax
+each_in false (Some text) = not_zero (address_in text.now)
 
 -- The span of a base and a length with a colon between.
 abbrev pub span_in : (text : List ℕ) → Result Span Refusal
@@ -68,13 +72,26 @@ abbrev pub format_in : Option (Bor Text) → Result TraceFormat Refusal
 format_in None = Ok Own
 format_in (Some text) = format_named text.now
 
--- The settings of the heap and how the trace is read, or the error: that a text is not a number, not a policy, not a pool or not a
--- format, comes first, then that a pool ends past 2^64, and then that a number is out of range.
+-- The effect of a reallocation of this name.
+abbrev pub realloc_named : (name : List ℕ) → Result Reallocation Refusal
+realloc_named name =
+    if bytes_eq name (codes "move") then Ok Move
+    else if bytes_eq name (codes "keep") then Ok Keep
+    else Err Syntax
+
+-- The effect of a reallocation that `--realloc` names: it moves the object if the option is not given.
+abbrev pub realloc_in : Option (Bor Text) → Result Reallocation Refusal
+realloc_in None = Ok Move
+realloc_in (Some text) = realloc_named text.now
+
+-- The settings of the heap and how the trace is read, or the error: that a text is not a number, not a policy, not a pool or not
+-- one of the names, or that both `--sizes` and `--each` are given, comes first, then that a pool ends past 2^64, and then that a number is out
+-- of range.
 abbrev pub replay_in : Align → (strict : Bool) → ReplayTexts → Result (Settings × Reading) Refusal
 replay_in align strict texts =
     changed
     (λ found. (
-      record { limit = 2 ^ 24; pool = found.1.1.0; align = align; policy = found.0.0; least_quarantine = found.0.1 },
-      record { format = found.1.1.1; is_strict = strict; each = found.1.0 },
+      record { limit = 2 ^ 24; pool = found.1.1.0; align = align; policy = found.0.0; least_quarantine = found.0.1; realloc = found.1.1.1.1 },
+      record { format = found.1.1.1.0; is_strict = strict; each = found.1.0 },
     ))
-    (both (both (sweep_in texts.sweep) (least_in texts.least)) (both (each_in texts.each) (both (span_given texts.pool) (format_in texts.format))))
+    (both (both (sweep_in texts.sweep) (least_in texts.least)) (both (each_in texts.sizes texts.each) (both (span_given texts.pool) (both (format_in texts.format) (realloc_in texts.realloc)))))

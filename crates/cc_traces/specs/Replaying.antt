@@ -1,5 +1,5 @@
 -- The output of `replay`, by its trace.
-use Rattle.std.specs.Prelude.{◌≡◌, ◌≢◌, ◌⊎◌, ℕ, Bool, zero, suc, List, Option, None, Result, Ok, Err, MatchResult}
+use Rattle.std.specs.Prelude.{◌≡◌, ◌≢◌, ◌⊎◌, ℕ, Bool, true, false, zero, suc, List, Option, None, Result, Ok, Err, MatchResult}
 use Rattle.std.specs.Io.KnownBytes.{Appends}
 use Rattle.cc_word.specs.declared.refusal.Refusal.{Refusal}
 use Rattle.cc_bounds.specs.declared.align.Align.{Align}
@@ -12,6 +12,7 @@ use Rattle.cc_io.specs.declared.summary.Summary.{Summary}
 use Rattle.cc_heap.specs.Lost.{empty_run}
 use Rattle.cc_replay.specs.Replay.{ReplayState, TakesLine, TakesRest, begun, figures_of, last_sample, series_header}
 use Rattle.cc_replay.specs.Rows.{table_text}
+use Rattle.cc_replay.specs.SizeTable.{sizes_text}
 use Rattle.cc_replay.specs.Summary.{summary_rows}
 use Rattle.cc_replay.specs.declared.reading.Progress.TheVariants.{OutOfMemory}
 use Rattle.cc_replay.specs.declared.reading.Reading.{Reading}
@@ -35,6 +36,11 @@ table_format summary.Json = Json
 abbrev pub summary_text : SummaryFormat → ReplayState → List ℕ
 summary_text format state = table_text (table_format format) (summary_rows (figures_of state))
 
+-- The text of the end of a replay: the table of sizes if it is asked for, and otherwise the summary.
+abbrev pub end_text : (sizes : Bool) → SummaryFormat → ReplayState → List ℕ
+end_text true format state = sizes_text (table_format format) state.run.sizes
+end_text false format state = summary_text format state
+
 -- Replays holds if the replay took the lines that the source gave, and the bytes after the last of them, until it had the state `new`.
 -- The samples were written. With a result that is `Ok` the source was read to its end.
 abbrev pub Replays : (old : ReplayState) (unread left output output_now : Option (List ℕ)) → Result Summary IoError → (new : ReplayState) → Type 0
@@ -46,24 +52,24 @@ pub record ReplaysAll (old : ReplayState) (unread left output output_now : Optio
   pub replays : Replays old unread left output output_now (Ok summary) new
   pub has_memory : new.progress ≢ OutOfMemory
 
--- SumsUpAll holds if the replay took the whole trace, and the summary of its end was written.
-pub record SumsUpAll (format : SummaryFormat) (old : ReplayState) (traffic : Traffic) (summary : Summary) : Type 0 where
+-- SumsUpAll holds if the replay took the whole trace, and the text of its end was written.
+pub record SumsUpAll (text_of : ReplayState → List ℕ) (old : ReplayState) (traffic : Traffic) (summary : Summary) : Type 0 where
   pub new : ReplayState
   pub all : ReplaysAll old traffic.unread traffic.left None None summary new
-  pub written : Appends traffic.output traffic.output_now (summary_text format new)
+  pub written : Appends traffic.output traffic.output_now (text_of new)
 
--- StopsInSummary holds if the replay took the whole trace, and a prefix of the summary was written.
-pub record StopsInSummary (format : SummaryFormat) (old : ReplayState) (traffic : Traffic) : Type 0 where
+-- StopsInSummary holds if the replay took the whole trace, and a prefix of the text of its end was written.
+pub record StopsInSummary (text_of : ReplayState → List ℕ) (old : ReplayState) (traffic : Traffic) : Type 0 where
   pub summary : Summary
   pub new : ReplayState
   pub all : ReplaysAll old traffic.unread traffic.left None None summary new
-  pub written : TakesBeginning traffic.output traffic.output_now (summary_text format new)
+  pub written : TakesBeginning traffic.output traffic.output_now (text_of new)
 
--- SumsUp holds if the summary of the trace's replay was written, up to a failed write. Nothing was written if a read failed.
-abbrev pub SumsUp : SummaryFormat → (old : ReplayState) → Traffic → Result Summary IoError → Type 0
-SumsUp format old traffic (Ok summary) = SumsUpAll format old traffic summary
-SumsUp format old traffic (Err Read) = traffic.output_now ≡ traffic.output
-SumsUp format old traffic (Err Write) = StopsInSummary format old traffic
+-- SumsUp holds if the text of the end of the trace's replay was written, up to a failed write. Nothing was written if a read failed.
+abbrev pub SumsUp : (text_of : ReplayState → List ℕ) → (old : ReplayState) → Traffic → Result Summary IoError → Type 0
+SumsUp text_of old traffic (Ok summary) = SumsUpAll text_of old traffic summary
+SumsUp text_of old traffic (Err Read) = traffic.output_now ≡ traffic.output
+SumsUp text_of old traffic (Err Write) = StopsInSummary text_of old traffic
 
 -- SamplesAll holds if the replay took the whole trace, and its series was written, with the last sample.
 pub record SamplesAll (old : ReplayState) (traffic : Traffic) (summary : Summary) : Type 0 where
@@ -91,14 +97,16 @@ Samples old traffic (Ok summary) = SamplesAll old traffic summary
 Samples old traffic (Err Read) = StopsSampling old traffic Read
 Samples old traffic (Err Write) = StopsSampling old traffic Write ⊎ StopsInLast old traffic
 
--- WritesReplay holds if the summary was written, or the series, if samples were asked for.
-abbrev pub WritesReplay : (each : ℕ) → SummaryFormat → (old : ReplayState) → Traffic → Result Summary IoError → Type 0
-WritesReplay zero format old traffic result = SumsUp format old traffic result
-WritesReplay (suc less) format old traffic result = Samples old traffic result
+-- WritesReplay holds if the text of the end was written, or the series, if samples were asked for.
+abbrev pub WritesReplay : (each : ℕ) → (text_of : ReplayState → List ℕ) → (old : ReplayState) → Traffic → Result Summary IoError → Type 0
+WritesReplay zero text_of old traffic result = SumsUp text_of old traffic result
+WritesReplay (suc less) text_of old traffic result = Samples old traffic result
 
--- ReplaysTrace holds if the trace was replayed on a heap of these settings that held nothing, and the summary or the series was written.
-abbrev pub ReplaysTrace : SummaryFormat → Settings → Reading → Traffic → Result Summary IoError → Type 0
-ReplaysTrace format settings reading traffic result = WritesReplay reading.each format (begun (empty_run settings) reading) traffic result
+-- ReplaysTrace holds if the trace was replayed on a heap of these settings that held nothing, and the table of sizes, the summary or
+-- the series was written.
+abbrev pub ReplaysTrace : (sizes : Bool) → SummaryFormat → Settings → Reading → Traffic → Result Summary IoError → Type 0
+ReplaysTrace sizes format settings reading traffic result =
+    WritesReplay reading.each (end_text sizes format) (begun (empty_run settings) reading) traffic result
 
 -- WithReplay holds if `Does` holds for the settings and the reading of a replay, or if one of their texts is refused.
 abbrev pub WithReplay : Align → (strict : Bool) → ReplayTexts → Console → (Does : Settings → Reading → Result Summary IoError → Type 0)

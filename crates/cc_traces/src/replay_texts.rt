@@ -1,12 +1,12 @@
 //! The heap and the reading that the arguments of `replay` ask for.
 ghost use Rattle.std.specs.Prelude.{◌≡◌, ◌^◌, IfOk};
 ghost use Rattle.cc_bounds.specs.Span.{IsSpan};
-ghost use Rattle.cc_traces.specs.ReplayTexts.{each_in, format_in, format_named, least_in, replay_in, span_given, span_in, sweep_in};
+ghost use Rattle.cc_traces.specs.ReplayTexts.{each_in, format_in, format_named, least_in, realloc_in, realloc_named, replay_in, span_given, span_in, sweep_in};
 
 use cc_arguments::ReplayTexts;
 use cc_bounds::{Align, Span};
 use cc_command::read_request;
-use cc_replay::{Policy, Reading, Settings, Share, TraceFormat, read_policy};
+use cc_replay::{Policy, Reading, Reallocation, Settings, Share, TraceFormat, read_policy};
 use cc_syntax::{both, read_address};
 use cc_word::Refusal;
 
@@ -21,7 +21,8 @@ const ALL_ABOVE: Span = Span {
 
 /// Returns the settings of the heap, and how the trace is read.
 ///
-/// Errors, in order: `Syntax` if a text is not a number, not a policy, not a pool or not a format; `OutOfBounds` if the pool ends past 2^64;
+/// Errors, in order: `Syntax` if a text is not a number, not a policy, not a pool or not one of the names, or if both `--sizes` and
+/// `--each` are given; `OutOfBounds` if the pool ends past 2^64;
 /// `OutOfRange` if a number is too large, or that of `--each` is 0.
 pub(crate) fn replay_of(
     align: Align,
@@ -33,15 +34,17 @@ pub(crate) fn replay_of(
     ensures pool { IfOk result (λ found. IsSpan found.0.pool) }
 {
     let sweeping = both(policy_of(texts.sweep), least_of(texts.least));
-    let placing = both(pool_of(texts.pool), format_of(texts.format));
-    match both(sweeping, both(each_of(texts.each), placing)) {
-        Ok(((policy, least_quarantine), (each, (pool, format)))) => Ok((
+    let naming = both(format_of(texts.format), realloc_of(texts.realloc));
+    let placing = both(pool_of(texts.pool), naming);
+    match both(sweeping, both(each_of(texts.sizes, texts.each), placing)) {
+        Ok(((policy, least_quarantine), (each, (pool, (format, realloc))))) => Ok((
             Settings {
                 limit: MOST_HELD,
                 pool,
                 align,
                 policy,
                 least_quarantine,
+                realloc,
             },
             Reading {
                 format,
@@ -76,11 +79,12 @@ fn least_of(text: Option<&str>) -> Result<u64, Refusal>
     }
 }
 
-/// Returns the number of events from one sample to the next, or 0 if `--each` is not given.
-fn each_of(text: Option<&str>) -> Result<u64, Refusal>
-    ensures { result ≡ each_in text.entry }
+/// Returns the number of events from one sample to the next, or 0 if `--each` is not given. `--sizes` excludes it.
+fn each_of(sizes: bool, text: Option<&str>) -> Result<u64, Refusal>
+    ensures { result ≡ each_in sizes text.entry }
 {
     match text {
+        Some(_) if sizes => Err(Refusal::Syntax),
         Some(text) => match read_address(text.as_bytes()) {
             Ok(0) => Err(Refusal::OutOfRange),
             Ok(each) => Ok(each),
@@ -112,6 +116,29 @@ fn read_format(name: &[u8]) -> Result<TraceFormat, Refusal>
         Ok(TraceFormat::Heaptrack)
     } else if name == b"ltrace".as_slice() {
         Ok(TraceFormat::Ltrace)
+    } else {
+        Err(Refusal::Syntax)
+    }
+}
+
+/// Returns the effect of a reallocation that `--realloc` names, or that it moves the object.
+fn realloc_of(text: Option<&str>) -> Result<Reallocation, Refusal>
+    ensures { result ≡ realloc_in text.entry }
+{
+    match text {
+        Some(text) => read_realloc(text.as_bytes()),
+        None => Ok(Reallocation::Move),
+    }
+}
+
+/// Parses the name of the effect of a reallocation.
+fn read_realloc(name: &[u8]) -> Result<Reallocation, Refusal>
+    ensures { result ≡ realloc_named name.now }
+{
+    if name == b"move".as_slice() {
+        Ok(Reallocation::Move)
+    } else if name == b"keep".as_slice() {
+        Ok(Reallocation::Keep)
     } else {
         Err(Refusal::Syntax)
     }

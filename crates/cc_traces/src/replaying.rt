@@ -1,12 +1,14 @@
 //! `replay`: the call for the trace of an allocator.
-ghost use Rattle.std.specs.Prelude.{◌≡◌, ◌≢◌, ◌≤◌, ◌^◌, ◌↔◌, false, true, Err, IsOk, None, OnOk};
+ghost use Rattle.std.specs.Prelude.{◌≡◌, ◌≢◌, ◌≤◌, ◌^◌, ◌↔◌, false, true, Err, IsErr, IsOk, None, OnErr, OnOk};
+ghost use Rattle.std.specs.Io.KnownBytes.{Appends};
 ghost use Rattle.cc_bounds.specs.Span.{IsSpan};
 ghost use Rattle.cc_heap.specs.Lost.{empty_run};
+ghost use Rattle.cc_io.specs.Devices.{TakesBeginning};
 ghost use Rattle.cc_replay.specs.Replay.{begun};
 ghost use Rattle.cc_devices.specs.Devices.{FromInput, OnDevices, OnOutput, Traffic};
 ghost use Rattle.cc_devices.specs.Input.{IsFile, file_input};
 ghost use Rattle.cc_traces.specs.ReplayTexts.{replay_in};
-ghost use Rattle.cc_traces.specs.Replaying.{ReplaysTrace, Samples, SumsUp, WithReplay, table_format};
+ghost use Rattle.cc_traces.specs.Replaying.{ReplaysTrace, Samples, SumsUp, WithReplay, end_text, summary_text, table_format};
 
 use crate::replay_texts::replay_of;
 use cc_arguments::{ReplayTexts, SummaryFormat};
@@ -14,14 +16,17 @@ use cc_bounds::Align;
 use cc_command::write_refusal;
 use cc_devices::{Discard, Fault, InputName, Inputs, file_input};
 use cc_gaps::GapPlacer;
-use cc_io::{FromReader, Sink, Source, Summary};
+use cc_io::{FromReader, IoError, Sink, Source, Summary};
 use cc_placer::Placer;
-use cc_replay::{Format, Progress, Reading, Replay, Settings, replay_trace, write_summary};
+use cc_replay::{
+    Format, Progress, Reading, Replay, Settings, replay_trace, write_sizes, write_summary,
+};
 
 /// The maximum number of bytes of a trace, more than any file or pipe gives.
 const MOST_REPLAYED: usize = 1 << 62;
 
-/// Replays the trace that FILE names on a heap with exact bounds, and writes the summary, or the series if `--each` is given.
+/// Replays the trace that FILE names on a heap with exact bounds, and writes the summary, or in place of it the table of sizes if
+/// `--sizes` is given, or the series if `--each` is. Both together are refused.
 /// The texts are read first. If one is refused, the output is that refusal, and nothing is read.
 ///
 /// The summary of the result has an error if a line of the trace is refused.
@@ -41,7 +46,7 @@ pub fn replay_file<R: AllocGlobal, I: Inputs, W: Sink>(
 ) -> Result<Summary, Fault>
     requires { W.has_failed sink.old ≡ false }
     ensures replays { OnOutput (I.bytes_of inputs.now) (W.taken_bytes sink.old) (W.taken_bytes sink.new)
-        (λ console. WithReplay align strict texts.entry console (λ settings reading. FromInput (file_input file.entry) console (ReplaysTrace format settings reading))) result }
+        (λ console. WithReplay align strict texts.entry console (λ settings reading. FromInput (file_input file.entry) console (ReplaysTrace texts.entry.sizes format settings reading))) result }
     ensures memory { result ≡ Err Fault.Memory → IsOk (replay_in align strict texts.entry) }
     ensures open { result ≡ Err Fault.Open → IsOk (replay_in align strict texts.entry) × IsFile (file_input file.entry) }
     ensures untouched { result ≡ Err Fault.Open → W.taken_bytes sink.new ≡ W.taken_bytes sink.old }
@@ -52,19 +57,29 @@ pub fn replay_file<R: AllocGlobal, I: Inputs, W: Sink>(
     match replay_of(align, strict, texts) {
         Ok((settings, reading)) => {
             let input = file_input(file);
-            replay(rt, settings, reading, format, inputs, input, sink)
+            replay(
+                rt,
+                settings,
+                reading,
+                texts.sizes,
+                format,
+                inputs,
+                input,
+                sink,
+            )
         }
         Err(refusal) => Ok(write_refusal(refusal, sink)?),
     }
 }
 
-/// Replays a trace on a heap of these settings, and writes the summary, or the series if samples are asked for.
+/// Replays a trace on a heap of these settings, and writes the summary or the table of sizes, or the series if samples are asked for.
 // not inlined, so that other commands do not touch the pages of its buffers on the stack
 #[inline(never)]
 fn replay<R: AllocGlobal, I: Inputs, W: Sink>(
     rt: &R,
     settings: Settings,
     reading: Reading,
+    sizes: bool,
     format: SummaryFormat,
     inputs: &I,
     input: InputName<'_>,
@@ -75,7 +90,7 @@ fn replay<R: AllocGlobal, I: Inputs, W: Sink>(
     requires pool { IsSpan settings.pool }
     requires sink { W.has_failed sink.old ≡ false }
     ensures replays { OnOutput (I.bytes_of inputs.now) (W.taken_bytes sink.old) (W.taken_bytes sink.new)
-        (λ console. FromInput input.entry console (ReplaysTrace format settings reading)) result }
+        (λ console. FromInput input.entry console (ReplaysTrace sizes format settings reading)) result }
     ensures open { result ≡ Err Fault.Open → IsFile input.entry }
     ensures untouched { result ≡ Err Fault.Open → W.taken_bytes sink.new ≡ W.taken_bytes sink.old }
     ensures starved { reading.each ≡ 0 → result ≡ Err Fault.Memory → W.taken_bytes sink.new ≡ W.taken_bytes sink.old }
@@ -85,14 +100,15 @@ fn replay<R: AllocGlobal, I: Inputs, W: Sink>(
     let mut replay: Replay<GapPlacer> = Replay::with_settings(rt.alloc(), settings, reading)?;
     let mut source = FromReader::with_limit(inputs.open(input)?, MOST_REPLAYED);
     if reading.each == 0 {
-        sum_up(format, &mut replay, &mut source, sink)
+        sum_up(sizes, format, &mut replay, &mut source, sink)
     } else {
         sample(&mut replay, &mut source, sink)
     }
 }
 
-/// Replays a trace, and writes the summary of its end.
+/// Replays a trace, and writes the text of its end.
 fn sum_up<P: Placer, S: Source, W: Sink>(
+    sizes: bool,
     format: SummaryFormat,
     replay: &mut Replay<P>,
     source: &mut S,
@@ -102,7 +118,7 @@ fn sum_up<P: Placer, S: Source, W: Sink>(
     requires sink { W.has_failed sink.old ≡ false }
     ensures sums_up { (traffic : Traffic) → traffic.unread ≡ S.to_come source.old → traffic.left ≡ S.to_come source.new
         → traffic.output ≡ W.taken_bytes sink.old → traffic.output_now ≡ W.taken_bytes sink.new
-        → OnDevices (SumsUp format replay.old traffic) result }
+        → OnDevices (SumsUp (end_text sizes format) replay.old traffic) result }
     ensures open { result ≢ Err Fault.Open }
     ensures starved { result ≡ Err Fault.Memory → W.taken_bytes sink.new ≡ W.taken_bytes sink.old }
     ensures read { (result ≡ Err Fault.Read) ↔ (S.has_failed source.new ≡ true) }
@@ -113,8 +129,46 @@ fn sum_up<P: Placer, S: Source, W: Sink>(
     if let Progress::OutOfMemory = replay.progress() {
         return Err(Fault::Memory);
     }
-    write_summary(&replay.figures(), table_format(format), sink)?;
+    write_end(sizes, format, replay, sink)?;
     Ok(summary)
+}
+
+/// Writes the table of sizes of a replay if it is asked for, and otherwise the summary.
+fn write_end<P: Placer, W: Sink>(
+    sizes: bool,
+    format: SummaryFormat,
+    replay: &Replay<P>,
+    sink: &mut W,
+) -> Result<(), IoError>
+    requires { W.has_failed sink.old ≡ false }
+    ensures ok { OnOk result (Appends (W.taken_bytes sink.old) (W.taken_bytes sink.new) (end_text sizes format replay.now)) }
+    ensures err { OnErr result (TakesBeginning (W.taken_bytes sink.old) (W.taken_bytes sink.new) (end_text sizes format replay.now)) }
+    ensures flushed { OnOk result (W.is_flushed sink.new ≡ true) }
+    ensures fails { IsErr result ↔ (W.has_failed sink.new ≡ true) }
+    ensures write { OnErr result (result ≡ Err IoError.Write) }
+{
+    if sizes {
+        write_sizes(replay.sizes(), table_format(format), sink)
+    } else {
+        write_figures(format, replay, sink)
+    }
+}
+
+/// Writes the summary of a replay.
+fn write_figures<P: Placer, W: Sink>(
+    format: SummaryFormat,
+    replay: &Replay<P>,
+    sink: &mut W,
+) -> Result<(), IoError>
+    requires { W.has_failed sink.old ≡ false }
+    ensures ok { OnOk result (Appends (W.taken_bytes sink.old) (W.taken_bytes sink.new) (summary_text format replay.now)) }
+    ensures err { OnErr result (TakesBeginning (W.taken_bytes sink.old) (W.taken_bytes sink.new) (summary_text format replay.now)) }
+    ensures flushed { OnOk result (W.is_flushed sink.new ≡ true) }
+    ensures fails { IsErr result ↔ (W.has_failed sink.new ≡ true) }
+    ensures write { OnErr result (result ≡ Err IoError.Write) }
+{
+    let table = table_format(format);
+    write_summary(&replay.figures(), table, sink)
 }
 
 /// Replays a trace, and writes its series.

@@ -2,6 +2,7 @@
 use Rattle.std.proofs.Common.{ℕ, Bool, true, false, cond, nat_eq, ◌≡◌, ◌+◌, ◌-◌, ◌<◌, ◌≤◌, ◌^◌, max, min, if◌then◌else◌, List, [], ◌∷◌, ◌++◌, Option, Some, None, IsNone, length, length-append, sum_by, arith, refl, sym, ap, subst, ◌∙◌, inl, inr, IsPermutation}
 use Rattle.std.specs.List.{AllByRecursion}
 use Rattle.std.specs.Map.{lookup}
+use Rattle.std.specs.Prelude.{MatchOption, option_and_then}
 use Rattle.std.proofs.lemmas.List.Sums.{sum_by-cons}
 use Rattle.std.proofs.lemmas.Bool.Decides.{nat_tests}
 use Rattle.cc_bounds.specs.declared.align.Align.{Align}
@@ -13,11 +14,14 @@ use Rattle.cc_heap.specs.declared.making.Making.{Making}
 use Rattle.cc_heap.specs.declared.making.Making.TheVariants.{Made, NoRoom, Full}
 use Rattle.cc_heap.specs.declared.object.Object.{Object}
 use Rattle.cc_heap.specs.declared.outcome.Outcome.{Outcome}
+use Rattle.cc_heap.specs.declared.reallocation.Reallocation.{Reallocation}
+use Rattle.cc_heap.specs.declared.reallocation.Reallocation.TheVariants.{Move}
 use Rattle.cc_heap.specs.declared.settings.Settings.{Settings}
 use Rattle.cc_heap.specs.Memory.{object_at}
 use Rattle.cc_heap.specs.Policy.{is_of_the_trace}
-use Rattle.cc_heap.specs.Heap.{Attempts, FreesObject, Heap, MakesObject, empty_heap, swept}
-use Rattle.cc_heap.specs.Events.{Allocates, AttemptsToReplace, FollowsPolicy, FollowsReplacing, Frees, FreesIfLive, IsEvent, Reallocates, Replaces, ReplacesLive, Tries, TriesToReplace}
+use Rattle.cc_heap.specs.Reallocation.{can_take, is_keep}
+use Rattle.cc_heap.specs.Heap.{Attempts, FreesObject, Heap, MakesObject, empty_heap, kept_object, object_under, swept}
+use Rattle.cc_heap.specs.Events.{Allocates, AttemptsToReplace, FollowsPolicy, FollowsReplacing, Frees, FreesIfLive, IsEvent, KeepsPlace, Reallocates, Remakes, Replaces, ReplacesLive, Tries, TriesToReplace}
 use Rattle.cc_heap.specs.Run.{Runs}
 use Rattle.cc_translation.specs.Changes.{AreChangesOf, Change, Changes}
 use Rattle.cc_translation.specs.Changes.Change.{Make as MakeOne, Free as FreeOne, Replace as ReplaceOne, Sweep as SweepAll}
@@ -308,16 +312,31 @@ replaces_live old new id requested size outcome once some aligned is =
     let first = tries_to_replace old is.tried id requested size is.making once some aligned is.tries in
     follow old is.tried new first (follows_replacing is.tried new id is.making first.once is.follows)
 
-reallocates : (old new : Heap) (from to requested size : ℕ) (outcome : Outcome) → AreOnce old → 0 < size
+remakes : (old new : Heap) (from to requested size : ℕ) (outcome : Outcome) → AreOnce old → 0 < size
     → requested ≤ unit_of old.settings.align size
-    → Reallocates old from to requested size outcome new → HasHistory old new
-reallocates old new from to requested size outcome once some aligned (inl (none, is)) =
+    → Remakes old from to requested size outcome new → HasHistory old new
+remakes old new from to requested size outcome once some aligned (inl (none, is)) =
     allocates old new to requested size is.told once some aligned is.allocates
-reallocates old new from to requested size outcome once some aligned (inr (live, inl (one, is))) =
+remakes old new from to requested size outcome once some aligned (inr (live, inl (one, is))) =
     replaces_live old new to requested size outcome once some aligned is
-reallocates old new from to requested size outcome once some aligned (inr (live, inr (two, is))) =
+remakes old new from to requested size outcome once some aligned (inr (live, inr (two, is))) =
     let first = allocates old is.made to requested size outcome once some aligned is.allocates in
     follow old is.made new first (frees is.made new from first.once is.frees)
+
+-- no object keeps its place if reallocations move objects
+reallocates : (old new : Heap) (from to requested size : ℕ) (outcome : Outcome) → AreOnce old → old.settings.realloc ≡ Move → 0 < size
+    → requested ≤ unit_of old.settings.align size
+    → Reallocates old from to requested size outcome new → HasHistory old new
+reallocates old new from to requested size outcome once moves some aligned is =
+    remakes old new from to requested size outcome once some aligned
+    (subst (λ (kept : Option Object). MatchOption kept (Remakes old from to requested size outcome new)
+    (λ object. KeepsPlace old from to object requested size outcome new)) none is)
+  where
+    none : kept_object old from requested size ≡ None
+    none =
+        ap (λ (r : Reallocation). if is_keep r
+        then option_and_then (λ object. if can_take old.settings.align requested size object.span then Some object else None) (object_under old from)
+        else None) moves
 
 asked : (old new : Heap) (of_trace : Bool) → AreOnce old → new ≡ (if of_trace then swept old else old)
     → HasHistory old new
@@ -328,30 +347,30 @@ asked old new false once is = same old new once is
 some_size : (size : ℕ) → 0 < max size 1
 some_size size = omega arith
 
-event : (old new : Heap) (event : Event) (outcome : Outcome) → AreOnce old → AsksForUnit old.settings.align event
+event : (old new : Heap) (event : Event) (outcome : Outcome) → AreOnce old → old.settings.realloc ≡ Move → AsksForUnit old.settings.align event
     → IsEvent old event outcome new → HasHistory old new
-event old new (Allocate id size align) outcome once aligned is =
+event old new (Allocate id size align) outcome once moves aligned is =
     allocates old new id align (max size 1) outcome once (some_size size) aligned is
-event old new (Clear id size) outcome once aligned is =
+event old new (Clear id size) outcome once moves aligned is =
     allocates old new id 1 (max size 1) outcome once (some_size size) (unit-some old.settings.align (max size 1)) is
-event old new (Reallocate from to size) outcome once aligned is =
-    reallocates old new from to 1 (max size 1) outcome once (some_size size) (unit-some old.settings.align (max size 1)) is
-event old new (Free id) outcome once aligned is = frees_if_live old new id is.is_live once is.frees
-event old new Sweep outcome once aligned (is, told) = asked old new (is_of_the_trace old.settings.policy) once is
-event old new (Clock time) outcome once aligned (is, told) = same old new once is
+event old new (Reallocate from to size) outcome once moves aligned is =
+    reallocates old new from to 1 (max size 1) outcome once moves (some_size size) (unit-some old.settings.align (max size 1)) is
+event old new (Free id) outcome once moves aligned is = frees_if_live old new id is.is_live once is.frees
+event old new Sweep outcome once moves aligned (is, told) = asked old new (is_of_the_trace old.settings.policy) once is
+event old new (Clock time) outcome once moves aligned (is, told) = same old new once is
 
 -- the changes of events
 record HasRun (old : Heap) (events : List Event) (new : Heap) : Type 0 where
   history : HasHistory old new
   of_events : AreChangesOf old events history.changes new
 
-runs : (old new : Heap) (events : List Event) → AreOnce old
+runs : (old new : Heap) (events : List Event) → AreOnce old → old.settings.realloc ≡ Move
     → AllByRecursion (AsksForUnit old.settings.align) events → Runs old events new → HasRun old events new
 unfolding same event follow
-runs old new [] once all is = record { history = same old new once is; of_events = (refl, is) }
-runs old new (first ∷ events) once (aligned, all) (outcome, next, is, rest) =
-    let history = event old next first outcome once aligned is in
-    let others = runs next new events history.once
+runs old new [] once moves all is = record { history = same old new once is; of_events = (refl, is) }
+runs old new (first ∷ events) once moves (aligned, all) (outcome, next, is, rest) =
+    let history = event old next first outcome once moves aligned is in
+    let others = runs next new events history.once (ap (λ (s : Settings). s.realloc) history.settings ∙ moves)
     (subst (λ (s : Settings). AllByRecursion (AsksForUnit s.align) events) (sym history.settings) all) rest in
     record {
       history = follow old next new history others.history;
@@ -369,13 +388,13 @@ runs old new (first ∷ events) once (aligned, all) (outcome, next, is, rest) =
 
 -- ---- the law
 
-pub has_changes : (settings : Settings) (events : List Event) (heap : Heap)
+pub has_changes : (settings : Settings) (events : List Event) (heap : Heap) → settings.realloc ≡ Move
     → AllByRecursion (AsksForUnit settings.align) events → Runs (empty_heap settings) events heap
     → HasChanges settings events heap
-has_changes settings events heap all run =
+has_changes settings events heap moves all run =
     let few : 0 ≤ 1 = omega arith in
     let least : 0 ≤ 2 ^ 64 - 1 = omega arith in
-    let whole = runs (empty_heap settings) heap events (λ id. few) all run in
+    let whole = runs (empty_heap settings) heap events (λ id. few) moves all run in
     let made : heap.totals.made ≡ min (0 + length (objects_made whole.history.changes)) (2 ^ 64 - 1) =
     whole.history.made least in
     record {

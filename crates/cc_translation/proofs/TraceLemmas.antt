@@ -7,6 +7,7 @@ use Rattle.cc_machine.specs.State.{State, initial_state}
 use Rattle.cc_machine.specs.Run.{Run}
 use Rattle.cc_syntax.specs.Planning.{plan_opening}
 use Rattle.cc_heap.specs.declared.event.Event.{Event}
+use Rattle.cc_heap.specs.declared.reallocation.Reallocation.TheVariants.{Move}
 use Rattle.cc_heap.specs.declared.settings.Settings.{Settings}
 use Rattle.cc_heap.specs.Heap.{Heap, empty_heap}
 use Rattle.cc_heap.specs.Run.{Runs}
@@ -19,11 +20,12 @@ pub translated : (limit base size : ℕ) (settings : Settings) (events : List Ev
     → settings.pool ≡ span_from base size
     → Run (initial_state limit) (plan_opening base size settings.align) opening opened
     → AllByRecursion IsAccepted opening
+    → settings.realloc ≡ Move
     → AllByRecursion (AsksForUnit settings.align) events → Runs (empty_heap settings) events heap
     → limit ≤ 65536 → heap.totals.made + 3 ≤ limit
     → IsTranslated settings events heap opened
-translated limit base size settings events heap opening opened pool_is opens accepted aligned runs few fits =
-    let has = has_changes settings events heap aligned runs in
+translated limit base size settings events heap opening opened pool_is opens accepted moves aligned runs few fits =
+    let has = has_changes settings events heap moves aligned runs in
     let made = has.made in
     let many : length (objects_made has.changes) + 3 ≤ limit = omega (arith, made, few, fits) in
     record {

@@ -7,6 +7,7 @@ ghost use Rattle.cc_syntax.specs.Planning.{plan_opening};
 ghost use Rattle.cc_machine.specs.State.{State, initial_state};
 ghost use Rattle.cc_machine.specs.Run.{Run};
 ghost use Rattle.cc_heap.specs.declared.event.Event.{Event};
+ghost use Rattle.cc_heap.specs.declared.reallocation.Reallocation.TheVariants.{Move};
 ghost use Rattle.cc_heap.specs.declared.settings.Settings.{Settings};
 ghost use Rattle.cc_heap.specs.Heap.{Heap, empty_heap};
 ghost use Rattle.cc_heap.specs.Run.{Runs};
@@ -36,14 +37,16 @@ pub fn machines_place_like_heaps()
 ///
 /// It holds for every run of events from a heap that held nothing, whatever its policy, and whatever
 /// ids are unknown or live. An object that has no place is not made by the heap, and has no operation.
-/// No event may ask for a larger alignment than the unit of its size, and the objects that are made
-/// must have slots. [`machines_place_like_heaps`] says it of the changes alone, and by
+/// Reallocations move objects, since no operation of a machine changes the size of an object in its
+/// place. No event may ask for a larger alignment than the unit of its size, and the objects that are
+/// made must have slots. [`machines_place_like_heaps`] says it of the changes alone, and by
 /// [`every_run_has_an_outcome`](cc_machine::every_run_has_an_outcome) the machine has such a run.
 pub fn traces_are_placed_alike()
     ensures { (limit base size : ℕ) (settings : Settings) (events : List Event) (heap : Heap)
         (opening : List Reply) (opened : State)
         → settings.pool ≡ span_from base size
         → Run (initial_state limit) (plan_opening base size settings.align) opening opened → AllByRecursion IsAccepted opening
+        → settings.realloc ≡ Move
         → AllByRecursion (AsksForUnit settings.align) events → Runs (empty_heap settings) events heap
         → limit ≤ 65536 → heap.totals.made + 3 ≤ limit
         → IsTranslated settings events heap opened }

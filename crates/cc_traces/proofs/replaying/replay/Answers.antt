@@ -5,7 +5,7 @@ use Rattle.cc_traces.proofs.replaying.replay.Goals as goal
 pub returns-then-reading-eq0-clause-replays : goal.returns-then-reading-eq0-clause-replays
 returns-then-reading-eq0-clause-replays g c = λ errors errors_now errors_failed.
     let none : c.args.reading.each ≡ 0 = search rules in
-    sums_up_input c.args.format c.args.settings c.args.reading c.in_ok-replay.replay c.args.input
+    sums_up_input c.args.sizes c.args.format c.args.settings c.args.reading c.in_ok-replay.replay c.args.input
     (record {
       input = g.I.Inputs.bytes_of c.args.inputs.now;
       output = g.W.Sink.taken_bytes c.args.sink.now;
@@ -20,7 +20,7 @@ returns-then-reading-eq0-clause-replays g c = λ errors errors_now errors_failed
 pub returns-clause-replays : goal.returns-clause-replays
 returns-clause-replays g c = λ errors errors_now errors_failed.
     let some : c.args.reading.each ≢ 0 = search rules in
-    samples_input c.args.format c.args.settings c.args.reading c.in_ok-replay.replay c.args.input
+    samples_input c.args.sizes c.args.format c.args.settings c.args.reading c.in_ok-replay.replay c.args.input
     (record {
       input = g.I.Inputs.bytes_of c.args.inputs.now;
       output = g.W.Sink.taken_bytes c.args.sink.now;
