@@ -1,5 +1,5 @@
 -- The contents of a `Set`: the exponent and the fields of a sound span.
-use Rattle.std.proofs.Common.{subst, ◌≡◌, ℕ, ◌+◌, ◌-◌, ◌*◌, ◌<◌, ◌≤◌, ◌/◌, ◌%◌, ◌^◌, sym, ◌∙◌, ap, arith, inl, inr, nat_lt, bit_and}
+use Rattle.std.proofs.Common.{refl, subst, ◌≡◌, ℕ, ◌+◌, ◌-◌, ◌*◌, ◌<◌, ◌≤◌, ◌/◌, ◌%◌, ◌^◌, sym, ◌∙◌, ap, arith, inl, inr, nat_lt, bit_and}
 use Rattle.std.proofs.Math.Nat.{div-add-mod', mul-le-mul_right, mul-add-div_right, mul-add-mod_self_right}
 use Rattle.std.proofs.lemmas.Nat.{pow_pos, pow-add, shl-shr, and_mask}
 use Rattle.std.proofs.lemmas.Bool.{cases_lt}
@@ -7,7 +7,7 @@ use Rattle.cc_bounds.specs.declared.span.Span.{Span}
 use Rattle.cc_bounds.specs.Span.{IsSpan, length_of}
 use Rattle.cc_bounds.specs.Granule.{IsGranule, IsExponent, rounded_to, IsGranted, IsSound, exponent_of}
 use Rattle.cc_bounds.specs.Encoding.{ie_of, t_of, b_of, IsEncoding}
-use Rattle.cc_bounds.proofs.GranuleLemmas.{least_same, exponent-least, power-exponent}
+use Rattle.cc_bounds.proofs.GranuleLemmas.{granted_same, least_same, exponent-least, power-exponent}
 use Rattle.cc_bounds.proofs.SoundLemmas.{granted-long, granted-sound}
 use Rattle.cc_bounds.proofs.ComputingLemmas.{exponent_of-is, exponent-exponent_of, exponent_of-short}
 
@@ -137,6 +137,17 @@ encoded request granted power e t b is_span is_rounded is_granule small large is
           | inl short ↦ let z = small short in let s = grant.as_short short in grind (arith, z, s)
           | inr long ↦ let z = large long in let s = grant.as_long long in grind (arith, z, s)
         ]
+
+-- likewise for a sound span, which is its own granted span
+pub sound-encoded : (span : Span) (power e t b : ℕ) → IsSpan span → IsSound span
+    → IsGranule span (2 ^ power) → (length_of span < 4096 → power ≡ 0) → (4096 ≤ length_of span → 3 ≤ power)
+    → e ≡ power - 3 → t ≡ span.top / 2 ^ e % 2 ^ 12 + e / 8 → b ≡ span.base / 2 ^ e % 2 ^ 14 + e % 8
+    → IsEncoding span e (nat_lt 0 power) t b
+sound-encoded span power e t b is_span sound is_granule small large is stored_t stored_b =
+    let granted : IsGranted span (rounded_to (2 ^ power) span) =
+    record { granule = 2 ^ power; is_granule = is_granule; is_rounded = refl } in
+    let same : span ≡ rounded_to (2 ^ power) span = granted_same span span (rounded_to (2 ^ power) span) sound granted in
+    encoded span span power e t b is_span same is_granule small large is stored_t stored_b
 
 -- up to exponent 52 the twelve bits of a number from bit `exponent` up are bits of its low 64
 low_bits_shifted : (n exponent : ℕ) → exponent ≤ 52 → n % 2 ^ 64 / 2 ^ exponent % 2 ^ 12 ≡ n / 2 ^ exponent % 2 ^ 12

@@ -84,6 +84,21 @@ impl Set {
         }
     }
 
+    /// Returns the encoding of a sound span, which is exact: the result of setting bounds to the
+    /// span.
+    ///
+    /// Nothing is rounded, so it takes fewer instructions than [`set_bounds`].
+    ///
+    /// Requires: the span is sound.
+    #[inline(always)]
+    pub fn of_sound(span: Span) -> Set
+        requires is_span { IsSpan span }
+        requires sound { IsSound span }
+        ensures { result ≡ record { granted = span; exact = true } }
+    {
+        sound_encoding(span)
+    }
+
     /// Returns the exponent E, from 0 to 52.
     ///
     /// The granule is 2^(E+3) bytes if [`Set::ie`] is true, otherwise 1 byte.
@@ -191,6 +206,28 @@ fn stored_encoding(fields: &Fields, span: Span) -> Set
         b: fields.b,
         exponent: exponent(fields),
         ie: fields.ie,
+        exact: true,
+    }
+}
+
+/// Returns the encoding of a sound span.
+#[inline(always)]
+fn sound_encoding(span: Span) -> Set
+    requires is_span { IsSpan span }
+    requires sound { IsSound span }
+    ensures { result ≡ record { granted = span; exact = true } }
+{
+    let power = granule_power(&span);
+    let exponent = power.saturating_sub(3);
+    let t = t_field(&span, exponent);
+    let b = b_field(&span, exponent);
+    Set {
+        top: span.top,
+        base: span.base,
+        t,
+        b,
+        exponent: exponent as u8,
+        ie: power > 0,
         exact: true,
     }
 }

@@ -1,7 +1,7 @@
 -- The encodings that a `Cap` keeps.
-use Rattle.std.proofs.Common.{ℕ, ◌≡◌, ◌+◌, ◌^◌, ◌≤◌, ◌↔◌, IsTrue, refl, inr, subst, arith}
+use Rattle.std.proofs.Common.{ℕ, ◌≡◌, ◌+◌, ◌^◌, ◌≤◌, ◌↔◌, IsTrue, true, Ok, refl, inl, inr, ap, sym, subst, arith}
 use Rattle.cc_bounds.specs.declared.span.Span.{Span}
-use Rattle.cc_bounds.specs.Span.{IsSpan, IsWithin, from_zero}
+use Rattle.cc_bounds.specs.Span.{IsSpan, IsWithin, from_zero, length_of, span_from}
 use Rattle.cc_bounds.specs.Granule.{IsGranted, IsSound, granted_span}
 use Rattle.cc_bounds.specs.Encoding.{Encoding}
 use Rattle.cc_bounds.proofs.GranuleLemmas.{granted_same}
@@ -10,8 +10,8 @@ use Rattle.cc_bounds.proofs.SoundDecodingLemmas.{inside-Represents}
 use Rattle.cc_bounds.proofs.ComputingLemmas.{granted_span-is}
 use Rattle.cc_bounds.proofs.TightestLemmas.{granted-tight}
 use Rattle.cc_cap.specs.Cap.{IsEncodingFor}
-use Rattle.cc_cap.specs.Capability.{Capability, IsCapability, IsUnsealed, root_capability}
-use Rattle.cc_cap.specs.Derivation.{request_of}
+use Rattle.cc_cap.specs.Capability.{Capability, IsCapability, IsUnsealed, at_address, root_capability, with_span}
+use Rattle.cc_cap.specs.Derivation.{SetsAddress, SetsExactBounds, request_of}
 use Rattle.cc_cap.proofs.DerivationLemmas.{IsGranted-within}
 
 -- what the encoding of a request within the bounds of a capability is
@@ -38,6 +38,61 @@ IsEncodingFor-made cap length set is_cap unsealed base top granted exact =
       holds_address =
           inside-Represents set.granted cap.address sound.is_span sound.sound covers.from_base (omega (arith, covers.to_top));
     }
+
+-- ---- a span within the bounds of a capability
+
+-- the capability with the address at the start of a sound span, and the bounds of the span, can exist
+pub carved-IsCapability : (cap : Capability) (span : Span) → IsCapability cap → IsSpan span → IsSound span
+    → IsCapability (with_span (at_address cap span.base) span)
+carved-IsCapability cap span is_cap is_span sound = record {
+  is_span = is_span;
+  sound = sound;
+  address_fits = is_span.base_fits;
+  representable = inside-Represents span span.base is_span sound (omega arith) is_span.in_order;
+  permissions_fit = is_cap.permissions_fit;
+  is_type = is_cap.is_type;
+}
+
+-- bounds of the length of a span from its base on are the span
+span_from-length : (span : Span) → IsSpan span → span_from span.base (length_of span) ≡ span
+span_from-length span is_span =
+    let top : span.base + length_of span ≡ span.top = omega (arith, is_span.in_order) in
+    λ i. record { base = span.base; top = top i }
+
+-- it is the result of setting the address, and then exact bounds
+pub carved-is_derived : (cap : Capability) (span : Span) → IsCapability cap → IsUnsealed cap → IsWithin span cap.span
+    → IsSpan span → IsSound span
+    → SetsAddress cap span.base (Ok (at_address cap span.base))
+      × SetsExactBounds (at_address cap span.base) (length_of span) (Ok (with_span (at_address cap span.base) span))
+carved-is_derived cap span is_cap unsealed within is_span sound =
+    let request = span_from-length span is_span in
+    (
+      inl (
+        unsealed,
+        inl (
+          inside-Represents cap.span span.base is_cap.is_span is_cap.sound within.from_base
+              (omega (arith, is_span.in_order, within.to_top)),
+          refl,
+        ),
+      ),
+      inl (
+        unsealed,
+        inl (
+          subst (λ (request : Span). IsWithin request cap.span) (sym request) within,
+          inl (
+            subst IsSound (sym request) sound,
+            ap (λ (made : Capability). Ok made) (λ i. with_span (at_address cap span.base) (sym request i)),
+          ),
+        ),
+      ),
+    )
+
+-- the capability with the granted span of the encoding of a span
+pub carved-made : (cap : Capability) (span : Span) (set : Encoding) → set ≡ record { granted = span; exact = true }
+    → with_span (at_address cap span.base) span ≡ record cap { span = set.granted; address = span.base }
+carved-made cap span set is =
+    let granted : set.granted ≡ span = ap (λ (set : Encoding). set.granted) is in
+    λ i. record cap { span = sym granted i; address = span.base }
 
 -- ---- the whole address space
 

@@ -63,10 +63,12 @@ impl Eq for Cap {
 }
 
 impl Cap {
-    ghost use Rattle.std.specs.Prelude.{ℕ, false, ◌≡◌, ◌↔◌, ◌≤◌, ◌^◌, IsTrue, IfOk, MatchOption, MatchResult};
+    ghost use Rattle.std.specs.Prelude.{ℕ, false, ◌≡◌, ◌↔◌, ◌≤◌, ◌^◌, IsTrue, IfOk, Ok, MatchOption, MatchResult};
+    ghost use Rattle.cc_bounds.specs.Granule.{IsSound};
+    ghost use Rattle.cc_bounds.specs.Span.{IsSpan, IsWithin, length_of};
     ghost use Rattle.cc_bounds.specs.Encoding.{ie_of, t_of, b_of};
     ghost use Rattle.cc_cap.specs.Cap.{IsEncodingFor, IsRefusedBounds, ChecksAuthority};
-    ghost use Rattle.cc_cap.specs.Capability.{Capability, IsCapability, IsSealed, IsUnsealed, GrantsNoMore, root_capability};
+    ghost use Rattle.cc_cap.specs.Capability.{Capability, IsCapability, IsSealed, IsUnsealed, GrantsNoMore, at_address, root_capability, with_span};
     ghost use Rattle.cc_cap.specs.Canonical.{IsWordOf, IsCanonical, word_of_capability};
     ghost use Rattle.cc_cap.specs.Reach.{IsReachable};
     ghost use Rattle.cc_cap.specs.Derivation.{SetsAddress, Increments, SetsBounds, SetsExactBounds, MasksPermissions, SetsFlag, Seals, Unseals, Rebuilds};
@@ -156,6 +158,32 @@ impl Cap {
             return Err(Refusal::Inexact);
         }
         Ok(Cap { set, ..*self })
+    }
+
+    /// Returns this capability with its address at the start of a span, and exactly the bounds of
+    /// the span.
+    ///
+    /// It is the result of [`Cap::set_address`] and then of [`Cap::set_bounds_exact`]. Neither
+    /// refuses such a span, so nothing is tested.
+    ///
+    /// Requires: the capability is unsealed; the span is sound, and within the bounds.
+    /// Instructions: CSetAddr and CSetBoundsExact.
+    #[inline(always)]
+    pub fn carve(&self, span: Span) -> Cap
+        requires unsealed { IsUnsealed self.now }
+        requires in_bounds { IsWithin span self.now.span }
+        requires is_span { IsSpan span }
+        requires sound { IsSound span }
+        ensures made { result ≡ with_span (at_address self.now span.base) span }
+        ensures derived { SetsAddress self.now span.base (Ok (at_address self.now span.base))
+            × SetsExactBounds (at_address self.now span.base) (length_of span) (Ok result) }
+        ensures monotonic { GrantsNoMore result self.now }
+    {
+        Cap {
+            set: Set::of_sound(span),
+            address: span.base,
+            ..*self
+        }
     }
 
     /// Returns this capability with the permissions that are also in the mask.

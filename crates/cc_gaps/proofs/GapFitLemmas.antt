@@ -1,10 +1,10 @@
 -- The first start that fits a gap: among the gaps of a block, and among the gaps of blocks.
-use Rattle.std.proofs.Common.{ℕ, ◌≡◌, ◌%◌, ◌<◌, ◌≤◌, Some, None, List, length, get_or, arith, sym, ap, ◌∙◌, inl, inr}
+use Rattle.std.proofs.Common.{ℕ, ◌≡◌, ◌+◌, ◌%◌, ◌<◌, ◌≤◌, Some, None, List, length, get_or, arith, sym, ap, ◌∙◌, inl, inr}
 use Rattle.std.proofs.lemmas.Bool.{cases_eq, cases_lt}
 use Rattle.std.proofs.lemmas.List.{get_or_default}
 use Rattle.cc_bounds.specs.declared.span.Span.{Span}
 use Rattle.cc_bounds.specs.Span.{IsWithin, span_from}
-use Rattle.cc_gaps.specs.Fit.{IsFit, IsLeastFit}
+use Rattle.cc_gaps.specs.Fit.{AreShort, IsFit, IsLeastFit}
 use Rattle.cc_gaps.specs.Gaps.{AreGaps, FitsGap, IsFirstFit}
 
 -- ---- Among the gaps of a block.
@@ -27,6 +27,15 @@ tops_rise gaps i j d are low within =
 abbrev pub NoneBefore : List Span → (to size align : ℕ) → Type 0
 NoneBefore gaps to size align =
     (k : ℕ) (d : Span) → k < to → IsFit (get_or gaps k d).base (get_or gaps k d).top size align None
+
+-- nor has one that is too short
+pub none_short : (gaps : List Span) (from at less align : ℕ) → NoneBefore gaps from (less + 1) align
+    → AreShort gaps from at less → NoneBefore gaps at (less + 1) align
+none_short gaps from at less align none short k d low =
+    elim (cases_lt k from) [
+      | inl before ↦ none k d before
+      | inr after ↦ λ other from_base _. omega (arith, short k d after low, from_base)
+    ]
 
 pub none_fit : (gaps : List Span) (to size align : ℕ) → length gaps ≤ to → NoneBefore gaps to size align
     → IsFirstFit gaps size align None

@@ -1,9 +1,9 @@
 //! A block of gaps, in the order of their addresses.
-ghost use Rattle.std.specs.Prelude.{◌≡◌, ◌↔◌, ◌+◌, ◌-◌, ◌<◌, ◌≤◌, ◌^◌, ◌∷◌, ◌++◌, ℕ, [], length, insert, remove, slice_set, All, Some, None, Option, option_map};
+ghost use Rattle.std.specs.Prelude.{◌≡◌, ◌↔◌, ◌+◌, ◌-◌, ◌<◌, ◌≤◌, ◌^◌, ◌∷◌, ◌++◌, ℕ, [], length, insert, remove, slice_set, All, Some, None, IfNone, IfSome, IsTrue, Option, option_map};
 ghost use Rattle.std.specs.List.{slice_index_or};
 ghost use Rattle.cc_bounds.specs.declared.span.Span.{Span as SpanSpec};
 ghost use Rattle.cc_placer.specs.PlacerState.{IsSomeBytes};
-ghost use Rattle.cc_gaps.specs.Fit.{IsFit};
+ghost use Rattle.cc_gaps.specs.Fit.{AreShort, IsFit};
 ghost use Rattle.cc_gaps.specs.Gaps.{AreGaps, IsFirstFit};
 ghost use Rattle.cc_gaps.specs.GapRow.{IsAtMost};
 
@@ -19,11 +19,12 @@ pub(crate) const MOST_GAPS: usize = 64;
 /// The number of gaps in each half of a full block.
 pub(crate) const HALF: usize = 32;
 
-/// A gap of one or more bytes, in 16 bytes: the addresses of its first and of its last byte.
+/// A gap of one or more bytes, in 16 bytes: the address of its first byte, and the number of its
+/// bytes except one, which is all that a search reads of a gap that is too short.
 #[derive(Clone, Copy, Default)]
 struct Gap {
     base: u64,
-    last: u64,
+    less: u64,
 }
 
 impl Model for Gap {
@@ -32,11 +33,11 @@ impl Model for Gap {
 
     ghost Value = { Span };
 
-    ghost view = { λ gap. record { base = gap.base; top = gap.last + 1 } };
+    ghost view = { λ gap. record { base = gap.base; top = gap.base + gap.less + 1 } };
 
-    ghost invariant = { λ gap. gap.base ≤ gap.last };
+    ghost invariant = { λ gap. gap.base + gap.less < 2 ^ 64 };
 
-    ghost inverse = { λ span. record { base = span.base; last = span.top - 1 } };
+    ghost inverse = { λ span. record { base = span.base; less = span.top - 1 - span.base } };
 }
 
 impl Gap {
@@ -46,7 +47,7 @@ impl Gap {
     {
         Gap {
             base: span.base,
-            last: (span.top - 1) as u64,
+            less: (span.top - 1) as u64 - span.base,
         }
     }
 
@@ -57,7 +58,7 @@ impl Gap {
     {
         Span {
             base: self.base,
-            top: u128::from(self.last) + 1,
+            top: u128::from(self.last()) + 1,
         }
     }
 
@@ -66,7 +67,7 @@ impl Gap {
     fn last(self) -> u64
         ensures value { result + 1 ≡ self.top }
     {
-        self.last
+        self.base + self.less
     }
 
     /// Returns the number of bytes except one.
@@ -74,7 +75,7 @@ impl Gap {
     fn less(self) -> u64
         ensures value { self.base + result + 1 ≡ self.top }
     {
-        self.last - self.base
+        self.less
     }
 
     /// Returns the lowest start at a multiple of `align` of one byte more than `less`.
@@ -245,10 +246,45 @@ fn fit_among(gaps: &[Gap], less: u64, align: u64) -> Option<(u64, usize)>
     requires aligned { 0 < align }
     ensures { IsFirstFit gaps.now (less + 1) align (option_map (λ found. found.0) result) }
 {
-    for (at, gap) in gaps.iter().enumerate() {
-        if let Some(start) = gap.fit(less, align) {
+    let mut from = 0;
+    'long: while let Some(at) = long_from(gaps, from, less) {
+        if let Some(start) = gaps[at].fit(less, align) {
             return Some((start, at));
+        }
+        from = at + 1;
+    }
+    None
+}
+
+/// Returns the position of the first gap, from a position on, of at least one byte more than `less`.
+///
+/// It skips four short gaps in a step.
+#[inline(always)]
+fn long_from(gaps: &[Gap], from: usize, less: u64) -> Option<usize>
+    requires { from ≤ length gaps.now }
+    ensures found { IfSome result (λ at. (from ≤ at) × (at < length gaps.now) × AreShort gaps.now from at less) }
+    ensures none { IfNone result (AreShort gaps.now from (length gaps.now) less) }
+{
+    let mut start = from;
+    'fours: while gaps.len() - start >= 4 && are_short(gaps, start, less) {
+        start += 4;
+    }
+    for at in start..gaps.len() {
+        if gaps[at].less() >= less {
+            return Some(at);
         }
     }
     None
+}
+
+/// Returns whether each of four gaps from a position on is shorter than one byte more than `less`.
+#[inline(always)]
+fn are_short(gaps: &[Gap], from: usize, less: u64) -> bool
+    requires { from + 4 ≤ length gaps.now }
+    ensures { IsTrue result → AreShort gaps.now from (from + 4) less }
+{
+    gaps[from].less() < less
+        && gaps[from + 1].less() < less
+        && gaps[from + 2].less() < less
+        && gaps[from + 3].less() < less
 }

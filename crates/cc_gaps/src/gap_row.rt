@@ -182,6 +182,7 @@ impl GapRow {
 
     /// Returns the lowest start at a multiple of `align` of `len` bytes in a gap, and the place of
     /// the gap. `None` if there is none.
+    #[inline(always)]
     pub(crate) fn first_fit(&self, len: u128, align: u64) -> Option<(u64, Place)>
         requires some { 0 < len }
         requires aligned { 0 < align }
@@ -324,6 +325,7 @@ fn remove_in(blocks: &mut GapBlocks, heads: &mut Heads, block: usize, at: usize)
 }
 
 /// Inserts a gap at a position in a block that is not full.
+#[inline(always)]
 fn insert_in(blocks: &mut GapBlocks, heads: &mut Heads, block: usize, at: usize, gap: Span)
     requires headed { AreHeaded blocks.old.blocks heads.old.heads }
     requires within { block < length blocks.old.blocks }
@@ -392,6 +394,7 @@ fn less(gap: Span) -> u64
 }
 
 /// Inserts a gap before the one at a place, given that one more block fits.
+#[inline(always)]
 fn insert_with_room(blocks: &mut GapBlocks, heads: &mut Heads, block: usize, at: usize, gap: Span)
     requires headed { AreHeaded blocks.old.blocks heads.old.heads }
     requires place { IsPlaceAt blocks.old.blocks block at }

@@ -3,7 +3,7 @@ use Rattle.std.proofs.Common.{ℕ, suc, ◌≡◌, ◌+◌, ◌*◌, ◌/◌, �
 use Rattle.std.specs.Int.{div_ceil}
 use Rattle.std.proofs.lemmas.Nat.{and_mask, pow_pos}
 use Rattle.std.proofs.Math.Pow.{pow_mono}
-use Rattle.std.proofs.Math.Nat.{pow-suc, div-add-mod, mul-mod_left, mul-suc, lt_of_mul-lt-mul_left, mul-le-mul_left}
+use Rattle.std.proofs.Math.Nat.{pow-suc, div-add-mod, mul-mod_left, mod-lt, mul-suc, mul_comm, lt_of_mul-lt-mul_left, mul-le-mul_left}
 use Rattle.cc_bounds.proofs.GranuleLemmas.{div_ceil-lt, le-div_ceil}
 use Rattle.cc_bounds.specs.declared.span.Span.{Span}
 use Rattle.cc_bounds.specs.Span.{SharesByte, span_from}
@@ -18,6 +18,26 @@ masked n align power fits is =
     let pos = pow_pos power in
     let e : 1 * 2 ^ power % 2 ^ 64 ≡ 2 ^ power = omega (arith, p, q, pos) in
     rw (is, e) (and_mask n power)
+
+-- a multiple from n up, less than `align` above n
+pub record IsNextMultiple (n align multiple : ℕ) : Type 0 where
+  pub aligned : multiple % align ≡ 0
+  pub from : n ≤ multiple
+  pub near : multiple < n + align
+
+-- the number `align - 1` above n is one, without its remainder
+pub without_remainder : (n align unit : ℕ) → 0 < align → unit ≡ align
+    → IsNextMultiple n align (n + (unit - 1) - (n + (unit - 1)) % unit)
+without_remainder n align unit some is =
+    let end : ℕ = n + (align - 1) in
+    let whole = div-add-mod end align in
+    let below = mod-lt end some in
+    let multiple : end - end % align ≡ end / align * align = omega (arith, whole, mul_comm align (end / align)) in
+    rw is (record {
+      aligned = rw multiple (mul-mod_left (end / align) align);
+      from = omega (arith, below, some);
+      near = omega (arith, some);
+    })
 
 -- a multiple less than `align` above n is at most each multiple from n up
 pub least_multiple : (align n multiple other : ℕ) → 0 < align → multiple % align ≡ 0 → other % align ≡ 0

@@ -12,5 +12,7 @@ pub fn round_up(n: u128, align: u64) -> u128
     ensures value { result ≡ div_ceil n align * align }
     ensures least { (other : ℕ) → n ≤ other → other % align ≡ 0 → result ≤ other }
 {
-    n.next_multiple_of(u128::from(align))
+    let align = u128::from(align);
+    let end = n + (align - 1);
+    end - end % align
 }
