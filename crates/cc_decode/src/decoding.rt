@@ -12,7 +12,9 @@ use crate::decoder::{Decoder, PlainDecoder};
 use crate::options::Options;
 use crate::skipping::skip;
 use crate::writers::{Batch, ROOM};
-use cc_io::{Answerer, Blocks, Failed, Format, InputForm, IoError, Lines, Sink, Source, Summary, pump};
+use cc_io::{
+    Answerer, Blocks, Failed, Format, InputForm, IoError, Lines, Sink, Source, Summary, pump,
+};
 
 /// Writes the header of the format, and then the reply to each entry of the input that the source
 /// gives. An entry is a line, or a block of 16 bytes.
