@@ -5,7 +5,7 @@ ghost use Rattle.std.specs.Int.{IsPowerOfTwo};
 ghost use Rattle.cc_heap.specs.Memory.{IsSound, held_spans, usage_of};
 ghost use Rattle.cc_heap.specs.Totals.{with_usage};
 ghost use Rattle.cc_heap.specs.Heap.{Attempts, MustSweep, empty_heap, object_under, swept, swept_memory};
-ghost use Rattle.cc_heap.specs.Events.{Allocates, AttemptsToReplace, FollowsPolicy, FollowsReplacing, FreesIfLive, FreesOrNot, HasAlignment, IsEvent, Moves, Reallocates, ReplacesLive, Tries, TriesToReplace, outcome_of, swept_if_asked};
+ghost use Rattle.cc_heap.specs.Events.{Allocates, AttemptsToReplace, FollowsPolicy, FailsInEvent, FailsToMake, FailsToReallocate, FollowsReplacing, FreesIfLive, FreesOrNot, HasAlignment, IsEvent, IsSweptOrNot, Moves, Reallocates, ReplacesLive, Tries, TriesToReplace, outcome_of, swept_if_asked};
 ghost use Rattle.cc_heap.specs.Run.{Runs};
 ghost use Rattle.cc_heap.specs.HeapState.{PutsOver, QuarantinesLive, ReleasesLast, Settles};
 
@@ -132,11 +132,13 @@ impl<P: Placer> Heap<P> {
     /// Takes one event.
     ///
     /// Requires: an alignment that the event asks for is a power of two.
-    /// Errors: `AllocError` if an allocation fails. The heap stays sound then, and the event may have
-    /// freed objects.
+    /// Errors: `AllocError` if an allocation fails, which it does only in an event that makes an object.
+    /// The heap stays sound then, and makes no object. It may have freed the object under the id of the
+    /// new one, and swept the quarantine.
     pub fn event(&mut self, event: Event) -> Result<Outcome, AllocError>
         requires aligned { HasAlignment event }
         ensures is_event { IfOk result (λ outcome. IsEvent self.old event outcome self.new) }
+        ensures refused { OnErr result (FailsInEvent self.old event self.new) }
         ensures sound { IsSound self.new.settings.align self.new.memory }
     {
         let _ = &self.settings;
@@ -207,6 +209,7 @@ impl<P: Placer> Heap<P> {
         requires some { 0 < size }
         requires aligned { IsPowerOfTwo align }
         ensures allocates { IfOk result (λ outcome. Allocates self.old id align size outcome self.new) }
+        ensures refused { OnErr result (FailsToMake self.old id self.new) }
         ensures others { (other : ℕ) → nat_eq id other ≡ false → object_under self.new other ≡ object_under self.old other }
         ensures sound { IsSound self.new.settings.align self.new.memory }
     {
@@ -231,6 +234,7 @@ impl<P: Placer> Heap<P> {
         requires some { 0 < size }
         requires aligned { IsPowerOfTwo align }
         ensures reallocates { IfOk result (λ outcome. Reallocates self.old from to align size outcome self.new) }
+        ensures refused { OnErr result (FailsToReallocate self.old from to self.new) }
         ensures sound { IsSound self.new.settings.align self.new.memory }
     {
         if !self.objects.contains_key(&from) {
@@ -253,6 +257,7 @@ impl<P: Placer> Heap<P> {
         requires live { IsSome (object_under self.old from) }
         requires differ { nat_eq to from ≡ false }
         ensures moves { IfOk result (λ outcome. Moves self.old from to align size outcome self.new) }
+        ensures refused { OnErr result (FailsToMake self.old to self.new) }
         ensures sound { IsSound self.new.settings.align self.new.memory }
     {
         let outcome = self.allocate(to, align, size)?;
@@ -266,6 +271,7 @@ impl<P: Placer> Heap<P> {
         requires aligned { IsPowerOfTwo align }
         requires live { IsSome (object_under self.old id) }
         ensures replaces { IfOk result (λ outcome. ReplacesLive self.old id align size outcome self.new) }
+        ensures refused { OnErr result (IsSweptOrNot self.old self.new) }
         ensures sound { IsSound self.new.settings.align self.new.memory }
     {
         let making = self.try_to_replace(id, align, size)?;
@@ -298,6 +304,7 @@ impl<P: Placer> Heap<P> {
         requires aligned { IsPowerOfTwo align }
         requires fresh { IsNone (object_under self.old id) }
         ensures tries { IfOk result (λ making. Tries self.old id align size making self.new) }
+        ensures refused { OnErr result (IsSweptOrNot self.old self.new) }
         ensures others { (other : ℕ) → nat_eq id other ≡ false → object_under self.new other ≡ object_under self.old other }
         ensures sound { IsSound self.new.settings.align self.new.memory }
     {
@@ -316,6 +323,7 @@ impl<P: Placer> Heap<P> {
         requires aligned { IsPowerOfTwo align }
         requires live { IsSome (object_under self.old id) }
         ensures tries { IfOk result (λ making. TriesToReplace self.old id align size making self.new) }
+        ensures refused { OnErr result (IsSweptOrNot self.old self.new) }
         ensures live { IfOk result (λ making. IsSome (object_under self.new id)) }
         ensures sound { IsSound self.new.settings.align self.new.memory }
     {
