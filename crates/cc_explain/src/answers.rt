@@ -44,8 +44,8 @@ pub fn digits_in(text: &[u8]) -> &[u8]
     text.strip_prefix(b"0x").unwrap_or(text)
 }
 
-/// Returns the word that a string is as it is typed: 32 hexadecimal digits of either case, with or
-/// without `0x` in front of them.
+/// Returns the word of a string of 32 hexadecimal digits of either case, with or without `0x` in front
+/// of them.
 pub(crate) fn read_typed_word(text: &[u8]) -> Option<u128>
     ensures found { IsSome result ↔ IsTypedWord text.now }
     ensures value { IfSome result (λ word. word ≡ digits_value 16 (digits_in text.now)) }

@@ -1,2 +1,3 @@
 pub mod StartLemmas
 pub mod CutLemmas
+pub mod LineLemmas

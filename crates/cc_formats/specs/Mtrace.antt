@@ -1,6 +1,7 @@
 -- The lines that `mtrace` of the GNU C library writes.
-use Rattle.std.specs.Prelude.{ℕ, ◌==◌, nat_lt, List, [], ◌∷◌, length, if◌then◌else◌, Result, Ok, Err}
-use Rattle.std.specs.List.{after_first}
+use Rattle.std.specs.Prelude.{ℕ, ◌≢◌, ◌==◌, nat_lt, codes, List, [], ◌∷◌, ◌++◌, length, if◌then◌else◌, Result, Ok, Err}
+use Rattle.std.specs.List.{AllByRecursion, after_first}
+use Rattle.cc_word.specs.WordText.{hexadecimal}
 use Rattle.cc_word.specs.declared.refusal.Refusal.{Refusal}
 use Rattle.cc_word.specs.declared.refusal.Refusal.TheVariants.{Syntax}
 use Rattle.cc_formats.specs.declared.report.Report.{Report}
@@ -47,3 +48,17 @@ mtrace_in (first ∷ rest) =
     else if nat_lt 128 (length (first ∷ rest)) then Err Syntax
     else if first == 64 then called_in rest
     else operation_in (first ∷ rest)
+
+-- ---- The lines as `mtrace` writes them.
+
+-- IsCaller holds if the caller has no `]`, with which it ends in a line.
+abbrev pub IsCaller : (caller : List ℕ) → Type 0
+IsCaller caller = AllByRecursion (λ byte. byte ≢ 93) caller
+
+-- The line of an object that a caller makes, and that of one that it frees, with numbers in hexadecimal.
+abbrev pub allocation_line : (caller : List ℕ) → (pointer size : ℕ) → List ℕ
+allocation_line caller pointer size =
+    codes "@ " ++ (caller ++ (codes "] + " ++ (hexadecimal pointer ++ (codes " " ++ hexadecimal size))))
+
+abbrev pub free_line : (caller : List ℕ) → (pointer : ℕ) → List ℕ
+free_line caller pointer = codes "@ " ++ (caller ++ (codes "] - " ++ hexadecimal pointer))

@@ -3,11 +3,13 @@
 
 mod cutting;
 mod heaptrack;
+mod laws;
 mod ltrace;
 mod mtrace;
 mod report;
 
 pub use heaptrack::read_heaptrack;
+pub use laws::mtrace_lines_are_read_back;
 pub use ltrace::read_ltrace;
 pub use mtrace::read_mtrace;
 pub use report::Report;

@@ -1,4 +1,4 @@
--- The free space of a pool next to held spans. No public clause cites this file.
+-- The free space of a pool next to held spans.
 use Rattle.std.specs.Prelude.{ℕ, ◌≡◌, ◌+◌, ◌-◌, ◌<◌, ◌≤◌, max, min, List, All, length, sum_by}
 use Rattle.std.specs.List.{slice_index_or}
 use Rattle.cc_bounds.specs.declared.span.Span.{Span}

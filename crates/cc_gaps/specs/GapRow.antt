@@ -50,8 +50,8 @@ HaveNoFit blocks to size align =
     (at : ℕ) (d : List Span) (start : ℕ) → at < to → at < length blocks
     → ¬ FitsGap (slice_index_or blocks at d) size align start
 
--- IsSplit holds if `new` is `blocks` with the upper half of the full block at a position in a block
--- of its own.
+-- IsSplit holds if `new` is `blocks` with the upper half of the full block at a position in a new block
+-- after it.
 pub record IsSplit (blocks : List (List Span)) (at : ℕ) (new : List (List Span)) : Type 0 where
   pub gaps : gaps_of new ≡ gaps_of blocks
   pub before : take at new ≡ take at blocks

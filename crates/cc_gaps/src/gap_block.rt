@@ -217,7 +217,7 @@ impl GapBlock {
     }
 
     /// Returns the lowest start at a multiple of `align` of one byte more than `less` in a gap, and
-    /// the position of the gap.
+    /// a hint for the position of the gap.
     pub(crate) fn fit(&self, less: u64, align: u64) -> Option<(u64, usize)>
         requires gaps { AreGaps self.now }
         requires aligned { 0 < align }
@@ -227,7 +227,7 @@ impl GapBlock {
     }
 }
 
-/// Returns the largest number of bytes, except one, of a gap.
+/// Returns an upper bound on the number of bytes, except one, of each gap.
 #[inline(never)]
 fn widest(gaps: &[Gap]) -> u64
     ensures { All (IsAtMost result) gaps.now }
@@ -239,8 +239,8 @@ fn widest(gaps: &[Gap]) -> u64
     most
 }
 
-/// Returns the lowest start at a multiple of `align` of one byte more than `less` in a gap, and the
-/// position of the gap.
+/// Returns the lowest start at a multiple of `align` of one byte more than `less` in a gap, and a hint
+/// for the position of the gap.
 fn fit_among(gaps: &[Gap], less: u64, align: u64) -> Option<(u64, usize)>
     requires gaps { AreGaps gaps.now }
     requires aligned { 0 < align }

@@ -184,7 +184,7 @@ fn bound_after(heads: &[Head], groups: &[u64], bound: u64, gone: u64, added: u64
     }
 }
 
-/// Returns the largest bound of the groups.
+/// Returns an upper bound on the bounds of all heads, from those of the groups.
 #[inline(never)]
 fn greatest_of_all(heads: &[Head], groups: &[u64]) -> u64
     requires grouped { length heads.now ≤ 16 * length groups.now }
@@ -210,7 +210,7 @@ fn renew_from(heads: &[Head], groups: &mut [u64], at: usize)
     }
 }
 
-/// Returns the largest bound of the heads of a group.
+/// Returns an upper bound on the bounds of the heads of a group.
 #[inline(never)]
 fn greatest(heads: &[Head], group: usize) -> u64
     requires { 16 * group < length heads.now }

@@ -180,8 +180,8 @@ impl GapRow {
         }
     }
 
-    /// Returns the lowest start at a multiple of `align` of `len` bytes in a gap, and the place of
-    /// the gap. `None` if there is none.
+    /// Returns the lowest start at a multiple of `align` of `len` bytes in a gap, and a hint for the
+    /// place of the gap. `None` if there is none.
     #[inline(always)]
     pub(crate) fn first_fit(&self, len: u128, align: u64) -> Option<(u64, Place)>
         requires some { 0 < len }
@@ -235,8 +235,8 @@ fn place_before(blocks: &GapBlocks, heads: &Heads, place: Place) -> Option<Place
     Some(Place { block, at })
 }
 
-/// Returns the lowest start at a multiple of `align` of one byte more than `less` in a gap, and the
-/// place of the gap.
+/// Returns the lowest start at a multiple of `align` of one byte more than `less` in a gap, and a hint
+/// for the place of the gap.
 fn fit_in(blocks: &GapBlocks, heads: &Heads, less: u64, align: u64) -> Option<(u64, Place)>
     requires gaps { AreGaps (gaps_of blocks.now.blocks) }
     requires headed { AreHeaded blocks.now.blocks heads.now.heads }
@@ -258,7 +258,8 @@ fn fit_in(blocks: &GapBlocks, heads: &Heads, less: u64, align: u64) -> Option<(u
 }
 
 /// Returns the lowest start at a multiple of `align` of one byte more than `less` in a gap of a
-/// group of blocks, and the place of the gap, given that there is none in the groups before it.
+/// group of blocks, and a hint for the place of the gap, given that there is none in the groups before
+/// it.
 fn fit_in_group(
     blocks: &GapBlocks,
     heads: &Heads,
@@ -447,7 +448,7 @@ fn insert_at(blocks: &mut GapBlocks, heads: &mut Heads, block: usize, at: usize,
     }
 }
 
-/// Moves the upper half of a full block to a block of its own, given that one more block fits.
+/// Moves the upper half of a full block to a new block after it, given that one more block fits.
 fn split(blocks: &mut GapBlocks, heads: &mut Heads, block: usize)
     requires headed { AreHeaded blocks.old.blocks heads.old.heads }
     requires within { block < length blocks.old.blocks }

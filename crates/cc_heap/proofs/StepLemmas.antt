@@ -17,7 +17,7 @@ use Rattle.cc_heap.specs.Memory.{object_at, span_of, usage_of}
 use Rattle.cc_heap.specs.Policy.{is_immediate}
 use Rattle.cc_heap.specs.Reallocation.{can_take}
 use Rattle.cc_heap.specs.Heap.{Attempts, FreesObject, Heap, KeepsObject, MakesObject, is_made, object_under, quarantined_with, resized, swept}
-use Rattle.cc_heap.specs.Events.{AttemptsToReplace, FollowsPolicy, Frees, FreesIfLive, HasNoRoom, Replaces, Tries, TriesToReplace}
+use Rattle.cc_heap.specs.Events.{AttemptsToReplace, ClearsOther, FailsToReallocate, FollowsPolicy, Frees, FreesIfLive, HasNoRoom, Replaces, Tries, TriesToReplace}
 use Rattle.cc_heap.specs.HeapState.{IsQuarantined, IsReplaced, PutsOver, QuarantinesLive, ReleasesLast, Settles}
 use Rattle.cc_heap.proofs.PlaceLemmas.{IsFound}
 use Rattle.cc_heap.proofs.HeapLemmas.{heap_of, held_length, memory_of}
@@ -284,3 +284,12 @@ differ one other apart = by_case (nat_eq other one) refl
     by_case : (b : Bool) → nat_eq other one ≡ b → nat_eq other one ≡ false
     by_case true is = absurd (apart (grind (arith, nat_tests)))
     by_case false is = is
+
+-- an object that keeps its place, without memory for its new id
+pub fails_to_keep : (old cleared new : Heap) (from to : ℕ) (object : Object) (was_live : Bool)
+    → object_under old from ≡ Some object → ClearsOther old from to was_live cleared → new ≡ cleared
+    → FailsToReallocate old from to new
+fails_to_keep old cleared new from to object was_live live (inl (one, not, is)) same =
+    inl (one, subst (λ (o : Option Object). IsSome o) (sym live) tt, inl (same ∙ is))
+fails_to_keep old cleared new from to object was_live live (inr (two, frees)) same =
+    inr (record { was_live = was_live; cleared = cleared; clears = frees; sweeps = inl same })

@@ -175,3 +175,31 @@ IsEvent old (Reallocate from to size) outcome new =
 IsEvent old (Free id) outcome new = FreesOrNot old id outcome new
 IsEvent old Sweep outcome new = (new ≡ swept_if_asked old) × (outcome ≡ outcome_of false false None)
 IsEvent old (Clock time) outcome new = (new ≡ old) × (outcome ≡ outcome_of false false None)
+
+-- ---- An event for which an allocation fails.
+
+-- IsSweptOrNot holds if the quarantine is swept, or nothing changes.
+abbrev pub IsSweptOrNot : Heap → Heap → Type 0
+IsSweptOrNot old new = (new ≡ old) ⊎ (new ≡ swept old)
+
+-- FailsToMake holds if the object under the id is freed, if it is live, and then the quarantine is swept or
+-- not. No object is made.
+pub record FailsToMake (old : Heap) (id : ℕ) (new : Heap) : Type 0 where
+  pub was_live : Bool
+  pub cleared : Heap
+  pub clears : FreesIfLive old id was_live cleared
+  pub sweeps : IsSweptOrNot cleared new
+
+-- FailsToReallocate holds if no object is made in place of another: one under a live id stays, and the
+-- quarantine is swept or not, or an object under the new id is freed.
+abbrev pub FailsToReallocate : Heap → (from to : ℕ) → Heap → Type 0
+FailsToReallocate old from to new =
+    ((from ≡ to) × IsSome (object_under old from) × IsSweptOrNot old new) ⊎ FailsToMake old to new
+
+-- FailsInEvent holds if an allocation fails in the event, and turns the heap `old` into `new`. It can fail only
+-- in an event that makes an object, and none is made.
+abbrev pub FailsInEvent : Heap → Event → Heap → Type 0
+FailsInEvent old (Allocate id size align) new = FailsToMake old id new
+FailsInEvent old (Clear id size) new = FailsToMake old id new
+FailsInEvent old (Reallocate from to size) new = FailsToReallocate old from to new
+FailsInEvent old event new = ⊥

@@ -6,7 +6,7 @@ ghost use Rattle.cc_heap.specs.Memory.{IsSound, held_spans, usage_of};
 ghost use Rattle.cc_heap.specs.Totals.{with_usage};
 ghost use Rattle.cc_heap.specs.Heap.{Attempts, KeepsObject, MustSweep, empty_heap, kept_object, object_under, swept, swept_memory};
 ghost use Rattle.cc_heap.specs.Reallocation.{can_take};
-ghost use Rattle.cc_heap.specs.Events.{Allocates, AttemptsToReplace, FollowsPolicy, FollowsReplacing, FreesIfLive, ClearsOther, FreesOrNot, HasAlignment, IsEvent, KeepsPlace, Moves, Reallocates, Remakes, ReplacesLive, Tries, TriesToReplace, outcome_of, swept_if_asked};
+ghost use Rattle.cc_heap.specs.Events.{Allocates, AttemptsToReplace, ClearsOther, FailsInEvent, FailsToMake, FailsToReallocate, FollowsPolicy, FollowsReplacing, FreesIfLive, FreesOrNot, HasAlignment, IsEvent, IsSweptOrNot, KeepsPlace, Moves, Reallocates, Remakes, ReplacesLive, Tries, TriesToReplace, outcome_of, swept_if_asked};
 ghost use Rattle.cc_heap.specs.Run.{Runs};
 ghost use Rattle.cc_heap.specs.HeapState.{PutsOver, QuarantinesLive, ReleasesLast, Settles};
 
@@ -134,11 +134,13 @@ impl<P: Placer> Heap<P> {
     /// Takes one event.
     ///
     /// Requires: an alignment that the event asks for is a power of two.
-    /// Errors: `AllocError` if an allocation fails. The heap stays sound then, and the event may have
-    /// freed objects.
+    /// Errors: `AllocError` if an allocation fails, which it does only in an event that makes an object.
+    /// The heap stays sound then, and makes no object. It may have freed the object under the id of the
+    /// new one, and swept the quarantine.
     pub fn event(&mut self, event: Event) -> Result<Outcome, AllocError>
         requires aligned { HasAlignment event }
         ensures is_event { IfOk result (λ outcome. IsEvent self.old event outcome self.new) }
+        ensures refused { OnErr result (FailsInEvent self.old event self.new) }
         ensures sound { IsSound self.new.settings.align self.new.memory }
     {
         let _ = &self.settings;
@@ -209,6 +211,7 @@ impl<P: Placer> Heap<P> {
         requires some { 0 < size }
         requires aligned { IsPowerOfTwo align }
         ensures allocates { IfOk result (λ outcome. Allocates self.old id align size outcome self.new) }
+        ensures refused { OnErr result (FailsToMake self.old id self.new) }
         ensures others { (other : ℕ) → nat_eq id other ≡ false → object_under self.new other ≡ object_under self.old other }
         ensures sound { IsSound self.new.settings.align self.new.memory }
     {
@@ -234,6 +237,7 @@ impl<P: Placer> Heap<P> {
         requires some { 0 < size }
         requires aligned { IsPowerOfTwo align }
         ensures reallocates { IfOk result (λ outcome. Reallocates self.old from to align size outcome self.new) }
+        ensures refused { OnErr result (FailsToReallocate self.old from to self.new) }
         ensures sound { IsSound self.new.settings.align self.new.memory }
     {
         match self.kept_object(from, align, size) {
@@ -264,6 +268,7 @@ impl<P: Placer> Heap<P> {
 
     /// Keeps an object in its place, under another id if `to` is not `from`. The object under `to`
     /// is then freed first, if that is live.
+    #[tactic(auto, using(crate::proofs::StepLemmas::fails_to_keep))]
     fn keep(
         &mut self,
         from: u64,
@@ -277,6 +282,7 @@ impl<P: Placer> Heap<P> {
         requires live { object_under self.old from ≡ Some object }
         requires fits { can_take self.old.settings.align align size object.span ≡ true }
         ensures keeps { IfOk result (λ outcome. KeepsPlace self.old from to object align size outcome self.new) }
+        ensures refused { OnErr result (FailsToReallocate self.old from to self.new) }
         ensures sound { IsSound self.new.settings.align self.new.memory }
     {
         let was_live = self.clear_other(from, to);
@@ -321,6 +327,7 @@ impl<P: Placer> Heap<P> {
         requires fits { can_take self.old.settings.align align size before.span ≡ true }
         requires fresh { nat_eq from to ≡ false → IsNone (object_under self.old to) }
         ensures keeps { OnOk result (KeepsObject self.old from to before align size self.new) }
+        ensures refused { OnErr result (self.new ≡ self.old) }
         ensures sound { IsSound self.new.settings.align self.new.memory }
     {
         let object = Object {
@@ -339,6 +346,7 @@ impl<P: Placer> Heap<P> {
         requires some { 0 < size }
         requires aligned { IsPowerOfTwo align }
         ensures remakes { IfOk result (λ outcome. Remakes self.old from to align size outcome self.new) }
+        ensures refused { OnErr result (FailsToReallocate self.old from to self.new) }
         ensures sound { IsSound self.new.settings.align self.new.memory }
     {
         if !self.objects.contains_key(&from) {
@@ -361,6 +369,7 @@ impl<P: Placer> Heap<P> {
         requires live { IsSome (object_under self.old from) }
         requires differ { nat_eq to from ≡ false }
         ensures moves { IfOk result (λ outcome. Moves self.old from to align size outcome self.new) }
+        ensures refused { OnErr result (FailsToMake self.old to self.new) }
         ensures sound { IsSound self.new.settings.align self.new.memory }
     {
         let outcome = self.allocate(to, align, size)?;
@@ -374,6 +383,7 @@ impl<P: Placer> Heap<P> {
         requires aligned { IsPowerOfTwo align }
         requires live { IsSome (object_under self.old id) }
         ensures replaces { IfOk result (λ outcome. ReplacesLive self.old id align size outcome self.new) }
+        ensures refused { OnErr result (IsSweptOrNot self.old self.new) }
         ensures sound { IsSound self.new.settings.align self.new.memory }
     {
         let making = self.try_to_replace(id, align, size)?;
@@ -406,6 +416,7 @@ impl<P: Placer> Heap<P> {
         requires aligned { IsPowerOfTwo align }
         requires fresh { IsNone (object_under self.old id) }
         ensures tries { IfOk result (λ making. Tries self.old id align size making self.new) }
+        ensures refused { OnErr result (IsSweptOrNot self.old self.new) }
         ensures others { (other : ℕ) → nat_eq id other ≡ false → object_under self.new other ≡ object_under self.old other }
         ensures sound { IsSound self.new.settings.align self.new.memory }
     {
@@ -424,6 +435,7 @@ impl<P: Placer> Heap<P> {
         requires aligned { IsPowerOfTwo align }
         requires live { IsSome (object_under self.old id) }
         ensures tries { IfOk result (λ making. TriesToReplace self.old id align size making self.new) }
+        ensures refused { OnErr result (IsSweptOrNot self.old self.new) }
         ensures live { IfOk result (λ making. IsSome (object_under self.new id)) }
         ensures sound { IsSound self.new.settings.align self.new.memory }
     {

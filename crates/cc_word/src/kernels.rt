@@ -24,7 +24,7 @@ const HIGHEST_FIRST: [usize; 16] = [7, 23, 6, 22, 5, 21, 4, 20, 3, 19, 2, 18, 1,
 /// The bits of a letter that are the same in both cases.
 const UPPER_CASE: u8 = 0xdf;
 
-/// What is added to the character of `0` plus a number from 10 to 15, so that it is a letter.
+/// Difference between the letter of a number from 10 to 15 and the character `0` plus the number.
 const TO_LETTERS: u8 = b'a' - b'0' - 10;
 
 /// Table entry for a byte that is not a hexadecimal digit. Larger than any eight-digit value.
