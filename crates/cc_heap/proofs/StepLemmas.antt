@@ -290,6 +290,6 @@ pub fails_to_keep : (old cleared new : Heap) (from to : ℕ) (object : Object) (
     → object_under old from ≡ Some object → ClearsOther old from to was_live cleared → new ≡ cleared
     → FailsToReallocate old from to new
 fails_to_keep old cleared new from to object was_live live (inl (one, not, is)) same =
-    inl (one, subst (λ (o : Option Object). IsSome o) (sym live) tt, inl (same ∙ is))
-fails_to_keep old cleared new from to object was_live live (inr (two, frees)) same =
-    inr (record { was_live = was_live; cleared = cleared; clears = frees; sweeps = inl same })
+    inl (one, subst (λ (o : Option Object). IsSome o) (sym live) refl, inl (same ∙ is))
+fails_to_keep old cleared new from to object was_live live (inr (two, clears)) same =
+    inr (record { was_live = was_live; cleared = cleared; clears = clears; sweeps = inl same })
