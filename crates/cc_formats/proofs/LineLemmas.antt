@@ -46,9 +46,14 @@ digits_have_no_space (d ∷ ds) are = (other, digits_have_no_space ds are.1) whe
       absurd (omega (arith, digit))
 
 no_space : (n : ℕ) → n < 2 ^ 64 → AllByRecursion (λ byte. byte ≢ 32) (hexadecimal n)
-no_space n fits =
-    (eqb-false 48 32 refl, (eqb-false 120 32 refl, digits_have_no_space (digits 16 false n)
-    (digits_is_IsNumeral 16 false (omega arith) (omega arith) n (omega (arith, fits))).0.1))
+no_space n fits = (
+  eqb-false 48 32 refl,
+  (
+    eqb-false 120 32 refl,
+    digits_have_no_space (digits 16 false n)
+        (digits_is_IsNumeral 16 false (omega arith) (omega arith) n (omega (arith, fits))).0.1,
+  ),
+)
 
 address_is : (n : ℕ) → n < 2 ^ 64 → address_in (hexadecimal n) ≡ Ok n
 address_is n fits =

@@ -1,4 +1,5 @@
 pub mod TraceLemmas
+pub mod EventLemmas
 pub mod FormatLemmas
 pub mod RowLemmas
 pub mod PowerLemmas

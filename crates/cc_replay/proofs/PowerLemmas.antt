@@ -1,9 +1,9 @@
 -- A number of which one bit is set is a power of two.
-use Rattle.std.proofs.Common.{◌≡◌, ℕ, zero, suc, ◌+◌, ◌*◌, ◌/◌, ◌%◌, ◌^◌, ◌<◌, true, refl, ap, arith, inl, inr, subst}
+use Rattle.std.proofs.Common.{◌≡◌, ℕ, zero, suc, ◌+◌, ◌*◌, ◌/◌, ◌%◌, ◌^◌, ◌<◌, true, refl, sym, ap, arith, inl, inr, subst}
 use Rattle.std.specs.Prelude.{IfOk, Result, Ok, Err}
 use Rattle.std.specs.Int.{IsPowerOfTwo, is_power_of_two}
 use Rattle.std.specs.Int.Count.{ones, ones_in}
-use Rattle.std.proofs.lemmas.Bool.{cases_eq, eqb-true}
+use Rattle.std.proofs.lemmas.Bool.{cases_eq, eq-eqb, eqb-true}
 use Rattle.cc_word.specs.declared.refusal.Refusal.{Refusal}
 use Rattle.cc_word.specs.declared.refusal.Refusal.TheVariants as refusal
 use Rattle.cc_syntax.specs.Commands.{both}
@@ -42,6 +42,35 @@ below_its_power (suc n) = let less = below_its_power n in omega (arith, less)
 pub one_bit : (n : ℕ) → is_power_of_two n ≡ true → IsPowerOfTwo n
 unfolding ones
 one_bit n is = one_in n n (below_its_power n) (eqb-true (ones_in n n) 1 is)
+
+-- zero has no bit, and a power of two one
+zero_ones : (k : ℕ) → ones_in k 0 ≡ 0
+unfolding ones_in
+zero_ones zero = refl
+zero_ones (suc k) =
+    let rest : ones_in k (0 / 2) ≡ 0 = zero_ones k in
+    let whole : 0 % 2 + ones_in k (0 / 2) ≡ 0 = omega (arith, rest) in
+    whole
+
+power_ones : (k j : ℕ) → j < k → ones_in k (2 ^ j) ≡ 1
+unfolding ones_in
+power_ones zero j less = absurd (omega (arith, less))
+power_ones (suc k) zero less =
+    let rest : ones_in k (1 / 2) ≡ 0 = zero_ones k in
+    let whole : 1 % 2 + ones_in k (1 / 2) ≡ 1 = omega (arith, rest) in
+    whole
+power_ones (suc k) (suc j) less =
+    let even : 2 ^ suc j % 2 ≡ 0 = omega arith in
+    let half : 2 ^ suc j / 2 ≡ 2 ^ j = omega arith in
+    let rest : ones_in k (2 ^ j) ≡ 1 = power_ones k j (omega (arith, less)) in
+    let whole : 2 ^ suc j % 2 + ones_in k (2 ^ suc j / 2) ≡ 1 = rw (even, half) (omega (arith, rest)) in
+    whole
+
+pub power_is_one : (n : ℕ) → IsPowerOfTwo n → is_power_of_two n ≡ true
+unfolding ones
+power_is_one n (k, is) =
+    let one : ones_in n n ≡ 1 = subst (λ (m : ℕ). ones_in m m ≡ 1) (sym is) (power_ones (2 ^ k) k (below_its_power k)) in
+    eq-eqb (ones_in n n) 1 one
 
 pub one_is_a_power : IsPowerOfTwo 1
 one_is_a_power = (0, refl)

@@ -1,5 +1,5 @@
 -- The event of every line of a trace, or its error.
-use Rattle.std.specs.Prelude.{ℕ, ◌++◌, ◌==◌, List, [], ◌∷◌, length, codes, decimal, nat_lt, if◌then◌else◌, Option, Some, None, Result, Ok, Err}
+use Rattle.std.specs.Prelude.{ℕ, ◌<◌, ◌^◌, ◌++◌, ◌==◌, List, [], ◌∷◌, length, codes, decimal, nat_lt, if◌then◌else◌, Option, Some, None, Result, Ok, Err}
 use Rattle.std.specs.Int.{is_power_of_two}
 use Rattle.std.specs.Str.{bytes_eq}
 use Rattle.cc_word.specs.declared.refusal.Refusal.{Refusal}
@@ -80,7 +80,16 @@ entry_of (first ∷ rest) =
     else if nat_lt 128 (length (first ∷ rest)) then Err Syntax
     else as_entry (event_in (words_of (first ∷ rest)))
 
--- The line of an event.
+-- HasNumbersInRange holds if each number of the event is below 2^64.
+abbrev pub HasNumbersInRange : Event → Type 0
+HasNumbersInRange (event.Allocate id size align) = (id < 2 ^ 64) × (size < 2 ^ 64) × (align < 2 ^ 64)
+HasNumbersInRange (event.Clear id size) = (id < 2 ^ 64) × (size < 2 ^ 64)
+HasNumbersInRange (event.Reallocate old new size) = (old < 2 ^ 64) × (new < 2 ^ 64) × (size < 2 ^ 64)
+HasNumbersInRange (event.Free id) = id < 2 ^ 64
+HasNumbersInRange event.Sweep = Unit
+HasNumbersInRange (event.Clock number) = number < 2 ^ 64
+
+-- The line of an event, with its numbers in decimal.
 abbrev pub event_text : Event → List ℕ
 event_text (event.Allocate id size align) = codes "a " ++ decimal id ++ codes " " ++ decimal size ++ codes " " ++ decimal align
 event_text (event.Clear id size) = codes "c " ++ decimal id ++ codes " " ++ decimal size

@@ -1,10 +1,13 @@
-//! A law of replays.
-ghost use Rattle.std.specs.Prelude.{◌≡◌, ℕ, Bool, List};
+//! The laws of replays.
+ghost use Rattle.std.specs.Prelude.{◌≡◌, ℕ, Bool, List, Ok, Some};
 ghost use Rattle.cc_io.specs.Answers.{Output};
 ghost use Rattle.cc_io.specs.Frames.{lines};
 ghost use Rattle.cc_io.specs.Lines.{lines_of};
+ghost use Rattle.cc_heap.specs.declared.event.Event.{Event};
+ghost use Rattle.cc_heap.specs.Events.{HasAlignment};
 ghost use Rattle.cc_heap.specs.Lost.{RunsNoting};
 ghost use Rattle.cc_replay.specs.Replay.{ReplayState, TakesLine, TakesRest, events_in};
+ghost use Rattle.cc_replay.specs.Trace.{HasNumbersInRange, entry_of, event_text};
 ghost use Rattle.cc_heap.specs.Run.{Runs};
 ghost use Rattle.cc_replay.specs.declared.reading.Progress.TheVariants.{Running};
 
@@ -20,4 +23,13 @@ pub fn replays_are_runs()
     ensures lost { (old new : ReplayState) (text output : List ℕ) (any_error : Bool)
         → Output TakesLine TakesRest lines old text output any_error new → new.progress ≡ Running
         → RunsNoting old.run (events_in old.reading.format old.pending (lines_of text)) new.run }
+{}
+
+/// Proves that every event is the event of its line in the own format: its name and its numbers in
+/// decimal, with a space between.
+///
+/// So no two events have one line, and the format can give each event.
+pub fn events_are_read_back()
+    ensures { (event : Event) → HasAlignment event → HasNumbersInRange event
+        → entry_of (event_text event) ≡ Ok (Some event) }
 {}

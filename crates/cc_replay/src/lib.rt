@@ -22,7 +22,7 @@ pub use cc_heap::{
 };
 pub use counts::{Count, Counts};
 pub use formats::{Entry, TraceFormat, read_entry};
-pub use laws::replays_are_runs;
+pub use laws::{events_are_read_back, replays_are_runs};
 pub use policy_text::read_policy;
 pub use reading::{Progress, Reading};
 pub use replay::{Replay, replay_trace};
