@@ -17,15 +17,16 @@ use Rattle.cc_syntax.specs.Planning.{plan_opening, pool_of}
 use Rattle.cc_script.specs.Session.{AnswersSession, SessionState}
 use Rattle.cc_command.specs.Statistics.{statistics_text}
 use Rattle.cc_syntax.specs.Tally.{Exchange, IsTally}
+use Rattle.clap.specs.Walk.{texts}
+use Rattle.cc_command.specs.RoundList.{RoundsTyped}
 use Rattle.cc_ops.specs.declared.usage.Usage.{Usage}
 use Rattle.cc_arguments.specs.declared.invocation.PoolTexts.{PoolTexts}
 use Rattle.cc_arguments.specs.declared.invocation.Invocation.{Invocation}
-use Rattle.cc_arguments.specs.declared.invocation.Invocation.TheVariants.{Annotate, Ask, Decode, Map, Plan, Replay, RoundList, Run}
+use Rattle.cc_arguments.specs.declared.invocation.Invocation.TheVariants.{Annotate, Ask, Decode, Map, Plan, Replay, Round, RoundList, Run}
 use Rattle.cc_tasks.specs.Devices.{Console, FromInput, Traffic}
 use Rattle.cc_tasks.specs.Input.{file_input}
 use Rattle.cc_tasks.specs.Replaying.{ReplaysTrace, WithReplay}
 use Rattle.cc_tasks.specs.Tasks.{AnnotatesWords, AnswersQuestion, ListsWords, RoundsLengths, WithListing, WritesRefusal}
-use Rattle.cc_tasks.specs.declared.input.InputName.TheVariants.{Standard}
 use Rattle.cc_program.specs.Report.{IsMachineUsage, WritesReport, report_of}
 use Rattle.cc_program.specs.declared.report.Report.{Report}
 use Rattle.cc_program.specs.declared.report.Terminals.{Terminals}
@@ -100,4 +101,5 @@ Executes (Replay align strict format texts file) terminals console result =
 Executes (Decode input format texts file) terminals console result =
     WithListing input format texts console (λ skipped options. FromInput (file_input file) console (ListsWords skipped options)) result
 Executes (Annotate file) terminals console result = FromInput (file_input file) console AnnotatesWords result
-Executes RoundList terminals console result = FromInput Standard console RoundsLengths result
+Executes (Round sizes) terminals console result = RoundsTyped (texts sizes.now) console.output console.output_now result
+Executes (RoundList file) terminals console result = FromInput (file_input file) console RoundsLengths result

@@ -21,7 +21,7 @@ use cc_script::{Session, run_session};
 use cc_syntax::{plan_numbers, plan_opening};
 use cc_tasks::{
     Discard, Fault, InputName, Inputs, annotate_file, ask, decode_file, file_input, replay_file,
-    round_lengths,
+    round_file, round_lengths,
 };
 use cc_text::Waiting;
 use std::alloc::{AllocError, Global};
@@ -101,7 +101,8 @@ pub fn execute<R: AllocGlobal, I: Inputs, W: Sink, E: Sink>(
             file,
         } => decode_file(input, format, texts, inputs, file, sink),
         Invocation::Annotate { file } => annotate_file(inputs, file, sink),
-        Invocation::RoundList => round_lengths(inputs, sink),
+        Invocation::Round { lengths } => round_lengths(lengths, sink),
+        Invocation::RoundList { file } => round_file(inputs, file, sink),
     }
 }
 

@@ -9,7 +9,7 @@ mod process_inputs;
 mod program;
 mod report;
 
-pub use cc_arguments::{DecodeTexts, Invocation, PoolTexts, Question, read_words};
+pub use cc_arguments::{DecodeTexts, Invocation, PoolTexts, Question, invocation_of, read_words};
 pub use cc_tasks::{Fault, InputName, Inputs, file_input};
 pub use execution::execute;
 pub use laws::{holes_are_the_free_bytes, objects_are_drawn_exactly};

@@ -15,4 +15,4 @@ pub use fault::Fault;
 pub use input::{InputName, Inputs, file_input};
 pub use questions::ask;
 pub use replaying::replay_file;
-pub use words::{annotate_file, decode_file, round_lengths};
+pub use words::{annotate_file, decode_file, round_file, round_lengths};
