@@ -16,7 +16,7 @@ _cheri_cap() {
     show) options+=' --line' ;;
     explain) options+=' --svg --length --base' ;;
     annotate) ;;
-    round) ;;
+    round) options+=' --list' ;;
     *) return ;;
   esac
   case $before in
@@ -29,6 +29,10 @@ _cheri_cap() {
       else
         mapfile -t COMPREPLY < <(compgen -W 'columns text fixed csv' -- "$word")
       fi
+      ;;
+    --list)
+      compopt -o filenames 2>/dev/null
+      mapfile -t COMPREPLY < <(compgen -f -- "$word")
       ;;
     --bytes) mapfile -t COMPREPLY < <(compgen -W 'little big' -- "$word") ;;
     --align) mapfile -t COMPREPLY < <(compgen -W '1 16' -- "$word") ;;

@@ -13,6 +13,7 @@ complete -c cheri-cap -n __fish_use_subcommand -a decode -d 'Decode one word per
 complete -c cheri-cap -n __fish_use_subcommand -a annotate -d 'Copy a text with the line of each word'
 complete -c cheri-cap -n __fish_use_subcommand -a explain -d 'Explain how a capability word is decoded'
 complete -c cheri-cap -n '__fish_seen_subcommand_from show' -l line -d 'Show the word on one line'
+complete -c cheri-cap -n '__fish_seen_subcommand_from round' -l list -r -F -d 'Read lengths from FILE'
 complete -c cheri-cap -n '__fish_seen_subcommand_from explain' -l length -x -d 'Explain bounds of N bytes'
 complete -c cheri-cap -n '__fish_seen_subcommand_from explain' -l base -x -d 'Their first address'
 complete -c cheri-cap -n '__fish_seen_subcommand_from run plan map' -l slots -x -d 'Maximum number of slots and of objects, 1 to 65536'

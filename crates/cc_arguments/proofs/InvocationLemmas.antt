@@ -296,9 +296,6 @@ module _ (aligns : Bor (List (Bor Text))) (are : texts aligns.now ≡ codes "1" 
   show_gives : GiveValues show.rules show.rules
   show_gives = (flag_gives show.rules _ refl refl refl refl refl, (set_gives show.rules _ refl refl refl refl, (help_gives show.rules, tt)))
 
-  round_gives : GiveValues round.rules round.rules
-  round_gives = (set_gives round.rules _ refl refl refl refl, (help_gives round.rules, tt))
-
   explain_gives : GiveValues explain.rules explain.rules
   explain_gives = (
     flag_gives explain.rules _ refl refl refl refl refl,
@@ -426,9 +423,7 @@ module _ (aligns : Bor (List (Bor Text))) (are : texts aligns.now ≡ codes "1" 
       (codes "show", rows, refl, ((required_given show words show_gives e).1.0 refl, line))
 
   round_serves : Serves round
-  round_serves words e choice =
-      let rows = rows_after round.rules [] words in
-      (codes "round", rows, refl, (required_given round words round_gives e).0 refl)
+  round_serves words e choice = (codes "round", rows_after round.rules [] words, refl, tt)
 
   annotate_serves : Serves annotate
   annotate_serves words e choice = (codes "annotate", rows_after annotate.rules [] words, refl, tt)

@@ -1,12 +1,13 @@
 -- The command lines that are accepted, and the command that each asks for.
-use Rattle.std.specs.Prelude.{cond, ⊤, true, false, ◌≡◌, ◌≢◌, ◌≤◌, ◌⊎◌, ◌↔◌, ◌&&◌, ◌||◌, ℕ, Bool, IsTrue, not, List, [], ◌∷◌, Option, Some, None, IfSome, IsSome, is_some, codes, option_map, unwrap_or, if◌then◌else◌}
+use Rattle.std.specs.Prelude.{cond, ⊤, true, false, ◌≡◌, ◌≤◌, ◌⊎◌, ◌↔◌, ◌&&◌, ◌||◌, ℕ, Bool, IsTrue, not, List, [], ◌∷◌, Option, Some, None, IfSome, IsSome, is_some, codes, option_map, unwrap_or, if◌then◌else◌}
 use Rattle.std.specs.Borrow.{Bor}
 use Rattle.std.specs.Option.{option_map_or}
 use Rattle.std.specs.Str.{bytes_eq}
 use Rattle.std.specs.Str.Parse.{IsNumeral, digits_value, without_leading_plus}
 pub use Rattle.cc_table.specs.Usage.{IsProgram, choice_option, flag_option, format_names, order_names, program, slots_option, summary_names}
 use Rattle.clap.specs.Kinds.{or_else}
-use Rattle.clap.specs.Words.{App, Kinds, Row, Text, fault_of, first_of, one_of, subcommand_of, takes}
+use Rattle.clap.specs.Walk.{texts}
+use Rattle.clap.specs.Words.{App, Kinds, Row, Text, all_of, fault_of, first_of, one_of, subcommand_of, takes}
 use Rattle.clap.specs.declared.error.kind.ErrorKind.{ErrorKind}
 use Rattle.clap.specs.declared.error.kind.ErrorKind.TheVariants.{ArgumentConflict, MissingRequiredArgument}
 use Rattle.cc_bounds.specs.declared.align.Align.{Align}
@@ -23,9 +24,9 @@ use Rattle.cc_io.specs.declared.format.Format.{Format}
 use Rattle.cc_io.specs.declared.format.Format.TheVariants.{Columns, Csv, Fixed}
 use Rattle.cc_io.specs.declared.format.Format.TheVariants as format
 use Rattle.cc_arguments.specs.declared.invocation.Invocation.{Invocation}
-use Rattle.cc_arguments.specs.declared.invocation.Invocation.TheVariants.{Annotate, Ask, Decode, Map, Plan, Replay, RoundList, Run}
+use Rattle.cc_arguments.specs.declared.invocation.Invocation.TheVariants.{Annotate, Ask, Decode, Map, Plan, Replay, Round, RoundList, Run}
 use Rattle.cc_arguments.specs.declared.question.Question.{Question}
-use Rattle.cc_arguments.specs.declared.question.Question.TheVariants.{DrawWindow, Explain, ExplainLength, Round, Show}
+use Rattle.cc_arguments.specs.declared.question.Question.TheVariants.{DrawWindow, Explain, ExplainLength, Show}
 
 -- ---- the command and the values that clap found
 
@@ -83,7 +84,6 @@ question_command (Show word as_line) = codes "show"
 question_command (Explain word) = codes "explain"
 question_command (DrawWindow word) = codes "explain"
 question_command (ExplainLength base size) = codes "explain"
-question_command (Round size) = codes "round"
 
 -- The name of the command.
 abbrev pub command_name_of : Invocation → Text
@@ -94,7 +94,8 @@ command_name_of (Map limit pool align svg file) = codes "map"
 command_name_of (Replay align strict format texts file) = codes "replay"
 command_name_of (Decode input format texts file) = codes "decode"
 command_name_of (Annotate file) = codes "annotate"
-command_name_of RoundList = codes "round"
+command_name_of (Round sizes) = codes "round"
+command_name_of (RoundList file) = codes "round"
 
 -- `HasPool` holds if the texts of the pool are the values of BASE and LENGTH.
 abbrev pub HasPool : List Row → PoolTexts → Type 0
@@ -128,7 +129,7 @@ pub record HasReplayTexts (rows : List Row) (texts : ReplayTexts) : Type 0 where
   pub sizes : texts.sizes ≡ is_on (first_of (codes "sizes") rows)
 
 -- `HasTexts` holds if the texts of the question are the values that clap found. The arguments of `explain` that the
--- question has no text for have no value, and a missing `--base` is `0`. The N of `round` is not `-`, which is a list.
+-- question has no text for have no value, and a missing `--base` is `0`.
 abbrev pub HasTexts : List Row → Question → Type 0
 HasTexts rows (Show word as_line) = (first_of (codes "word") rows ≡ Some word.now) × IsGiven (first_of (codes "line") rows) as_line
 HasTexts rows (Explain word) = HasWordAlone rows word.now × (is_on (first_of (codes "svg") rows) ≡ false)
@@ -136,7 +137,21 @@ HasTexts rows (DrawWindow word) = HasWordAlone rows word.now × (is_on (first_of
 HasTexts rows (ExplainLength base size) =
     (first_of (codes "word") rows ≡ None) × (first_of (codes "length") rows ≡ Some size.now)
     × (base.now ≡ unwrap_or (first_of (codes "base") rows) (codes "0")) × (is_on (first_of (codes "svg") rows) ≡ false)
-HasTexts rows (Round size) = (first_of (codes "length") rows ≡ Some size.now) × (size.now ≢ codes "-")
+
+-- The lengths of `round` that are given, in order.
+abbrev pub lengths_of : List Row → List Text
+lengths_of rows = unwrap_or (all_of (codes "length") rows) []
+
+-- Whether `-` is the only length, which is the list that standard input has.
+abbrev pub is_dash : (sizes : List Text) → Bool
+is_dash (text ∷ []) = bytes_eq text (codes "-")
+is_dash _ = false
+
+-- `HasList` holds if the file is the value of `--list`, or if it is `None`, this option is not given, and `-` is the only
+-- length.
+abbrev pub HasList : List Row → Option (Bor Text) → Type 0
+HasList rows (Some file) = first_of (codes "list") rows ≡ Some file.now
+HasList rows None = (first_of (codes "list") rows ≡ None) × (is_dash (lengths_of rows) ≡ true)
 
 -- `HasValues` holds if the values of the command are those that clap found.
 abbrev pub HasValues : List Row → Invocation → Type 0
@@ -156,13 +171,15 @@ HasValues rows (Decode input format texts file) =
     IsChosen format_named Columns (first_of (codes "format") rows) format
     × IsChosen input_named Lines (first_of (codes "bytes") rows) input × HasDecodeTexts rows texts × HasFile rows file
 HasValues rows (Annotate file) = HasFile rows file
-HasValues rows RoundList = first_of (codes "length") rows ≡ Some (codes "-")
+HasValues rows (Round sizes) =
+    (first_of (codes "list") rows ≡ None) × (lengths_of rows ≡ texts sizes.now) × (is_dash (lengths_of rows) ≡ false)
+HasValues rows (RoundList file) = HasList rows file
 
 -- `IsInvocation` holds if clap found this command, with these values.
 abbrev pub IsInvocation : Option (Text × List Row) → Invocation → Type 0
 IsInvocation found invocation = (rows : List Row) × (found ≡ Some (command_name_of invocation, rows)) × HasValues rows invocation
 
--- ---- the values of `explain` that are accepted together, which clap does not check
+-- ---- the values of `explain` and of `round` that are accepted together, which clap does not check
 
 -- The kind of error of the given values, if there is one: WORD excludes `--length` and `--base`, one of WORD and
 -- `--length` is required, and `--length` excludes `--svg`.
@@ -178,10 +195,20 @@ choice_fault_of rows =
     choice_fault (is_some (first_of (codes "word") rows)) (is_some (first_of (codes "length") rows)) (is_some (first_of (codes "base") rows))
     (is_on (first_of (codes "svg") rows))
 
--- The kind of error of the values of the command that clap found, if there is one: only `explain` has one.
+-- The kind of error of the values of `round` in these rows, if there is one: one of N and `--list` is required, and each
+-- excludes the other.
+abbrev pub list_fault_of : List Row → Option ErrorKind
+list_fault_of rows =
+    if is_some (first_of (codes "list") rows) then (if is_some (first_of (codes "length") rows) then Some ArgumentConflict else None)
+    else if is_some (first_of (codes "length") rows) then None else Some MissingRequiredArgument
+
+-- The kind of error of the values of the command that clap found, if there is one: only `explain` and `round` have one.
 abbrev pub choice_fault_in : Option (Text × List Row) → Option ErrorKind
 choice_fault_in None = None
-choice_fault_in (Some found) = if bytes_eq found.0 (codes "explain") then choice_fault_of found.1 else None
+choice_fault_in (Some found) =
+    if bytes_eq found.0 (codes "explain") then choice_fault_of found.1
+    else if bytes_eq found.0 (codes "round") then list_fault_of found.1
+    else None
 
 -- Whether the arguments are accepted: clap accepts them, and their values have no error.
 abbrev pub is_taken : App → List Text → Bool
@@ -192,11 +219,11 @@ abbrev pub kinds_in : Option ErrorKind → Kinds
 kinds_in None = []
 kinds_in (Some kind) = kind ∷ []
 
--- The kinds of error that the arguments can give: those of clap, or that of `explain` if clap has none.
+-- The kinds of error that the arguments can give: those of clap, or that of `explain` or `round` if clap has none.
 abbrev pub faults_of : App → List Text → Kinds
 faults_of app words = or_else (fault_of app words) (kinds_in (choice_fault_in (subcommand_of app words)))
 
--- ---- definitions that only private contracts cite
+-- ---- the values that a command needs
 
 -- `HasText` holds if the name has a value.
 abbrev pub HasText : Text → List Row → Type 0
@@ -230,7 +257,7 @@ HasChoice named name rows = IfSome (first_of name rows) (λ text. IsSome (named 
 abbrev pub HasWanted : Text → List Row → Type 0
 HasWanted name rows =
     cond (bytes_eq name (codes "show")) (HasText (codes "word") rows × HasFlag (codes "line") rows)
-    (cond (bytes_eq name (codes "round")) (HasText (codes "length") rows)
+    (cond (bytes_eq name (codes "round")) ⊤
     (cond (bytes_eq name (codes "run")) (HasLimit rows × HasFlag (codes "stats") rows)
     (cond (bytes_eq name (codes "plan")) (HasPoolTexts rows × HasLimit rows × HasChoice align_named (codes "align") rows × HasFlag (codes "stats") rows)
     (cond (bytes_eq name (codes "map")) (HasPoolTexts rows × HasLimit rows × HasChoice align_named (codes "align") rows × HasFlag (codes "svg") rows)

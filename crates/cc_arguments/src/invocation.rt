@@ -122,8 +122,16 @@ pub enum Invocation<'a> {
         /// The words' file; `None` and `-` are standard input.
         file: Option<&'a str>,
     },
-    /// `round -`: rounds each length of a list that standard input gives.
-    RoundList,
+    /// `round N..`: rounds each length.
+    Round {
+        /// The lengths, as they were typed.
+        lengths: &'a [&'a str],
+    },
+    /// `round --list FILE`, or `round -`: rounds each length of a list.
+    RoundList {
+        /// The list's file; `None` and `-` are standard input.
+        file: Option<&'a str>,
+    },
     /// `annotate [FILE]`: copies a text, with the line of each word after the word.
     Annotate {
         /// The text's file; `None` and `-` are standard input.

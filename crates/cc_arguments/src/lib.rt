@@ -8,4 +8,4 @@ mod values;
 
 pub use invocation::{DecodeTexts, Invocation, PoolTexts, ReplayTexts, SummaryFormat};
 pub use question::Question;
-pub use reading::read_words;
+pub use reading::{invocation_of, read_words};

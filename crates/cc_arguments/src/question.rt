@@ -1,6 +1,6 @@
 //! A question about one word or one length.
 
-/// A question of `show`, `explain` or `round`, with the texts as they were typed: any text is possible in place of a
+/// A question of `show` or `explain`, with the texts as they were typed: any text is possible in place of a
 /// word or a number.
 #[derive(Clone, Copy)]
 pub enum Question<'a> {
@@ -26,11 +26,6 @@ pub enum Question<'a> {
         /// The first of the requested bytes; `0` if `--base` was not given.
         base: &'a str,
         /// The number of requested bytes.
-        length: &'a str,
-    },
-    /// `round N`: the length that bounds of `N` bytes take, and its alignment. N is not `-`.
-    Round {
-        /// The length, `N`.
         length: &'a str,
     },
 }

@@ -1,34 +1,35 @@
-//! Parses the arguments of the command line as an `Invocation`, or returns an error of clap's.
+//! Parses the arguments of the command line, and reads them as an `Invocation`, or returns an error of clap's.
 ghost use Rattle.std.specs.Prelude.{◌≡◌, ◌∷◌, [], IfErr, IfOk, None, codes, is_some, true};
 ghost use Rattle.clap.specs.Walk.{texts};
 ghost use Rattle.clap.specs.Words.{App, FailsBy, first_of, found_of, kind_of, rows_of, subcommand_of, subcommand_rows_of};
-ghost use Rattle.cc_arguments.specs.Invocation.{HasChoice, HasFlag, HasItsTexts, HasLimit, HasPoolTexts, HasText, HasValues, IsInvocation, IsProgram, align_named, choice_fault_in, choice_fault_of, command_name_of, faults_of, format_named, format_names, input_named, is_taken, kinds_in, order_names, summary_named, summary_names};
+ghost use Rattle.cc_arguments.specs.Invocation.{HasChoice, HasFlag, HasItsTexts, HasLimit, HasPoolTexts, HasText, HasValues, IsInvocation, IsProgram, align_named, choice_fault_in, choice_fault_of, command_name_of, faults_of, format_named, format_names, input_named, is_dash, is_taken, kinds_in, list_fault_of, order_names, summary_named, summary_names};
 
 use crate::invocation::Invocation;
 use crate::question::Question;
 use crate::values::{
     align_of, base_of, decode_texts, format_of, input_of, is_given, is_on, limit_of, pool_texts,
-    replay_texts, summary_of, value_of, wanted_text,
+    replay_texts, summary_of, value_of, values_of, wanted_text,
 };
-use cc_table::{EXPLAIN_CHOICE, explain_command, program};
+use cc_table::{EXPLAIN_CHOICE, ROUND_CHOICE, bare_round_command, explain_command, program};
 use clap::error::ErrorKind;
 use clap::{ArgMatches, Error};
 use std::alloc::{AllocError, Global};
 
-/// Parses the program's arguments, its own name first.
+/// Parses the program's arguments, its own name first, as those of one of its commands with the values that it needs.
+/// [`invocation_of`] is their invocation.
 ///
 /// Errors: a mistake in the arguments, a request for help or for the version, or an allocation that fails. The kind of
 /// the error says which.
-pub fn read_words<'a>(alloc: Global, words: &'a [&'a str]) -> Result<Invocation<'a>, Error>
-    ensures read { IfOk result (λ invocation.
-        (app : App) × IsProgram app × IsInvocation (subcommand_of app (texts words.now)) invocation) }
+pub fn read_words<'a>(alloc: Global, words: &'a [&'a str]) -> Result<ArgMatches<'a>, Error>
+    ensures read { IfOk result (λ matches.
+        (app : App) × IsProgram app × (subcommand_rows_of matches ≡ subcommand_of app (texts words.now)) × HasItsTexts (subcommand_rows_of matches)) }
     ensures refused { IfErr result (λ error.
         (app : App) × IsProgram app × (is_taken app (texts words.now) ≡ true → kind_of error ≡ ErrorKind.OutOfMemory)) }
     ensures kinds { (app : App) × IsProgram app × FailsBy (faults_of app (texts words.now)) result }
 {
     let mut command = program(alloc, aligns(), formats(), orders(), summaries())?;
     match command.try_get_matches_from_mut(words) {
-        Ok(matches) => chosen(alloc, &matches),
+        Ok(matches) => chosen(alloc, matches),
         Err(error) => Err(error),
     }
 }
@@ -61,25 +62,44 @@ fn summaries<'a>() -> &'a [&'a str]
     &["text", "csv", "json"]
 }
 
-/// Returns the invocation of the command that clap found, or the error of the values of `explain` that exclude each
-/// other or are missing.
-fn chosen<'a>(alloc: Global, matches: &ArgMatches<'a>) -> Result<Invocation<'a>, Error>
-    requires { choice_fault_in (subcommand_rows_of matches.now) ≡ None → HasItsTexts (subcommand_rows_of matches.now) }
-    ensures read { IfOk result (IsInvocation (subcommand_rows_of matches.now)) }
-    ensures kinds { FailsBy (kinds_in (choice_fault_in (subcommand_rows_of matches.now))) result }
+/// Returns what clap found, or the error of the values of `explain` or of `round` that exclude each other or are missing.
+fn chosen<'a>(alloc: Global, matches: ArgMatches<'a>) -> Result<ArgMatches<'a>, Error>
+    ensures read { IfOk result (λ chosen. (chosen ≡ matches.entry) × (choice_fault_in (subcommand_rows_of matches.entry) ≡ None)) }
+    ensures kinds { FailsBy (kinds_in (choice_fault_in (subcommand_rows_of matches.entry))) result }
 {
-    match choice_fault(matches) {
-        None => Ok(invocation_of(matches)),
-        Some(kind) => Err(choice_error(alloc, kind)?),
+    match choice_fault(&matches) {
+        None => Ok(matches),
+        Some(kind) => Err(choice_error(alloc, &matches, kind)?),
+    }
+}
+
+/// Returns the kind of error of the values of `explain` or of `round`, if there is one.
+fn choice_fault(matches: &ArgMatches<'_>) -> Option<ErrorKind>
+    ensures { result ≡ choice_fault_in (subcommand_rows_of matches.now) }
+{
+    if let Some(explain) = matches.subcommand_matches("explain") {
+        return word_fault(explain);
+    }
+    list_fault(matches.subcommand_matches("round")?)
+}
+
+/// Returns the kind of error of the values of `round`, if there is one: one of N and `--list` is required, and each
+/// excludes the other.
+fn list_fault(round: &ArgMatches<'_>) -> Option<ErrorKind>
+    ensures { result ≡ list_fault_of (rows_of (found_of round.now)) }
+{
+    match (has_value(round, "list"), has_value(round, "length")) {
+        (true, true) => Some(ErrorKind::ArgumentConflict),
+        (false, false) => Some(ErrorKind::MissingRequiredArgument),
+        _ => None,
     }
 }
 
 /// Returns the kind of error of the values of `explain`, if there is one: WORD excludes `--length` and `--base`, and
 /// without WORD `--length` is required, which excludes `--svg`.
-fn choice_fault(matches: &ArgMatches<'_>) -> Option<ErrorKind>
-    ensures { result ≡ choice_fault_in (subcommand_rows_of matches.now) }
+fn word_fault(explain: &ArgMatches<'_>) -> Option<ErrorKind>
+    ensures { result ≡ choice_fault_of (rows_of (found_of explain.now)) }
 {
-    let explain = matches.subcommand_matches("explain")?;
     let has_length = has_value(explain, "length");
     if has_value(explain, "word") {
         if has_length || has_value(explain, "base") {
@@ -96,11 +116,18 @@ fn choice_fault(matches: &ArgMatches<'_>) -> Option<ErrorKind>
     }
 }
 
-/// Returns the error that says which values `explain` accepts together.
-fn choice_error(alloc: Global, kind: ErrorKind) -> Result<Error, AllocError>
+/// Returns the error that says which values `round` or `explain` accepts together.
+fn choice_error(
+    alloc: Global,
+    matches: &ArgMatches<'_>,
+    kind: ErrorKind,
+) -> Result<Error, AllocError>
     ensures { IfOk result (λ error. kind_of error ≡ kind) }
 {
-    explain_command(alloc)?.error(kind, EXPLAIN_CHOICE)
+    match matches.subcommand_matches("round") {
+        Some(_) => bare_round_command(alloc).error(kind, ROUND_CHOICE),
+        None => explain_command(alloc)?.error(kind, EXPLAIN_CHOICE),
+    }
 }
 
 /// Returns whether an argument has a value.
@@ -111,7 +138,9 @@ fn has_value(matches: &ArgMatches<'_>, name: &str) -> bool
 }
 
 /// Returns the invocation of the command that clap found, by its name.
-fn invocation_of<'a>(matches: &ArgMatches<'a>) -> Invocation<'a>
+///
+/// Requires: clap found a command of the program, with the values that it needs.
+pub fn invocation_of<'a>(matches: &'a ArgMatches<'_>) -> Invocation<'a>
     requires { HasItsTexts (subcommand_rows_of matches.now) }
     ensures { IsInvocation (subcommand_rows_of matches.now) result }
 {
@@ -129,7 +158,7 @@ fn invocation_of<'a>(matches: &ArgMatches<'a>) -> Invocation<'a>
     }
 }
 
-fn read_show<'a>(matches: &ArgMatches<'a>) -> Invocation<'a>
+fn read_show<'a>(matches: &'a ArgMatches<'_>) -> Invocation<'a>
     requires word { HasText (codes "word") (rows_of (found_of matches.now)) }
     requires line { HasFlag (codes "line") (rows_of (found_of matches.now)) }
     ensures command { command_name_of result ≡ codes "show" }
@@ -141,20 +170,29 @@ fn read_show<'a>(matches: &ArgMatches<'a>) -> Invocation<'a>
     })
 }
 
-fn read_round<'a>(matches: &ArgMatches<'a>) -> Invocation<'a>
-    requires { HasText (codes "length") (rows_of (found_of matches.now)) }
+fn read_round<'a>(matches: &'a ArgMatches<'_>) -> Invocation<'a>
     ensures command { command_name_of result ≡ codes "round" }
     ensures values { HasValues (rows_of (found_of matches.now)) result }
 {
-    let length = wanted_text(matches, "length");
-    if length == "-" {
-        Invocation::RoundList
-    } else {
-        Invocation::Ask(Question::Round { length })
+    let lengths = values_of(matches, "length");
+    match value_of(matches, "list") {
+        Some(file) => Invocation::RoundList { file: Some(file) },
+        None if is_dash(lengths) => Invocation::RoundList { file: None },
+        None => Invocation::Round { lengths },
     }
 }
 
-fn read_run<'a>(matches: &ArgMatches<'a>) -> Invocation<'a>
+/// Returns whether `-` is the only length.
+fn is_dash(lengths: &[&str]) -> bool
+    ensures { result ≡ is_dash (texts lengths.now) }
+{
+    match lengths.split_first() {
+        Some((first, rest)) => rest.is_empty() && *first == "-",
+        None => false,
+    }
+}
+
+fn read_run<'a>(matches: &'a ArgMatches<'_>) -> Invocation<'a>
     requires limit { HasLimit (rows_of (found_of matches.now)) }
     requires stats { HasFlag (codes "stats") (rows_of (found_of matches.now)) }
     ensures command { command_name_of result ≡ codes "run" }
@@ -167,7 +205,7 @@ fn read_run<'a>(matches: &ArgMatches<'a>) -> Invocation<'a>
     }
 }
 
-fn read_plan<'a>(matches: &ArgMatches<'a>) -> Invocation<'a>
+fn read_plan<'a>(matches: &'a ArgMatches<'_>) -> Invocation<'a>
     requires pool { HasPoolTexts (rows_of (found_of matches.now)) }
     requires limit { HasLimit (rows_of (found_of matches.now)) }
     requires align { HasChoice align_named (codes "align") (rows_of (found_of matches.now)) }
@@ -184,7 +222,7 @@ fn read_plan<'a>(matches: &ArgMatches<'a>) -> Invocation<'a>
     }
 }
 
-fn read_map<'a>(matches: &ArgMatches<'a>) -> Invocation<'a>
+fn read_map<'a>(matches: &'a ArgMatches<'_>) -> Invocation<'a>
     requires pool { HasPoolTexts (rows_of (found_of matches.now)) }
     requires limit { HasLimit (rows_of (found_of matches.now)) }
     requires align { HasChoice align_named (codes "align") (rows_of (found_of matches.now)) }
@@ -201,7 +239,7 @@ fn read_map<'a>(matches: &ArgMatches<'a>) -> Invocation<'a>
     }
 }
 
-fn read_replay<'a>(matches: &ArgMatches<'a>) -> Invocation<'a>
+fn read_replay<'a>(matches: &'a ArgMatches<'_>) -> Invocation<'a>
     requires align { HasChoice align_named (codes "align") (rows_of (found_of matches.now)) }
     requires strict { HasFlag (codes "strict") (rows_of (found_of matches.now)) }
     requires summary { HasChoice summary_named (codes "summary") (rows_of (found_of matches.now)) }
@@ -217,7 +255,7 @@ fn read_replay<'a>(matches: &ArgMatches<'a>) -> Invocation<'a>
     }
 }
 
-fn read_decode<'a>(matches: &ArgMatches<'a>) -> Invocation<'a>
+fn read_decode<'a>(matches: &'a ArgMatches<'_>) -> Invocation<'a>
     requires format { HasChoice format_named (codes "format") (rows_of (found_of matches.now)) }
     requires order { HasChoice input_named (codes "bytes") (rows_of (found_of matches.now)) }
     ensures command { command_name_of result ≡ codes "decode" }
@@ -231,7 +269,7 @@ fn read_decode<'a>(matches: &ArgMatches<'a>) -> Invocation<'a>
     }
 }
 
-fn read_annotate<'a>(matches: &ArgMatches<'a>) -> Invocation<'a>
+fn read_annotate<'a>(matches: &'a ArgMatches<'_>) -> Invocation<'a>
     ensures command { command_name_of result ≡ codes "annotate" }
     ensures values { HasValues (rows_of (found_of matches.now)) result }
 {
@@ -240,7 +278,7 @@ fn read_annotate<'a>(matches: &ArgMatches<'a>) -> Invocation<'a>
     }
 }
 
-fn read_explain<'a>(matches: &ArgMatches<'a>) -> Invocation<'a>
+fn read_explain<'a>(matches: &'a ArgMatches<'_>) -> Invocation<'a>
     requires { choice_fault_of (rows_of (found_of matches.now)) ≡ None }
     ensures command { command_name_of result ≡ codes "explain" }
     ensures values { HasValues (rows_of (found_of matches.now)) result }

@@ -1,2 +1,3 @@
 mod HintLemmas
 mod RoundListLemmas
+mod TypedLineLemmas

@@ -1,5 +1,5 @@
 -- The output of `round` for a list of lengths: a line for each line of the list.
-use Rattle.std.specs.Prelude.{◌≡◌, ◌≤◌, ◌<◌, ◌⊎◌, ◌↔◌, ℕ, Bool, not, ◌||◌, ◌==◌, IsErr, IsTrue, List, [], ◌∷◌, ◌++◌, length, take, ⊤, Option, Result, Ok, Err}
+use Rattle.std.specs.Prelude.{◌≡◌, ◌≤◌, ◌<◌, ◌⊎◌, ◌↔◌, ℕ, Bool, not, ◌||◌, ◌==◌, IsErr, IsTrue, List, [], ◌∷◌, ◌++◌, length, map, take, ⊤, Option, Some, Result, Ok, Err, if◌then◌else◌}
 use Rattle.std.specs.List.{list_any}
 use Rattle.std.specs.Io.KnownBytes.{Appends, Consumes, IsAtEnd}
 use Rattle.cc_word.specs.declared.refusal.Refusal.TheVariants.{TooLong}
@@ -7,7 +7,7 @@ use Rattle.cc_text.specs.Text.{rest_text}
 use Rattle.cc_syntax.specs.Commands.{length_in}
 use Rattle.cc_explain.specs.Answer.{IsRefusalLine}
 use Rattle.cc_io.specs.Answers.{Answer, answers_text, LastFits}
-use Rattle.cc_io.specs.Lines.{lines_of, rest_of}
+use Rattle.cc_io.specs.Lines.{lines_of, lines_text, rest_of}
 use Rattle.cc_io.specs.declared.summary.IoError.{IoError}
 use Rattle.cc_io.specs.declared.summary.IoError.TheVariants.{Read, Write}
 use Rattle.cc_io.specs.declared.summary.Summary.{Summary}
@@ -83,3 +83,18 @@ pub record RoundsList (to_come left taken taken_now : Option (List ℕ)) (result
   pub text : List ℕ
   pub given : Consumes to_come left text
   pub rounds : RoundsText text left taken taken_now result
+
+-- Whether the text has a line feed.
+abbrev pub has_line_feed : (text : List ℕ) → Bool
+has_line_feed text = list_any (λ byte. byte == 10) text
+
+-- The line of a typed length in the list that has it: the text, or the empty line if it has a line
+-- feed. Neither is a length then, so the output for it is `error 1 syntax`.
+abbrev pub typed_line : (text : List ℕ) → List ℕ
+typed_line text = if has_line_feed text then [] else text
+
+-- RoundsTyped holds if the bytes written are those for the list whose lines are these texts, up to
+-- a failure of the sink.
+pub record RoundsTyped (texts : List (List ℕ)) (taken taken_now : Option (List ℕ)) (result : Result Summary IoError) : Type 0 where
+  pub left : Option (List ℕ)
+  pub rounds : RoundsList (Some (lines_text (map typed_line texts))) left taken taken_now result

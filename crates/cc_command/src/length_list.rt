@@ -1,8 +1,9 @@
 //! The output of `round` for a list: how setting bounds rounds each length of a list.
-ghost use Rattle.std.specs.Prelude.{◌≡◌, ◌↔◌, ◌≤◌, ◌+◌, length, false, true, Err, OnOk};
-ghost use Rattle.cc_command.specs.RoundList.{RoundsList};
+ghost use Rattle.std.specs.Prelude.{◌≡◌, ◌≢◌, ◌↔◌, ◌≤◌, ◌+◌, length, map, false, true, Err, OnOk};
+ghost use Rattle.cc_command.specs.RoundList.{RoundsList, RoundsTyped};
 ghost use Rattle.cc_command.specs.Rounder.{AnswersLength, RefusesRest};
 
+use crate::typed_lines::TypedLines;
 use cc_io::{Answerer, IoError, Lines, Page, Sink, Source, Summary, pump};
 use cc_ops::Reply;
 use cc_syntax::{read_length, reply_line};
@@ -57,10 +58,17 @@ impl Answerer<ROOM> for Rounder {
 
 /// Writes the line `round LENGTH GRANULE MASK` for each line of a list of lengths, in order.
 ///
-/// The output for a line is that of [`show_round`](crate::show_round), and `error 3 long` for a
-/// line of more than 128 bytes. Bytes after the last line feed get `error 2 unfinished`, unless
-/// there are none. The source is read in chunks of up to 16 KiB. Before each read, the output for
-/// all earlier lines is written. The sink is flushed once, at the end. Allocates nothing.
+/// LENGTH is the number of bytes that bounds of this length take. Their base must be a multiple of
+/// GRANULE. MASK rounds an address down to such a multiple. For any other line, the output is the
+/// first of these refusals that applies:
+///
+/// - `error 3 long`: the line has more than 128 bytes
+/// - `error 1 syntax`: the line is not a number
+/// - `error 4 range`: the number is above 2^64
+///
+/// Bytes after the last line feed get `error 2 unfinished`, unless there are none. The source is
+/// read in chunks of up to 16 KiB. Before each read, the output for all earlier lines is written.
+/// The sink is flushed once, at the end. Allocates nothing.
 ///
 /// Requires: neither the source nor the sink has failed.
 /// Errors: `Read` if and only if the source failed. The output for all lines before the failure is
@@ -77,4 +85,23 @@ pub fn round_list<R: Source, W: Sink>(source: &mut R, sink: &mut W) -> Result<Su
     let mut page = Page::<ROOM>::new();
     let mut rounder = Rounder;
     pump(&Lines, &mut rounder, source, sink, &mut page)
+}
+
+/// Writes the line `round LENGTH GRANULE MASK` for each of these lengths, in order.
+///
+/// The output is that of [`round_list`] for the list that has each length on a line. A length with
+/// a line feed in it gets `error 1 syntax`. The output for each length is written before the next
+/// is read. The sink is flushed once, at the end. Allocates nothing.
+///
+/// Requires: the sink has not failed.
+/// Errors: `Write` if and only if the sink failed. It has then taken a prefix of the output.
+pub fn round_typed<W: Sink>(lengths: &[&str], sink: &mut W) -> Result<Summary, IoError>
+    requires { W.has_failed sink.old ≡ false }
+    ensures rounds { RoundsTyped (map (λ length. length.now) lengths.now) (W.taken_bytes sink.old) (W.taken_bytes sink.new) result }
+    ensures read { result ≢ Err IoError.Read }
+    ensures write { (result ≡ Err IoError.Write) ↔ (W.has_failed sink.new ≡ true) }
+    ensures flushed { OnOk result (W.is_flushed sink.new ≡ true) }
+{
+    let mut source = TypedLines::new(lengths);
+    round_list(&mut source, sink)
 }

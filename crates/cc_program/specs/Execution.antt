@@ -2,14 +2,15 @@
 use Rattle.std.specs.Prelude.{[], None, Result}
 use Rattle.cc_io.specs.declared.summary.IoError.{IoError}
 use Rattle.cc_io.specs.declared.summary.Summary.{Summary}
+use Rattle.clap.specs.Walk.{texts}
+use Rattle.cc_command.specs.RoundList.{RoundsTyped}
 use Rattle.cc_machine.specs.State.{initial_state}
 use Rattle.cc_arguments.specs.declared.invocation.Invocation.{Invocation}
-use Rattle.cc_arguments.specs.declared.invocation.Invocation.TheVariants.{Annotate, Ask, Decode, Map, Plan, Replay, RoundList, Run}
+use Rattle.cc_arguments.specs.declared.invocation.Invocation.TheVariants.{Annotate, Ask, Decode, Map, Plan, Replay, Round, RoundList, Run}
 use Rattle.cc_devices.specs.Devices.{Console, FromInput}
 use Rattle.cc_devices.specs.Input.{file_input}
 use Rattle.cc_traces.specs.Replaying.{ReplaysTrace, WithReplay}
 use Rattle.cc_tasks.specs.Tasks.{AnnotatesWords, AnswersQuestion, ListsWords, RoundsLengths, WithListing}
-use Rattle.cc_devices.specs.declared.input.InputName.TheVariants.{Standard}
 use Rattle.cc_runs.specs.Report.{report_of}
 use Rattle.cc_runs.specs.Runs.{MapsFile, PlansFile, ReportsRun}
 use Rattle.cc_runs.specs.declared.report.Terminals.{Terminals}
@@ -26,4 +27,5 @@ Executes (Replay align strict format texts file) terminals console result =
 Executes (Decode input format texts file) terminals console result =
     WithListing input format texts console (λ skipped options. FromInput (file_input file) console (ListsWords skipped options)) result
 Executes (Annotate file) terminals console result = FromInput (file_input file) console AnnotatesWords result
-Executes RoundList terminals console result = FromInput Standard console RoundsLengths result
+Executes (Round sizes) terminals console result = RoundsTyped (texts sizes.now) console.output console.output_now result
+Executes (RoundList file) terminals console result = FromInput (file_input file) console RoundsLengths result

@@ -2,7 +2,7 @@
 use Rattle.std.specs.Prelude.{IsOk, IsSome, ⊤}
 use Rattle.cc_syntax.specs.Planning.{pool_of}
 use Rattle.cc_arguments.specs.declared.invocation.Invocation.{Invocation}
-use Rattle.cc_arguments.specs.declared.invocation.Invocation.TheVariants.{Annotate, Ask, Decode, Map, Plan, Replay, RoundList, Run}
+use Rattle.cc_arguments.specs.declared.invocation.Invocation.TheVariants.{Annotate, Ask, Decode, Map, Plan, Replay, Round, RoundList, Run}
 use Rattle.cc_devices.specs.Input.{IsFile, file_input}
 use Rattle.cc_tasks.specs.Listing.{listing_in}
 use Rattle.cc_traces.specs.ReplayTexts.{replay_in}
@@ -17,7 +17,8 @@ ReadsFile (Map limit pool align svg file) = IsOk (pool_of pool.base.now pool.len
 ReadsFile (Replay align strict format texts file) = IsOk (replay_in align strict texts) × IsFile (file_input file)
 ReadsFile (Decode input format texts file) = IsOk (listing_in input format texts) × IsFile (file_input file)
 ReadsFile (Annotate file) = IsFile (file_input file)
-ReadsFile RoundList = ⊥
+ReadsFile (Round sizes) = ⊥
+ReadsFile (RoundList file) = IsFile (file_input file)
 
 -- RunsMachine holds if the command creates a machine or a heap: `run`, `plan` and `map` if BASE and LENGTH are those of a pool, and
 -- `replay` if its numbers and names are such.
@@ -29,7 +30,8 @@ RunsMachine (Map limit pool align svg file) = IsOk (pool_of pool.base.now pool.l
 RunsMachine (Replay align strict format texts file) = IsOk (replay_in align strict texts)
 RunsMachine (Decode input format texts file) = ⊥
 RunsMachine (Annotate file) = ⊥
-RunsMachine RoundList = ⊥
+RunsMachine (Round sizes) = ⊥
+RunsMachine (RoundList file) = ⊥
 
 -- IsRunOrPlan holds of `run` and `plan`, which write the replies to a script.
 abbrev pub IsRunOrPlan : Invocation → Type 0

@@ -10,7 +10,7 @@ use cc_arguments::Invocation;
 use cc_devices::{Fault, Inputs};
 use cc_io::{Sink, Summary};
 use cc_runs::{Report, Terminals, map_file, plan_file, run_file};
-use cc_tasks::{annotate_file, ask, decode_file, round_lengths};
+use cc_tasks::{annotate_file, ask, decode_file, round_file, round_lengths};
 use cc_traces::replay_file;
 
 /// Executes a command: reads its input, writes its output to `sink`, and reports a run on `errors`.
@@ -88,6 +88,7 @@ pub fn execute<R: AllocGlobal, I: Inputs, W: Sink, E: Sink>(
             file,
         } => decode_file(input, format, texts, inputs, file, sink),
         Invocation::Annotate { file } => annotate_file(inputs, file, sink),
-        Invocation::RoundList => round_lengths(inputs, sink),
+        Invocation::Round { lengths } => round_lengths(lengths, sink),
+        Invocation::RoundList { file } => round_file(inputs, file, sink),
     }
 }

@@ -7,7 +7,7 @@ mod outcome;
 mod process_inputs;
 mod program;
 
-pub use cc_arguments::{DecodeTexts, Invocation, PoolTexts, Question, read_words};
+pub use cc_arguments::{DecodeTexts, Invocation, PoolTexts, Question, invocation_of, read_words};
 pub use cc_devices::{Fault, InputName, Inputs, file_input};
 pub use cc_runs::Terminals;
 pub use execution::execute;

@@ -1,25 +1,25 @@
 //! The execution of the program's command line.
-ghost use Rattle.std.specs.Prelude.{◌≡◌, false, true, Err, List, Option};
+ghost use Rattle.std.specs.Prelude.{◌≡◌, ◌≢◌, false, true, Err, List, Option};
 ghost use Rattle.clap.specs.Walk.{texts};
-ghost use Rattle.clap.specs.Words.{App, Row, Text, kind_of, subcommand_of};
+ghost use Rattle.clap.specs.Words.{App, Row, Text, kind_of, subcommand_of, subcommand_rows_of};
 ghost use Rattle.cc_program.specs.declared.outcome.Ending.TheVariants as ending;
-ghost use Rattle.cc_program.specs.Ending.{EndsCommand};
+ghost use Rattle.cc_program.specs.Ending.{EndsCommand, ExecutesCommand};
 ghost use Rattle.cc_devices.specs.Devices.{Console, OnDevices};
 ghost use Rattle.cc_program.specs.Execution.{Executes};
 ghost use Rattle.cc_program.specs.Input.{ReadsFile};
-ghost use Rattle.cc_arguments.specs.Invocation.{IsInvocation, IsProgram, faults_of, is_taken};
+ghost use Rattle.cc_arguments.specs.Invocation.{HasItsTexts, IsInvocation, IsProgram, faults_of, is_taken};
 ghost use Rattle.cc_program.specs.Outcome.{EndsBy, EndsOn, status_of};
 
 use crate::error_writer::ErrorWriter;
 use crate::execution::execute;
 use crate::outcome::{Ending, ending_of, ending_status};
 use crate::process_inputs::{ProcessInputs, writes_replies};
-use cc_arguments::{Invocation, read_words};
+use cc_arguments::{Invocation, invocation_of, read_words};
 use cc_devices::Fault;
 use cc_io::{FromWriter, Summary};
 use cc_runs::Terminals;
-use clap::Error;
 use clap::error::ErrorKind;
+use clap::{ArgMatches, Error};
 use std::alloc::AllocError;
 use std::env::{self, Env};
 use std::io::{self, BufWriter};
@@ -71,9 +71,22 @@ fn answer_words<R: AllocGlobal + Files + Input + Print + Eprint>(
     ensures executes { (app : App) × IsProgram app × (is_taken app (texts words.now) ≡ true → EndsCommand (subcommand_of app (texts words.now)) terminals result) }
 {
     match read_words(rt.alloc(), words) {
-        Ok(invocation) => ending_of(execute_in_process(rt, terminals, invocation)),
+        Ok(matches) => answer_matches(rt, terminals, &matches),
         Err(error) => tell(rt, &error),
     }
+}
+
+/// Executes the command that clap found, and returns the program's end.
+fn answer_matches<R: AllocGlobal + Files + Input + Print + Eprint>(
+    rt: &R,
+    terminals: Terminals,
+    matches: &ArgMatches<'_>,
+) -> Ending
+    requires { HasItsTexts (subcommand_rows_of matches.now) }
+    ensures accepted { result ≢ ending.Refused }
+    ensures executes { ExecutesCommand (subcommand_rows_of matches.now) terminals result }
+{
+    ending_of(execute_in_process(rt, terminals, invocation_of(matches)))
 }
 
 /// Prints the reason that clap did not accept the arguments: the requested help or version on standard output, and the

@@ -85,29 +85,39 @@ Example:
 pub(crate) const ROUND_ABOUT: &str =
     "Shows the size and alignment to reserve for an allocation of N bytes";
 
+pub(crate) const ROUND_USAGE: &str = "\
+cheri-cap round <N>...
+       cheri-cap round --list <FILE>";
+
+/// The message if the values of `round` do not go together.
+pub const ROUND_CHOICE: &str = "give either one or more lengths N, or `--list FILE`";
+
+pub(crate) const LIST_HELP: &str =
+    "Read the lengths from FILE, one on each line; `-` is standard input";
+
 pub(crate) const LENGTH_HELP: &str = "\
-The length in bytes, at most 2^64: decimal digits, or 0x and hexadecimal digits of either case. Put
-0x before a hexadecimal size that has none, as `nm -S` prints it. With `-` standard input has a list
-of lengths, one on each line";
+A length in bytes, at most 2^64: decimal digits, or 0x and hexadecimal digits of either case. Put 0x
+before a hexadecimal size that has none, as `nm -S` prints it. `-` alone is `--list -`";
 
 pub(crate) const ROUND_AFTER_HELP: &str = "\
-The output is one line, `round LENGTH GRANULE MASK`, with each number in hexadecimal:
+The output for each N is one line, `round LENGTH GRANULE MASK`, with each number in hexadecimal:
   LENGTH   the number of bytes to reserve: N rounded up for exact bounds
   GRANULE  their alignment: they begin at an address that is a multiple of this
   MASK     rounds an address down to such a multiple, as `address & MASK`
 A capability for bytes that are placed so grants them, and no others.
 
-For `-` the output has such a line for each line of standard input, in their order. A line of more
-than 128 bytes gets `error 3 long`, and an unterminated last line `error 2 unfinished`.
+For a list the output has such a line for each line of the list, in their order. An unterminated
+last line gets `error 2 unfinished`.
 
-Input that is not a number gets `error 1 syntax`, and a number above 2^64 gets `error 4 range`, both
-with exit status 1.
+Input that is not a number gets `error 1 syntax`, a number above 2^64 gets `error 4 range`, and
+input of more than 128 bytes gets `error 3 long`, each with exit status 1.
 
 Examples:
-  cheri-cap round 8191
+  cheri-cap round 8191 5000
   round 0x2000 0x10 0xfffffffffffffff0
+  round 0x1388 0x8 0xfffffffffffffff8
 
-  printf '8191\\n5000\\n' | cheri-cap round -
+  printf '8191\\n5000\\n' | cheri-cap round --list -
   round 0x2000 0x10 0xfffffffffffffff0
   round 0x1388 0x8 0xfffffffffffffff8";
 

@@ -6,5 +6,5 @@ mod commands;
 mod help;
 mod table;
 
-pub use commands::{explain_command, program};
-pub use help::EXPLAIN_CHOICE;
+pub use commands::{bare_round_command, explain_command, program};
+pub use help::{EXPLAIN_CHOICE, ROUND_CHOICE};

@@ -6,12 +6,12 @@ ghost use Rattle.cc_table.specs.Usage.{bare_program, explain_command, listed_com
 use crate::help::{
     ALIGN_HELP, ANNOTATE_ABOUT, ANNOTATE_AFTER_HELP, AT_HELP, BASE_HELP, BYTES_HELP, DECODE_ABOUT,
     DECODE_AFTER_HELP, EACH_HELP, FILE_HELP, FORMAT_HELP, HOLDS_HELP, LEAST_HELP, LENGTH_HELP,
-    LINE_HELP, MAP_ABOUT, MAP_AFTER_HELP, PERMISSIONS_HELP, PLAN_ABOUT, PLAN_AFTER_HELP, POOL_HELP,
-    POOL_LENGTH_HELP, REALLOC_HELP, REPLAY_ABOUT, REPLAY_AFTER_HELP, REQUEST_BASE_HELP,
+    LINE_HELP, LIST_HELP, MAP_ABOUT, MAP_AFTER_HELP, PERMISSIONS_HELP, PLAN_ABOUT, PLAN_AFTER_HELP,
+    POOL_HELP, POOL_LENGTH_HELP, REALLOC_HELP, REPLAY_ABOUT, REPLAY_AFTER_HELP, REQUEST_BASE_HELP,
     REQUEST_LENGTH_HELP, ROUND_ABOUT, ROUND_AFTER_HELP, RUN_ABOUT, RUN_AFTER_HELP, SHOW_ABOUT,
     SHOW_AFTER_HELP, SIZES_HELP, SKIP_HELP, SLOTS_HELP, STATS_HELP, STRICT_HELP, SUMMARY_HELP,
     SVG_HELP, SWEEP_HELP, TEXT_FILE_HELP, TRACE_FILE_HELP, TRACE_FORMAT_HELP, WINDOW_SVG_HELP,
-    WORD_HELP, WORDS_FILE_HELP,
+    WORDS_FILE_HELP, WORD_HELP,
 };
 
 /// The subject of the help of an argument.
@@ -23,6 +23,8 @@ pub(crate) enum Topic {
     Word,
     /// `LENGTH_HELP`.
     Length,
+    /// `LIST_HELP`.
+    List,
     /// `SLOTS_HELP`.
     Slots,
     /// `STATS_HELP`.
@@ -108,6 +110,7 @@ pub(crate) fn help<'a>(topic: Topic) -> &'a str {
         Topic::Line => LINE_HELP,
         Topic::Word => WORD_HELP,
         Topic::Length => LENGTH_HELP,
+        Topic::List => LIST_HELP,
         Topic::Slots => SLOTS_HELP,
         Topic::Stats => STATS_HELP,
         Topic::File => FILE_HELP,
@@ -174,6 +177,8 @@ pub(crate) enum Kind {
     Wanted,
     /// An optional argument.
     Free,
+    /// An optional argument that can be given more than once.
+    Several,
     /// An option with a value.
     Valued,
     /// An option without a value.
@@ -239,12 +244,20 @@ const COMMANDS: &[CommandRow] = &[
     CommandRow {
         name: "round",
         page: Page::Round,
-        rows: &[Row {
-            kind: Kind::Wanted,
-            name: "length",
-            placeholder: "N",
-            topic: Topic::Length,
-        }],
+        rows: &[
+            Row {
+                kind: Kind::Valued,
+                name: "list",
+                placeholder: "FILE",
+                topic: Topic::List,
+            },
+            Row {
+                kind: Kind::Several,
+                name: "length",
+                placeholder: "N",
+                topic: Topic::Length,
+            },
+        ],
     },
     CommandRow {
         name: "run",

@@ -1,15 +1,13 @@
--- The output of `show`, `explain` and `round`, and the questions for which it is an error.
+-- The output of `show` and `explain`, and the questions for which it is an error.
 use Rattle.std.specs.Prelude.{ℕ, true, false, IsErr, List}
-use Rattle.cc_syntax.specs.Commands.{length_in}
 use Rattle.cc_explain.specs.Explanation.{IsExplanation}
 use Rattle.cc_explain.specs.LineAnswer.{IsLineAnswer}
 use Rattle.cc_explain.specs.Answer.{IsTypedWord}
 use Rattle.cc_explain.specs.Listing.{IsListing}
 use Rattle.cc_explain.specs.WindowDrawing.{IsWindowDrawing}
 use Rattle.cc_command.specs.Request.{IsLengthExplanation, request_in}
-use Rattle.cc_command.specs.Rounding.{IsRounding}
 use Rattle.cc_arguments.specs.declared.question.Question.{Question}
-use Rattle.cc_arguments.specs.declared.question.Question.TheVariants.{DrawWindow, Explain, ExplainLength, Round, Show}
+use Rattle.cc_arguments.specs.declared.question.Question.TheVariants.{DrawWindow, Explain, ExplainLength, Show}
 
 -- IsAnswerTo holds if the bytes are the output for the question.
 abbrev pub IsAnswerTo : Question → (answer : List ℕ) → Type 0
@@ -18,13 +16,11 @@ IsAnswerTo (Show word true) answer = IsLineAnswer word.now answer
 IsAnswerTo (Explain word) answer = IsExplanation word.now answer
 IsAnswerTo (DrawWindow word) answer = IsWindowDrawing word.now answer
 IsAnswerTo (ExplainLength base size) answer = IsLengthExplanation base.now size.now answer
-IsAnswerTo (Round size) answer = IsRounding size.now answer
 
--- IsUnanswerable holds if the output is an error: the texts are not those of a word, of bounds that can be requested, or
--- of a length.
+-- IsUnanswerable holds if the output is an error: the texts are not those of a word, or of bounds that can be
+-- requested.
 abbrev pub IsUnanswerable : Question → Type 0
 IsUnanswerable (Show word as_line) = ¬ IsTypedWord word.now
 IsUnanswerable (Explain word) = ¬ IsTypedWord word.now
 IsUnanswerable (DrawWindow word) = ¬ IsTypedWord word.now
 IsUnanswerable (ExplainLength base size) = IsErr (request_in base.now size.now)
-IsUnanswerable (Round size) = IsErr (length_in size.now)

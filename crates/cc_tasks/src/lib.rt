@@ -6,4 +6,4 @@ mod questions;
 mod words;
 
 pub use questions::ask;
-pub use words::{annotate_file, decode_file, round_lengths};
+pub use words::{annotate_file, decode_file, round_file, round_lengths};

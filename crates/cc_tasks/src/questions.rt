@@ -1,4 +1,4 @@
-//! `show`, `explain` and `round`: the call for each question.
+//! `show` and `explain`: the call for each question.
 ghost use Rattle.std.specs.Prelude.{◌≡◌, ◌≢◌, ◌↔◌, [], Err, false, true, IfOk, IsErr, IsTrue, OnErr, OnOk};
 ghost use Rattle.cc_explain.specs.Answer.{WritesAnswer};
 ghost use Rattle.cc_devices.specs.Devices.{OnDevices};
@@ -6,11 +6,11 @@ ghost use Rattle.cc_tasks.specs.Questions.{IsAnswerTo, IsUnanswerable};
 ghost use Rattle.cc_tasks.specs.Tasks.{AnswersQuestion};
 
 use cc_arguments::Question;
-use cc_command::{draw_window, explain_length, explain_word, show_line, show_round, show_word};
+use cc_command::{draw_window, explain_length, explain_word, show_line, show_word};
 use cc_devices::Fault;
 use cc_io::{IoError, Sink, Summary};
 
-/// Writes the listing, line, explanation, drawing or rounding that a question asks for.
+/// Writes the listing, line, explanation or drawing that a question asks for.
 ///
 /// The output is an error, and the summary says so, if a text is not that of a word or of a number, if a number is too
 /// large, or if the requested bytes end past 2^64.
@@ -28,7 +28,7 @@ pub fn ask<W: Sink>(question: Question<'_>, sink: &mut W) -> Result<Summary, Fau
     Ok(answer_question(question, sink)?)
 }
 
-/// Writes the listing, line, explanation, drawing or rounding that a question asks for.
+/// Writes the listing, line, explanation or drawing that a question asks for.
 fn answer_question<W: Sink>(question: Question<'_>, sink: &mut W) -> Result<Summary, IoError>
     requires { W.has_failed sink.old ≡ false }
     ensures answered { WritesAnswer (IsAnswerTo question.entry) (W.taken_bytes sink.old) (W.taken_bytes sink.new) result }
@@ -49,6 +49,5 @@ fn answer_question<W: Sink>(question: Question<'_>, sink: &mut W) -> Result<Summ
         Question::Explain { word } => explain_word(word.as_bytes(), sink),
         Question::DrawWindow { word } => draw_window(word.as_bytes(), sink),
         Question::ExplainLength { base, length } => explain_length(base, length, sink),
-        Question::Round { length } => show_round(length.as_bytes(), sink),
     }
 }

@@ -22,12 +22,6 @@ returns-in-Some-show-default c =
     let rows = rows_of (found_of here.show.now) in
     invocation_is c.args.matches.now (codes "show") rows c.read_show.result (sym (ap Some here.is-show) ∙ here.ensures.name) here.ensures.rows c.read_show.ensures.command c.read_show.ensures.values
 
-pub read_round-requires : goal.read_round-requires
-read_round-requires c =
-    let here = c.in-Some-round-default in
-    let rows = rows_of (found_of here.round.now) in
-    (command_wanted c.args.matches.now (codes "round") rows (sym (ap Some here.is-round) ∙ here.ensures.name) here.ensures.rows c.requires)
-
 pub returns-in-Some-round-default : goal.returns-in-Some-round-default
 returns-in-Some-round-default c =
     let here = c.in-Some-round-default in

@@ -7,7 +7,7 @@ use Rattle.clap.specs.Walk.{Row, Text, texts}
 use Rattle.clap.specs.Words.{App, FailsBy, HasKind, is_simple, kind_of, subcommand_of, subcommand_rows_of, takes}
 use Rattle.clap.specs.declared.error.Error.{Error}
 use Rattle.clap.specs.declared.error.kind.ErrorKind.TheVariants.{OutOfMemory}
-use Rattle.cc_arguments.specs.Invocation.{HasItsTexts, IsInvocation, IsProgram, choice_fault_in, faults_of, format_names, is_taken, kinds_in, order_names, program, summary_names}
+use Rattle.cc_arguments.specs.Invocation.{HasItsTexts, IsProgram, choice_fault_in, faults_of, format_names, is_taken, kinds_in, order_names, program, summary_names}
 use Rattle.cc_arguments.proofs.ChoiceLemmas.{choice_fails, choice_refuses, clap_fails, taken_parts}
 use Rattle.cc_arguments.proofs.InvocationLemmas.{found}
 use Rattle.cc_arguments.proofs.reading.read_words.Goals as goal
@@ -27,25 +27,19 @@ is_program_of aligns formats orders summaries are are_formats are_orders are_sum
   is = refl;
 }
 
-pub chosen-requires : goal.chosen-requires
-chosen-requires c =
-    let words : List Text = texts c.args.words.now in
-    let is = c.in_ok-command.ensures in
-    let app : App = program c.aligns.result c.formats.result c.orders.result c.summaries.result in
-    let faultless : fault_of app words ≡ [] = ap (λ (a : App). fault_of a words) (sym is) ∙ c.in-Ok.ensures.kinds (ap is_simple_and_free is) in
-    let matches : subcommand_rows_of c.in-Ok.matches ≡ subcommand_of app words =
-    (c.in-Ok.ensures.ok.2 (ap is_simple is)).1 ∙ ap (λ (a : App). subcommand_of a words) is in
-    λ choice. subst HasItsTexts (sym matches) (found c.aligns.result c.aligns.ensures c.formats.result c.formats.ensures c.orders.result c.orders.ensures c.summaries.result c.summaries.ensures words faultless (sym (ap choice_fault_in matches) ∙ choice))
-
 pub returns-in-Ok-clause-read : goal.returns-in-Ok-clause-read
 returns-in-Ok-clause-read c =
     let words : List Text = texts c.args.words.now in
     let is = c.in_ok-command.ensures in
     let app : App = program c.aligns.result c.formats.result c.orders.result c.summaries.result in
     let is_program = is_program_of c.aligns.result c.formats.result c.orders.result c.summaries.result c.aligns.ensures c.formats.ensures c.orders.ensures c.summaries.ensures in
+    let faultless : fault_of app words ≡ [] = ap (λ (a : App). fault_of a words) (sym is) ∙ c.in-Ok.ensures.kinds (ap is_simple_and_free is) in
     let matches : subcommand_rows_of c.in-Ok.matches ≡ subcommand_of app words =
     (c.in-Ok.ensures.ok.2 (ap is_simple is)).1 ∙ ap (λ (a : App). subcommand_of a words) is in
-    IfOk-weaker c.chosen.result _ _ (λ invocation told. (app, is_program, subst (λ found. IsInvocation found invocation) matches told)) c.chosen.ensures.read
+    IfOk-weaker c.chosen.result _ _ (λ chosen told.
+    let same : subcommand_rows_of chosen ≡ subcommand_of app words = ap subcommand_rows_of told.0 ∙ matches in
+    (app, is_program, same, subst HasItsTexts (sym same) (found c.aligns.result c.aligns.ensures c.formats.result c.formats.ensures c.orders.result c.orders.ensures c.summaries.result c.summaries.ensures words faultless (sym (ap choice_fault_in matches) ∙ told.1))))
+    c.chosen.ensures.read
 
 pub returns-in-Ok-clause-refused : goal.returns-in-Ok-clause-refused
 returns-in-Ok-clause-refused c =

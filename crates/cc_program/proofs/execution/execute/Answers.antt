@@ -28,5 +28,5 @@ returns-in-Annotate-clause-executes g c =
 
 pub returns-in-RoundList-clause-executes : goal.returns-in-RoundList-clause-executes
 returns-in-RoundList-clause-executes g c =
-    by_invocation _ _ c.in-RoundList.is c.args.terminals _ c.round_lengths.result
-    (c.round_lengths.ensures.rounds (g.E.Sink.taken_bytes c.args.errors.now) (g.E.Sink.taken_bytes c.args.errors.now) (g.E.Sink.has_failed c.args.errors.now))
+    by_invocation _ _ c.in-RoundList.is c.args.terminals _ c.round_file.result
+    (c.round_file.ensures.rounds (g.E.Sink.taken_bytes c.args.errors.now) (g.E.Sink.taken_bytes c.args.errors.now) (g.E.Sink.has_failed c.args.errors.now))

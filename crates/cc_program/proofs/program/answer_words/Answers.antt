@@ -1,38 +1,28 @@
-use Rattle.std.proofs.Common.{inl, inr, subst, sym}
-use Rattle.std.specs.Prelude.{◌≢◌}
+use Rattle.std.proofs.Common.{List, Option, inl, inr, subst}
 use Rattle.std.proofs.lemmas.Bool.{false_from_ne_true}
-use Rattle.clap.specs.Walk.{texts}
+use Rattle.clap.specs.Walk.{Row, Text, texts}
 use Rattle.clap.specs.Words.{kind_of}
 use Rattle.clap.specs.declared.error.kind.ErrorKind.{ErrorKind}
-use Rattle.cc_program.specs.declared.outcome.Ending.{Ending}
-use Rattle.cc_program.specs.declared.outcome.Ending.TheVariants.{Refused}
+use Rattle.cc_program.specs.Ending.{ExecutesCommand}
 use Rattle.cc_program.specs.Outcome.{EndsBy}
 use Rattle.cc_arguments.specs.Invocation.{faults_of, is_taken}
-use Rattle.cc_program.proofs.OutcomeLemmas.{answer_not_refused, ends_by_error, refused_not_for_memory}
+use Rattle.cc_program.proofs.OutcomeLemmas.{ends_by_error, refused_not_for_memory}
 use Rattle.cc_program.proofs.program.answer_words.Goals as goal
 
-pub execute_in_process-requires : goal.execute_in_process-requires
-execute_in_process-requires g c = record { invocation = (_, c.in-Ok.ensures.read.2) }
+pub answer_matches-requires : goal.answer_matches-requires
+answer_matches-requires g c = c.in-Ok.ensures.read.3
 
 pub returns-in-Ok-clause-ends : goal.returns-in-Ok-clause-ends
 returns-in-Ok-clause-ends g c =
     let told = c.in-Ok.ensures.kinds in
-    (told.0, told.1, inl (told.2, subst (λ (ending : Ending). ending ≢ Refused) (sym c.ending_of.ensures) (answer_not_refused c.execute_in_process.result)))
+    (told.0, told.1, inl (told.2, c.answer_matches.ensures.accepted))
 
 pub returns-in-Ok-clause-executes : goal.returns-in-Ok-clause-executes
 returns-in-Ok-clause-executes g c =
     let told = c.in-Ok.ensures.read in (
       told.0,
       told.1,
-      λ taken. inl (record {
-        invocation = c.in-Ok.invocation;
-        is_invocation = told.2;
-        console = c.execute_in_process.ensures.executes.0;
-        result = c.execute_in_process.result;
-        executes = c.execute_in_process.ensures.executes.1;
-        opens = c.execute_in_process.ensures.open;
-        ends = c.ending_of.ensures;
-      }),
+      λ taken. inl (subst (λ (found : Option (Text × List Row)). ExecutesCommand found c.args.terminals c.answer_matches.result) told.2 c.answer_matches.ensures.executes),
     )
 
 pub returns-in-Err-clause-refused : goal.returns-in-Err-clause-refused
