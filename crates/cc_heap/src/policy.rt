@@ -15,7 +15,8 @@ pub enum Share {
     High,
 }
 
-/// When a quarantine is swept. A heap examines its policy after each free and each realloc.
+/// When a quarantine is swept. A heap examines its policy after each free, and after each realloc
+/// that does not keep its object.
 ///
 /// Whatever the policy, a heap that has no place for an object sweeps once, and tries again.
 #[derive(Clone, Copy, PartialEq, Eq, Debug)]

@@ -8,8 +8,8 @@ use crate::usage::Usage;
 
 /// The numbers of all states that a heap has had, and of all objects that were made in it.
 ///
-/// A state is what the heap holds after an object is made, after one is freed, and after a sweep.
-/// A `realloc` that moves an object has a state with both its objects. Numbers of objects and of
+/// A state is what the heap holds after an object is made, after one is freed, after a sweep, and
+/// after a `realloc` that keeps its object. One that moves it has a state with both objects. Numbers of objects and of
 /// sweeps stay at 2^64 - 1 once they reach it, and sums of bytes at 2^128 - 1.
 #[derive(Clone, Copy, PartialEq, Eq, Debug, Default)]
 pub struct Totals {

@@ -248,8 +248,8 @@ An empty line, and one that begins with `#`, is nothing. Numbers are below 2^64:
 0x and hexadecimal ones. ID names an object from its making to its free, and can be used again after
 that. An object of SIZE bytes, or of one byte if SIZE is 0, takes its representable length at the
 lowest place with the alignment that exact bounds need, or with ALIGN if that is larger. The policy
-is examined after each free and each realloc. If an object has no place, the quarantine is swept once
-for it.
+is examined after each free, and after each realloc that does not keep its object. If an object has
+no place, the quarantine is swept once for it.
 
 A line of `mtrace` is an event after the words `@ CALLER`, if it has them:
   + PTR SIZE             makes an object; if PTR is (nil), none was made, which counts as `failed`
