@@ -63,10 +63,9 @@ span_from-length span is_span =
 pub carved-is_derived : (cap : Capability) (span : Span) → IsCapability cap → IsUnsealed cap → IsWithin span cap.span
     → IsSpan span → IsSound span
     → SetsAddress cap span.base (Ok (at_address cap span.base))
-      × SetsExactBounds (at_address cap span.base) (length_of span) (Ok (with_span (at_address cap span.base) span))
+    × SetsExactBounds (at_address cap span.base) (length_of span) (Ok (with_span (at_address cap span.base) span))
 carved-is_derived cap span is_cap unsealed within is_span sound =
-    let request = span_from-length span is_span in
-    (
+    let request = span_from-length span is_span in (
       inl (
         unsealed,
         inl (

@@ -21,16 +21,15 @@ returns-clause-derived c =
     let cap : Capability = value_of c.self.inside in
     let base = c.args.span.base in
     let derived = carved-is_derived cap c.args.span c.self.invariant.is_capability
-        (subst IsUnsealed (sym c.self.view_is) c.requires.unsealed)
-        (subst (λ (now : Capability). IsWithin c.args.span now.span) (sym c.self.view_is) c.requires.in_bounds)
-        c.requires.is_span c.requires.sound in
+    (subst IsUnsealed (sym c.self.view_is) c.requires.unsealed)
+    (subst (λ (now : Capability). IsWithin c.args.span now.span) (sym c.self.view_is) c.requires.in_bounds)
+    c.requires.is_span c.requires.sound in
     subst (λ (now : Capability). SetsAddress now base (Ok (at_address now base))
-        × SetsExactBounds (at_address now base) (length_of c.args.span)
-        (Ok (record cap { span = c.of_sound.result.granted; address = base })))
-    c.self.view_is
-    (
+    × SetsExactBounds (at_address now base) (length_of c.args.span)
+    (Ok (record cap { span = c.of_sound.result.granted; address = base })))
+    c.self.view_is (
       derived.0,
       subst (λ (result : Capability). SetsExactBounds (at_address cap base) (length_of c.args.span) (Ok result))
-      (carved-made cap c.args.span c.of_sound.result c.of_sound.ensures)
-      derived.1,
+          (carved-made cap c.args.span c.of_sound.result c.of_sound.ensures)
+          derived.1,
     )
