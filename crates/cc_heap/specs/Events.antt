@@ -197,7 +197,7 @@ FailsToReallocate old from to new =
     ((from ≡ to) × IsSome (object_under old from) × IsSweptOrNot old new) ⊎ FailsToMake old to new
 
 -- FailsInEvent holds if an allocation fails in the event, and turns the heap `old` into `new`. It can fail only
--- in an event that makes an object, and none is made.
+-- in an event that makes an object or gives one another id, and none is made.
 abbrev pub FailsInEvent : Heap → Event → Heap → Type 0
 FailsInEvent old (Allocate id size align) new = FailsToMake old id new
 FailsInEvent old (Clear id size) new = FailsToMake old id new

@@ -134,9 +134,9 @@ impl<P: Placer> Heap<P> {
     /// Takes one event.
     ///
     /// Requires: an alignment that the event asks for is a power of two.
-    /// Errors: `AllocError` if an allocation fails, which it does only in an event that makes an object.
-    /// The heap stays sound then, and makes no object. It may have freed the object under the id of the
-    /// new one, and swept the quarantine.
+    /// Errors: `AllocError` if an allocation fails, which it does only in an event that makes an object or
+    /// gives one another id. The heap stays sound then, and makes no object. It may have freed the object
+    /// under that id, and swept the quarantine.
     pub fn event(&mut self, event: Event) -> Result<Outcome, AllocError>
         requires aligned { HasAlignment event }
         ensures is_event { IfOk result (λ outcome. IsEvent self.old event outcome self.new) }
