@@ -14,13 +14,14 @@ pub none_at : (gap : Span) (size align start : ℕ) → IsFit gap.base gap.top s
     → IsWithin (span_from start size) gap → ⊥
 none_at gap size align start none aligned within = omega (arith, none start within.from_base aligned, within.to_top)
 
--- a later gap ends no lower
-pub tops_rise : (gaps : List Span) (i j : ℕ) (d : Span) → AreGaps gaps → i ≤ j → j < length gaps
-    → (get_or gaps i d).top ≤ (get_or gaps j d).top
-tops_rise gaps i j d are low within =
+-- a later gap begins no lower
+pub bases_rise : (gaps : List Span) (i j : ℕ) (d : Span) → AreGaps gaps → i ≤ j → j < length gaps
+    → (get_or gaps i d).base ≤ (get_or gaps j d).base
+bases_rise gaps i j d are low within =
     elim (cases_eq i j) [
       | inl same ↦ rw same (omega arith)
-      | inr other ↦ omega (arith, are.apart i j d (omega (arith, low, other)) within, (are.some j d within).not_empty)
+      | inr other ↦
+          omega (arith, are.apart i j d (omega (arith, low, other)) within, (are.some i d (omega (arith, low, within))).not_empty)
     ]
 
 -- no gap before a position has a fit

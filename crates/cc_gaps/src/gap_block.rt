@@ -62,6 +62,14 @@ impl Gap {
         }
     }
 
+    /// Returns the address of the first byte.
+    #[inline(always)]
+    fn base(self) -> u64
+        ensures { result ≡ self.base }
+    {
+        self.base
+    }
+
     /// Returns the address of the last byte.
     #[inline(always)]
     fn last(self) -> u64
@@ -200,13 +208,13 @@ impl GapBlock {
         ensures above { (d : SpanSpec) → address < (slice_index_or self.now result d).top }
     {
         let mut low = 0;
-        let mut size = self.gaps.len() - 1;
-        while size > 0 {
-            let half = size - size / 2;
-            low += step_if_below(self.gaps[low + half - 1].last(), address, half);
-            size /= 2;
+        let mut size = self.gaps.len();
+        while size > 1 {
+            let half = size / 2;
+            low += step_if_below(self.gaps[low + half].base(), address, half);
+            size -= half;
         }
-        low
+        low + step_if_below(self.gaps[low].last(), address, 1)
     }
 
     /// Returns an upper bound on the number of bytes, except one, of each gap.
@@ -218,6 +226,7 @@ impl GapBlock {
 
     /// Returns the lowest start at a multiple of `align` of one byte more than `less` in a gap, and
     /// a hint for the position of the gap.
+    #[inline(always)]
     pub(crate) fn fit(&self, less: u64, align: u64) -> Option<(u64, usize)>
         requires gaps { AreGaps self.now }
         requires aligned { 0 < align }
@@ -233,14 +242,34 @@ fn widest(gaps: &[Gap]) -> u64
     ensures { All (IsAtMost result) gaps.now }
 {
     let mut most = 0;
-    for gap in gaps {
-        most = gap.less().max(most);
+    let mut start = 0;
+    'fours: while gaps.len() - start >= 4 {
+        most = widest_of_four(gaps, start).max(most);
+        start += 4;
+    }
+    for at in start..gaps.len() {
+        most = gaps[at].less().max(most);
     }
     most
 }
 
+/// Returns an upper bound on the number of bytes, except one, of each of four gaps from a position on.
+///
+/// Without it, a search for the widest gap is compiled to vectors of two, which take more
+/// instructions.
+#[inline(always)]
+fn widest_of_four(gaps: &[Gap], from: usize) -> u64
+    requires { from + 4 ≤ length gaps.now }
+    ensures { (k : ℕ) (d : SpanSpec) → from ≤ k → k < from + 4 → IsAtMost result (slice_index_or gaps.now k d) }
+{
+    let low = gaps[from].less().max(gaps[from + 1].less());
+    let high = gaps[from + 2].less().max(gaps[from + 3].less());
+    low.max(high)
+}
+
 /// Returns the lowest start at a multiple of `align` of one byte more than `less` in a gap, and a hint
 /// for the position of the gap.
+#[inline(always)]
 fn fit_among(gaps: &[Gap], less: u64, align: u64) -> Option<(u64, usize)>
     requires gaps { AreGaps gaps.now }
     requires aligned { 0 < align }

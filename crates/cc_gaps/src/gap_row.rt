@@ -69,14 +69,17 @@ impl GapRow {
         })
     }
 
-    /// Returns the place of the first gap that ends above an address, or the end if there is none.
-    pub(crate) fn locate(&self, address: u64) -> Place
-        ensures place { IsPlaceIn self.now result }
-        ensures within { index_of self.now result ≤ length (gaps_in self.now) }
-        ensures below { (k : ℕ) (d : SpanSpec) → k < index_of self.now result
+    /// Returns the place of the first gap that ends above an address, and the gap, or the end if
+    /// there is none.
+    #[inline(always)]
+    pub(crate) fn locate(&self, address: u64) -> (Place, Option<Span>)
+        ensures place { IsPlaceIn self.now result.0 }
+        ensures gap { result.1 ≡ slice_get (gaps_in self.now) (index_of self.now result.0) }
+        ensures within { index_of self.now result.0 ≤ length (gaps_in self.now) }
+        ensures below { (k : ℕ) (d : SpanSpec) → k < index_of self.now result.0
             → (slice_index_or (gaps_in self.now) k d).top ≤ address }
-        ensures above { (d : SpanSpec) → index_of self.now result < length (gaps_in self.now)
-            → address < (slice_index_or (gaps_in self.now) (index_of self.now result) d).top }
+        ensures above { (d : SpanSpec) → index_of self.now result.0 < length (gaps_in self.now)
+            → address < (slice_index_or (gaps_in self.now) (index_of self.now result.0) d).top }
     {
         locate_in(&self.blocks, &self.heads, address)
     }
@@ -101,15 +104,16 @@ impl GapRow {
         place.block < self.blocks.len() && place.at < self.blocks.at(place.block).len()
     }
 
-    /// Returns the place of the gap before a place, or `None` if there is none.
+    /// Returns the gap before a place, with its own place, or `None` if there is none.
     #[inline(always)]
-    pub(crate) fn before(&self, place: Place) -> Option<Place>
+    pub(crate) fn gap_before(&self, place: Place) -> Option<(Place, Span)>
         requires { IsPlaceIn self.now place }
-        ensures some { IfSome result (λ other. IsPlaceIn self.now other
-            × (index_of self.now other + 1 ≡ index_of self.now place)) }
+        ensures some { IfSome result (λ found. IsPlaceIn self.now found.0
+            × (index_of self.now found.0 + 1 ≡ index_of self.now place)
+            × (slice_get (gaps_in self.now) (index_of self.now found.0) ≡ Some found.1)) }
         ensures none { IfNone result (index_of self.now place ≡ 0) }
     {
-        place_before(&self.blocks, &self.heads, place)
+        gap_before_in(&self.blocks, &self.heads, place)
     }
 
     /// Replaces the gap at a place. Each place stays that of its gap.
@@ -133,9 +137,42 @@ impl GapRow {
     }
 
     /// Inserts a gap before the one at a place. No place stays valid.
+    #[inline(always)]
+    pub(crate) fn insert(&mut self, place: Place, gap: Span)
+        requires place { IsPlaceIn self.old place }
+        requires order { AreGaps (insert (gaps_in self.old) (index_of self.old place) gap) }
+        requires room { length (gaps_in self.old) < self.old.room }
+        ensures gaps { gaps_in self.new ≡ insert (gaps_in self.old) (index_of self.old place) gap }
+        ensures room { self.new.room ≡ self.old.room }
+    {
+        if self.has_room_at(place) {
+            insert_in(
+                &mut self.blocks,
+                &mut self.heads,
+                place.block,
+                place.at,
+                gap,
+            );
+        } else {
+            self.insert_apart(place, gap);
+        }
+    }
+
+    /// Returns whether a place is in a block that is not full.
+    #[inline(always)]
+    fn has_room_at(&self, place: Place) -> bool
+        ensures within { IsTrue result → place.block < length self.now.blocks }
+        ensures fewer { IsTrue result → length (slice_index_or self.now.blocks place.block []) < 64 }
+    {
+        place.block < self.blocks.len() && self.blocks.at(place.block).len() < MOST_GAPS
+    }
+
+    /// Inserts a gap before the one at a place, as [`insert`](GapRow::insert) does, at the end or in a
+    /// block that may be full.
     ///
     /// If no further block fits, two neighbors are joined first.
-    pub(crate) fn insert(&mut self, place: Place, gap: Span)
+    #[inline(never)]
+    fn insert_apart(&mut self, place: Place, gap: Span)
         requires place { IsPlaceIn self.old place }
         requires order { AreGaps (insert (gaps_in self.old) (index_of self.old place) gap) }
         requires room { length (gaps_in self.old) < self.old.room }
@@ -153,7 +190,7 @@ impl GapRow {
             return;
         }
         join_two(&mut self.blocks, &mut self.heads);
-        let place = locate_in(&self.blocks, &self.heads, gap.base);
+        let (place, _) = locate_in(&self.blocks, &self.heads, gap.base);
         insert_with_room(
             &mut self.blocks,
             &mut self.heads,
@@ -164,6 +201,7 @@ impl GapRow {
     }
 
     /// Removes the gap at a place. Each lower place stays that of its gap.
+    #[inline(always)]
     pub(crate) fn remove(&mut self, place: Place)
         requires place { IsPlaceIn self.old place }
         requires within { index_of self.old place < length (gaps_in self.old) }
@@ -173,8 +211,7 @@ impl GapRow {
             → IsPlaceIn self.new other × (index_of self.new other ≡ index_of self.old other) }
     {
         if self.blocks.at(place.block).len() == 1 {
-            self.blocks.remove(place.block);
-            self.heads.remove(place.block);
+            remove_block(&mut self.blocks, &mut self.heads, place.block);
         } else {
             remove_in(&mut self.blocks, &mut self.heads, place.block, place.at);
         }
@@ -196,47 +233,53 @@ impl GapRow {
     }
 }
 
-/// Returns the place of the first gap that ends above an address, or the end if there is none.
+/// Returns the place of the first gap that ends above an address, and the gap, or the end if there is
+/// none.
 #[inline(always)]
-fn locate_in(blocks: &GapBlocks, heads: &Heads, address: u64) -> Place
+fn locate_in(blocks: &GapBlocks, heads: &Heads, address: u64) -> (Place, Option<Span>)
     requires gaps { AreGaps (gaps_of blocks.now.blocks) }
     requires headed { AreHeaded blocks.now.blocks heads.now.heads }
-    ensures place { IsPlaceAt blocks.now.blocks result.block result.at }
-    ensures located { IsLocated (gaps_of blocks.now.blocks) address (index_at blocks.now.blocks result.block result.at) }
+    ensures place { IsPlaceAt blocks.now.blocks result.0.block result.0.at }
+    ensures gap { result.1 ≡ slice_get (gaps_of blocks.now.blocks) (index_at blocks.now.blocks result.0.block result.0.at) }
+    ensures located { IsLocated (gaps_of blocks.now.blocks) address (index_at blocks.now.blocks result.0.block result.0.at) }
 {
     let block = heads.position(address);
     if block == heads.len() {
-        return Place { block, at: 0 };
+        return (Place { block, at: 0 }, None);
     }
-    let at = blocks.at(block).position(address);
-    Place { block, at }
+    let gaps = blocks.at(block);
+    let at = gaps.position(address);
+    (Place { block, at }, Some(gaps.at(at)))
 }
 
-/// Returns the place of the gap before a place, or `None` if there is none.
+/// Returns the gap before a place, with its own place, or `None` if there is none.
 #[inline(always)]
-fn place_before(blocks: &GapBlocks, heads: &Heads, place: Place) -> Option<Place>
+fn gap_before_in(blocks: &GapBlocks, heads: &Heads, place: Place) -> Option<(Place, Span)>
     requires headed { AreHeaded blocks.now.blocks heads.now.heads }
     requires place { IsPlaceAt blocks.now.blocks place.block place.at }
-    ensures some { IfSome result (λ other. IsPlaceAt blocks.now.blocks other.block other.at
-        × (index_at blocks.now.blocks other.block other.at + 1 ≡ index_at blocks.now.blocks place.block place.at)) }
+    ensures some { IfSome result (λ found. IsPlaceAt blocks.now.blocks found.0.block found.0.at
+        × (index_at blocks.now.blocks found.0.block found.0.at + 1 ≡ index_at blocks.now.blocks place.block place.at)
+        × (slice_get (gaps_of blocks.now.blocks) (index_at blocks.now.blocks found.0.block found.0.at) ≡ Some found.1)) }
     ensures none { IfNone result (index_at blocks.now.blocks place.block place.at ≡ 0) }
 {
     if place.at > 0 {
-        return Some(Place {
-            block: place.block,
-            at: place.at - 1,
-        });
+        let block = place.block;
+        let at = place.at - 1;
+        let gap = blocks.at(block).at(at);
+        return Some((Place { block, at }, gap));
     }
     if place.block == 0 {
         return None;
     }
     let block = place.block - 1;
-    let at = blocks.at(block).len() - 1;
-    Some(Place { block, at })
+    let gaps = blocks.at(block);
+    let at = gaps.len() - 1;
+    Some((Place { block, at }, gaps.at(at)))
 }
 
 /// Returns the lowest start at a multiple of `align` of one byte more than `less` in a gap, and a hint
 /// for the place of the gap.
+#[inline(always)]
 fn fit_in(blocks: &GapBlocks, heads: &Heads, less: u64, align: u64) -> Option<(u64, Place)>
     requires gaps { AreGaps (gaps_of blocks.now.blocks) }
     requires headed { AreHeaded blocks.now.blocks heads.now.heads }
@@ -260,6 +303,7 @@ fn fit_in(blocks: &GapBlocks, heads: &Heads, less: u64, align: u64) -> Option<(u
 /// Returns the lowest start at a multiple of `align` of one byte more than `less` in a gap of a
 /// group of blocks, and a hint for the place of the gap, given that there is none in the groups before
 /// it.
+#[inline(always)]
 fn fit_in_group(
     blocks: &GapBlocks,
     heads: &Heads,
@@ -306,7 +350,22 @@ fn set_in(blocks: &mut GapBlocks, heads: &mut Heads, block: usize, at: usize, ga
     heads.set(block, head);
 }
 
+/// Removes a block, with its head.
+#[inline(never)]
+fn remove_block(blocks: &mut GapBlocks, heads: &mut Heads, block: usize)
+    requires headed { AreHeaded blocks.old.blocks heads.old.heads }
+    requires within { block < length blocks.old.blocks }
+    ensures blocks { blocks.new.blocks ≡ remove blocks.old.blocks block }
+    ensures headed { AreHeaded blocks.new.blocks heads.new.heads }
+    ensures room { blocks.new.room ≡ blocks.old.room }
+    ensures heads_room { heads.new.room ≡ heads.old.room }
+{
+    blocks.remove(block);
+    heads.remove(block);
+}
+
 /// Removes the gap at a position in a block that has others.
+#[inline(always)]
 fn remove_in(blocks: &mut GapBlocks, heads: &mut Heads, block: usize, at: usize)
     requires headed { AreHeaded blocks.old.blocks heads.old.heads }
     requires within { block < length blocks.old.blocks }

@@ -149,10 +149,8 @@ fn gap_around(row: &GapRow, span: Span, near: Place) -> (Place, Span)
     if let Some(gap) = gap_near(row, span, near) {
         return (near, gap);
     }
-    let place = row.locate(span.base);
-    let Some(gap) = row.gap(place) else {
-        unreachable!()
-    };
+    let (place, gap) = row.locate(span.base);
+    let Some(gap) = gap else { unreachable!() };
     (place, gap)
 }
 
@@ -186,9 +184,9 @@ fn give(row: &mut GapRow, span: Span)
     ensures bytes { AddsBytes (gaps_in row.old) span (gaps_in row.new) }
     ensures room { row.new.room ≡ row.old.room }
 {
-    let place = row.locate(span.base);
+    let (place, next) = row.locate(span.base);
     let below = gap_up_to(row, place, u128::from(span.base));
-    let above = top_of_gap_from(row, place, span.top);
+    let above = top_from(next, span.top);
     match (below, above) {
         (None, None) => row.insert(place, span),
         (None, Some(top)) => row.set(place, Span { top, ..span }),
@@ -200,15 +198,13 @@ fn give(row: &mut GapRow, span: Span)
     }
 }
 
-/// Returns the top of the gap at a place, if it begins at `base`.
-fn top_of_gap_from(row: &GapRow, place: Place, base: u128) -> Option<u128>
-    requires { IsPlaceIn row.now place }
-    ensures some { IfSome result (λ top. (gap : SpanSpec) × (slice_get (gaps_in row.now) (index_of row.now place) ≡ Some gap)
-        × (gap.base ≡ base) × (gap.top ≡ top)) }
-    ensures none { IfNone result ((gap : SpanSpec)
-        → slice_get (gaps_in row.now) (index_of row.now place) ≡ Some gap → gap.base ≢ base) }
+/// Returns the top of a gap, if there is one, and it begins at `base`.
+#[inline(always)]
+fn top_from(gap: Option<Span>, base: u128) -> Option<u128>
+    ensures some { IfSome result (λ top. (it : SpanSpec) × (gap ≡ Some it) × (it.base ≡ base) × (it.top ≡ top)) }
+    ensures none { IfNone result ((it : SpanSpec) → gap ≡ Some it → it.base ≢ base) }
 {
-    let gap = row.gap(place)?;
+    let gap = gap?;
     if u128::from(gap.base) == base {
         Some(gap.top)
     } else {
@@ -217,6 +213,7 @@ fn top_of_gap_from(row: &GapRow, place: Place, base: u128) -> Option<u128>
 }
 
 /// Returns the gap before a place, if it ends at `top`: its place and its base.
+#[inline(always)]
 fn gap_up_to(row: &GapRow, place: Place, top: u128) -> Option<(Place, u64)>
     requires { IsPlaceIn row.now place }
     ensures some { IfSome result (λ found. IsPlaceIn row.now found.0 × (index_of row.now found.0 + 1 ≡ index_of row.now place)
@@ -224,8 +221,7 @@ fn gap_up_to(row: &GapRow, place: Place, top: u128) -> Option<(Place, u64)>
     ensures none { IfNone result ((k : ℕ) (gap : SpanSpec) → k + 1 ≡ index_of row.now place
         → slice_get (gaps_in row.now) k ≡ Some gap → gap.top ≢ top) }
 {
-    let before = row.before(place)?;
-    let gap = row.gap(before)?;
+    let (before, gap) = row.gap_before(place)?;
     if gap.top == top {
         Some((before, gap.base))
     } else {

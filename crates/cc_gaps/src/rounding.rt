@@ -6,9 +6,9 @@ fn remainder(n: u64, align: u64) -> u64
     requires { 0 < align }
     ensures { result ≡ n % align }
 {
-    let power_of_two = 1 << align.ilog2();
-    if align == power_of_two {
-        n & (power_of_two - 1)
+    let lowest_bit = 1 << align.trailing_zeros();
+    if align == lowest_bit {
+        n & (lowest_bit - 1)
     } else {
         n % align
     }

@@ -1,14 +1,15 @@
-use Rattle.std.proofs.Common.{◌<◌, ◌≤◌, ◌+◌, ◌-◌, length}
+use Rattle.std.proofs.Common.{◌<◌, ◌≤◌, ◌+◌, length}
 use Rattle.std.specs.List.{slice_index_or}
 use Rattle.cc_bounds.specs.declared.span.Span.{Span}
 use Rattle.cc_gaps.proofs.gap_block.GapBlock.position.Given as goal
 
--- the gap below the low position ends at or below the address, and the one `size` positions above it does not
+-- the gap at the low position begins below the address, if it is not the first, and the one `size` positions above it does not
 abbrev pub invariant-loop-size : goal.invariant-loop-size
 invariant-loop-size l = record {
-  within : l.low + l.size < length l.self;
-  below : (d : Span) → 0 < l.low → (slice_index_or l.self (l.low - 1) d).top ≤ l.address;
-  above : (d : Span) → l.address < (slice_index_or l.self (l.low + l.size) d).top;
+  some : 1 ≤ l.size;
+  within : l.low + l.size ≤ length l.self;
+  below : (d : Span) → 0 < l.low → (slice_index_or l.self l.low d).base < l.address;
+  above : (d : Span) → l.low + l.size < length l.self → l.address ≤ (slice_index_or l.self (l.low + l.size) d).base;
 }
 
 abbrev pub decreases-loop-size : goal.decreases-loop-size

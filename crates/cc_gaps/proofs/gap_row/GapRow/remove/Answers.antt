@@ -2,16 +2,15 @@ use Rattle.std.proofs.Common.{arith, ap, length, remove, get_or, [], ◌≡◌}
 use Rattle.std.proofs.lemmas.List.{length-set}
 use Rattle.std.proofs.lemmas.List.Edits.{length-remove}
 use Rattle.cc_gaps.specs.GapRowState.{GapRowState, index_at}
-use Rattle.cc_gaps.proofs.GapRowLemmas.{gaps_remove, gaps_remove_block, headed_length, headed_remove, length_of_block, place_within, places_removed, places_without, row_without}
+use Rattle.cc_gaps.proofs.GapRowLemmas.{gaps_remove, gaps_remove_block, length_of_block, place_within, places_removed, places_without, row_without}
 use Rattle.cc_gaps.proofs.gap_row.GapRow.remove.Goals as goal
 
-pub remove-requires-then-len-eq1 : goal.remove-requires-then-len-eq1
-remove-requires-then-len-eq1 c =
+pub remove_block-requires-clause-within : goal.remove_block-requires-clause-within
+remove_block-requires-clause-within c =
     let blocks = ap (λ (s : GapRowState). s.blocks) c.self.view_is in
     let place = rw (← blocks) at c.requires.place in
     let inside = rw (← blocks) at c.requires.within in
-    let within = place_within c.self.inside.blocks.blocks c.args.place.block c.args.place.at place inside in
-    omega (arith, within, headed_length c.self.inside.blocks.blocks c.self.inside.heads.heads c.self.invariant.headed)
+    place_within c.self.inside.blocks.blocks c.args.place.block c.args.place.at place inside
 
 pub invariant_of-self : goal.invariant_of-self
 invariant_of-self c =
@@ -28,11 +27,11 @@ invariant_of-self c =
     ) in
     let first : c.args.place.at ≡ 0 = omega (arith, place.inside within, one) in
     let gaps = gaps_remove_block c.self.inside.blocks.blocks c.args.place.block within one in
-    rw (c.remove.ensures.row, c.remove-then-len-eq1.ensures)
+    rw (c.remove_block.ensures.blocks, c.remove_block.ensures.room, c.remove_block.ensures.heads_room)
     (row_without c.self.inside.blocks.blocks (remove c.self.inside.blocks.blocks c.args.place.block) c.self.inside.heads.heads
-    (remove c.self.inside.heads.heads c.args.place.block) _ _ _ (index_at c.self.inside.blocks.blocks c.args.place.block 0)
+    c.remove_block.new.heads.heads _ _ _ (index_at c.self.inside.blocks.blocks c.args.place.block 0)
     c.self.invariant
-    (headed_remove c.self.inside.blocks.blocks c.self.inside.heads.heads c.args.place.block c.self.invariant.headed within)
+    (rw c.remove_block.ensures.blocks at c.remove_block.ensures.headed)
     (omega (arith, length-remove c.self.inside.blocks.blocks c.args.place.block within)) (rw first at inside) gaps)
 
 pub invariant_of-self-else-len-eq1 : goal.invariant_of-self-else-len-eq1
@@ -63,7 +62,7 @@ returns-then-len-eq1-clause-gaps c =
       c.if-len-eq1.true,
     ) in
     let first : c.args.place.at ≡ 0 = omega (arith, place.inside within, one) in
-    rw (c.remove.ensures.row, ← blocks, first)
+    rw (c.remove_block.ensures.blocks, ← blocks, first)
     (gaps_remove_block c.self.inside.blocks.blocks c.args.place.block within one)
 
 pub returns-then-len-eq1-clause-places : goal.returns-then-len-eq1-clause-places
@@ -79,7 +78,7 @@ returns-then-len-eq1-clause-places c other =
       c.len.ensures.value,
       c.if-len-eq1.true,
     ) in
-    rw (c.remove.ensures.row, ← blocks)
+    rw (c.remove_block.ensures.blocks, ← blocks)
     (places_without c.self.inside.blocks.blocks c.args.place.block c.args.place.at other.block other.at within one
     (place.inside within))
 
