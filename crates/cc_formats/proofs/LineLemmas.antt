@@ -10,9 +10,9 @@ use Rattle.std.proofs.lemmas.Bool.{eq-eqb, eqb-false, le-leb, le-ltb, ne_eqb}
 use Rattle.std.proofs.lemmas.Fmt.{digits_is_IsNumeral}
 use Rattle.cc_word.specs.WordText.{hexadecimal}
 use Rattle.cc_word.specs.declared.refusal.Refusal.{Refusal}
-use Rattle.cc_syntax.specs.Commands.{address_in, both}
-use Rattle.cc_syntax.specs.Numbers.{within_limit}
-use Rattle.cc_syntax.proofs.ReadBackLemmas.{hexadecimal-read}
+use Rattle.cc_values.specs.Values.{address_in, both}
+use Rattle.cc_values.specs.Numbers.{within_limit}
+use Rattle.cc_values.proofs.ReadBackLemmas.{hexadecimal-read}
 use Rattle.cc_formats.specs.declared.report.Report.{Report}
 use Rattle.cc_formats.specs.declared.report.Report.TheVariants as report
 use Rattle.cc_formats.specs.Reports.{object_in, pointer_in}

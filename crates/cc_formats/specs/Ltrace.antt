@@ -4,7 +4,7 @@ use Rattle.std.specs.List.{after_first, before_first, position_or_len}
 use Rattle.std.specs.Str.{bytes_eq}
 use Rattle.cc_word.specs.declared.refusal.Refusal.{Refusal}
 use Rattle.cc_word.specs.declared.refusal.Refusal.TheVariants.{OutOfRange, Syntax}
-use Rattle.cc_syntax.specs.Commands.{address_in, both}
+use Rattle.cc_values.specs.Values.{address_in, both}
 use Rattle.cc_formats.specs.declared.report.Report.{Report}
 use Rattle.cc_formats.specs.declared.report.Report.TheVariants as report
 use Rattle.cc_formats.specs.Reports.{allocation, clearing, free, reallocation, reported}

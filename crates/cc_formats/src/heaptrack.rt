@@ -4,8 +4,8 @@ ghost use Rattle.cc_formats.specs.Heaptrack.{heaptrack_in, hexadecimal_in, is_to
 
 use crate::cutting::cut;
 use crate::report::{Report, allocation, free};
-use cc_syntax::{both, read_address};
 use cc_text::Line;
+use cc_values::{both, read_address};
 use cc_word::Refusal;
 
 /// The maximum number of bytes of a line that reports something.

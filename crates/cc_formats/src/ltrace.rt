@@ -4,7 +4,7 @@ ghost use Rattle.cc_formats.specs.Ltrace.{address_or_nil, assigned_in, called_in
 
 use crate::cutting::{after_or_all, cut, has_byte};
 use crate::report::{Report, allocation, clearing, free, reallocation};
-use cc_syntax::{both, read_address};
+use cc_values::{both, read_address};
 use cc_word::Refusal;
 
 /// The maximum number of bytes of a line.

@@ -5,7 +5,7 @@ ghost use Rattle.cc_formats.specs.Reports.{object_in, pointer_in};
 
 use crate::cutting::cut;
 use crate::report::{Report, allocation, free};
-use cc_syntax::{both, read_address};
+use cc_values::{both, read_address};
 use cc_word::Refusal;
 
 /// The maximum number of bytes of a line that reports something.

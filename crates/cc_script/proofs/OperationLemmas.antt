@@ -20,13 +20,14 @@ use Rattle.cc_word.specs.declared.perms.Perms.{Perms}
 use Rattle.cc_bounds.specs.declared.align.Align.TheVariants.{One, Sixteen}
 use Rattle.cc_ops.specs.declared.op.Op.{Op}
 use Rattle.cc_ops.specs.declared.op.Op.TheVariants as o
-use Rattle.cc_syntax.specs.Commands.{IsWord, words_of, index_in, address_in, length_in, flag_in, align_in, word_in, permissions_in, with_names, both, single, slot_and, one, two, command_in, operation_of}
-use Rattle.cc_syntax.specs.Numbers.{number_of, within_limit}
+use Rattle.cc_values.specs.Values.{IsWord, words_of, index_in, address_in, length_in, flag_in, word_in, permissions_in, with_names, both, single}
+use Rattle.cc_syntax.specs.Commands.{align_in, slot_and, one, two, command_in, operation_of}
+use Rattle.cc_values.specs.Numbers.{number_of, within_limit}
 use Rattle.cc_explain.specs.Permissions.{names_of_set, permissions_text}
 use Rattle.cc_script.specs.Operations.{flag_text, op_text, IsInRange}
-use Rattle.cc_syntax.proofs.PieceLemmas.{one_join}
-use Rattle.cc_syntax.proofs.ReadBackLemmas.{decimal-read, hexadecimal-read, word-read}
-use Rattle.cc_syntax.proofs.SpaceLemmas.{index_in_single, address_in_single, length_in_single, word_in_single, permissions_in_single}
+use Rattle.cc_values.proofs.PieceLemmas.{one_join}
+use Rattle.cc_values.proofs.ReadBackLemmas.{decimal-read, hexadecimal-read, word-read}
+use Rattle.cc_values.proofs.SpaceLemmas.{index_in_single, address_in_single, length_in_single, word_in_single, permissions_in_single}
 
 -- ---- one bit
 

@@ -14,8 +14,9 @@ use Rattle.cc_machine.specs.State.{State}
 use Rattle.cc_machine.specs.Run.{IsReached, IsInAddressSpace}
 use Rattle.cc_machine.proofs.RunLemmas.{IsReached-step}
 use Rattle.cc_machine.proofs.TotalLemmas.{HasOutcome, Step-outcome}
-use Rattle.cc_syntax.specs.Numbers.{number_of, within_limit}
-use Rattle.cc_syntax.specs.Commands.{Command, words_of, index_in, address_in, length_in, flag_in, align_in, word_in, permissions_in, both, single, slot_and_perhaps, one, alone, of_value, of_slot, of_slot_perhaps, commands, operation_in, command_in, operation_of}
+use Rattle.cc_values.specs.Numbers.{number_of, within_limit}
+use Rattle.cc_values.specs.Values.{words_of, index_in, address_in, length_in, flag_in, word_in, permissions_in, both, single}
+use Rattle.cc_syntax.specs.Commands.{Command, align_in, slot_and_perhaps, one, alone, of_value, of_slot, of_slot_perhaps, commands, operation_in, command_in, operation_of}
 use Rattle.cc_io.specs.Lines.{lines_of, rest_of}
 use Rattle.cc_syntax.specs.Replies.{is_error}
 use Rattle.cc_script.specs.Output.{commands_of, Takes, TakesAll, ScriptOutput, replies_text, rest_text}

@@ -11,7 +11,7 @@ ghost use Rattle.cc_machine.specs.State.{State};
 ghost use Rattle.cc_machine.specs.Objects.{IsHeldObject};
 ghost use Rattle.cc_machine.specs.ObjectConfinement.{AreOfObject, IsConfinedToObject};
 ghost use Rattle.cc_machine.specs.Run.{Run, IsReached, IsInAddressSpace};
-ghost use Rattle.cc_syntax.specs.Commands.{OneJoin};
+ghost use Rattle.cc_values.specs.Values.{OneJoin};
 ghost use Rattle.cc_script.specs.Output.{commands_of, TakesAll, ScriptOutput, operations_of, operation_replies};
 ghost use Rattle.cc_script.specs.Laws.{TakesAllWithin};
 ghost use Rattle.cc_script.specs.Parts.{EndsLine, OutputInParts};

@@ -1,11 +1,18 @@
 -- A line that is no command of the table.
-use Rattle.std.proofs.Common.{◌≡◌, ◌≢◌, ℕ, ◌++◌, Bool, true, false, List, [], ◌∷◌, Err, refl, sym, ◌∙◌, ap, if◌then◌else◌}
+use Rattle.std.proofs.Common.{◌≡◌, ◌≢◌, ℕ, ◌++◌, Bool, true, false, List, [], ◌∷◌, Result, Err, refl, sym, ◌∙◌, ap, if◌then◌else◌}
 use Rattle.std.proofs.lemmas.List.Splits.{join_with_byte-slice_split}
 use Rattle.std.proofs.lemmas.Slice.Eq.{bytes_eq-Decides}
 use Rattle.std.specs.List.{AllByRecursion, join_with_byte}
 use Rattle.std.specs.Str.{bytes_eq}
+use Rattle.cc_word.specs.declared.refusal.Refusal.{Refusal}
 use Rattle.cc_word.specs.declared.refusal.Refusal.TheVariants.{Syntax}
-use Rattle.cc_syntax.specs.Commands.{Command, words_of, commands, operation_in, command_in}
+use Rattle.cc_values.specs.Values.{words_of}
+use Rattle.cc_ops.specs.declared.op.Op.{Op}
+use Rattle.cc_syntax.specs.Commands.{Command, commands, operation_in, command_in}
+
+-- the operation of a line of any length, or its error
+abbrev pub named : (line : List ℕ) → Result Op Refusal
+named line = command_in (words_of line)
 
 -- the line has not this command's name as its first word, or else values that it does not take
 abbrev pub Misses : (line : List ℕ) → Command → Type 0

@@ -1,8 +1,3 @@
-pub mod NumberLemmas
-pub mod EightLemmas
-pub mod PieceLemmas
-pub mod ValueLemmas
-pub mod SpaceLemmas
+pub mod SlotLemmas
 pub mod CommandLemmas
 pub mod TallyLemmas
-pub mod ReadBackLemmas

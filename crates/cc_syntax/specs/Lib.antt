@@ -1,6 +1,4 @@
 -- In reading order.
-pub mod Numbers
-pub mod Digits
 pub mod Commands
 pub mod Replies
 pub mod Planning

@@ -4,7 +4,7 @@ use Rattle.cc_word.specs.declared.refusal.Refusal.{Refusal}
 use Rattle.cc_bounds.specs.declared.align.Align.{Align}
 use Rattle.cc_ops.specs.declared.op.Op.{Op}
 use Rattle.cc_ops.specs.declared.op.Op.TheVariants.{Addr, Exact, Pool}
-use Rattle.cc_syntax.specs.Commands.{address_in, both, length_in}
+use Rattle.cc_values.specs.Values.{address_in, both, length_in}
 
 -- The base and the length that two strings parse as, or the error: that a string is not a number
 -- comes before that a number is too large.

@@ -1,8 +1,6 @@
 //! The text of scripts: the commands, the replies to them, and the counts of these.
 #![tactic(auto)]
 
-mod digits;
-mod laws;
 mod line_hints;
 mod numbers;
 mod parsing;
@@ -12,10 +10,9 @@ mod tally;
 mod values;
 mod words;
 
-pub use laws::printed_values_are_read_back;
-pub use numbers::{read_address, read_length};
+pub use cc_values::{both, printed_values_are_read_back, read_address, read_permissions};
+pub use numbers::read_length;
 pub use parsing::{MOST_BYTES, Taker, parse_line, take_command};
 pub use planning::{plan_numbers, plan_opening};
 pub use printing::{push_any_reply, push_reply, reply_line};
 pub use tally::{Count, Tally};
-pub use values::{both, read_permissions};

@@ -2,7 +2,8 @@
 ghost use Rattle.std.specs.Prelude.{◌≡◌, ◌+◌, ◌≤◌, ℕ, List, Result, length};
 ghost use Rattle.cc_word.specs.declared.refusal.Refusal.{Refusal as RefusalSpec};
 ghost use Rattle.cc_ops.specs.declared.op.Op.{Op as OpSpec};
-ghost use Rattle.cc_syntax.specs.Commands.{words_of, command_in, operation_of};
+ghost use Rattle.cc_values.specs.Values.{words_of};
+ghost use Rattle.cc_syntax.specs.Commands.{command_in, operation_of};
 
 use crate::values::{Value, slot_and, slot_and_perhaps};
 use crate::words::{after, is};

@@ -1,6 +1,6 @@
 use Rattle.std.proofs.Common.{◌≡◌, ◌∙◌, ℕ, Result, ap}
 use Rattle.cc_word.specs.declared.refusal.Refusal.{Refusal}
-use Rattle.cc_syntax.specs.Commands.{both}
+use Rattle.cc_values.specs.Values.{both}
 use Rattle.cc_formats.specs.Ltrace.{arguments_of, reallocated, resized_in}
 use Rattle.cc_formats.proofs.ltrace.read_realloc.Goals as goal
 

@@ -1,5 +1,6 @@
 use Rattle.std.proofs.Common.{refl}
-use Rattle.cc_syntax.specs.Commands.{words_of, command_in}
+use Rattle.cc_values.specs.Values.{words_of}
+use Rattle.cc_syntax.specs.Commands.{command_in}
 use Rattle.cc_script.proofs.answering.answer_line.Goals as goal
 
 pub returns-clause-fits : goal.returns-clause-fits

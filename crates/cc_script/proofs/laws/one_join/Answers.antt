@@ -1,4 +1,4 @@
-use Rattle.cc_syntax.proofs.PieceLemmas.{one_join}
+use Rattle.cc_values.proofs.PieceLemmas.{one_join}
 use Rattle.cc_script.proofs.laws.one_join.Goals as goal
 
 pub returns : goal.returns

@@ -1,7 +1,7 @@
 use Rattle.std.proofs.Common.{rules, arith, get_or, ◌≡◌, ◌<◌, ◌≤◌, ◌+◌, ◌*◌, sym, length}
 use Rattle.std.proofs.lemmas.Int.Digits.{digits_value_more}
-use Rattle.cc_syntax.proofs.NumberLemmas.{digits_further, digit_passes, short_further, short_fits, short_product}
-use Rattle.cc_syntax.proofs.SpaceLemmas.{number_begins}
+use Rattle.cc_values.proofs.NumberLemmas.{digits_further, digit_passes, short_further, short_fits, short_product}
+use Rattle.cc_syntax.proofs.SlotLemmas.{number_begins}
 use Rattle.cc_syntax.proofs.numbers.split_number.Goals as goal
 
 pub returns-then-text-at-eq32 : goal.returns-then-text-at-eq32

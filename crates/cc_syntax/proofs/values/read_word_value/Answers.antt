@@ -1,5 +1,5 @@
 use Rattle.std.proofs.Common.{refl}
-use Rattle.cc_syntax.proofs.ValueLemmas.{word_found, word_missed}
+use Rattle.cc_values.proofs.ValueLemmas.{word_found, word_missed}
 use Rattle.cc_syntax.proofs.values.read_word_value.Goals as goal
 
 pub returns-in-Some : goal.returns-in-Some

@@ -1,6 +1,6 @@
 use Rattle.std.proofs.Common.{◌∙◌, ◌≤◌, ◌-◌, ◌^◌, ap, arith, sym, Ok}
-use Rattle.cc_syntax.specs.Commands.{both}
-use Rattle.cc_syntax.proofs.SpaceLemmas.{number_then}
+use Rattle.cc_values.specs.Values.{both}
+use Rattle.cc_syntax.proofs.SlotLemmas.{number_then}
 use Rattle.cc_syntax.proofs.values.slot_and.Goals as goal
 
 pub returns-in-Ok : goal.returns-in-Ok

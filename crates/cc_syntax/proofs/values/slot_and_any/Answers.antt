@@ -1,6 +1,6 @@
 use Rattle.std.proofs.Common.{◌∙◌, ap}
-use Rattle.cc_syntax.specs.Commands.{both}
-use Rattle.cc_syntax.proofs.SpaceLemmas.{slot_then}
+use Rattle.cc_values.specs.Values.{both}
+use Rattle.cc_syntax.proofs.SlotLemmas.{slot_then}
 use Rattle.cc_syntax.proofs.values.slot_and_any.Goals as goal
 
 pub returns-in-Some : goal.returns-in-Some

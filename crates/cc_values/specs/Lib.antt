@@ -1,0 +1,4 @@
+-- In reading order.
+pub mod Numbers
+pub mod Digits
+pub mod Values

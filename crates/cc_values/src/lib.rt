@@ -1,0 +1,14 @@
+//! The values of lines and of arguments: words, numbers, and sets of permissions.
+#![tactic(auto)]
+
+mod digits;
+mod laws;
+mod numbers;
+mod values;
+mod words;
+
+pub use digits::{Spelled, value_of_decimal};
+pub use laws::printed_values_are_read_back;
+pub use numbers::{read_address, read_index, read_number};
+pub use values::{both, read_permissions};
+pub use words::split_at_first;
