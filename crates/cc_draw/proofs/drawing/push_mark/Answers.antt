@@ -1,0 +1,18 @@
+use Rattle.std.proofs.Common.{refl}
+use Rattle.cc_draw.specs.Drawing.{mark_text}
+use Rattle.cc_draw.proofs.drawing.push_mark.Goals as goal
+
+-- The text of the pieces in turn, from the last back to the empty line.
+pub returns-clause-value : goal.returns-clause-value
+unfolding mark_text
+returns-clause-value c =
+    rw (
+      c.push_line.ensures.value,
+      c.push-3.ensures,
+      c.push_hexadecimal.ensures.value,
+      c.push-2.ensures,
+      c.push_index.ensures.value,
+      c.push.ensures,
+      c.new-line.ensures,
+      c.from.ensures,
+    ) refl

@@ -1,0 +1,21 @@
+use Rattle.std.proofs.Common.{refl}
+use Rattle.cc_draw.specs.Drawing.{ground_text}
+use Rattle.cc_draw.proofs.drawing.push_row.Goals as goal
+
+-- The text of the pieces in turn, from the last back to the empty line.
+pub returns-clause-value : goal.returns-clause-value
+unfolding ground_text
+returns-clause-value c =
+    rw (
+      c.push_line.ensures.value,
+      c.push-5.ensures,
+      c.push_hexadecimal.ensures.value,
+      c.push-4.ensures,
+      c.push_index-3.ensures.value,
+      c.push-3.ensures,
+      c.push_index-2.ensures.value,
+      c.push-2.ensures,
+      c.push_index.ensures.value,
+      c.push.ensures,
+      c.new-line.ensures,
+    ) refl

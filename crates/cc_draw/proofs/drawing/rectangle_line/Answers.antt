@@ -1,0 +1,27 @@
+use Rattle.std.proofs.Common.{refl}
+use Rattle.cc_draw.specs.Drawing.{rectangle_text}
+use Rattle.cc_draw.proofs.drawing.rectangle_line.Goals as goal
+
+-- The text of the pieces in turn, from the last back to the empty line.
+pub returns : goal.returns
+unfolding rectangle_text
+returns c =
+    rw (
+      c.push-8.ensures,
+      c.push-7.ensures,
+      c.push_hexadecimal-2.ensures.value,
+      c.push-6.ensures,
+      c.push_hexadecimal.ensures.value,
+      c.push-5.ensures,
+      c.push_index-4.ensures.value,
+      c.push-4.ensures,
+      c.push_index-3.ensures.value,
+      c.push-3.ensures,
+      c.push_index-2.ensures.value,
+      c.push-2.ensures,
+      c.push_index.ensures.value,
+      c.push.ensures,
+      c.new-line.ensures,
+      c.from.ensures,
+      c.from-2.ensures,
+    ) refl
