@@ -169,7 +169,7 @@ asked : (old new : Heap) (of_trace : Bool) → new ≡ (if of_trace then swept o
 asked old new true is = sweeps old new is
 asked old new false is = same old new is
 
-event : (old new : Heap) (event : Event) (outcome : Outcome) → IsEvent old event outcome new → HasHistory old new
+pub event : (old new : Heap) (event : Event) (outcome : Outcome) → IsEvent old event outcome new → HasHistory old new
 event old new (Allocate id size align) outcome is = allocates old new id align (max size 1) outcome is
 event old new (Clear id size) outcome is = allocates old new id 1 (max size 1) outcome is
 event old new (Reallocate from to size) outcome is = reallocates old new from to 1 (max size 1) outcome is
@@ -218,7 +218,7 @@ pub capped_more : (cap number part rest whole : ℕ) → whole ≡ part + rest
     → min (min (number + part) cap + rest) cap ≡ min (number + whole) cap
 capped_more cap number part rest whole is = omega (arith, is)
 
-max_more : (number part rest : ℕ) → max (max number part) rest ≡ max number (max part rest)
+pub max_more : (number part rest : ℕ) → max (max number part) rest ≡ max number (max part rest)
 max_more number part rest = omega arith
 
 -- the totals with one state more

@@ -6,6 +6,7 @@ pub mod Totals
 pub mod Heap
 pub mod Events
 pub mod Run
+pub mod Peaks
 pub mod Sizes
 pub mod Lost
 pub mod HeapState

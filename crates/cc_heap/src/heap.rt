@@ -7,6 +7,7 @@ ghost use Rattle.cc_heap.specs.Totals.{with_usage};
 ghost use Rattle.cc_heap.specs.Heap.{Attempts, KeepsObject, MustSweep, empty_heap, kept_object, object_under, swept, swept_memory};
 ghost use Rattle.cc_heap.specs.Reallocation.{can_take};
 ghost use Rattle.cc_heap.specs.Events.{Allocates, AttemptsToReplace, ClearsOther, FailsInEvent, FailsToMake, FailsToReallocate, FollowsPolicy, FollowsReplacing, FreesIfLive, FreesOrNot, HasAlignment, IsEvent, IsSweptOrNot, KeepsPlace, Moves, Reallocates, Remakes, ReplacesLive, Tries, TriesToReplace, outcome_of, swept_if_asked};
+ghost use Rattle.cc_heap.specs.Peaks.{without_peaks};
 ghost use Rattle.cc_heap.specs.Run.{Runs};
 ghost use Rattle.cc_heap.specs.HeapState.{PutsOver, QuarantinesLive, ReleasesLast, Settles};
 
@@ -122,6 +123,13 @@ impl<P: Placer> Heap<P> {
         ensures { result ≡ self.now.totals }
     {
         self.totals
+    }
+
+    /// Forgets the peaks of bytes, so that those after an event are of that event alone.
+    pub fn forget_peaks(&mut self)
+        ensures { self.new ≡ without_peaks self.old }
+    {
+        self.totals = self.totals.without_peaks();
     }
 
     /// Returns the settings of the heap.

@@ -1,9 +1,12 @@
 //! Laws of the runs of a heap.
 ghost use Rattle.std.specs.Prelude.{List};
 ghost use Rattle.cc_heap.specs.declared.event.Event.{Event};
+ghost use Rattle.cc_heap.specs.declared.outcome.Outcome.{Outcome};
 ghost use Rattle.cc_heap.specs.declared.settings.Settings.{Settings};
+ghost use Rattle.cc_heap.specs.Events.{IsEvent};
 ghost use Rattle.cc_heap.specs.Heap.{Heap, empty_heap};
 ghost use Rattle.cc_heap.specs.Lost.{HasSizes, RunState, RunsNoting, empty_run};
+ghost use Rattle.cc_heap.specs.Peaks.{HasPeaks, without_peaks};
 ghost use Rattle.cc_heap.specs.Run.{HasTotals, Runs};
 
 /// Proves that the totals of a heap are numbers of all states that it has passed, for every list of
@@ -24,4 +27,11 @@ pub fn totals_are_of_all_states()
 pub fn sizes_are_of_all_objects()
     ensures { (settings : Settings) (events : List Event) (run : RunState)
         → RunsNoting (empty_run settings) events run → HasSizes events run }
+{}
+
+/// Proves that the peaks of a heap after an event, if they were forgotten before it, are the largest
+/// values over the states of that event.
+pub fn peaks_are_of_an_event()
+    ensures { (old : Heap) (event : Event) (outcome : Outcome) (new : Heap)
+        → IsEvent (without_peaks old) event outcome new → HasPeaks old new }
 {}

@@ -20,7 +20,7 @@ mod usage;
 
 pub use event::Event;
 pub use heap::Heap;
-pub use laws::{sizes_are_of_all_objects, totals_are_of_all_states};
+pub use laws::{peaks_are_of_an_event, sizes_are_of_all_objects, totals_are_of_all_states};
 pub use making::Making;
 pub use object::Object;
 pub use outcome::Outcome;

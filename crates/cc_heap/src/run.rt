@@ -3,6 +3,7 @@ ghost use Rattle.std.specs.Prelude.{◌≡◌, ℕ, [], length, IfOk, IfSome, On
 ghost use Rattle.cc_heap.specs.Events.{HasAlignment};
 ghost use Rattle.cc_heap.specs.Lost.{IsRunEvent, freed_id, is_lost, is_lost_one, is_not_made, made_id, noted};
 ghost use Rattle.cc_heap.specs.Memory.{IsSound, held_spans, usage_of};
+ghost use Rattle.cc_heap.specs.Peaks.{without_peaks};
 ghost use Rattle.cc_heap.specs.Sizes.{no_sizes, with_made_size};
 
 use crate::event::Event;
@@ -87,6 +88,13 @@ impl<P: Placer> Run<P> {
         ensures { result ≡ self.now.heap.totals }
     {
         self.heap.totals()
+    }
+
+    /// Forgets the peaks of bytes of the heap, so that those after an event are of that event alone.
+    pub fn forget_peaks(&mut self)
+        ensures { self.new ≡ record self.old { heap = without_peaks self.old.heap } }
+    {
+        self.heap.forget_peaks();
     }
 
     /// Returns the settings of the heap.

@@ -1,6 +1,7 @@
 //! The numbers of all that a heap was.
 ghost use Rattle.std.specs.Prelude.{◌≡◌, ◌≤◌, ◌+◌, ◌^◌};
 ghost use Rattle.cc_bounds.specs.Span.{length_of};
+ghost use Rattle.cc_heap.specs.Peaks.{totals_without_peaks};
 ghost use Rattle.cc_heap.specs.Totals.{with_made, with_sweep, with_usage};
 
 use crate::object::Object;
@@ -42,6 +43,18 @@ pub struct Totals {
 }
 
 impl Totals {
+    /// Returns the totals with no peaks of bytes.
+    pub(crate) fn without_peaks(self) -> Totals
+        ensures { result ≡ totals_without_peaks self }
+    {
+        Totals {
+            peak_live: 0,
+            peak_quarantine: 0,
+            peak_held: 0,
+            ..self
+        }
+    }
+
     /// Returns the totals with one more state, of this usage.
     pub(crate) fn with_usage(self, usage: Usage) -> Totals
         requires { usage.live + usage.quarantine ≤ 2 ^ 127 }
