@@ -8,10 +8,10 @@ use Rattle.std.proofs.lemmas.Bool.{eqb-false, le-leb, le-ltb}
 use Rattle.std.proofs.lemmas.Fmt.{decimal_is_IsNumeral, length-decimal-le}
 use Rattle.std.proofs.lemmas.List.{append_assoc, length-append}
 use Rattle.cc_word.specs.declared.refusal.Refusal.{Refusal}
-use Rattle.cc_syntax.specs.Commands.{IsWord, address_in, words_of}
-use Rattle.cc_syntax.specs.Numbers.{within_limit}
-use Rattle.cc_syntax.proofs.PieceLemmas.{one_join}
-use Rattle.cc_syntax.proofs.ReadBackLemmas.{decimal-read}
+use Rattle.cc_values.specs.Values.{IsWord, address_in, words_of}
+use Rattle.cc_values.specs.Numbers.{within_limit}
+use Rattle.cc_values.proofs.PieceLemmas.{one_join}
+use Rattle.cc_values.proofs.ReadBackLemmas.{decimal-read}
 use Rattle.cc_heap.specs.declared.event.Event.{Event}
 use Rattle.cc_heap.specs.declared.event.Event.TheVariants as event
 use Rattle.cc_heap.specs.Events.{HasAlignment}

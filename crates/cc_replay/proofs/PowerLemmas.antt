@@ -6,7 +6,7 @@ use Rattle.std.specs.Int.Count.{ones, ones_in}
 use Rattle.std.proofs.lemmas.Bool.{cases_eq, eq-eqb, eqb-true}
 use Rattle.cc_word.specs.declared.refusal.Refusal.{Refusal}
 use Rattle.cc_word.specs.declared.refusal.Refusal.TheVariants as refusal
-use Rattle.cc_syntax.specs.Commands.{both}
+use Rattle.cc_values.specs.Values.{both}
 
 no_ones : (k n : ℕ) → n < 2 ^ k → ones_in k n ≡ 0 → n ≡ 0
 unfolding ones_in

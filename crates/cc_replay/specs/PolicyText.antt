@@ -3,8 +3,8 @@ use Rattle.std.specs.Prelude.{ℕ, Bool, ◌≡◌, ◌⊎◌, ◌-◌, ◌^◌,
 use Rattle.std.specs.Str.{bytes_eq}
 use Rattle.cc_word.specs.declared.refusal.Refusal.{Refusal}
 use Rattle.cc_word.specs.declared.refusal.Refusal.TheVariants.{Syntax, OutOfRange}
-use Rattle.cc_syntax.specs.Commands.{address_in}
-use Rattle.cc_syntax.specs.Numbers.{number_of, within_limit}
+use Rattle.cc_values.specs.Values.{address_in}
+use Rattle.cc_values.specs.Numbers.{number_of, within_limit}
 use Rattle.cc_heap.specs.declared.policy.Policy.{Policy}
 use Rattle.cc_heap.specs.declared.policy.Policy.TheVariants.{Immediate, Never, Percent, Bytes, Frees, Trace}
 use Rattle.cc_heap.specs.declared.policy.Share.{Share}

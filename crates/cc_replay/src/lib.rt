@@ -18,7 +18,7 @@ mod trace;
 
 pub use cc_heap::{
     Event, Heap, Making, Object, Outcome, Policy, Reallocation, Run, Settings, Share, Totals,
-    Usage, totals_are_of_all_states,
+    Usage, peaks_are_of_an_event, totals_are_of_all_states,
 };
 pub use counts::{Count, Counts};
 pub use formats::{Entry, TraceFormat, read_entry};

@@ -4,7 +4,7 @@ ghost use Rattle.cc_heap.specs.declared.policy.Policy.{Policy as PolicySpec};
 ghost use Rattle.cc_replay.specs.PolicyText.{IsPolicyText, in_range, numbered_in, of_percent, percent_in, policy_in};
 
 use cc_heap::{Policy, Share};
-use cc_syntax::read_address;
+use cc_values::read_address;
 use cc_word::Refusal;
 
 /// Parses a policy: `none`, `never`, `trace`, `bytes:N`, `frees:N`, or `PERCENT%`, which may have

@@ -8,6 +8,7 @@ ghost use Rattle.std.specs.Io.KnownBytes.{Appends};
 ghost use Rattle.cc_replay.specs.declared.reading.Progress.TheVariants.{OutOfMemory};
 ghost use Rattle.cc_heap.specs.Events.{HasAlignment};
 ghost use Rattle.cc_heap.specs.Lost.{empty_run};
+ghost use Rattle.cc_heap.specs.Peaks.{without_peaks};
 ghost use Rattle.cc_replay.specs.Replay.{AppendsEntry, AppendsEvent, Refuses, TakesLine, TakesNext, TakesRest, begun, figures_of, is_refused, last_sample, series_header, time_after};
 
 use crate::counts::{Count, Counts};
@@ -118,6 +119,13 @@ impl<P: Placer> Replay<P> {
         ensures { result.now ≡ self.now.run.sizes }
     {
         self.run.sizes()
+    }
+
+    /// Forgets the peaks of bytes of the heap, so that those after a line are of its event alone.
+    pub fn forget_peaks(&mut self)
+        ensures { self.new ≡ record self.old { run = record self.old.run { heap = without_peaks self.old.run.heap } } }
+    {
+        self.run.forget_peaks();
     }
 
     /// Writes the sample of the end, if there is a series, there was an event, and the last has no

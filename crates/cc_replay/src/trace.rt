@@ -3,12 +3,12 @@ ghost use Rattle.std.specs.Prelude.{◌≡◌, ◌∷◌, [], ◌==◌, IfOk, If
 ghost use Rattle.std.specs.Int.{IsPowerOfTwo};
 ghost use Rattle.std.specs.List.{slice_split, position};
 ghost use Rattle.cc_word.specs.declared.refusal.Refusal.{Refusal as RefusalSpec};
-ghost use Rattle.cc_syntax.specs.Commands.{words_of};
+ghost use Rattle.cc_values.specs.Values.{words_of};
 ghost use Rattle.cc_heap.specs.Events.{HasAlignment};
 ghost use Rattle.cc_replay.specs.Trace.{alignment_in, allocation_in, as_alignment, as_entry, clearing_in, entry_of, event_in, pair_in, reallocation_in, single_in};
 
 use cc_heap::Event;
-use cc_syntax::{both, read_address};
+use cc_values::{both, read_address};
 use cc_word::Refusal;
 
 /// The maximum number of bytes of a line that is not a comment.

@@ -1,5 +1,5 @@
 use Rattle.std.proofs.Common.{sym, ◌==◌}
-use Rattle.cc_syntax.proofs.PieceLemmas.{split_found, split_whole}
+use Rattle.cc_values.proofs.PieceLemmas.{split_found, split_whole}
 use Rattle.cc_replay.proofs.trace.split_at_space.Goals as goal
 
 pub returns-in-Some-clause-parts : goal.returns-in-Some-clause-parts
