@@ -1,0 +1,5 @@
+pub mod LevelLemmas
+pub mod ChartLemmas
+pub mod LabelLemmas
+pub mod AxisLemmas
+pub mod ScaleLemmas

@@ -1,0 +1,5 @@
+-- In reading order.
+pub mod Levels
+pub mod Chart
+pub mod Scale
+pub mod Drawing
