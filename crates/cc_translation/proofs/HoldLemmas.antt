@@ -1,11 +1,9 @@
 -- A heap's memory and the objects of a plan that are live and freed alike.
-use Rattle.std.proofs.Common.{ℕ, zero, suc, Bool, true, false, cond, if◌then◌else◌, ◌&&◌, ◌≡◌, ◌+◌, ◌<◌, ◌≤◌, nat_eq, List, [], ◌∷◌, ◌++◌, Some, None, map, set, length, sum_by, slice_get, arith, refl, sym, ap, subst, ◌∙◌, inl, inr, IsPermutation}
-use Rattle.std.specs.Map.{lookup}
+use Rattle.std.proofs.Common.{ℕ, zero, suc, Bool, true, false, cond, if◌then◌else◌, ◌&&◌, ◌≡◌, ◌+◌, ◌<◌, ◌≤◌, nat_eq, List, [], ◌∷◌, ◌++◌, Some, None, map, set, length, sum_by, slice_get, arith, refl, sym, ap, subst, ◌∙◌, inl, inr}
 use Rattle.std.proofs.lemmas.Bool.{cases_lt}
 use Rattle.std.proofs.lemmas.Bool.Decides.{nat_tests}
 use Rattle.std.proofs.lemmas.List.{length_push, length-map, length-set}
 use Rattle.std.proofs.lemmas.List.Sums.{sum_by-cons, sum_by_push, sum_by-append}
-use Rattle.std.proofs.lemmas.List.Sorted.{sum_by-IsPermutation}
 use Rattle.cc_bounds.specs.declared.span.Span.{Span}
 use Rattle.cc_placer.specs.Placement.{HaveSameSpans}
 use Rattle.cc_placer.proofs.SameSpansLemmas.{permutation_from_sums}
@@ -16,7 +14,9 @@ use Rattle.cc_plan.specs.Plan.{held_spans as planned_spans, is_freed, swept as p
 use Rattle.cc_plan.proofs.HeldSpanLemmas.{as_freed, held_weight, sum_held}
 use Rattle.cc_heap.specs.declared.object.Object.{Object}
 use Rattle.cc_heap.specs.Memory.{Memory, held_spans, span_of}
-use Rattle.cc_translation.specs.Translation.{Numbers, with_number}
+use Rattle.cc_changes.specs.Operations.{Numbers, with_number}
+use Rattle.cc_changes.specs.Kept.{id_weight}
+use Rattle.cc_changes.proofs.EntryLemmas.{HasOneMore, itself, once_more}
 
 -- ---- sums over the objects of a plan
 
@@ -227,10 +227,6 @@ live_found weight before (object ∷ objects) some =
 abbrev pub entry_weight : Numbers → (ℕ → Span → ℕ) → ℕ × Object → ℕ
 entry_weight numbers weight entry = weight (numbers.number_of entry.0) (span_of entry)
 
--- 1 for an entry of the id
-abbrev pub id_weight : (id : ℕ) → ℕ × Object → ℕ
-id_weight id entry = cond (nat_eq id entry.0) 1 0
-
 -- the objects of the plan are live and freed as those of the memory, and those under ids have their numbers
 pub record HoldAlike (numbers : Numbers) (memory : Memory) (objects : List PlannedObject) : Type 0 where
   pub made : numbers.made ≡ length objects
@@ -300,47 +296,11 @@ others_stay id numbers weight ((key, object) ∷ entries) none =
         absurd (omega (arith, one, zero_is))
     by_test false is zero_is = is
 
--- no entry has an id that a look-up does not find
-pub none_counted : (id : ℕ) (entries : List (ℕ × Object)) → lookup (nat_eq id) entries ≡ None
-    → sum_by (id_weight id) entries ≡ 0
-none_counted id [] none = refl
-none_counted id ((key, object) ∷ entries) none =
-    by_test (nat_eq id key) refl none (none_counted id entries)
-  where
-    by_test : (b : Bool) → nat_eq id key ≡ b → cond b (Some object) (lookup (nat_eq id) entries) ≡ None
-        → (lookup (nat_eq id) entries ≡ None → sum_by (id_weight id) entries ≡ 0)
-        → sum_by (id_weight id) ((key, object) ∷ entries) ≡ 0
-    by_test true is never rest = absurd (not_none never)
-      where
-        not_none : Some object ≡ None → ⊥
-        not_none found = cc
-    by_test false is rest_none rest =
-        let first : id_weight id (key, object) ≡ 0 = ap (λ (t : Bool). cond t 1 0) is in
-        omega (arith, first, rest rest_none, sum_by-cons (id_weight id) (key, object) entries)
-
-pub itself : (id : ℕ) → nat_eq id id ≡ true
-itself id = grind (arith, nat_tests)
-
 -- ---- the changes of both
 
 -- the plan's object of this size and span, live
 abbrev pub new_object : (size : ℕ) → Span → PlannedObject
 new_object size span = record { size = size; span = span; state = Live }
-
--- the entries of one list are those of another and one more
-abbrev pub HasOneMore : List (ℕ × Object) → ℕ × Object → List (ℕ × Object) → Type 0
-HasOneMore entries entry more =
-    (weight : ℕ × Object → ℕ) → sum_by weight more ≡ weight entry + sum_by weight entries
-
-pub one_more : (entries more : List (ℕ × Object)) (entry : ℕ × Object) → IsPermutation (entry ∷ entries) more
-    → HasOneMore entries entry more
-one_more entries more entry adds weight =
-    omega (arith, sum_by-IsPermutation weight (entry ∷ entries) more adds, sum_by-cons weight entry entries)
-
-pub one_fewer : (entries fewer : List (ℕ × Object)) (entry : ℕ × Object) → IsPermutation entries (entry ∷ fewer)
-    → HasOneMore fewer entry entries
-one_fewer entries fewer entry takes weight =
-    omega (arith, sum_by-IsPermutation weight entries (entry ∷ fewer) takes, sum_by-cons weight entry fewer)
 
 pub alike_made : (numbers : Numbers) (live more : List (ℕ × Object)) (waiting : List Span)
     (objects : List PlannedObject) (id size : ℕ) (object : Object)
@@ -380,19 +340,8 @@ alike_made numbers live more waiting objects id size object alike none adds = re
       let now : sum_by weight waiting ≡ sum_by (freed_weight weight) (objects ++ new_object size object.span ∷ []) =
       omega (arith, before, term, sum_by_push (freed_weight weight) objects (new_object size object.span)) in
       now;
-  ids = λ other. by_test other (nat_eq other id) refl;
+  ids = once_more id object live more none adds alike.ids;
 }
-  where
-    by_test : (other : ℕ) (b : Bool) → nat_eq other id ≡ b → sum_by (id_weight other) more ≤ 1
-    by_test other true is =
-        let same : other ≡ id = grind (arith, nat_tests) in
-        let zero_is : sum_by (id_weight other) live ≡ 0 = ap (λ (n : ℕ). sum_by (id_weight n) live) same ∙ none in
-        let one : id_weight other (id, object) ≡ 1 = ap (λ (t : Bool). cond t 1 0) is in
-        omega (arith, adds (id_weight other), zero_is, one)
-    by_test other false is =
-        let zero_is : id_weight other (id, object) ≡ 0 = ap (λ (t : Bool). cond t 1 0) is in
-        let before : sum_by (id_weight other) live ≤ 1 = alike.ids other in
-        omega (arith, adds (id_weight other), zero_is, before)
 
 -- the live object of the plan that is one of the memory
 pub record IsNumbered (numbers : Numbers) (objects : List PlannedObject) (id : ℕ) (span : Span) : Type 0 where

@@ -4,3 +4,5 @@ pub mod OpeningLemmas
 pub mod LawLemmas
 pub mod EventLemmas
 pub mod TraceLemmas
+pub mod ReadLemmas
+pub mod OutputLemmas

@@ -1,3 +1,2 @@
 -- In reading order.
-pub mod Changes
 pub mod Translation

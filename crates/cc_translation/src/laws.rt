@@ -1,7 +1,9 @@
 //! Laws of heaps and machines.
-ghost use Rattle.std.specs.Prelude.{◌≡◌, ℕ, ◌+◌, ◌≤◌, List, length};
+ghost use Rattle.std.specs.Prelude.{◌≡◌, ◌≢◌, ℕ, Bool, ◌+◌, ◌≤◌, List, length};
 ghost use Rattle.std.specs.List.{AllByRecursion};
 ghost use Rattle.cc_bounds.specs.Span.{span_from};
+ghost use Rattle.cc_io.specs.Answers.{Output};
+ghost use Rattle.cc_io.specs.Frames.{lines};
 ghost use Rattle.cc_ops.specs.declared.reply.Reply.{Reply};
 ghost use Rattle.cc_syntax.specs.Planning.{plan_opening};
 ghost use Rattle.cc_machine.specs.State.{State, initial_state};
@@ -11,8 +13,12 @@ ghost use Rattle.cc_heap.specs.declared.reallocation.Reallocation.TheVariants.{M
 ghost use Rattle.cc_heap.specs.declared.settings.Settings.{Settings};
 ghost use Rattle.cc_heap.specs.Heap.{Heap, empty_heap};
 ghost use Rattle.cc_heap.specs.Run.{Runs};
-ghost use Rattle.cc_translation.specs.Changes.{Change, Changes};
-ghost use Rattle.cc_translation.specs.Translation.{AsksForUnit, CanBePlanned, IsAccepted, IsTranslated, PlacesAlike, no_numbers, objects_made, operations_of};
+ghost use Rattle.cc_replay.specs.declared.reading.Progress.TheVariants.{OutOfMemory};
+ghost use Rattle.cc_replay.specs.declared.reading.Reading.{Reading};
+ghost use Rattle.cc_changes.specs.Changes.{AsksForUnit, CanBePlanned, Change, Changes, objects_made};
+ghost use Rattle.cc_changes.specs.Operations.{no_numbers, operations_of};
+ghost use Rattle.cc_changes.specs.Script.{ScriptState, ScriptsLine, ScriptsRest, script_begun};
+ghost use Rattle.cc_translation.specs.Translation.{IsAccepted, IsFollowed, IsTranslated, PlacesAlike};
 
 /// Proves that a machine that takes the changes of a heap as operations places each object at the bytes
 /// at which the heap placed it, and holds the same spans in the end.
@@ -50,4 +56,24 @@ pub fn traces_are_placed_alike()
         → AllByRecursion (AsksForUnit settings.align) events → Runs (empty_heap settings) events heap
         → limit ≤ 65536 → heap.totals.made + 3 ≤ limit
         → IsTranslated settings events heap opened }
+{}
+
+/// Proves that a machine that reads the output of a trace's script places each object at the bytes at
+/// which the heap placed it, and holds the same spans in the end.
+///
+/// `Output` is the relation between a trace and its output that
+/// [`script_trace`](cc_changes::script_trace) states by `Pumps`. The lines of the output are read by
+/// [`parse_line`](cc_syntax::parse_line) as the operations of the heap's changes, and the machine has a
+/// run of these. The pool of the machine is that of the heap, made by
+/// [`plan_opening`](cc_syntax::plan_opening), with the heap's alignment. A script makes at most 65,533
+/// objects, so that 65,536 slots are enough. It holds for every trace.
+pub fn scripts_are_placed_alike()
+    ensures { (limit base size : ℕ) (settings : Settings) (reading : Reading) (new : ScriptState) (text output : List ℕ)
+        (any_error : Bool) (opening : List Reply) (opened : State)
+        → Output ScriptsLine ScriptsRest lines (script_begun settings reading) text output any_error new
+        → new.progress ≢ OutOfMemory
+        → settings.pool ≡ span_from base size
+        → Run (initial_state limit) (plan_opening base size settings.align) opening opened → AllByRecursion IsAccepted opening
+        → 65536 ≤ limit
+        → IsFollowed settings output new.heap opened }
 {}

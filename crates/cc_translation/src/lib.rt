@@ -4,4 +4,4 @@
 
 mod laws;
 
-pub use laws::{machines_place_like_heaps, traces_are_placed_alike};
+pub use laws::{machines_place_like_heaps, scripts_are_placed_alike, traces_are_placed_alike};

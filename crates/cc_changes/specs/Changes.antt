@@ -1,11 +1,14 @@
 -- The changes that a heap passes, one after another, each with the object that it makes or frees.
-use Rattle.std.specs.Prelude.{ℕ, ◌≡◌, List, [], ◌∷◌, ◌++◌, Some, IsNone}
+use Rattle.std.specs.Prelude.{ℕ, Bool, true, nat_le, ◌≡◌, ◌<◌, ◌≤◌, List, [], ◌∷◌, ◌++◌, Some, IsNone}
+use Rattle.cc_bounds.specs.declared.align.Align.{Align}
+use Rattle.cc_placer.specs.Align.{unit_of}
 use Rattle.cc_heap.specs.declared.event.Event.{Event}
+use Rattle.cc_heap.specs.declared.event.Event.TheVariants.{Allocate}
 use Rattle.cc_heap.specs.declared.object.Object.{Object}
 use Rattle.cc_heap.specs.declared.outcome.Outcome.{Outcome}
 use Rattle.cc_heap.specs.Memory.{object_at}
 use Rattle.cc_heap.specs.Heap.{FreesObject, Heap, MakesObject, object_under, swept}
-use Rattle.cc_heap.specs.Events.{IsEvent}
+use Rattle.cc_heap.specs.Events.{IsEvent, size_of}
 
 -- A change: an object is made under an id, an object is freed, an object is made in place of another
 -- under the same id, or the quarantine is swept.
@@ -49,3 +52,29 @@ AreChangesOf old (event ∷ events) changes new =
     (mine : List Change) × (rest : List Change) × (outcome : Outcome) × (next : Heap)
     × (changes ≡ mine ++ rest) × IsEvent old event outcome next × Changes old mine next
     × AreChangesOf next events rest new
+
+-- ---- Changes that a machine can follow.
+
+-- The objects that the changes make, in order.
+abbrev pub objects_made : List Change → List Object
+objects_made [] = []
+objects_made (Make id object ∷ changes) = object ∷ objects_made changes
+objects_made (Replace id before object ∷ changes) = object ∷ objects_made changes
+objects_made (_ ∷ changes) = objects_made changes
+
+-- CanBePlanned holds if a machine can make the object where the heap does: it has at least one byte, and
+-- the alignment that it was requested with is at most the unit of its size, of which its start is a
+-- multiple in any case.
+pub record CanBePlanned (align : Align) (object : Object) : Type 0 where
+  pub some : 0 < object.size
+  pub aligned : object.align ≤ unit_of align object.size
+
+-- AsksForUnit holds if the alignment that an event asks for is at most the unit of its size.
+abbrev pub AsksForUnit : Align → Event → Type 0
+AsksForUnit align (Allocate id size requested) = requested ≤ unit_of align (size_of size)
+AsksForUnit align _ = Unit {0}
+
+-- Whether the alignment that an event asks for is at most the unit of its size.
+abbrev pub asks_for_unit : Align → Event → Bool
+asks_for_unit align (Allocate id size requested) = nat_le requested (unit_of align (size_of size))
+asks_for_unit align _ = true

@@ -1,0 +1,5 @@
+pub mod EntryLemmas
+pub mod HistoryLemmas
+pub mod LineLemmas
+pub mod ScriptLemmas
+pub mod OutputLemmas

@@ -1,0 +1,13 @@
+//! The changes of a heap over the events of a trace, and the operations by which a machine follows them.
+#![tactic(auto)]
+
+mod deeds;
+mod doing;
+mod laws;
+mod lines;
+mod numbering;
+mod rules;
+mod script;
+
+pub use laws::outputs_are_scripts;
+pub use script::{Script, script_trace};

@@ -1,0 +1,275 @@
+//! A script that is written while the lines of a trace are taken.
+ghost use Rattle.std.specs.Prelude.{◌≡◌, ◌≤◌, ◌<◌, ◌+◌, ◌^◌, ◌↔◌, ◌++◌, [], true, false, length, Err, IfOk, IfSome, IsErr, OnErr, OnOk};
+ghost use Rattle.cc_io.specs.Answers.{AnswersInto};
+ghost use Rattle.cc_io.specs.Correct.{Pumps};
+ghost use Rattle.cc_io.specs.Frames.{lines};
+ghost use Rattle.cc_heap.specs.declared.reallocation.Reallocation.TheVariants.{Move};
+ghost use Rattle.cc_heap.specs.Events.{HasAlignment, IsEvent};
+ghost use Rattle.cc_changes.specs.Operations.{operation_lines};
+ghost use Rattle.cc_changes.specs.Deeds.{DoesDeeds, deed_operations, is_swept_clean, numbers_of, numbers_with};
+ghost use Rattle.cc_changes.specs.Script.{AppendsEntry, AppendsEvent, Refuses, ScriptsLine, ScriptsNext, ScriptsRest, can_have, most_objects, script_begun};
+
+use crate::deeds::Deeds;
+use crate::doing::{asked_entry, deeds_of};
+use crate::lines::push_deeds;
+use crate::numbering::Numbering;
+use crate::rules::{asks_for_unit, is_immediate, is_refused, progress_after};
+use cc_heap::{Event, Heap, Outcome, Settings};
+use cc_io::{Answerer, IoError, Lines, Sink, Source, Summary, pump};
+use cc_placer::Placer;
+use cc_replay::{Entry, Progress, Reading, read_entry};
+use cc_text::{Page, Waiting};
+use std::alloc::{AllocError, Global};
+use std::marker::Model;
+
+/// The maximum number of objects of a script.
+const MOST_OBJECTS: u32 = 65533;
+
+/// The maximum number of sweeps after which an event is taken.
+const MOST_SWEEPS: u64 = u64::MAX - 3;
+
+/// A heap over a trace, and the script of the operations by which a machine follows it.
+#[derive(Drop)]
+pub struct Script<P: Placer> {
+    heap: Heap<P>,
+    reading: Reading,
+    pending: Option<u64>,
+    ids: Numbering,
+    progress: Progress,
+}
+
+impl<P: Placer> Model for Script<P> {
+    ghost use Rattle.cc_changes.specs.Kept.{IsKept};
+    ghost use Rattle.cc_changes.specs.Script.{ScriptState};
+
+    ghost Value = { ScriptState };
+
+    ghost view = { λ s. record { heap = s.heap; reading = s.reading; pending = s.pending; ids = s.ids; progress = s.progress } };
+
+    ghost invariant = { λ s. IsKept s.heap };
+}
+
+impl<P: Placer> Script<P> {
+    /// Creates a script with a heap that holds nothing, before the first line of a trace.
+    ///
+    /// Requires: `1 <= settings.limit <= 2^24`; the pool's base is at most its top, and that at
+    /// most 2^64; reallocations move objects.
+    /// Errors: `AllocError` if an allocation fails.
+    #[tactic(auto, using(crate::proofs::ScriptLemmas::kept_empty))]
+    pub fn with_settings(
+        alloc: Global,
+        settings: Settings,
+        reading: Reading,
+    ) -> Result<Self, AllocError>
+        requires some { 1 ≤ settings.limit }
+        requires few { settings.limit ≤ 2 ^ 24 }
+        requires in_order { settings.pool.base ≤ settings.pool.top }
+        requires fits { settings.pool.top ≤ 2 ^ 64 }
+        requires moves { settings.realloc ≡ Move }
+        ensures { IfOk result (λ script. script ≡ script_begun settings reading) }
+    {
+        Ok(Script {
+            heap: Heap::new(alloc, settings)?,
+            reading,
+            pending: None,
+            ids: Numbering::new(alloc),
+            progress: Progress::Running,
+        })
+    }
+
+    /// Returns whether lines are taken.
+    pub fn progress(&self) -> Progress
+        ensures { result ≡ self.now.progress }
+    {
+        self.progress
+    }
+
+    /// Takes a line, and appends the lines of its operations. Returns whether the line is refused.
+    fn take_line<const N: usize>(&mut self, line: &[u8], out: &mut Page<N>) -> bool
+        requires { length out.old + 128 ≤ N }
+        ensures { AnswersInto ScriptsLine self.old line.now out.old out.new result self.new }
+    {
+        match self.progress {
+            Progress::Running => self.take_next(line, out),
+            Progress::Stopped | Progress::OutOfMemory => false,
+        }
+    }
+
+    /// Takes a line while lines are taken.
+    #[tactic(auto, using(crate::proofs::ScriptLemmas::entry_answers))]
+    fn take_next<const N: usize>(&mut self, line: &[u8], out: &mut Page<N>) -> bool
+        requires room { length out.old + 128 ≤ N }
+        ensures { AnswersInto ScriptsNext self.old line.now out.old out.new result self.new }
+    {
+        let entry = read_entry(self.reading.format, self.pending, line);
+        self.take_entry(entry, out)
+    }
+
+    /// Takes the entry of a line.
+    fn take_entry<const N: usize>(&mut self, entry: Entry, out: &mut Page<N>) -> bool
+        requires aligned { IfOk entry.event (λ event. IfSome event HasAlignment) }
+        requires room { length out.old + 128 ≤ N }
+        ensures { AppendsEntry self.old entry out.old out.new result self.new }
+    {
+        self.pending = entry.pending;
+        match entry.event {
+            Ok(None) => false,
+            Ok(Some(event)) => self.take_event(event, out),
+            Err(_) => self.refuse(),
+        }
+    }
+
+    /// Refuses trailing bytes, while lines are taken.
+    fn take_rest<const N: usize>(&mut self, rest: &[u8], out: &mut Page<N>) -> bool
+        ensures { AnswersInto ScriptsRest self.old rest.now out.old out.new result self.new }
+    {
+        match self.progress {
+            Progress::Running => self.refuse(),
+            Progress::Stopped | Progress::OutOfMemory => false,
+        }
+    }
+
+    /// Refuses a line.
+    fn refuse(&mut self) -> bool
+        ensures { Refuses self.old [] result self.new }
+    {
+        self.progress = progress_after(self.reading, true);
+        true
+    }
+
+    /// Takes an event, if a script can have it, and appends the lines of its operations.
+    fn take_event<const N: usize>(&mut self, event: Event, out: &mut Page<N>) -> bool
+        requires aligned { HasAlignment event }
+        requires room { length out.old + 128 ≤ N }
+        ensures { AppendsEvent self.old event out.old out.new result self.new }
+    {
+        if !self.can_have(event) {
+            self.progress = Progress::Stopped;
+            return true;
+        }
+        self.take_possible(event, out)
+    }
+
+    /// Takes an event that a script can have, and appends the lines of its operations.
+    fn take_possible<const N: usize>(&mut self, event: Event, out: &mut Page<N>) -> bool
+        requires aligned { HasAlignment event }
+        requires can { can_have self.old event ≡ true }
+        requires room { length out.old + 128 ≤ N }
+        ensures { AppendsEvent self.old event out.old out.new result self.new }
+    {
+        let Ok((outcome, deeds)) = self.happen(event) else {
+            self.progress = Progress::OutOfMemory;
+            return false;
+        };
+        if self.write(deeds, out).is_err() {
+            self.progress = Progress::OutOfMemory;
+            return false;
+        }
+        let is_refused = is_refused(outcome);
+        self.progress = progress_after(self.reading, is_refused);
+        is_refused
+    }
+
+    /// Has an event happen to the heap, and returns its outcome and what it did.
+    #[tactic(auto, using(crate::proofs::ScriptLemmas::failed_kept))]
+    fn happen(&mut self, event: Event) -> Result<(Outcome, Deeds), AllocError>
+        requires aligned { HasAlignment event }
+        requires can { can_have self.old event ≡ true }
+        ensures is_event { IfOk result (λ found. IsEvent self.old.heap event found.0 self.new.heap) }
+        ensures does { IfOk result (λ found. DoesDeeds self.old.heap found.1 self.new.heap) }
+        ensures few { IfOk result (λ found. found.1.sweeps ≤ 2) }
+        ensures made { IfOk result (λ found. IfSome found.1.made (λ _. self.old.ids.made < most_objects)) }
+        ensures rest { self.new ≡ record self.old { heap = self.new.heap } }
+    {
+        let sweeps = self.heap.totals().sweeps;
+        let outcome = self.heap.event(event)?;
+        let more = self.heap.totals().sweeps.saturating_sub(sweeps);
+        Ok((
+            outcome,
+            deeds_of(event, outcome, more, self.is_swept_clean()),
+        ))
+    }
+
+    /// Appends the lines of deeds, and gives the object that was made its number.
+    ///
+    /// On `Err` nothing is appended.
+    fn write<const N: usize>(&mut self, deeds: Deeds, out: &mut Page<N>) -> Result<(), AllocError>
+        requires room { length out.old + 128 ≤ N }
+        requires few { deeds.sweeps ≤ 2 }
+        requires made { IfSome deeds.made (λ _. self.old.ids.made < most_objects) }
+        ensures lines { OnOk result (out.new ≡ out.old ++ operation_lines (deed_operations self.old.heap.settings.policy (numbers_of self.old.ids) deeds)) }
+        ensures ids { OnOk result (numbers_of self.new.ids ≡ numbers_with (numbers_of self.old.ids) deeds.made) }
+        ensures rest { self.new ≡ record self.old { ids = self.new.ids } }
+        ensures nothing { OnErr result (out.new ≡ out.old) }
+    {
+        let cleared = self.ids.number_in(deeds.cleared);
+        let freed = self.ids.number_in(deeds.freed);
+        self.ids.note(deeds.made)?;
+        push_deeds(out, self.heap.settings().policy, cleared, freed, deeds);
+        Ok(())
+    }
+
+    /// Returns whether a script can have the changes of an event.
+    fn can_have(&self, event: Event) -> bool
+        ensures { result ≡ can_have self.now event }
+    {
+        asks_for_unit(self.heap.settings().align, event)
+            && (asked_entry(event).is_none() || self.ids.made() < MOST_OBJECTS)
+            && self.heap.totals().sweeps < MOST_SWEEPS
+    }
+
+    /// Returns whether the quarantine is empty and the policy has one.
+    fn is_swept_clean(&self) -> bool
+        ensures { result ≡ is_swept_clean self.now.heap }
+    {
+        !is_immediate(self.heap.settings().policy) && self.heap.usage().quarantine == 0
+    }
+}
+
+impl<P: Placer, const N: usize> Answerer<N> for Script<P> {
+    ghost Answered = { ScriptsLine };
+
+    ghost Ended = { ScriptsRest };
+
+    ghost MOST = { 128 };
+
+    #[inline(always)]
+    fn most() -> usize {
+        128
+    }
+
+    fn answer(&mut self, entry: &[u8], out: &mut Page<N>) -> bool {
+        self.take_line(entry, out)
+    }
+
+    fn end(&mut self, rest: &[u8], out: &mut Page<N>) -> bool {
+        self.take_rest(rest, out)
+    }
+}
+
+/// Takes the lines of the trace that the source gives, and writes the script to the sink.
+///
+/// The script has the operations of all changes of the heap, a line each. It ends before the first event that no
+/// script can have: one that asks for a larger alignment than the unit of its object, or for one object more than 65,533,
+/// or that comes after 2^64 - 4 sweeps. That line is refused. If an allocation fails, [`Script::progress`] says so, and no further line is taken. The
+/// source is read in chunks of up to 16 KiB. Before each read, the lines of earlier events are written. The sink is
+/// flushed once, at the end.
+///
+/// Requires: neither the source nor the sink has failed.
+/// Errors: `Read` if and only if the source failed. `Write` if and only if the sink failed.
+pub fn script_trace<P: Placer, R: Source, W: Sink>(
+    script: &mut Script<P>,
+    source: &mut R,
+    sink: &mut W,
+) -> Result<Summary, IoError>
+    requires source { R.has_failed source.old ≡ false }
+    requires sink { W.has_failed sink.old ≡ false }
+    ensures scripts { Pumps ScriptsLine ScriptsRest lines 65536 128 script.old []
+        (R.to_come source.old) (R.to_come source.new) (W.taken_bytes sink.old) (W.taken_bytes sink.new) result script.new }
+    ensures read { (result ≡ Err IoError.Read) ↔ (R.has_failed source.new ≡ true) }
+    ensures write { (result ≡ Err IoError.Write) ↔ (W.has_failed sink.new ≡ true) }
+    ensures flushed { OnOk result (W.is_flushed sink.new ≡ true) }
+{
+    let mut page = Waiting::new();
+    pump(&Lines, script, source, sink, &mut page)
+}
