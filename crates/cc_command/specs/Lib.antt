@@ -1,8 +1,9 @@
 -- In reading order.
+pub mod Request
 pub mod Rounding
+pub mod BareDigits
 pub mod RoundList
 pub mod Rounder
 pub mod TypedLines
-pub mod Request
 pub mod Statistics
 pub mod Hints

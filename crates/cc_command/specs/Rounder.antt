@@ -1,15 +1,16 @@
 -- The replies of a rounder. No public clause cites this file.
-use Rattle.std.specs.Prelude.{◌≡◌, true}
+use Rattle.std.specs.Prelude.{◌≡◌, ◌||◌, true}
 use Rattle.cc_word.specs.declared.refusal.Refusal.TheVariants.{Unfinished}
 use Rattle.cc_explain.specs.Answer.{IsRefusalLine}
 use Rattle.cc_io.specs.Answers.{Relation}
+use Rattle.cc_command.specs.BareDigits.{is_bare}
 use Rattle.cc_command.specs.RoundList.{IsLengthAnswer}
 use Rattle.cc_command.specs.declared.length_list.Rounder.{Rounder}
 
--- AnswersLength holds if `text` is the output for the line.
+-- AnswersLength holds if `text` is the output for the line, the base stays, and `bare` counts the line.
 abbrev pub AnswersLength : Relation Rounder
-AnswersLength old line text is_error new = IsLengthAnswer line (record { text = text; is_error = is_error })
+AnswersLength old line text is_error new = IsLengthAnswer old.base line (record { text = text; is_error = is_error }) × (new.base ≡ old.base) × (new.bare ≡ (old.bare || is_bare line))
 
--- RefusesRest holds if `text` is `error 2 unfinished`, the output for bytes without a line feed.
+-- RefusesRest holds if `text` is `error 2 unfinished`, the output for bytes without a line feed, and `bare` stays.
 abbrev pub RefusesRest : Relation Rounder
-RefusesRest old rest text is_error new = IsRefusalLine Unfinished text × (is_error ≡ true)
+RefusesRest old rest text is_error new = IsRefusalLine Unfinished text × (is_error ≡ true) × (new.bare ≡ old.bare)

@@ -1,9 +1,17 @@
 //! The output of `round` for a list: how setting bounds rounds each length of a list.
-ghost use Rattle.std.specs.Prelude.{◌≡◌, ◌≢◌, ◌↔◌, ◌≤◌, ◌+◌, length, map, false, true, Err, OnOk};
+ghost use Rattle.std.specs.Prelude.{◌≡◌, ◌≢◌, ◌↔◌, ◌≤◌, ◌+◌, ◌++◌, ℕ, IsTrue, List, Ok, codes, length, map, false, true, Err, OnOk};
+ghost use Rattle.cc_bounds.specs.Granule.{IsGranted};
+ghost use Rattle.cc_bounds.specs.Span.{IsSpan};
+ghost use Rattle.cc_bounds.specs.declared.span.Span.{Span as SpanSpec};
+ghost use Rattle.cc_command.specs.Rounding.{IsRoundingFrom, IsUnroundable};
+ghost use Rattle.cc_syntax.specs.Replies.{bounds_text};
 ghost use Rattle.cc_command.specs.RoundList.{RoundsList, RoundsTyped};
 ghost use Rattle.cc_command.specs.Rounder.{AnswersLength, RefusesRest};
 
+use crate::bare_digits::is_bare;
+use crate::request::request_from;
 use crate::typed_lines::TypedLines;
+use cc_bounds::{Len, Span, set_bounds};
 use cc_io::{Answerer, IoError, Lines, Page, Sink, Source, Summary, pump};
 use cc_ops::Reply;
 use cc_syntax::{read_length, reply_line};
@@ -18,31 +26,33 @@ const MOST_LINE: usize = 128;
 
 /// Replies to the lines of a list of lengths.
 #[derive(Clone, Copy)]
-pub(crate) struct Rounder;
+pub(crate) struct Rounder {
+    /// The base of each request, if the bounds that it is granted are shown.
+    pub(crate) base: Option<u64>,
+    /// Whether a line was decimal digits that may be meant as hexadecimal ones.
+    pub(crate) bare: bool,
+}
 
 impl Answerer<ROOM> for Rounder {
     ghost Answered = { AnswersLength };
 
     ghost Ended = { RefusesRest };
 
-    ghost MOST = { 200 };
+    ghost MOST = { 264 };
 
     #[inline(always)]
     fn most() -> usize {
-        200
+        264
     }
 
     fn answer(&mut self, line: &[u8], out: &mut Page<ROOM>) -> bool {
+        self.bare = self.bare || is_bare(line);
         if line.len() > MOST_LINE {
             out.push(refusal_bytes(Refusal::TooLong));
             return true;
         }
         match read_length(line) {
-            Ok(length) => {
-                out.push(reply_line(&Reply::rounded(length)).bytes());
-                out.push(b"\n");
-                false
-            }
+            Ok(length) => push_rounding(self.base, length, out),
             Err(refusal) => {
                 out.push(refusal_bytes(refusal));
                 true
@@ -56,38 +66,97 @@ impl Answerer<ROOM> for Rounder {
     }
 }
 
-/// Writes the line `round LENGTH GRANULE MASK` for each line of a list of lengths, in order.
+/// Appends the reply to a length, and returns whether it is an error.
+fn push_rounding(base: Option<u64>, size: Len, out: &mut Page<ROOM>) -> bool
+    requires { length out.old + 264 ≤ 32768 }
+    ensures { (text : List ℕ) × (out.new ≡ out.old ++ text) × IsRoundingFrom base size text × (IsTrue result ↔ IsUnroundable base (Ok size)) }
+{
+    match base {
+        None => {
+            out.push(reply_line(&Reply::rounded(size)).bytes());
+            out.push(b"\n");
+            false
+        }
+        Some(base) => match request_from(base, size.get()) {
+            Ok(request) => {
+                out.push(reply_line(&Reply::rounded(size)).bytes());
+                push_granted(&request, out);
+                out.push(b"\n");
+                false
+            }
+            Err(refusal) => {
+                out.push(refusal_bytes(refusal));
+                true
+            }
+        },
+    }
+}
+
+/// Appends the base and the top that a request is granted.
+fn push_granted(request: &Span, out: &mut Page<ROOM>)
+    requires is_span { IsSpan request.now }
+    requires room { length out.old + 70 ≤ 32768 }
+    ensures value { (granted : SpanSpec) × IsGranted request.now granted × (out.new ≡ out.old ++ codes " " ++ bounds_text granted) }
+    ensures fits { length out.new ≤ length out.old + 70 }
+{
+    let granted = granted_to(request);
+    out.push(b" ");
+    out.push_hexadecimal(u128::from(granted.base));
+    out.push(b" ");
+    out.push_hexadecimal(granted.top);
+}
+
+/// Returns the span that a request is granted.
+fn granted_to(request: &Span) -> Span
+    requires { IsSpan request.now }
+    ensures { IsGranted request.now result }
+{
+    set_bounds(request.base, request.top - u128::from(request.base)).granted()
+}
+
+/// Writes the line `round LENGTH GRANULE MASK` for each line of a list of lengths, in order, or with
+/// a base the line `round LENGTH GRANULE MASK BASE TOP`.
 ///
-/// LENGTH is the number of bytes that bounds of this length take. Their base must be a multiple of
+/// BASE and TOP are the bounds that a request of this length from `base` on is granted. LENGTH is the number of bytes that bounds of this length take. Their base must be a multiple of
 /// GRANULE. MASK rounds an address down to such a multiple. For any other line, the output is the
 /// first of these refusals that applies:
 ///
 /// - `error 3 long`: the line has more than 128 bytes
 /// - `error 1 syntax`: the line is not a number
 /// - `error 4 range`: the number is above 2^64
+/// - `error 9 bounds`: the request from `base` on ends past 2^64
 ///
 /// Bytes after the last line feed get `error 2 unfinished`, unless there are none. The source is
 /// read in chunks of up to 16 KiB. Before each read, the output for all earlier lines is written.
 /// The sink is flushed once, at the end. Allocates nothing.
 ///
+/// At `Ok`, `bare` is whether a line is 8 or 16 decimal digits that begin with 0, as [`is_bare`] says.
+///
 /// Requires: neither the source nor the sink has failed.
 /// Errors: `Read` if and only if the source failed. The output for all lines before the failure is
 /// then written. `Write` if and only if the sink failed. It has then taken a prefix of the output,
 /// and at most one page of it is lost (32 KiB).
-pub fn round_list<R: Source, W: Sink>(source: &mut R, sink: &mut W) -> Result<Summary, IoError>
+pub fn round_list<R: Source, W: Sink>(
+    base: Option<u64>,
+    source: &mut R,
+    sink: &mut W,
+    bare: &mut bool,
+) -> Result<Summary, IoError>
     requires source { R.has_failed source.old ≡ false }
     requires sink { W.has_failed sink.old ≡ false }
-    ensures rounds { RoundsList (R.to_come source.old) (R.to_come source.new) (W.taken_bytes sink.old) (W.taken_bytes sink.new) result }
+    ensures rounds { RoundsList base bare.new (R.to_come source.old) (R.to_come source.new) (W.taken_bytes sink.old) (W.taken_bytes sink.new) result }
     ensures read { (result ≡ Err IoError.Read) ↔ (R.has_failed source.new ≡ true) }
     ensures write { (result ≡ Err IoError.Write) ↔ (W.has_failed sink.new ≡ true) }
     ensures flushed { OnOk result (W.is_flushed sink.new ≡ true) }
 {
     let mut page = Page::<ROOM>::new();
-    let mut rounder = Rounder;
-    pump(&Lines, &mut rounder, source, sink, &mut page)
+    let mut rounder = Rounder { base, bare: false };
+    let result = pump(&Lines, &mut rounder, source, sink, &mut page);
+    *bare = rounder.bare;
+    result
 }
 
-/// Writes the line `round LENGTH GRANULE MASK` for each of these lengths, in order.
+/// Writes the line of [`round_list`] for each of these lengths, in order.
 ///
 /// The output is that of [`round_list`] for the list that has each length on a line. A length with
 /// a line feed in it gets `error 1 syntax`. The output for each length is written before the next
@@ -95,13 +164,18 @@ pub fn round_list<R: Source, W: Sink>(source: &mut R, sink: &mut W) -> Result<Su
 ///
 /// Requires: the sink has not failed.
 /// Errors: `Write` if and only if the sink failed. It has then taken a prefix of the output.
-pub fn round_typed<W: Sink>(lengths: &[&str], sink: &mut W) -> Result<Summary, IoError>
+pub fn round_typed<W: Sink>(
+    base: Option<u64>,
+    lengths: &[&str],
+    sink: &mut W,
+) -> Result<Summary, IoError>
     requires { W.has_failed sink.old ≡ false }
-    ensures rounds { RoundsTyped (map (λ length. length.now) lengths.now) (W.taken_bytes sink.old) (W.taken_bytes sink.new) result }
+    ensures rounds { RoundsTyped base (map (λ length. length.now) lengths.now) (W.taken_bytes sink.old) (W.taken_bytes sink.new) result }
     ensures read { result ≢ Err IoError.Read }
     ensures write { (result ≡ Err IoError.Write) ↔ (W.has_failed sink.new ≡ true) }
     ensures flushed { OnOk result (W.is_flushed sink.new ≡ true) }
 {
     let mut source = TypedLines::new(lengths);
-    round_list(&mut source, sink)
+    let mut bare = false;
+    round_list(base, &mut source, sink, &mut bare)
 }

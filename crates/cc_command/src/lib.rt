@@ -9,6 +9,7 @@
 //! command line, the files and the standard streams belong to the program.
 #![tactic(auto)]
 
+mod bare_digits;
 mod explaining_bounds;
 mod hints;
 mod length_list;
@@ -16,6 +17,7 @@ mod request;
 mod statistics;
 mod typed_lines;
 
+pub use bare_digits::is_bare;
 pub use cc_explain::{draw_window, explain_word, show_line, show_word, write_refusal};
 pub use explaining_bounds::explain_length;
 pub use hints::{Hints, show_hints};

@@ -24,7 +24,7 @@ pub fn read_request(base: &str, length: &str) -> Result<Span, Refusal>
 /// Returns the request for `length` bytes from `base` on.
 ///
 /// Errors: `OutOfBounds` if it ends past 2^64.
-fn request_from(base: u64, length: u128) -> Result<Span, Refusal>
+pub(crate) fn request_from(base: u64, length: u128) -> Result<Span, Refusal>
     requires { length ≤ 2 ^ 64 }
     ensures request { result ≡ request_from (Ok (base, length)) }
     ensures is_span { IfOk result IsSpan }

@@ -12,7 +12,8 @@ returns-clause-rounds g c =
     let is = c.new-source.ensures in
     let text : unread (drop first.at first.lengths.now) first.given ≡ typed_lines c.args.lengths.now = rw (is.0, is.1, is.2) (sym (from_start c.args.lengths.now)) in
     record {
+      bare = c.round_list.new.bare;
       left = left;
-      rounds = subst (λ (bytes : List ℕ). RoundsList (Some bytes) left (g.W.Sink.taken_bytes c.args.sink.now) (g.W.Sink.taken_bytes c.round_list.new.sink) c.round_list.result)
+      rounds = subst (λ (bytes : List ℕ). RoundsList c.args.base c.round_list.new.bare (Some bytes) left (g.W.Sink.taken_bytes c.args.sink.now) (g.W.Sink.taken_bytes c.round_list.new.sink) c.round_list.result)
           text c.round_list.ensures.rounds;
     }
