@@ -11,12 +11,12 @@ _cheri_cap() {
     run) options+=' --slots --stats' ;;
     plan) options+=' --slots --align --stats' ;;
     map) options+=' --slots --align --svg' ;;
-    replay) options+=' --format --align --realloc --sweep --min --pool --strict --summary --each --sizes' ;;
+    replay) options+=' --format --align --realloc --sweep --min --pool --strict --summary --each --sizes --svg --script' ;;
     decode) options+=' --format --bytes --skip --at --holds --perms' ;;
     show) options+=' --line' ;;
     explain) options+=' --svg --length --base' ;;
     annotate) ;;
-    round) options+=' --list' ;;
+    round) options+=' --base --list' ;;
     *) return ;;
   esac
   case $before in

@@ -371,7 +371,13 @@ module _ (aligns : Bor (List (Bor Text))) (are : texts aligns.now ≡ codes "1" 
                     set_gives replay.rules _ refl refl refl refl,
                     (
                       flag_gives replay.rules _ refl refl refl refl refl,
-                      (set_gives replay.rules _ refl refl refl refl, (help_gives replay.rules, tt)),
+                      (
+                        flag_gives replay.rules _ refl refl refl refl refl,
+                        (
+                          flag_gives replay.rules _ refl refl refl refl refl,
+                          (set_gives replay.rules _ refl refl refl refl, (help_gives replay.rules, tt)),
+                        ),
+                      ),
                     ),
                   ),
                 ),

@@ -94,8 +94,8 @@ command_name_of (Map limit pool align svg file) = codes "map"
 command_name_of (Replay align strict format texts file) = codes "replay"
 command_name_of (Decode input format texts file) = codes "decode"
 command_name_of (Annotate file) = codes "annotate"
-command_name_of (Round sizes) = codes "round"
-command_name_of (RoundList file) = codes "round"
+command_name_of (Round base sizes) = codes "round"
+command_name_of (RoundList base file) = codes "round"
 
 -- `HasPool` holds if the texts of the pool are the values of BASE and LENGTH.
 abbrev pub HasPool : List Row → PoolTexts → Type 0
@@ -118,7 +118,7 @@ pub record HasDecodeTexts (rows : List Row) (texts : DecodeTexts) : Type 0 where
   pub perms : first_of (codes "perms") rows ≡ option_map (λ text. text.now) texts.perms
 
 -- `HasReplayTexts` holds if the texts are the values of these options, or `None` for those that are not given, and it says of
--- `--sizes` whether it is given.
+-- `--sizes`, `--svg` and `--script` whether they are given.
 pub record HasReplayTexts (rows : List Row) (texts : ReplayTexts) : Type 0 where
   pub realloc : first_of (codes "realloc") rows ≡ option_map (λ text. text.now) texts.realloc
   pub sweep : first_of (codes "sweep") rows ≡ option_map (λ text. text.now) texts.sweep
@@ -127,6 +127,8 @@ pub record HasReplayTexts (rows : List Row) (texts : ReplayTexts) : Type 0 where
   pub each : first_of (codes "each") rows ≡ option_map (λ text. text.now) texts.each
   pub format : first_of (codes "format") rows ≡ option_map (λ text. text.now) texts.format
   pub sizes : texts.sizes ≡ is_on (first_of (codes "sizes") rows)
+  pub svg : texts.svg ≡ is_on (first_of (codes "svg") rows)
+  pub script : texts.script ≡ is_on (first_of (codes "script") rows)
 
 -- `HasTexts` holds if the texts of the question are the values that clap found. The arguments of `explain` that the
 -- question has no text for have no value, and a missing `--base` is `0`.
@@ -146,6 +148,10 @@ lengths_of rows = unwrap_or (all_of (codes "length") rows) []
 abbrev pub is_dash : (sizes : List Text) → Bool
 is_dash (text ∷ []) = bytes_eq text (codes "-")
 is_dash _ = false
+
+-- `HasBase` holds if the base is the value of `--base`, or `None` if it is not given.
+abbrev pub HasBase : List Row → Option (Bor Text) → Type 0
+HasBase rows base = first_of (codes "base") rows ≡ option_map (λ text. text.now) base
 
 -- `HasList` holds if the file is the value of `--list`, or if it is `None`, this option is not given, and `-` is the only
 -- length.
@@ -171,9 +177,9 @@ HasValues rows (Decode input format texts file) =
     IsChosen format_named Columns (first_of (codes "format") rows) format
     × IsChosen input_named Lines (first_of (codes "bytes") rows) input × HasDecodeTexts rows texts × HasFile rows file
 HasValues rows (Annotate file) = HasFile rows file
-HasValues rows (Round sizes) =
-    (first_of (codes "list") rows ≡ None) × (lengths_of rows ≡ texts sizes.now) × (is_dash (lengths_of rows) ≡ false)
-HasValues rows (RoundList file) = HasList rows file
+HasValues rows (Round base sizes) =
+    HasBase rows base × (first_of (codes "list") rows ≡ None) × (lengths_of rows ≡ texts sizes.now) × (is_dash (lengths_of rows) ≡ false)
+HasValues rows (RoundList base file) = HasBase rows base × HasList rows file
 
 -- `IsInvocation` holds if clap found this command, with these values.
 abbrev pub IsInvocation : Option (Text × List Row) → Invocation → Type 0

@@ -36,8 +36,8 @@ pub enum SummaryFormat {
     Json,
 }
 
-/// The values of the options of `replay` that are numbers, names, a policy or a pool, as they were typed, and whether `--sizes`
-/// was given.
+/// The values of the options of `replay` that are numbers, names, a policy or a pool, as they were typed, and whether `--sizes`,
+/// `--svg` and `--script` were given.
 #[derive(Clone, Copy)]
 pub struct ReplayTexts<'a> {
     /// The effect of a realloc.
@@ -54,6 +54,10 @@ pub struct ReplayTexts<'a> {
     pub format: Option<&'a str>,
     /// Whether the table of sizes takes the place of the summary.
     pub sizes: bool,
+    /// Whether the chart takes the place of the summary.
+    pub svg: bool,
+    /// Whether the script takes the place of the summary.
+    pub script: bool,
 }
 
 /// A command and its values.
@@ -97,7 +101,7 @@ pub enum Invocation<'a> {
         file: Option<&'a str>,
     },
     /// `replay [--format FORMAT] [--align ALIGN] [--realloc MODE] [--sweep POLICY] [--min BYTES] [--pool BASE:LENGTH]
-    /// [--strict] [--summary FORMAT] [--each N] [--sizes] [FILE]`: replays the trace of an allocator.
+    /// [--strict] [--summary FORMAT] [--each N] [--sizes] [--svg] [--script] [FILE]`: replays the trace of an allocator.
     Replay {
         /// The alignment of each object.
         align: Align,
@@ -122,13 +126,17 @@ pub enum Invocation<'a> {
         /// The words' file; `None` and `-` are standard input.
         file: Option<&'a str>,
     },
-    /// `round N..`: rounds each length.
+    /// `round [--base B] N..`: rounds each length.
     Round {
+        /// The base of each request, as it was typed.
+        base: Option<&'a str>,
         /// The lengths, as they were typed.
         lengths: &'a [&'a str],
     },
-    /// `round --list FILE`, or `round -`: rounds each length of a list.
+    /// `round [--base B] --list FILE`, or `round [--base B] -`: rounds each length of a list.
     RoundList {
+        /// The base of each request, as it was typed.
+        base: Option<&'a str>,
         /// The list's file; `None` and `-` are standard input.
         file: Option<&'a str>,
     },

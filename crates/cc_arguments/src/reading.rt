@@ -174,11 +174,15 @@ fn read_round<'a>(matches: &'a ArgMatches<'_>) -> Invocation<'a>
     ensures command { command_name_of result ≡ codes "round" }
     ensures values { HasValues (rows_of (found_of matches.now)) result }
 {
+    let base = value_of(matches, "base");
     let lengths = values_of(matches, "length");
     match value_of(matches, "list") {
-        Some(file) => Invocation::RoundList { file: Some(file) },
-        None if is_dash(lengths) => Invocation::RoundList { file: None },
-        None => Invocation::Round { lengths },
+        Some(file) => Invocation::RoundList {
+            base,
+            file: Some(file),
+        },
+        None if is_dash(lengths) => Invocation::RoundList { base, file: None },
+        None => Invocation::Round { base, lengths },
     }
 }
 

@@ -67,7 +67,8 @@ pub(crate) fn decode_texts<'a>(matches: &'a ArgMatches<'_>) -> DecodeTexts<'a>
     }
 }
 
-/// Returns the values of the options of `replay` that are numbers, names, a policy or a pool, and whether `--sizes` was given.
+/// Returns the values of the options of `replay` that are numbers, names, a policy or a pool, and whether `--sizes`, `--svg`
+/// and `--script` were given.
 pub(crate) fn replay_texts<'a>(matches: &'a ArgMatches<'_>) -> ReplayTexts<'a>
     ensures { HasReplayTexts (rows_of (found_of matches.now)) result }
 {
@@ -79,6 +80,8 @@ pub(crate) fn replay_texts<'a>(matches: &'a ArgMatches<'_>) -> ReplayTexts<'a>
         each: value_of(matches, "each"),
         format: value_of(matches, "format"),
         sizes: is_on(matches, "sizes"),
+        svg: is_on(matches, "svg"),
+        script: is_on(matches, "script"),
     }
 }
 

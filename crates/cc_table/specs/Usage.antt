@@ -50,9 +50,11 @@ explain_command =
     let options = with_rule (with_rule drawn (valued_option (codes "length"))) (valued_option (codes "base")) in
     with_rule options (optional_argument (codes "word"))
 
--- The command `round [--list FILE] [N]..`.
+-- The command `round [--base B] [--list FILE] [N]..`.
 abbrev pub round_command : App
-round_command = with_rule (with_rule (new_app (codes "round")) (valued_option (codes "list"))) (several_argument (codes "length"))
+round_command =
+    let options = with_rule (with_rule (new_app (codes "round")) (valued_option (codes "base"))) (valued_option (codes "list")) in
+    with_rule options (several_argument (codes "length"))
 
 -- The command `run [--slots N] [--stats] [FILE]`.
 abbrev pub run_command : App
@@ -90,13 +92,15 @@ with_heap_options command =
     with_rule swept (valued_option (codes "pool"))
 
 -- The command `replay [--format FORMAT] [--align ALIGN] [--realloc MODE] [--sweep POLICY] [--min BYTES]
--- [--pool BASE:LENGTH] [--strict] [--summary FORMAT] [--each N] [--sizes] [FILE]`.
+-- [--pool BASE:LENGTH] [--strict] [--summary FORMAT] [--each N] [--sizes] [--svg]
+-- [--script] [FILE]`.
 abbrev pub replay_command : (aligns summaries : Bor (List (Bor Text))) → App
 replay_command aligns summaries =
     let heap = with_heap_options (with_rule (with_rule (new_app (codes "replay")) (valued_option (codes "format"))) (choice_option (codes "align") aligns)) in
     let told = with_rule (with_rule heap (flag_option (codes "strict"))) (choice_option (codes "summary") summaries) in
     let chosen = with_rule (with_rule told (valued_option (codes "each"))) (flag_option (codes "sizes")) in
-    with_rule chosen (optional_argument (codes "file"))
+    let drawn = with_rule (with_rule chosen (flag_option (codes "svg"))) (flag_option (codes "script")) in
+    with_rule drawn (optional_argument (codes "file"))
 
 -- The names of the formats.
 abbrev pub format_names : List Text

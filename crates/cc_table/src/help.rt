@@ -86,11 +86,14 @@ pub(crate) const ROUND_ABOUT: &str =
     "Shows the size and alignment to reserve for an allocation of N bytes";
 
 pub(crate) const ROUND_USAGE: &str = "\
-cheri-cap round <N>...
-       cheri-cap round --list <FILE>";
+cheri-cap round [--base <B>] <N>...
+       cheri-cap round [--base <B>] --list <FILE>";
 
 /// The message if the values of `round` do not go together.
 pub const ROUND_CHOICE: &str = "give either one or more lengths N, or `--list FILE`";
+
+pub(crate) const ROUND_BASE_HELP: &str =
+    "Show the bounds granted to each N bytes from address B, in the form of N";
 
 pub(crate) const LIST_HELP: &str =
     "Read the lengths from FILE, one on each line; `-` is standard input";
@@ -106,16 +109,23 @@ The output for each N is one line, `round LENGTH GRANULE MASK`, with each number
   MASK     rounds an address down to such a multiple, as `address & MASK`
 A capability for bytes that are placed so grants them, and no others.
 
+With --base two more numbers follow, BASE and TOP: the bounds that are granted to N bytes from B.
+They are exact if and only if BASE is B and TOP is B + N.
+
 For a list the output has such a line for each line of the list, in their order. An unterminated
 last line gets `error 2 unfinished`.
 
 Input that is not a number gets `error 1 syntax`, a number above 2^64 gets `error 4 range`, and
-input of more than 128 bytes gets `error 3 long`, each with exit status 1.
+input of more than 128 bytes gets `error 3 long`, each with exit status 1. So does `error 9 bounds`,
+for bytes from B on that end past 2^64. If B is refused, that is the only line of output.
 
 Examples:
   cheri-cap round 8191 5000
   round 0x2000 0x10 0xfffffffffffffff0
   round 0x1388 0x8 0xfffffffffffffff8
+
+  cheri-cap round --base 0x10068 8191
+  round 0x2000 0x10 0xfffffffffffffff0 0x10060 0x12070
 
   printf '8191\\n5000\\n' | cheri-cap round --list -
   round 0x2000 0x10 0xfffffffffffffff0
@@ -234,6 +244,15 @@ each event that sweeps, and at the end";
 pub(crate) const SIZES_HELP: &str = "\
 Print a table of the objects that were made in place of the summary, in its format: a row for each
 power of two of their sizes; not with --each";
+
+pub(crate) const CHART_HELP: &str = "\
+Print a chart of the heap over the events in place of the summary, as SVG for a page: the live,
+quarantined and held bytes, and the high-water mark; not with --each or --sizes";
+
+pub(crate) const SCRIPT_HELP: &str = "\
+Print the changes of the heap as a script in place of the summary: `plan` with this pool and
+alignment places each object at the same bytes; not with --each, --sizes, --svg or
+--realloc keep";
 
 pub(crate) const TRACE_FILE_HELP: &str = "Trace file; standard input if `-` or omitted";
 

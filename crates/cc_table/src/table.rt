@@ -4,14 +4,14 @@ ghost use Rattle.clap.specs.Words.{new_app};
 ghost use Rattle.cc_table.specs.Usage.{bare_program, explain_command, listed_commands, with_arguments, with_commands};
 
 use crate::help::{
-    ALIGN_HELP, ANNOTATE_ABOUT, ANNOTATE_AFTER_HELP, AT_HELP, BASE_HELP, BYTES_HELP, DECODE_ABOUT,
-    DECODE_AFTER_HELP, EACH_HELP, FILE_HELP, FORMAT_HELP, HOLDS_HELP, LEAST_HELP, LENGTH_HELP,
-    LINE_HELP, LIST_HELP, MAP_ABOUT, MAP_AFTER_HELP, PERMISSIONS_HELP, PLAN_ABOUT, PLAN_AFTER_HELP,
-    POOL_HELP, POOL_LENGTH_HELP, REALLOC_HELP, REPLAY_ABOUT, REPLAY_AFTER_HELP, REQUEST_BASE_HELP,
-    REQUEST_LENGTH_HELP, ROUND_ABOUT, ROUND_AFTER_HELP, RUN_ABOUT, RUN_AFTER_HELP, SHOW_ABOUT,
-    SHOW_AFTER_HELP, SIZES_HELP, SKIP_HELP, SLOTS_HELP, STATS_HELP, STRICT_HELP, SUMMARY_HELP,
-    SVG_HELP, SWEEP_HELP, TEXT_FILE_HELP, TRACE_FILE_HELP, TRACE_FORMAT_HELP, WINDOW_SVG_HELP,
-    WORD_HELP, WORDS_FILE_HELP,
+    ALIGN_HELP, ANNOTATE_ABOUT, ANNOTATE_AFTER_HELP, AT_HELP, BASE_HELP, BYTES_HELP, CHART_HELP,
+    DECODE_ABOUT, DECODE_AFTER_HELP, EACH_HELP, FILE_HELP, FORMAT_HELP, HOLDS_HELP, LEAST_HELP,
+    LENGTH_HELP, LINE_HELP, LIST_HELP, MAP_ABOUT, MAP_AFTER_HELP, PERMISSIONS_HELP, PLAN_ABOUT,
+    PLAN_AFTER_HELP, POOL_HELP, POOL_LENGTH_HELP, REALLOC_HELP, REPLAY_ABOUT, REPLAY_AFTER_HELP,
+    REQUEST_BASE_HELP, REQUEST_LENGTH_HELP, ROUND_ABOUT, ROUND_AFTER_HELP, ROUND_BASE_HELP,
+    RUN_ABOUT, RUN_AFTER_HELP, SCRIPT_HELP, SHOW_ABOUT, SHOW_AFTER_HELP, SIZES_HELP, SKIP_HELP,
+    SLOTS_HELP, STATS_HELP, STRICT_HELP, SUMMARY_HELP, SVG_HELP, SWEEP_HELP, TEXT_FILE_HELP,
+    TRACE_FILE_HELP, TRACE_FORMAT_HELP, WINDOW_SVG_HELP, WORD_HELP, WORDS_FILE_HELP,
 };
 
 /// The subject of the help of an argument.
@@ -25,6 +25,8 @@ pub(crate) enum Topic {
     Length,
     /// `LIST_HELP`.
     List,
+    /// `ROUND_BASE_HELP`.
+    RoundBase,
     /// `SLOTS_HELP`.
     Slots,
     /// `STATS_HELP`.
@@ -79,6 +81,10 @@ pub(crate) enum Topic {
     Each,
     /// `SIZES_HELP`.
     Sizes,
+    /// `CHART_HELP`.
+    Chart,
+    /// `SCRIPT_HELP`.
+    Script,
     /// `TRACE_FILE_HELP`.
     TraceFile,
 }
@@ -111,6 +117,7 @@ pub(crate) fn help<'a>(topic: Topic) -> &'a str {
         Topic::Word => WORD_HELP,
         Topic::Length => LENGTH_HELP,
         Topic::List => LIST_HELP,
+        Topic::RoundBase => ROUND_BASE_HELP,
         Topic::Slots => SLOTS_HELP,
         Topic::Stats => STATS_HELP,
         Topic::File => FILE_HELP,
@@ -138,6 +145,8 @@ pub(crate) fn help<'a>(topic: Topic) -> &'a str {
         Topic::Summary => SUMMARY_HELP,
         Topic::Each => EACH_HELP,
         Topic::Sizes => SIZES_HELP,
+        Topic::Chart => CHART_HELP,
+        Topic::Script => SCRIPT_HELP,
         Topic::TraceFile => TRACE_FILE_HELP,
     }
 }
@@ -245,6 +254,12 @@ const COMMANDS: &[CommandRow] = &[
         name: "round",
         page: Page::Round,
         rows: &[
+            Row {
+                kind: Kind::Valued,
+                name: "base",
+                placeholder: "B",
+                topic: Topic::RoundBase,
+            },
             Row {
                 kind: Kind::Valued,
                 name: "list",
@@ -430,6 +445,18 @@ const COMMANDS: &[CommandRow] = &[
                 name: "sizes",
                 placeholder: "",
                 topic: Topic::Sizes,
+            },
+            Row {
+                kind: Kind::Flag,
+                name: "svg",
+                placeholder: "",
+                topic: Topic::Chart,
+            },
+            Row {
+                kind: Kind::Flag,
+                name: "script",
+                placeholder: "",
+                topic: Topic::Script,
             },
             Row {
                 kind: Kind::Free,
