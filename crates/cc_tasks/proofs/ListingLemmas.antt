@@ -1,14 +1,11 @@
 -- The refusals of the values of `decode`.
-use Rattle.std.proofs.Common.{◌≡◌, ℕ, Option, Some, None, Result, Ok, Err, ap, sym}
+use Rattle.std.proofs.Common.{◌≡◌, Option, Some, None, Result, Err, ap, sym}
 use Rattle.std.specs.Borrow.{Bor}
 use Rattle.clap.specs.Words.{Text}
-use Rattle.cc_word.specs.declared.perms.Perms.{Perms}
 use Rattle.cc_word.specs.declared.refusal.Refusal.{Refusal}
-use Rattle.cc_syntax.specs.Commands.{both}
+use Rattle.cc_values.specs.Values.{both}
 use Rattle.cc_io.specs.declared.format.Format.{Format}
 use Rattle.cc_io.specs.declared.input_form.InputForm.{InputForm}
-use Rattle.cc_decode.specs.declared.options.Options.{Options}
-use Rattle.cc_decode.specs.declared.options.Search.{Search}
 use Rattle.cc_arguments.specs.declared.invocation.DecodeTexts.{DecodeTexts}
 use Rattle.cc_devices.specs.Refused.{changed}
 use Rattle.cc_tasks.specs.Listing.{listing_in, named_in, place_in, search_in, skipped_in}

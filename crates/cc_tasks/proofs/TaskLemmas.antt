@@ -1,8 +1,13 @@
--- The output of `decode`, from that of its listing.
-use Rattle.std.proofs.Common.{◌≡◌, ℕ, Option, Result, Ok, MatchResult, subst, sym}
+-- The output of `decode`, from that of its listing, and of `round`, from that for its base.
+use Rattle.std.proofs.Common.{◌≡◌, ℕ, Bool, false, ◌&&◌, ◌||◌, List, [], Option, Result, Ok, Err, MatchResult, subst, sym}
+use Rattle.std.specs.Prelude.{OnOk, is_err, true}
+use Rattle.std.proofs.lemmas.Bool.{false≢true}
+use Rattle.std.specs.List.{list_any}
+use Rattle.std.specs.Io.KnownBytes.{Appends}
 use Rattle.std.specs.Borrow.{Bor}
 use Rattle.clap.specs.Words.{Text}
 use Rattle.cc_word.specs.declared.refusal.Refusal.{Refusal}
+use Rattle.cc_io.specs.declared.summary.IoError.{IoError}
 use Rattle.cc_io.specs.declared.summary.Summary.{Summary}
 use Rattle.cc_io.specs.declared.format.Format.{Format}
 use Rattle.cc_io.specs.declared.input_form.InputForm.{InputForm}
@@ -10,10 +15,13 @@ use Rattle.cc_decode.specs.declared.options.Options.{Options}
 use Rattle.cc_arguments.specs.declared.invocation.DecodeTexts.{DecodeTexts}
 use Rattle.cc_devices.specs.Devices.{Console, FromInput, OnDevices}
 use Rattle.cc_devices.specs.Input.{file_input}
-use Rattle.cc_tasks.specs.Listing.{listing_in}
+use Rattle.cc_tasks.specs.Listing.{listing_in, place_in}
 use Rattle.cc_devices.specs.Refused.{WritesRefusal}
-use Rattle.cc_tasks.specs.Tasks.{ListsWords, WithListing}
+use Rattle.cc_command.specs.BareDigits.{is_bare}
+use Rattle.cc_tasks.specs.NumberHint.{after_base, hint_if}
+use Rattle.cc_tasks.specs.Tasks.{ListsWords, RoundsLengths, SeesLengths, WithBase, WithListing}
 use Rattle.cc_devices.specs.declared.fault.Fault.{Fault}
+use Rattle.cc_devices.specs.declared.fault.Fault.TheVariants as fault
 use Rattle.cc_devices.specs.declared.input.InputName.{InputName}
 use Rattle.cc_devices.proofs.DeviceLemmas.{on_devices-map}
 
@@ -31,3 +39,42 @@ decodes input format texts file console listing name result is_listing is_input 
     (λ refusal. WritesRefusal console.output console.output_now refusal io)) (sym is_listing)
     (subst (λ (given : InputName). FromInput given console (ListsWords listing.0 listing.1) io) is_input holds))
     result lists
+
+-- The output of `round`, from that for the base that the text gives.
+pub with_base : (text : Option (Bor Text)) (base : Option ℕ) (output output_now : Option (List ℕ)) (Does : (base : Option ℕ) → Result Summary IoError → Type 0)
+    (result : Result Summary Fault) → place_in text ≡ Ok base → OnDevices (Does base) result → OnDevices (WithBase text output output_now Does) result
+with_base text base output output_now Does result is does =
+    on_devices-map (Does base) (WithBase text output output_now Does)
+    (λ io holds.
+    subst (λ (found : Result (Option ℕ) Refusal). MatchResult found (λ place. Does place io) (λ refusal. WritesRefusal output output_now refusal io)) (sym is) holds)
+    result does
+
+-- The hint on the list, beside its output.
+pub hinted_too : (text : Option (Bor Text)) (hints bare : Bool) (place : Option ℕ) (input : InputName) (console : Console) (result : Result Summary Fault)
+    → OnOk result (console.errors_failed ≡ false → Appends console.errors console.errors_now (hint_if (hints && (list_any is_bare (after_base text []) || bare))))
+    → OnDevices (FromInput input console (SeesLengths place bare)) result → OnDevices (FromInput input console (RoundsLengths text hints place)) result
+hinted_too text hints bare place input console (Ok summary) hinted f = record {
+  unread = f.unread;
+  left = f.left;
+  known = f.known;
+  does = record { bare = bare; rounds = f.does; hinted = hinted };
+}
+hinted_too text hints bare place input console (Err fault.Read) hinted f = record {
+  unread = f.unread;
+  left = f.left;
+  known = f.known;
+  does = record { bare = bare; rounds = f.does; hinted = tt };
+}
+hinted_too text hints bare place input console (Err fault.Write) hinted f = record {
+  unread = f.unread;
+  left = f.left;
+  known = f.known;
+  does = record { bare = bare; rounds = f.does; hinted = tt };
+}
+hinted_too text hints bare place input console (Err fault.Memory) hinted f = tt
+hinted_too text hints bare place input console (Err fault.Open) hinted f = tt
+
+-- At an error nothing is said of the hint.
+pub no_hint : (Hinted : Type 0) (result : Result Summary Fault) → is_err result ≡ true → OnOk result Hinted
+no_hint Hinted (Ok summary) failed = absurd (false≢true failed)
+no_hint Hinted (Err fault) failed = tt

@@ -1,4 +1,5 @@
 -- In reading order.
 pub mod Listing
+pub mod NumberHint
 pub mod Questions
 pub mod Tasks

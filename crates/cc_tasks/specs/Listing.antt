@@ -1,10 +1,10 @@
 -- The listing that the arguments of `decode` ask for.
-use Rattle.std.specs.Prelude.{ℕ, Option, Some, None, Result, Ok, Err}
+use Rattle.std.specs.Prelude.{ℕ, Option, Some, None, Result, Ok}
 use Rattle.std.specs.Borrow.{Bor}
 use Rattle.clap.specs.Words.{Text}
 use Rattle.cc_word.specs.declared.perms.Perms.{Perms}
 use Rattle.cc_word.specs.declared.refusal.Refusal.{Refusal}
-use Rattle.cc_syntax.specs.Commands.{address_in, both, permissions_in}
+use Rattle.cc_values.specs.Values.{address_in, both, permissions_in}
 use Rattle.cc_devices.specs.Refused.{changed}
 use Rattle.cc_io.specs.declared.format.Format.{Format}
 use Rattle.cc_io.specs.declared.input_form.InputForm.{InputForm}

@@ -1,5 +1,5 @@
 -- The output of `show` and `explain`, and the questions for which it is an error.
-use Rattle.std.specs.Prelude.{ℕ, true, false, IsErr, List}
+use Rattle.std.specs.Prelude.{ℕ, true, false, IsErr, List, [], ◌∷◌}
 use Rattle.cc_explain.specs.Explanation.{IsExplanation}
 use Rattle.cc_explain.specs.LineAnswer.{IsLineAnswer}
 use Rattle.cc_explain.specs.Answer.{IsTypedWord}
@@ -24,3 +24,8 @@ IsUnanswerable (Show word as_line) = ¬ IsTypedWord word.now
 IsUnanswerable (Explain word) = ¬ IsTypedWord word.now
 IsUnanswerable (DrawWindow word) = ¬ IsTypedWord word.now
 IsUnanswerable (ExplainLength base size) = IsErr (request_in base.now size.now)
+
+-- The numbers of a question, as they were typed.
+abbrev pub numbers_of : Question → List (List ℕ)
+numbers_of (ExplainLength base size) = base.now ∷ size.now ∷ []
+numbers_of question = []

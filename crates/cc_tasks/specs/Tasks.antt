@@ -1,9 +1,14 @@
 -- The output of the commands that run no script, by their input.
-use Rattle.std.specs.Prelude.{◌≡◌, ℕ, List, Option, IfSome, Result, Err, IfOk, IsTrue, ◌↔◌, MatchResult, OnErr}
+use Rattle.std.specs.Prelude.{◌≡◌, ℕ, Bool, false, ◌&&◌, ◌||◌, List, [], OnOk, Option, IfSome, Result, Err, IfOk, IsTrue, ◌↔◌, MatchResult, OnErr}
+use Rattle.std.specs.Borrow.{Bor}
+use Rattle.std.specs.List.{list_any}
+use Rattle.std.specs.Io.KnownBytes.{Appends}
+use Rattle.clap.specs.Words.{Text}
 use Rattle.cc_io.specs.declared.summary.IoError.{IoError}
 use Rattle.cc_io.specs.declared.summary.IoError.TheVariants.{Write}
 use Rattle.cc_io.specs.declared.summary.Summary.{Summary}
 use Rattle.cc_explain.specs.Answer.{WritesAnswer}
+use Rattle.cc_command.specs.BareDigits.{is_bare}
 use Rattle.cc_command.specs.RoundList.{RoundsList}
 use Rattle.cc_decode.specs.declared.options.Options.{Options}
 use Rattle.cc_decode.specs.Annotate.{AnnotatesGiven}
@@ -14,7 +19,8 @@ use Rattle.cc_arguments.specs.declared.invocation.DecodeTexts.{DecodeTexts}
 use Rattle.cc_arguments.specs.declared.question.Question.{Question}
 use Rattle.cc_devices.specs.Devices.{Console, Traffic}
 use Rattle.cc_devices.specs.Refused.{WritesRefusal}
-use Rattle.cc_tasks.specs.Listing.{listing_in}
+use Rattle.cc_tasks.specs.Listing.{listing_in, place_in}
+use Rattle.cc_tasks.specs.NumberHint.{after_base, hint_if}
 use Rattle.cc_tasks.specs.Questions.{IsAnswerTo, IsUnanswerable}
 
 -- AnswersQuestion holds if the output for the question was written, or a prefix of it if a write failed. The summary says
@@ -33,9 +39,18 @@ pub record ListsWords (skipped : ℕ) (options : Options) (traffic : Traffic) (r
 abbrev pub AnnotatesWords : Traffic → Result Summary IoError → Type 0
 AnnotatesWords traffic result = AnnotatesGiven traffic.unread traffic.left traffic.output traffic.output_now result
 
--- RoundsLengths holds if the output of `round` for each length of the list that the input gave was written, up to a failure.
-abbrev pub RoundsLengths : Traffic → Result Summary IoError → Type 0
-RoundsLengths traffic result = RoundsList traffic.unread traffic.left traffic.output traffic.output_now result
+-- SeesLengths holds if the output of `round` for each length of the list that the input gave was written, up to a failure. At
+-- `Ok`, `bare` says whether a line of the list may be meant as hexadecimal digits.
+abbrev pub SeesLengths : (base : Option ℕ) (bare : Bool) → Traffic → Result Summary IoError → Type 0
+SeesLengths base bare traffic result = RoundsList base bare traffic.unread traffic.left traffic.output traffic.output_now result
+
+-- RoundsLengths holds if the output of `round` for each length of the list that the input gave was written, up to a failure. After
+-- an output at `Ok`, the hint was written if hints are given, and the text of the base or a line of the list may be meant as
+-- hexadecimal digits.
+pub record RoundsLengths (text : Option (Bor Text)) (hints : Bool) (base : Option ℕ) (traffic : Traffic) (result : Result Summary IoError) : Type 0 where
+  pub bare : Bool
+  pub rounds : SeesLengths base bare traffic result
+  pub hinted : OnOk result (traffic.errors_failed ≡ false → Appends traffic.errors traffic.errors_now (hint_if (hints && (list_any is_bare (after_base text []) || bare))))
 
 -- WithListing holds if `Does` holds for the bytes to skip and the options of a listing, or if their texts are refused.
 abbrev pub WithListing : InputForm → Format → DecodeTexts → Console → (Does : (skipped : ℕ) (options : Options) → Result Summary IoError → Type 0)
@@ -43,3 +58,8 @@ abbrev pub WithListing : InputForm → Format → DecodeTexts → Console → (D
 WithListing input format texts console Does result =
     MatchResult (listing_in input format texts) (λ listing. Does listing.0 listing.1 result)
     (λ refusal. WritesRefusal console.output console.output_now refusal result)
+
+-- WithBase holds if `Does` holds for the base that `--base` gives, if any, or if its text is refused.
+abbrev pub WithBase : Option (Bor Text) → (output output_now : Option (List ℕ)) → (Does : (base : Option ℕ) → Result Summary IoError → Type 0)
+    → Result Summary IoError → Type 0
+WithBase text output output_now Does result = MatchResult (place_in text) (λ base. Does base result) (λ refusal. WritesRefusal output output_now refusal result)

@@ -11,7 +11,7 @@ use cc_word::{Perms, Refusal};
 ///
 /// Errors, in order: `Syntax` if a text is not a number, or not names of permissions; `OutOfRange` if a number is at least
 /// 2^64.
-pub(crate) fn listing_of(
+pub fn listing_of(
     input: InputForm,
     format: Format,
     texts: DecodeTexts<'_>,
@@ -44,7 +44,7 @@ fn skipped_of(text: Option<&str>) -> Result<u64, Refusal>
 }
 
 /// Returns the address that an option gives, if it is given.
-fn place_of(text: Option<&str>) -> Result<Option<u64>, Refusal>
+pub(crate) fn place_of(text: Option<&str>) -> Result<Option<u64>, Refusal>
     ensures { result ≡ place_in text.entry }
 {
     match text {

@@ -1,23 +1,53 @@
 //! `show` and `explain`: the call for each question.
+ghost use Rattle.std.specs.Io.KnownBytes.{Appends};
+ghost use Rattle.cc_tasks.specs.NumberHint.{is_hinted, number_hint};
 ghost use Rattle.std.specs.Prelude.{◌≡◌, ◌≢◌, ◌↔◌, [], Err, false, true, IfOk, IsErr, IsTrue, OnErr, OnOk};
 ghost use Rattle.cc_explain.specs.Answer.{WritesAnswer};
 ghost use Rattle.cc_devices.specs.Devices.{OnDevices};
-ghost use Rattle.cc_tasks.specs.Questions.{IsAnswerTo, IsUnanswerable};
+ghost use Rattle.cc_tasks.specs.Questions.{IsAnswerTo, IsUnanswerable, numbers_of};
 ghost use Rattle.cc_tasks.specs.Tasks.{AnswersQuestion};
 
+use crate::number_hint::hint_numbers;
 use cc_arguments::Question;
 use cc_command::{draw_window, explain_length, explain_word, show_line, show_word};
 use cc_devices::Fault;
 use cc_io::{IoError, Sink, Summary};
 
-/// Writes the listing, line, explanation or drawing that a question asks for.
+/// Writes the listing, line, explanation or drawing that a question asks for. Then writes the hint on numbers to `errors`, if
+/// hints are given and a number of the question may be meant as hexadecimal digits.
 ///
 /// The output is an error, and the summary says so, if a text is not that of a word or of a number, if a number is too
 /// large, or if the requested bytes end past 2^64.
 ///
-/// Requires: the sink has not failed.
-/// Errors: `Write` if and only if the sink failed.
-pub fn ask<W: Sink>(question: Question<'_>, sink: &mut W) -> Result<Summary, Fault>
+/// Requires: neither sink has failed.
+/// Errors: `Write` if and only if the sink failed. No hint is written then.
+pub fn ask<W: Sink, E: Sink>(
+    question: Question<'_>,
+    hints: bool,
+    sink: &mut W,
+    errors: &mut E,
+) -> Result<Summary, Fault>
+    requires sink { W.has_failed sink.old ≡ false }
+    requires errors { E.has_failed errors.old ≡ false }
+    ensures answers { OnDevices (AnswersQuestion question.entry (W.taken_bytes sink.old) (W.taken_bytes sink.new)) result }
+    ensures hinted { OnOk result (E.has_failed errors.new ≡ false → Appends (E.taken_bytes errors.old) (E.taken_bytes errors.new) (number_hint hints (numbers_of question.entry))) }
+    ensures silent { ¬ IsTrue (is_hinted hints (numbers_of question.entry)) → errors.new ≡ errors.old }
+    ensures unreported { OnErr result (errors.new ≡ errors.old) }
+    ensures open { result ≢ Err Fault.Open }
+    ensures memory { result ≢ Err Fault.Memory }
+    ensures write { (result ≡ Err Fault.Write) ↔ (W.has_failed sink.new ≡ true) }
+    ensures flushed { OnOk result (W.is_flushed sink.new ≡ true) }
+{
+    let result = answer(question, sink);
+    if result.is_err() {
+        return result;
+    }
+    hint_question(hints, question, errors);
+    result
+}
+
+/// Writes the listing, line, explanation or drawing that a question asks for.
+fn answer<W: Sink>(question: Question<'_>, sink: &mut W) -> Result<Summary, Fault>
     requires { W.has_failed sink.old ≡ false }
     ensures answers { OnDevices (AnswersQuestion question.entry (W.taken_bytes sink.old) (W.taken_bytes sink.new)) result }
     ensures open { result ≢ Err Fault.Open }
@@ -26,6 +56,23 @@ pub fn ask<W: Sink>(question: Question<'_>, sink: &mut W) -> Result<Summary, Fau
     ensures flushed { OnOk result (W.is_flushed sink.new ≡ true) }
 {
     Ok(answer_question(question, sink)?)
+}
+
+/// Writes the hint on the numbers of a question, if hints are given.
+fn hint_question<E: Sink>(hints: bool, question: Question<'_>, errors: &mut E)
+    requires { E.has_failed errors.old ≡ false }
+    ensures hinted { E.has_failed errors.new ≡ false → Appends (E.taken_bytes errors.old) (E.taken_bytes errors.new) (number_hint hints (numbers_of question.entry)) }
+    ensures silent { ¬ IsTrue (is_hinted hints (numbers_of question.entry)) → errors.new ≡ errors.old }
+{
+    match question {
+        Question::ExplainLength { base, length } => hint_numbers(
+            hints,
+            Some(base),
+            &[length],
+            errors,
+        ),
+        _ => hint_numbers(hints, None, &[], errors),
+    }
 }
 
 /// Writes the listing, line, explanation or drawing that a question asks for.

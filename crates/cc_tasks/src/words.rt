@@ -1,13 +1,16 @@
 //! `decode`, `annotate` and `round`: the call for the words or the lengths of an input, and for typed lengths.
-ghost use Rattle.std.specs.Prelude.{◌≡◌, ◌≢◌, ◌↔◌, false, true, Err, IsOk, OnOk};
+ghost use Rattle.std.specs.Prelude.{◌≡◌, ◌≢◌, ◌↔◌, IsTrue, false, true, Err, IsOk, OnErr, OnOk};
+ghost use Rattle.std.specs.Io.KnownBytes.{Appends};
 ghost use Rattle.clap.specs.Walk.{texts};
 ghost use Rattle.cc_command.specs.RoundList.{RoundsTyped};
 ghost use Rattle.cc_devices.specs.Devices.{FromInput, OnDevices, OnOutput};
 ghost use Rattle.cc_devices.specs.Input.{IsFile, file_input};
-ghost use Rattle.cc_tasks.specs.Listing.{listing_in};
-ghost use Rattle.cc_tasks.specs.Tasks.{AnnotatesWords, ListsWords, RoundsLengths, WithListing};
+ghost use Rattle.cc_tasks.specs.Listing.{listing_in, place_in};
+ghost use Rattle.cc_tasks.specs.NumberHint.{after_base, is_hinted, number_hint};
+ghost use Rattle.cc_tasks.specs.Tasks.{AnnotatesWords, ListsWords, RoundsLengths, SeesLengths, WithBase, WithListing};
 
-use crate::listing::listing_of;
+use crate::listing::{listing_of, place_of};
+use crate::number_hint::{hint_list, hint_numbers};
 use cc_arguments::DecodeTexts;
 use cc_command::{round_list, round_typed, write_refusal};
 use cc_decode::{Format, InputForm, Options, annotate, decode_words_after};
@@ -92,42 +95,168 @@ pub fn annotate_file<I: Inputs, W: Sink>(
     Ok(annotate(&mut source, sink)?)
 }
 
-/// Writes the output of `round` for each length of the list that FILE names.
+/// Writes the output of `round` for each length of the list that FILE names, with the bounds granted from a base on if one is
+/// given. The base is read first. If it is refused, the output is that refusal, and nothing is read. Then writes the hint on
+/// numbers to `errors`, if hints are given and the base or a line of the list may be meant as hexadecimal digits.
 ///
-/// Requires: the sink has not failed.
+/// Requires: neither sink has failed.
 /// Errors: `Open` if the input cannot be opened, and nothing was written then; `Read` if a read fails; `Write` if and only if
-/// the sink failed.
-pub fn round_file<I: Inputs, W: Sink>(
+/// the sink failed. No hint is written then, and none if the base is refused.
+pub fn round_file<I: Inputs, W: Sink, E: Sink>(
+    base: Option<&str>,
+    hints: bool,
     inputs: &I,
     file: Option<&str>,
     sink: &mut W,
+    errors: &mut E,
 ) -> Result<Summary, Fault>
-    requires { W.has_failed sink.old ≡ false }
-    ensures rounds { OnOutput (I.bytes_of inputs.now) (W.taken_bytes sink.old) (W.taken_bytes sink.new)
-        (λ console. FromInput (file_input file.entry) console RoundsLengths) result }
-    ensures open { result ≡ Err Fault.Open → IsFile (file_input file.entry) }
+    requires sink { W.has_failed sink.old ≡ false }
+    requires errors { E.has_failed errors.old ≡ false }
+    ensures rounds { OnDevices (WithBase base.entry (W.taken_bytes sink.old) (W.taken_bytes sink.new) (λ place. FromInput (file_input file.entry) (record {
+      input = I.bytes_of inputs.now;
+      output = W.taken_bytes sink.old;
+      output_now = W.taken_bytes sink.new;
+      errors = E.taken_bytes errors.old;
+      errors_now = E.taken_bytes errors.new;
+      errors_failed = E.has_failed errors.new;
+    }) (RoundsLengths base.entry hints place))) result }
+    ensures silent { ¬ (IsTrue hints × IsOk (place_in base.entry)) → errors.new ≡ errors.old }
+    ensures unreported { OnErr result (errors.new ≡ errors.old) }
+    ensures open { result ≡ Err Fault.Open → IsOk (place_in base.entry) × IsFile (file_input file.entry) }
     ensures untouched { result ≡ Err Fault.Open → W.taken_bytes sink.new ≡ W.taken_bytes sink.old }
     ensures memory { result ≢ Err Fault.Memory }
     ensures write { (result ≡ Err Fault.Write) ↔ (W.has_failed sink.new ≡ true) }
     ensures flushed { OnOk result (W.is_flushed sink.new ≡ true) }
 {
-    let input = file_input(file);
-    let mut source = FromReader::with_limit(inputs.open(input)?, MOST_DECODED);
-    Ok(round_list(&mut source, sink)?)
+    match place_of(base) {
+        Ok(place) => round_hinted(place, base, hints, inputs, file_input(file), sink, errors),
+        Err(refusal) => Ok(write_refusal(refusal, sink)?),
+    }
 }
 
-/// Writes the output of `round` for each of these lengths.
-///
-/// Requires: the sink has not failed.
-/// Errors: `Write` if and only if the sink failed.
-pub fn round_lengths<W: Sink>(lengths: &[&str], sink: &mut W) -> Result<Summary, Fault>
+/// Writes the output of `round` for each length of the list of an input, and then the hint on numbers.
+fn round_hinted<I: Inputs, W: Sink, E: Sink>(
+    place: Option<u64>,
+    base: Option<&str>,
+    hints: bool,
+    inputs: &I,
+    input: InputName<'_>,
+    sink: &mut W,
+    errors: &mut E,
+) -> Result<Summary, Fault>
+    requires sink { W.has_failed sink.old ≡ false }
+    requires errors { E.has_failed errors.old ≡ false }
+    ensures rounds { OnDevices (FromInput input.entry (record {
+      input = I.bytes_of inputs.now;
+      output = W.taken_bytes sink.old;
+      output_now = W.taken_bytes sink.new;
+      errors = E.taken_bytes errors.old;
+      errors_now = E.taken_bytes errors.new;
+      errors_failed = E.has_failed errors.new;
+    }) (RoundsLengths base.entry hints place)) result }
+    ensures silent { ¬ IsTrue hints → errors.new ≡ errors.old }
+    ensures unreported { OnErr result (errors.new ≡ errors.old) }
+    ensures open { result ≡ Err Fault.Open → IsFile input.entry }
+    ensures untouched { result ≡ Err Fault.Open → W.taken_bytes sink.new ≡ W.taken_bytes sink.old }
+    ensures memory { result ≢ Err Fault.Memory }
+    ensures write { (result ≡ Err Fault.Write) ↔ (W.has_failed sink.new ≡ true) }
+    ensures flushed { OnOk result (W.is_flushed sink.new ≡ true) }
+{
+    let mut bare = false;
+    let result = round_input(place, inputs, input, sink, &mut bare);
+    if result.is_err() {
+        return result;
+    }
+    hint_list(hints, base, bare, errors);
+    result
+}
+
+/// Writes the output of `round` for each length of the list of an input. At `Ok`, `bare` is whether a line may be meant as
+/// hexadecimal digits.
+fn round_input<I: Inputs, W: Sink>(
+    base: Option<u64>,
+    inputs: &I,
+    input: InputName<'_>,
+    sink: &mut W,
+    bare: &mut bool,
+) -> Result<Summary, Fault>
     requires { W.has_failed sink.old ≡ false }
-    ensures rounds { OnDevices (RoundsTyped (texts lengths.now) (W.taken_bytes sink.old) (W.taken_bytes sink.new)) result }
+    ensures rounds { OnOutput (I.bytes_of inputs.now) (W.taken_bytes sink.old) (W.taken_bytes sink.new)
+        (λ console. FromInput input.entry console (SeesLengths base bare.new)) result }
+    ensures open { result ≡ Err Fault.Open → IsFile input.entry }
+    ensures untouched { result ≡ Err Fault.Open → W.taken_bytes sink.new ≡ W.taken_bytes sink.old }
+    ensures memory { result ≢ Err Fault.Memory }
+    ensures write { (result ≡ Err Fault.Write) ↔ (W.has_failed sink.new ≡ true) }
+    ensures flushed { OnOk result (W.is_flushed sink.new ≡ true) }
+{
+    let mut source = FromReader::with_limit(inputs.open(input)?, MOST_DECODED);
+    Ok(round_list(base, &mut source, sink, bare)?)
+}
+
+/// Writes the output of `round` for each of these lengths, with the bounds granted from a base on if one is given. If the base is
+/// refused, the output is that refusal. Then writes the hint on numbers to `errors`, if hints are given and the base or
+/// one of the lengths may be meant as hexadecimal digits.
+///
+/// Requires: neither sink has failed.
+/// Errors: `Write` if and only if the sink failed. No hint is written then.
+pub fn round_lengths<W: Sink, E: Sink>(
+    base: Option<&str>,
+    lengths: &[&str],
+    hints: bool,
+    sink: &mut W,
+    errors: &mut E,
+) -> Result<Summary, Fault>
+    requires sink { W.has_failed sink.old ≡ false }
+    requires errors { E.has_failed errors.old ≡ false }
+    ensures rounds { OnDevices (WithBase base.entry (W.taken_bytes sink.old) (W.taken_bytes sink.new)
+        (λ base. RoundsTyped base (texts lengths.now) (W.taken_bytes sink.old) (W.taken_bytes sink.new))) result }
+    ensures hinted { OnOk result (E.has_failed errors.new ≡ false → Appends (E.taken_bytes errors.old) (E.taken_bytes errors.new) (number_hint hints (after_base base.entry (texts lengths.now)))) }
+    ensures silent { ¬ IsTrue (is_hinted hints (after_base base.entry (texts lengths.now))) → errors.new ≡ errors.old }
+    ensures unreported { OnErr result (errors.new ≡ errors.old) }
     ensures open { result ≢ Err Fault.Open }
     ensures memory { result ≢ Err Fault.Memory }
     ensures read { result ≢ Err Fault.Read }
     ensures write { (result ≡ Err Fault.Write) ↔ (W.has_failed sink.new ≡ true) }
     ensures flushed { OnOk result (W.is_flushed sink.new ≡ true) }
 {
-    Ok(round_typed(lengths, sink)?)
+    let result = round_typed_lengths(base, lengths, sink);
+    if result.is_err() {
+        return result;
+    }
+    hint_numbers(hints, base, lengths, errors);
+    result
+}
+
+/// Writes the output of `round` for each of these lengths, with the bounds granted from a base on if one is given.
+fn round_typed_lengths<W: Sink>(
+    base: Option<&str>,
+    lengths: &[&str],
+    sink: &mut W,
+) -> Result<Summary, Fault>
+    requires { W.has_failed sink.old ≡ false }
+    ensures rounds { OnDevices (WithBase base.entry (W.taken_bytes sink.old) (W.taken_bytes sink.new)
+        (λ base. RoundsTyped base (texts lengths.now) (W.taken_bytes sink.old) (W.taken_bytes sink.new))) result }
+    ensures open { result ≢ Err Fault.Open }
+    ensures memory { result ≢ Err Fault.Memory }
+    ensures read { result ≢ Err Fault.Read }
+    ensures write { (result ≡ Err Fault.Write) ↔ (W.has_failed sink.new ≡ true) }
+    ensures flushed { OnOk result (W.is_flushed sink.new ≡ true) }
+{
+    match place_of(base) {
+        Ok(base) => round_each(base, lengths, sink),
+        Err(refusal) => Ok(write_refusal(refusal, sink)?),
+    }
+}
+
+/// Writes the output of `round` for each of these lengths.
+fn round_each<W: Sink>(base: Option<u64>, lengths: &[&str], sink: &mut W) -> Result<Summary, Fault>
+    requires { W.has_failed sink.old ≡ false }
+    ensures rounds { OnDevices (RoundsTyped base (texts lengths.now) (W.taken_bytes sink.old) (W.taken_bytes sink.new)) result }
+    ensures open { result ≢ Err Fault.Open }
+    ensures memory { result ≢ Err Fault.Memory }
+    ensures read { result ≢ Err Fault.Read }
+    ensures write { (result ≡ Err Fault.Write) ↔ (W.has_failed sink.new ≡ true) }
+    ensures flushed { OnOk result (W.is_flushed sink.new ≡ true) }
+{
+    Ok(round_typed(base, lengths, sink)?)
 }

@@ -1,5 +1,5 @@
 use Rattle.std.proofs.Common.{◌≡◌, Err}
-use Rattle.cc_syntax.specs.Commands.{both}
+use Rattle.cc_values.specs.Values.{both}
 use Rattle.cc_tasks.specs.Listing.{place_in, search_in, skipped_in}
 use Rattle.cc_tasks.proofs.ListingLemmas.{listing_refused}
 use Rattle.cc_tasks.proofs.listing.listing_of.Goals as goal

@@ -1,5 +1,5 @@
 use Rattle.std.proofs.Common.{◌≡◌, Err}
-use Rattle.cc_syntax.specs.Commands.{both}
+use Rattle.cc_values.specs.Values.{both}
 use Rattle.cc_tasks.specs.Listing.{named_in, place_in}
 use Rattle.cc_tasks.proofs.ListingLemmas.{search_refused}
 use Rattle.cc_tasks.proofs.listing.search_of.Goals as goal

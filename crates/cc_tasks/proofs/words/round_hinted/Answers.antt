@@ -1,0 +1,32 @@
+use Rattle.std.proofs.Common.{rules}
+use Rattle.cc_devices.specs.Devices.{Console}
+use Rattle.cc_tasks.proofs.TaskLemmas.{hinted_too, no_hint}
+use Rattle.cc_tasks.proofs.words.round_hinted.Goals as goal
+
+pub returns-then-is_err-clause-rounds : goal.returns-then-is_err-clause-rounds
+returns-then-is_err-clause-rounds g c =
+    let console : Console = record {
+      input = g.I.Inputs.bytes_of c.args.inputs.now;
+      output = g.W.Sink.taken_bytes c.args.sink.now;
+      output_now = g.W.Sink.taken_bytes c.round_input-result.new.sink;
+      errors = g.E.Sink.taken_bytes c.args.errors.now;
+      errors_now = g.E.Sink.taken_bytes c.args.errors.now;
+      errors_failed = g.E.Sink.has_failed c.args.errors.now;
+    } in
+    hinted_too c.args.base c.args.hints c.round_input-result.new.bare c.args.place c.args.input console c.round_input-result.result
+    (no_hint _ c.round_input-result.result (search rules))
+    (c.round_input-result.ensures.rounds console.errors console.errors_now console.errors_failed)
+
+pub returns-clause-rounds : goal.returns-clause-rounds
+returns-clause-rounds g c =
+    let console : Console = record {
+      input = g.I.Inputs.bytes_of c.args.inputs.now;
+      output = g.W.Sink.taken_bytes c.args.sink.now;
+      output_now = g.W.Sink.taken_bytes c.round_input-result.new.sink;
+      errors = g.E.Sink.taken_bytes c.args.errors.now;
+      errors_now = g.E.Sink.taken_bytes c.hint_list.new.errors;
+      errors_failed = g.E.Sink.has_failed c.hint_list.new.errors;
+    } in
+    hinted_too c.args.base c.args.hints c.round_input-result.new.bare c.args.place c.args.input console c.round_input-result.result
+    (search rules)
+    (c.round_input-result.ensures.rounds console.errors console.errors_now console.errors_failed)
