@@ -1,2 +1,6 @@
 mod ReplayTextsLemmas
 mod ReplayingLemmas
+mod ChartingLemmas
+mod ChartedRunLemmas
+mod PeaklessLemmas
+mod ScriptingLemmas

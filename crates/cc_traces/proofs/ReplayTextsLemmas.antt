@@ -1,11 +1,11 @@
 -- The values of the texts of `replay`, and their refusals.
-use Rattle.std.proofs.Common.{◌≡◌, ◌∙◌, Bool, Option, Some, None, Result, Ok, Err, ap, refl, subst, sym}
-use Rattle.std.specs.Prelude.{ℕ, ◌^◌, IfOk}
+use Rattle.std.proofs.Common.{◌≡◌, ◌∙◌, Bool, true, false, None, Result, Ok, Err, ap, refl, subst, sym}
+use Rattle.std.specs.Prelude.{ℕ, ◌^◌, IfOk, if◌then◌else◌}
 use Rattle.cc_word.specs.declared.refusal.Refusal.{Refusal}
 use Rattle.cc_word.specs.declared.refusal.Refusal.TheVariants.{Syntax}
 use Rattle.cc_bounds.specs.declared.align.Align.{Align}
 use Rattle.cc_bounds.specs.declared.span.Span.{Span}
-use Rattle.cc_syntax.specs.Commands.{both}
+use Rattle.cc_values.specs.Values.{both}
 use Rattle.cc_heap.specs.declared.policy.Policy.{Policy}
 use Rattle.cc_replay.specs.declared.formats.TraceFormat.{TraceFormat}
 use Rattle.cc_replay.specs.declared.reading.Reading.{Reading}
@@ -13,7 +13,7 @@ use Rattle.cc_heap.specs.declared.reallocation.Reallocation.{Reallocation}
 use Rattle.cc_heap.specs.declared.settings.Settings.{Settings}
 use Rattle.cc_arguments.specs.declared.invocation.ReplayTexts.{ReplayTexts}
 use Rattle.cc_devices.specs.Refused.{changed}
-use Rattle.cc_traces.specs.ReplayTexts.{each_in, format_in, least_in, realloc_in, replay_in, span_given, sweep_in}
+use Rattle.cc_traces.specs.ReplayTexts.{are_two, each_in, format_in, least_in, realloc_in, replay_in, span_given, sweep_in}
 
 -- Both values are those of the two results.
 pub parts_of_both : {A B : Type 0} (first : Result A Refusal) (second : Result B Refusal) (found : A × B) → both first second ≡ Ok found
@@ -34,27 +34,33 @@ pub of_value : {A : Type 0} (P : A → Type 0) (result : Result A Refusal) (valu
 of_value P (Ok other) value holds e = let same : other ≡ value = cc e in subst P same holds
 of_value P (Err refusal) value holds e = cc e
 
+none_given : (sizes svg script : Bool) (each : ℕ) → each_in sizes svg script None ≡ Ok each → 0 ≡ each
+none_given sizes svg script each e = by_two (are_two sizes svg script) e
+  where
+    by_two : (two : Bool) → (if two then Err Syntax else Ok 0) ≡ Ok each → 0 ≡ each
+    by_two true e = cc e
+    by_two false e = cc e
+
 -- Without `--each` there is no series.
 pub no_series : (align : Align) (strict : Bool) (texts : ReplayTexts) (found : Settings × Reading) → replay_in align strict texts ≡ Ok found → texts.each ≡ None
     → found.1.each ≡ 0
 no_series align strict texts found e none =
-    let made = from_changed _ (both (both (sweep_in texts.sweep) (least_in texts.least)) (both (each_in texts.sizes texts.each) (both (span_given texts.pool) (both (format_in texts.format) (realloc_in texts.realloc))))) found e in
-    let outer = parts_of_both (both (sweep_in texts.sweep) (least_in texts.least)) (both (each_in texts.sizes texts.each) (both (span_given texts.pool) (both (format_in texts.format) (realloc_in texts.realloc)))) made.0 made.1 in
-    let inner = parts_of_both (each_in texts.sizes texts.each) (both (span_given texts.pool) (both (format_in texts.format) (realloc_in texts.realloc))) made.0.1 outer.1 in
-    let zero : Ok 0 ≡ Ok made.0.1.0 = ap (each_in texts.sizes) (sym none) ∙ inner.0 in
-    let same : 0 ≡ made.0.1.0 = cc zero in
+    let made = from_changed _ (both (both (sweep_in texts.sweep) (least_in texts.least)) (both (each_in texts.sizes texts.svg texts.script texts.each) (both (span_given texts.pool) (both (format_in texts.format) (realloc_in texts.script texts.realloc))))) found e in
+    let outer = parts_of_both (both (sweep_in texts.sweep) (least_in texts.least)) (both (each_in texts.sizes texts.svg texts.script texts.each) (both (span_given texts.pool) (both (format_in texts.format) (realloc_in texts.script texts.realloc)))) made.0 made.1 in
+    let inner = parts_of_both (each_in texts.sizes texts.svg texts.script texts.each) (both (span_given texts.pool) (both (format_in texts.format) (realloc_in texts.script texts.realloc))) made.0.1 outer.1 in
+    let same : 0 ≡ made.0.1.0 = none_given texts.sizes texts.svg texts.script made.0.1.0 (ap (each_in texts.sizes texts.svg texts.script) (sym none) ∙ inner.0) in
     ap (λ pair. pair.1.each) (sym made.2) ∙ sym same
 
 -- A refusal of one of the texts.
 pub replay_refused : (align : Align) (strict : Bool) (texts : ReplayTexts) (refusal : Refusal)
-    → both (both (sweep_in texts.sweep) (least_in texts.least)) (both (each_in texts.sizes texts.each) (both (span_given texts.pool) (both (format_in texts.format) (realloc_in texts.realloc)))) ≡ Err refusal
+    → both (both (sweep_in texts.sweep) (least_in texts.least)) (both (each_in texts.sizes texts.svg texts.script texts.each) (both (span_given texts.pool) (both (format_in texts.format) (realloc_in texts.script texts.realloc)))) ≡ Err refusal
     → Err refusal ≡ replay_in align strict texts
 replay_refused align strict texts refusal told = ap (changed _) (sym told)
 
 -- The values of all texts.
 pub replay_found : (align : Align) (strict : Bool) (texts : ReplayTexts) (policy : Policy) (least each : ℕ) (pool : Span) (format : TraceFormat)
     (realloc : Reallocation)
-    → both (both (sweep_in texts.sweep) (least_in texts.least)) (both (each_in texts.sizes texts.each) (both (span_given texts.pool) (both (format_in texts.format) (realloc_in texts.realloc))))
+    → both (both (sweep_in texts.sweep) (least_in texts.least)) (both (each_in texts.sizes texts.svg texts.script texts.each) (both (span_given texts.pool) (both (format_in texts.format) (realloc_in texts.script texts.realloc))))
     ≡ Ok ((policy, least), (each, (pool, (format, realloc))))
     → Ok (
       record { limit = 2 ^ 24; pool = pool; align = align; policy = policy; least_quarantine = least; realloc = realloc },

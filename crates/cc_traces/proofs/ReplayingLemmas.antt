@@ -1,5 +1,5 @@
 -- The output of `replay`, from that of its parts.
-use Rattle.std.proofs.Common.{◌≡◌, ◌≢◌, ◌∙◌, ◌⊎◌, ℕ, Bool, zero, suc, List, Option, Some, None, Result, Ok, Err, MatchResult, refl, subst, sym, inl, inr}
+use Rattle.std.proofs.Common.{◌≡◌, ◌≢◌, ℕ, Bool, true, false, zero, suc, List, Option, Some, None, Result, Ok, Err, MatchResult, refl, subst, sym, inl}
 use Rattle.std.specs.Prelude.{IfSome}
 use Rattle.std.specs.Borrow.{Bor}
 use Rattle.clap.specs.Words.{Text}
@@ -19,8 +19,10 @@ use Rattle.cc_arguments.specs.declared.invocation.ReplayTexts.{ReplayTexts}
 use Rattle.cc_arguments.specs.declared.invocation.SummaryFormat.{SummaryFormat}
 use Rattle.cc_devices.specs.Devices.{Console, FromInput, OnDevices, Traffic, traffic_of}
 use Rattle.cc_devices.specs.Input.{file_input}
+use Rattle.cc_traces.specs.Charting.{ChartsTrace}
 use Rattle.cc_traces.specs.ReplayTexts.{replay_in}
-use Rattle.cc_traces.specs.Replaying.{Replays, ReplaysAll, ReplaysTrace, Samples, SamplesAll, StopsInSummary, StopsSampling, SumsUp, SumsUpAll, WithReplay, WritesReplay, end_text}
+use Rattle.cc_traces.specs.Scripting.{ScriptsTrace}
+use Rattle.cc_traces.specs.Replaying.{Replays, ReplaysAll, ReplaysTrace, Samples, SamplesAll, StopsInSummary, StopsSampling, SumsUp, SumsUpAll, WithReplay, WritesReplay, WritesTrace, end_text}
 use Rattle.cc_devices.specs.Refused.{WritesRefusal}
 use Rattle.cc_devices.specs.declared.fault.Fault.{Fault}
 use Rattle.cc_devices.specs.declared.input.InputName.{InputName}
@@ -109,10 +111,10 @@ pub sums_up_input : (sizes : Bool) (format : SummaryFormat) (settings : Settings
     → IfSome (bytes_of input) (λ bytes. remaining ≡ Some bytes) → console.output ≡ output → console.output_now ≡ output_now
     → ((traffic : Traffic) → traffic.unread ≡ unread → traffic.left ≡ left → traffic.output ≡ output → traffic.output_now ≡ output_now
     → OnDevices (SumsUp (end_text sizes format) old traffic) result)
-    → OnDevices (FromInput input console (ReplaysTrace sizes format settings reading)) result
+    → OnDevices (FromInput input console (WritesTrace sizes format settings reading)) result
 sums_up_input sizes format settings reading old input console bytes_of unread remaining left output output_now result is none same has told o n holds =
-    on_devices-map (SumsUp (end_text sizes format) old (traffic_of console unread left)) (FromInput input console (ReplaysTrace sizes format settings reading))
-    (λ io done. from_input input console (ReplaysTrace sizes format settings reading) bytes_of unread remaining left io same has told
+    on_devices-map (SumsUp (end_text sizes format) old (traffic_of console unread left)) (FromInput input console (WritesTrace sizes format settings reading))
+    (λ io done. from_input input console (WritesTrace sizes format settings reading) bytes_of unread remaining left io same has told
     (sums_up reading.each (end_text sizes format) (begun (empty_run settings) reading) (traffic_of console unread left) io none
     (subst (λ (state : ReplayState). SumsUp (end_text sizes format) state (traffic_of console unread left) io) is done)))
     result (holds (traffic_of console unread left) refl refl o n)
@@ -124,10 +126,10 @@ pub samples_input : (sizes : Bool) (format : SummaryFormat) (settings : Settings
     → IfSome (bytes_of input) (λ bytes. remaining ≡ Some bytes) → console.output ≡ output → console.output_now ≡ output_now
     → ((traffic : Traffic) → traffic.unread ≡ unread → traffic.left ≡ left → traffic.output ≡ output → traffic.output_now ≡ output_now
     → OnDevices (Samples old traffic) result)
-    → OnDevices (FromInput input console (ReplaysTrace sizes format settings reading)) result
+    → OnDevices (FromInput input console (WritesTrace sizes format settings reading)) result
 samples_input sizes format settings reading old input console bytes_of unread remaining left output output_now result is some same has told o n holds =
-    on_devices-map (Samples old (traffic_of console unread left)) (FromInput input console (ReplaysTrace sizes format settings reading))
-    (λ io done. from_input input console (ReplaysTrace sizes format settings reading) bytes_of unread remaining left io same has told
+    on_devices-map (Samples old (traffic_of console unread left)) (FromInput input console (WritesTrace sizes format settings reading))
+    (λ io done. from_input input console (WritesTrace sizes format settings reading) bytes_of unread remaining left io same has told
     (samples reading.each (end_text sizes format) (begun (empty_run settings) reading) (traffic_of console unread left) io some
     (subst (λ (state : ReplayState). Samples state (traffic_of console unread left) io) is done)))
     result (holds (traffic_of console unread left) refl refl o n)
@@ -135,14 +137,35 @@ samples_input sizes format settings reading old input console bytes_of unread re
 -- The replay that the texts ask for, from that of these settings.
 pub with_replay : (align : Align) (strict : Bool) (format : SummaryFormat) (texts : ReplayTexts) (file : Option (Bor Text)) (console : Console)
     (found : Settings × Reading) (input : InputName) (result : Result Summary Fault) → replay_in align strict texts ≡ Ok found → input ≡ file_input file
-    → OnDevices (FromInput input console (ReplaysTrace texts.sizes format found.0 found.1)) result
-    → OnDevices (WithReplay align strict texts console (λ settings reading. FromInput (file_input file) console (ReplaysTrace texts.sizes format settings reading))) result
+    → OnDevices (FromInput input console (ReplaysTrace texts.sizes texts.svg texts.script format found.0 found.1)) result
+    → OnDevices (WithReplay align strict texts console (λ settings reading. FromInput (file_input file) console (ReplaysTrace texts.sizes texts.svg texts.script format settings reading))) result
 with_replay align strict format texts file console found input result is_found is_input holds =
-    on_devices-map (FromInput input console (ReplaysTrace texts.sizes format found.0 found.1))
-    (WithReplay align strict texts console (λ settings reading. FromInput (file_input file) console (ReplaysTrace texts.sizes format settings reading)))
+    on_devices-map (FromInput input console (ReplaysTrace texts.sizes texts.svg texts.script format found.0 found.1))
+    (WithReplay align strict texts console (λ settings reading. FromInput (file_input file) console (ReplaysTrace texts.sizes texts.svg texts.script format settings reading)))
     (λ io done.
     subst (λ (given : Result (Settings × Reading) Refusal). MatchResult given
-    (λ pair. FromInput (file_input file) console (ReplaysTrace texts.sizes format pair.0 pair.1) io)
+    (λ pair. FromInput (file_input file) console (ReplaysTrace texts.sizes texts.svg texts.script format pair.0 pair.1) io)
     (λ refusal. WritesRefusal console.output console.output_now refusal io)) (sym is_found)
-    (subst (λ (name : InputName). FromInput name console (ReplaysTrace texts.sizes format found.0 found.1) io) is_input done))
+    (subst (λ (name : InputName). FromInput name console (ReplaysTrace texts.sizes texts.svg texts.script format found.0 found.1) io) is_input done))
     result holds
+
+-- What is written without a script and a chart, with a chart, and with a script.
+pub as_text : (sizes svg script : Bool) (format : SummaryFormat) (settings : Settings) (reading : Reading) (input : InputName) (console : Console) (result : Result Summary Fault)
+    → script ≡ false → svg ≡ false → OnDevices (FromInput input console (WritesTrace sizes format settings reading)) result
+    → OnDevices (FromInput input console (ReplaysTrace sizes svg script format settings reading)) result
+as_text sizes svg script format settings reading input console result unscripted off holds =
+    subst (λ (c : Bool). OnDevices (FromInput input console (ReplaysTrace sizes svg c format settings reading)) result) (sym unscripted)
+    (subst (λ (s : Bool). OnDevices (FromInput input console (ReplaysTrace sizes s false format settings reading)) result) (sym off) holds)
+
+pub as_chart : (sizes svg script : Bool) (format : SummaryFormat) (settings : Settings) (reading : Reading) (input : InputName) (console : Console) (result : Result Summary Fault)
+    → script ≡ false → svg ≡ true → OnDevices (FromInput input console (ChartsTrace settings reading)) result
+    → OnDevices (FromInput input console (ReplaysTrace sizes svg script format settings reading)) result
+as_chart sizes svg script format settings reading input console result unscripted on holds =
+    subst (λ (c : Bool). OnDevices (FromInput input console (ReplaysTrace sizes svg c format settings reading)) result) (sym unscripted)
+    (subst (λ (s : Bool). OnDevices (FromInput input console (ReplaysTrace sizes s false format settings reading)) result) (sym on) holds)
+
+pub as_script : (sizes svg script : Bool) (format : SummaryFormat) (settings : Settings) (reading : Reading) (input : InputName) (console : Console) (result : Result Summary Fault)
+    → script ≡ true → OnDevices (FromInput input console (ScriptsTrace settings reading)) result
+    → OnDevices (FromInput input console (ReplaysTrace sizes svg script format settings reading)) result
+as_script sizes svg script format settings reading input console result scripted holds =
+    subst (λ (c : Bool). OnDevices (FromInput input console (ReplaysTrace sizes svg c format settings reading)) result) (sym scripted) holds

@@ -1,3 +1,6 @@
 -- In reading order.
 pub mod ReplayTexts
+pub mod Charting
+pub mod ChartedRun
+pub mod Scripting
 pub mod Replaying

@@ -1,5 +1,5 @@
 -- The heap and the reading that the arguments of `replay` ask for.
-use Rattle.std.specs.Prelude.{ℕ, Bool, true, false, ◌^◌, ◌==◌, nat_lt, codes, length, List, Option, Some, None, Result, Ok, Err, zero, suc, if◌then◌else◌}
+use Rattle.std.specs.Prelude.{ℕ, Bool, true, ◌^◌, ◌==◌, ◌&&◌, ◌||◌, nat_lt, codes, length, List, Option, Some, None, Result, Ok, Err, zero, suc, if◌then◌else◌}
 use Rattle.std.specs.Borrow.{Bor}
 use Rattle.std.specs.Str.{bytes_eq}
 use Rattle.std.specs.List.{after_first, before_first, position_or_len}
@@ -8,7 +8,7 @@ use Rattle.cc_word.specs.declared.refusal.Refusal.{Refusal}
 use Rattle.cc_word.specs.declared.refusal.Refusal.TheVariants.{OutOfRange, Syntax}
 use Rattle.cc_bounds.specs.declared.align.Align.{Align}
 use Rattle.cc_bounds.specs.declared.span.Span.{Span}
-use Rattle.cc_syntax.specs.Commands.{address_in, both}
+use Rattle.cc_values.specs.Values.{address_in, both}
 use Rattle.cc_command.specs.Request.{request_in}
 use Rattle.cc_replay.specs.PolicyText.{policy_in}
 use Rattle.cc_replay.specs.declared.formats.TraceFormat.{TraceFormat}
@@ -39,12 +39,15 @@ not_zero (Ok zero) = Err OutOfRange
 not_zero (Ok (suc less)) = Ok (suc less)
 not_zero (Err refusal) = Err refusal
 
--- The number of events from one sample to the next that `--each` gives, or 0 if there is no series. `--sizes` excludes a
--- series.
-abbrev pub each_in : (sizes : Bool) → Option (Bor Text) → Result ℕ Refusal
-each_in sizes None = Ok 0
-each_in true (Some text) = Err Syntax
-each_in false (Some text) = not_zero (address_in text.now)
+-- Whether two of the three are given.
+abbrev pub are_two : (sizes svg script : Bool) → Bool
+are_two sizes svg script = sizes && svg || (sizes && script || svg && script)
+
+-- The number of events from one sample to the next that `--each` gives, or 0 if there is no series. `--sizes`, `--svg`, `--script`
+-- and a series exclude each other.
+abbrev pub each_in : (sizes svg script : Bool) → Option (Bor Text) → Result ℕ Refusal
+each_in sizes svg script None = if are_two sizes svg script then Err Syntax else Ok 0
+each_in sizes svg script (Some text) = if sizes || (svg || script) then Err Syntax else not_zero (address_in text.now)
 
 -- The span of a base and a length with a colon between.
 abbrev pub span_in : (text : List ℕ) → Result Span Refusal
@@ -79,14 +82,19 @@ realloc_named name =
     else if bytes_eq name (codes "keep") then Ok Keep
     else Err Syntax
 
+-- The effect, which a script has only if it moves the object.
+abbrev pub in_script : (script : Bool) → Result Reallocation Refusal → Result Reallocation Refusal
+in_script true (Ok Keep) = Err Syntax
+in_script _ found = found
+
 -- The effect of a reallocation that `--realloc` names: it moves the object if the option is not given.
-abbrev pub realloc_in : Option (Bor Text) → Result Reallocation Refusal
-realloc_in None = Ok Move
-realloc_in (Some text) = realloc_named text.now
+abbrev pub realloc_in : (script : Bool) → Option (Bor Text) → Result Reallocation Refusal
+realloc_in script None = Ok Move
+realloc_in script (Some text) = in_script script (realloc_named text.now)
 
 -- The settings of the heap and how the trace is read, or the error: that a text is not a number, not a policy, not a pool or not
--- one of the names, or that both `--sizes` and `--each` are given, comes first, then that a pool ends past 2^64, and then that a number is out
--- of range.
+-- one of the names, that two of `--sizes`, `--svg`, `--script` and `--each` are given, or `--script` with `--realloc keep`, comes first. Then comes that
+-- a pool ends past 2^64, and then that a number is out of range.
 abbrev pub replay_in : Align → (strict : Bool) → ReplayTexts → Result (Settings × Reading) Refusal
 replay_in align strict texts =
     changed
@@ -94,4 +102,4 @@ replay_in align strict texts =
       record { limit = 2 ^ 24; pool = found.1.1.0; align = align; policy = found.0.0; least_quarantine = found.0.1; realloc = found.1.1.1.1 },
       record { format = found.1.1.1.0; is_strict = strict; each = found.1.0 },
     ))
-    (both (both (sweep_in texts.sweep) (least_in texts.least)) (both (each_in texts.sizes texts.each) (both (span_given texts.pool) (both (format_in texts.format) (realloc_in texts.realloc)))))
+    (both (both (sweep_in texts.sweep) (least_in texts.least)) (both (each_in texts.sizes texts.svg texts.script texts.each) (both (span_given texts.pool) (both (format_in texts.format) (realloc_in texts.script texts.realloc)))))

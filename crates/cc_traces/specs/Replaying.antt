@@ -1,7 +1,6 @@
 -- The output of `replay`, by its trace.
 use Rattle.std.specs.Prelude.{◌≡◌, ◌≢◌, ◌⊎◌, ℕ, Bool, true, false, zero, suc, List, Option, None, Result, Ok, Err, MatchResult}
 use Rattle.std.specs.Io.KnownBytes.{Appends}
-use Rattle.cc_word.specs.declared.refusal.Refusal.{Refusal}
 use Rattle.cc_bounds.specs.declared.align.Align.{Align}
 use Rattle.cc_io.specs.Correct.{Pumps}
 use Rattle.cc_io.specs.Devices.{TakesBeginning}
@@ -23,6 +22,8 @@ use Rattle.cc_arguments.specs.declared.invocation.ReplayTexts.{ReplayTexts}
 use Rattle.cc_arguments.specs.declared.invocation.SummaryFormat.{SummaryFormat}
 use Rattle.cc_arguments.specs.declared.invocation.SummaryFormat.TheVariants as summary
 use Rattle.cc_devices.specs.Devices.{Console, Traffic}
+use Rattle.cc_traces.specs.Charting.{ChartsTrace}
+use Rattle.cc_traces.specs.Scripting.{ScriptsTrace}
 use Rattle.cc_traces.specs.ReplayTexts.{replay_in}
 use Rattle.cc_devices.specs.Refused.{WritesRefusal}
 
@@ -102,11 +103,18 @@ abbrev pub WritesReplay : (each : ℕ) → (text_of : ReplayState → List ℕ) 
 WritesReplay zero text_of old traffic result = SumsUp text_of old traffic result
 WritesReplay (suc less) text_of old traffic result = Samples old traffic result
 
--- ReplaysTrace holds if the trace was replayed on a heap of these settings that held nothing, and the table of sizes, the summary or
+-- WritesTrace holds if the trace was replayed on a heap of these settings that held nothing, and the table of sizes, the summary or
 -- the series was written.
-abbrev pub ReplaysTrace : (sizes : Bool) → SummaryFormat → Settings → Reading → Traffic → Result Summary IoError → Type 0
-ReplaysTrace sizes format settings reading traffic result =
+abbrev pub WritesTrace : (sizes : Bool) → SummaryFormat → Settings → Reading → Traffic → Result Summary IoError → Type 0
+WritesTrace sizes format settings reading traffic result =
     WritesReplay reading.each (end_text sizes format) (begun (empty_run settings) reading) traffic result
+
+-- ReplaysTrace holds if the trace was replayed, and its script or its chart was written, if it is asked for, or otherwise the text or
+-- the series.
+abbrev pub ReplaysTrace : (sizes svg script : Bool) → SummaryFormat → Settings → Reading → Traffic → Result Summary IoError → Type 0
+ReplaysTrace sizes svg true format settings reading traffic result = ScriptsTrace settings reading traffic result
+ReplaysTrace sizes true false format settings reading traffic result = ChartsTrace settings reading traffic result
+ReplaysTrace sizes false false format settings reading traffic result = WritesTrace sizes format settings reading traffic result
 
 -- WithReplay holds if `Does` holds for the settings and the reading of a replay, or if one of their texts is refused.
 abbrev pub WithReplay : Align → (strict : Bool) → ReplayTexts → Console → (Does : Settings → Reading → Result Summary IoError → Type 0)

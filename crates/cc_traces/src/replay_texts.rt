@@ -1,7 +1,8 @@
 //! The heap and the reading that the arguments of `replay` ask for.
-ghost use Rattle.std.specs.Prelude.{◌≡◌, ◌^◌, IfOk};
+ghost use Rattle.std.specs.Prelude.{◌≡◌, ◌^◌, true, IfOk};
 ghost use Rattle.cc_bounds.specs.Span.{IsSpan};
-ghost use Rattle.cc_traces.specs.ReplayTexts.{each_in, format_in, format_named, least_in, realloc_in, realloc_named, replay_in, span_given, span_in, sweep_in};
+ghost use Rattle.cc_heap.specs.declared.reallocation.Reallocation.TheVariants.{Move};
+ghost use Rattle.cc_traces.specs.ReplayTexts.{are_two, each_in, format_in, format_named, in_script, least_in, realloc_in, realloc_named, replay_in, span_given, span_in, sweep_in};
 
 use cc_arguments::ReplayTexts;
 use cc_bounds::{Align, Span};
@@ -21,8 +22,8 @@ const ALL_ABOVE: Span = Span {
 
 /// Returns the settings of the heap, and how the trace is read.
 ///
-/// Errors, in order: `Syntax` if a text is not a number, not a policy, not a pool or not one of the names, or if both `--sizes` and
-/// `--each` are given; `OutOfBounds` if the pool ends past 2^64;
+/// Errors, in order: `Syntax` if a text is not a number, not a policy, not a pool or not one of the names, if two of `--sizes`, `--svg`,
+/// `--script` and `--each` are given, or `--script` with `--realloc keep`; `OutOfBounds` if the pool ends past 2^64;
 /// `OutOfRange` if a number is too large, or that of `--each` is 0.
 pub(crate) fn replay_of(
     align: Align,
@@ -32,11 +33,21 @@ pub(crate) fn replay_of(
     ensures value { result ≡ replay_in align strict texts.entry }
     ensures limit { IfOk result (λ found. found.0.limit ≡ 2 ^ 24) }
     ensures pool { IfOk result (λ found. IsSpan found.0.pool) }
+    ensures moves { texts.entry.script ≡ true → IfOk result (λ found. found.0.realloc ≡ Move) }
 {
     let sweeping = both(policy_of(texts.sweep), least_of(texts.least));
-    let naming = both(format_of(texts.format), realloc_of(texts.realloc));
+    let naming = both(
+        format_of(texts.format),
+        realloc_of(texts.script, texts.realloc),
+    );
     let placing = both(pool_of(texts.pool), naming);
-    match both(sweeping, both(each_of(texts.sizes, texts.each), placing)) {
+    match both(
+        sweeping,
+        both(
+            each_of(texts.sizes, texts.svg, texts.script, texts.each),
+            placing,
+        ),
+    ) {
         Ok(((policy, least_quarantine), (each, (pool, (format, realloc))))) => Ok((
             Settings {
                 limit: MOST_HELD,
@@ -79,12 +90,14 @@ fn least_of(text: Option<&str>) -> Result<u64, Refusal>
     }
 }
 
-/// Returns the number of events from one sample to the next, or 0 if `--each` is not given. `--sizes` excludes it.
-fn each_of(sizes: bool, text: Option<&str>) -> Result<u64, Refusal>
-    ensures { result ≡ each_in sizes text.entry }
+/// Returns the number of events from one sample to the next, or 0 if `--each` is not given. `--sizes`, `--svg`, `--script`
+/// and `--each` exclude each other.
+fn each_of(sizes: bool, svg: bool, script: bool, text: Option<&str>) -> Result<u64, Refusal>
+    ensures { result ≡ each_in sizes svg script text.entry }
 {
     match text {
-        Some(_) if sizes => Err(Refusal::Syntax),
+        Some(_) if sizes || svg || script => Err(Refusal::Syntax),
+        None if are_two(sizes, svg, script) => Err(Refusal::Syntax),
         Some(text) => match read_address(text.as_bytes()) {
             Ok(0) => Err(Refusal::OutOfRange),
             Ok(each) => Ok(each),
@@ -92,6 +105,13 @@ fn each_of(sizes: bool, text: Option<&str>) -> Result<u64, Refusal>
         },
         None => Ok(0),
     }
+}
+
+/// Returns whether two of the three are given.
+fn are_two(sizes: bool, svg: bool, script: bool) -> bool
+    ensures { result ≡ are_two sizes svg script }
+{
+    sizes && svg || (sizes && script || svg && script)
 }
 
 /// Returns the format of the trace that `--format` names, or the crate's own.
@@ -121,13 +141,25 @@ fn read_format(name: &[u8]) -> Result<TraceFormat, Refusal>
     }
 }
 
-/// Returns the effect of a reallocation that `--realloc` names, or that it moves the object.
-fn realloc_of(text: Option<&str>) -> Result<Reallocation, Refusal>
-    ensures { result ≡ realloc_in text.entry }
+/// Returns the effect of a reallocation that `--realloc` names, or that it moves the object. `--script` excludes `keep`.
+fn realloc_of(script: bool, text: Option<&str>) -> Result<Reallocation, Refusal>
+    ensures value { result ≡ realloc_in script text.entry }
+    ensures moves { script ≡ true → IfOk result (λ realloc. realloc ≡ Move) }
 {
     match text {
-        Some(text) => read_realloc(text.as_bytes()),
+        Some(text) => in_script(script, read_realloc(text.as_bytes())),
         None => Ok(Reallocation::Move),
+    }
+}
+
+/// Returns an effect, unless a script cannot have it.
+fn in_script(script: bool, found: Result<Reallocation, Refusal>) -> Result<Reallocation, Refusal>
+    ensures value { result ≡ in_script script found }
+    ensures moves { script ≡ true → IfOk result (λ realloc. realloc ≡ Move) }
+{
+    match found {
+        Ok(Reallocation::Keep) if script => Err(Refusal::Syntax),
+        found => found,
     }
 }
 

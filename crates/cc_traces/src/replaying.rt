@@ -3,16 +3,23 @@ ghost use Rattle.std.specs.Prelude.{◌≡◌, ◌≢◌, ◌≤◌, ◌^◌, �
 ghost use Rattle.std.specs.Io.KnownBytes.{Appends};
 ghost use Rattle.cc_bounds.specs.Span.{IsSpan};
 ghost use Rattle.cc_heap.specs.Lost.{empty_run};
+ghost use Rattle.cc_heap.specs.declared.reallocation.Reallocation.TheVariants.{Move};
 ghost use Rattle.cc_io.specs.Devices.{TakesBeginning};
 ghost use Rattle.cc_replay.specs.Replay.{begun};
+ghost use Rattle.cc_changes.specs.Script.{script_begun};
 ghost use Rattle.cc_devices.specs.Devices.{FromInput, OnDevices, OnOutput, Traffic};
 ghost use Rattle.cc_devices.specs.Input.{IsFile, file_input};
+ghost use Rattle.cc_traces.specs.Charting.{ChartsTrace};
 ghost use Rattle.cc_traces.specs.ReplayTexts.{replay_in};
-ghost use Rattle.cc_traces.specs.Replaying.{ReplaysTrace, Samples, SumsUp, WithReplay, end_text, summary_text, table_format};
+ghost use Rattle.cc_traces.specs.Replaying.{ReplaysTrace, Samples, SumsUp, WithReplay, WritesTrace, end_text, summary_text, table_format};
+ghost use Rattle.cc_traces.specs.Scripting.{ScriptsTrace};
 
+use crate::charting::{Charting, draw};
 use crate::replay_texts::replay_of;
+use crate::scripting::write_script;
 use cc_arguments::{ReplayTexts, SummaryFormat};
 use cc_bounds::Align;
+use cc_changes::Script;
 use cc_command::write_refusal;
 use cc_devices::{Discard, Fault, InputName, Inputs, file_input};
 use cc_gaps::GapPlacer;
@@ -26,13 +33,14 @@ use cc_replay::{
 const MOST_REPLAYED: usize = 1 << 62;
 
 /// Replays the trace that FILE names on a heap with exact bounds, and writes the summary, or in place of it the table of sizes if
-/// `--sizes` is given, or the series if `--each` is. Both together are refused.
+/// `--sizes` is given, the chart if `--svg` is, the script if `--script` is, or the series if `--each` is. Two of these together are
+/// refused.
 /// The texts are read first. If one is refused, the output is that refusal, and nothing is read.
 ///
 /// The summary of the result has an error if a line of the trace is refused.
 ///
 /// Requires: the sink has not failed.
-/// Errors: `Memory` if an allocation fails, and without `--each` nothing was written then; `Open` if the input cannot be opened,
+/// Errors: `Memory` if an allocation fails, and without `--each` and `--script` nothing was written then; `Open` if the input cannot be opened,
 /// and nothing was written then; `Read` if a read fails; `Write` if and only if the sink failed.
 pub fn replay_file<R: AllocGlobal, I: Inputs, W: Sink>(
     rt: &R,
@@ -46,17 +54,23 @@ pub fn replay_file<R: AllocGlobal, I: Inputs, W: Sink>(
 ) -> Result<Summary, Fault>
     requires { W.has_failed sink.old ≡ false }
     ensures replays { OnOutput (I.bytes_of inputs.now) (W.taken_bytes sink.old) (W.taken_bytes sink.new)
-        (λ console. WithReplay align strict texts.entry console (λ settings reading. FromInput (file_input file.entry) console (ReplaysTrace texts.entry.sizes format settings reading))) result }
+        (λ console. WithReplay align strict texts.entry console (λ settings reading. FromInput (file_input file.entry) console (ReplaysTrace texts.entry.sizes texts.entry.svg texts.entry.script format settings reading))) result }
     ensures memory { result ≡ Err Fault.Memory → IsOk (replay_in align strict texts.entry) }
     ensures open { result ≡ Err Fault.Open → IsOk (replay_in align strict texts.entry) × IsFile (file_input file.entry) }
     ensures untouched { result ≡ Err Fault.Open → W.taken_bytes sink.new ≡ W.taken_bytes sink.old }
-    ensures starved { texts.entry.each ≡ None → result ≡ Err Fault.Memory → W.taken_bytes sink.new ≡ W.taken_bytes sink.old }
+    ensures starved { texts.entry.each ≡ None → texts.entry.script ≡ false → result ≡ Err Fault.Memory → W.taken_bytes sink.new ≡ W.taken_bytes sink.old }
     ensures write { (result ≡ Err Fault.Write) ↔ (W.has_failed sink.new ≡ true) }
     ensures flushed { OnOk result (W.is_flushed sink.new ≡ true) }
 {
     match replay_of(align, strict, texts) {
         Ok((settings, reading)) => {
             let input = file_input(file);
+            if texts.script {
+                return to_script(rt, settings, reading, inputs, input, sink);
+            }
+            if texts.svg {
+                return chart(rt, settings, reading, inputs, input, sink);
+            }
             replay(
                 rt,
                 settings,
@@ -90,7 +104,7 @@ fn replay<R: AllocGlobal, I: Inputs, W: Sink>(
     requires pool { IsSpan settings.pool }
     requires sink { W.has_failed sink.old ≡ false }
     ensures replays { OnOutput (I.bytes_of inputs.now) (W.taken_bytes sink.old) (W.taken_bytes sink.new)
-        (λ console. FromInput input.entry console (ReplaysTrace sizes format settings reading)) result }
+        (λ console. FromInput input.entry console (WritesTrace sizes format settings reading)) result }
     ensures open { result ≡ Err Fault.Open → IsFile input.entry }
     ensures untouched { result ≡ Err Fault.Open → W.taken_bytes sink.new ≡ W.taken_bytes sink.old }
     ensures starved { reading.each ≡ 0 → result ≡ Err Fault.Memory → W.taken_bytes sink.new ≡ W.taken_bytes sink.old }
@@ -104,6 +118,63 @@ fn replay<R: AllocGlobal, I: Inputs, W: Sink>(
     } else {
         sample(&mut replay, &mut source, sink)
     }
+}
+
+/// Replays a trace on a heap of these settings, and writes the chart of the heap.
+// not inlined, so that other commands do not touch the pages of its buffers on the stack
+#[inline(never)]
+fn chart<R: AllocGlobal, I: Inputs, W: Sink>(
+    rt: &R,
+    settings: Settings,
+    reading: Reading,
+    inputs: &I,
+    input: InputName<'_>,
+    sink: &mut W,
+) -> Result<Summary, Fault>
+    requires some { 1 ≤ settings.limit }
+    requires few { settings.limit ≤ 2 ^ 24 }
+    requires pool { IsSpan settings.pool }
+    requires sink { W.has_failed sink.old ≡ false }
+    ensures charts { OnOutput (I.bytes_of inputs.now) (W.taken_bytes sink.old) (W.taken_bytes sink.new)
+        (λ console. FromInput input.entry console (ChartsTrace settings reading)) result }
+    ensures open { result ≡ Err Fault.Open → IsFile input.entry }
+    ensures untouched { result ≡ Err Fault.Open → W.taken_bytes sink.new ≡ W.taken_bytes sink.old }
+    ensures starved { result ≡ Err Fault.Memory → W.taken_bytes sink.new ≡ W.taken_bytes sink.old }
+    ensures write { (result ≡ Err Fault.Write) ↔ (W.has_failed sink.new ≡ true) }
+    ensures flushed { OnOk result (W.is_flushed sink.new ≡ true) }
+{
+    let replay: Replay<GapPlacer> = Replay::with_settings(rt.alloc(), settings, reading)?;
+    let mut source = FromReader::with_limit(inputs.open(input)?, MOST_REPLAYED);
+    let mut charting = Charting::new(replay);
+    draw(&mut charting, &mut source, sink)
+}
+
+/// Replays a trace on a heap of these settings, and writes the script of its changes.
+// not inlined, so that other commands do not touch the pages of its buffers on the stack
+#[inline(never)]
+fn to_script<R: AllocGlobal, I: Inputs, W: Sink>(
+    rt: &R,
+    settings: Settings,
+    reading: Reading,
+    inputs: &I,
+    input: InputName<'_>,
+    sink: &mut W,
+) -> Result<Summary, Fault>
+    requires some { 1 ≤ settings.limit }
+    requires few { settings.limit ≤ 2 ^ 24 }
+    requires pool { IsSpan settings.pool }
+    requires moves { settings.realloc ≡ Move }
+    requires sink { W.has_failed sink.old ≡ false }
+    ensures scripts { OnOutput (I.bytes_of inputs.now) (W.taken_bytes sink.old) (W.taken_bytes sink.new)
+        (λ console. FromInput input.entry console (ScriptsTrace settings reading)) result }
+    ensures open { result ≡ Err Fault.Open → IsFile input.entry }
+    ensures untouched { result ≡ Err Fault.Open → W.taken_bytes sink.new ≡ W.taken_bytes sink.old }
+    ensures write { (result ≡ Err Fault.Write) ↔ (W.has_failed sink.new ≡ true) }
+    ensures flushed { OnOk result (W.is_flushed sink.new ≡ true) }
+{
+    let mut script: Script<GapPlacer> = Script::with_settings(rt.alloc(), settings, reading)?;
+    let mut source = FromReader::with_limit(inputs.open(input)?, MOST_REPLAYED);
+    write_script(&mut script, &mut source, sink)
 }
 
 /// Replays a trace, and writes the text of its end.

@@ -1,11 +1,46 @@
-use Rattle.std.proofs.Common.{◌∙◌, sym}
+use Rattle.std.proofs.Common.{◌≡◌, ◌∙◌, true, false, sym, rules}
 use Rattle.cc_devices.specs.Devices.{Console}
 use Rattle.cc_traces.proofs.ReplayTextsLemmas.{no_series}
-use Rattle.cc_traces.proofs.ReplayingLemmas.{with_replay}
+use Rattle.cc_traces.proofs.ReplayingLemmas.{as_chart, as_script, as_text, with_replay}
 use Rattle.cc_traces.proofs.replaying.replay_file.Goals as goal
 
-pub returns-in-Ok-clause-replays : goal.returns-in-Ok-clause-replays
-returns-in-Ok-clause-replays g c = λ errors errors_now errors_failed.
+pub returns-then-texts-clause-replays : goal.returns-then-texts-clause-replays
+returns-then-texts-clause-replays g c = λ errors errors_now errors_failed.
+    let scripted : c.args.texts.script ≡ true = search rules in
+    let console : Console = record {
+      input = g.I.Inputs.bytes_of c.args.inputs.now;
+      output = g.W.Sink.taken_bytes c.args.sink.now;
+      output_now = g.W.Sink.taken_bytes c.to_script.new.sink;
+      errors = errors;
+      errors_now = errors_now;
+      errors_failed = errors_failed;
+    } in
+    with_replay c.args.align c.args.strict c.args.format c.args.texts c.args.file console (c.in-Ok.settings, c.in-Ok.reading) _ c.to_script.result
+    (sym c.replay_of.ensures.value ∙ c.in-Ok.is) c.file_input-input.ensures
+    (as_script c.args.texts.sizes c.args.texts.svg c.args.texts.script c.args.format c.in-Ok.settings c.in-Ok.reading _ console c.to_script.result scripted
+    (c.to_script.ensures.scripts errors errors_now errors_failed))
+
+pub returns-then-texts-2-clause-replays : goal.returns-then-texts-2-clause-replays
+returns-then-texts-2-clause-replays g c = λ errors errors_now errors_failed.
+    let unscripted : c.args.texts.script ≡ false = search rules in
+    let on : c.args.texts.svg ≡ true = search rules in
+    let console : Console = record {
+      input = g.I.Inputs.bytes_of c.args.inputs.now;
+      output = g.W.Sink.taken_bytes c.args.sink.now;
+      output_now = g.W.Sink.taken_bytes c.chart.new.sink;
+      errors = errors;
+      errors_now = errors_now;
+      errors_failed = errors_failed;
+    } in
+    with_replay c.args.align c.args.strict c.args.format c.args.texts c.args.file console (c.in-Ok.settings, c.in-Ok.reading) _ c.chart.result
+    (sym c.replay_of.ensures.value ∙ c.in-Ok.is) c.file_input-input.ensures
+    (as_chart c.args.texts.sizes c.args.texts.svg c.args.texts.script c.args.format c.in-Ok.settings c.in-Ok.reading _ console c.chart.result unscripted on
+    (c.chart.ensures.charts errors errors_now errors_failed))
+
+pub returns-else-texts-2-clause-replays : goal.returns-else-texts-2-clause-replays
+returns-else-texts-2-clause-replays g c = λ errors errors_now errors_failed.
+    let unscripted : c.args.texts.script ≡ false = search rules in
+    let off : c.args.texts.svg ≡ false = search rules in
     let console : Console = record {
       input = g.I.Inputs.bytes_of c.args.inputs.now;
       output = g.W.Sink.taken_bytes c.args.sink.now;
@@ -15,9 +50,11 @@ returns-in-Ok-clause-replays g c = λ errors errors_now errors_failed.
       errors_failed = errors_failed;
     } in
     with_replay c.args.align c.args.strict c.args.format c.args.texts c.args.file console (c.in-Ok.settings, c.in-Ok.reading) _ c.replay.result
-    (sym c.replay_of.ensures.value ∙ c.in-Ok.is) c.file_input-input.ensures (c.replay.ensures.replays errors errors_now errors_failed)
+    (sym c.replay_of.ensures.value ∙ c.in-Ok.is) c.file_input-input.ensures
+    (as_text c.args.texts.sizes c.args.texts.svg c.args.texts.script c.args.format c.in-Ok.settings c.in-Ok.reading _ console c.replay.result unscripted off
+    (c.replay.ensures.replays errors errors_now errors_failed))
 
-pub returns-in-Ok-clause-starved : goal.returns-in-Ok-clause-starved
-returns-in-Ok-clause-starved g c = λ none.
+pub returns-else-texts-2-clause-starved : goal.returns-else-texts-2-clause-starved
+returns-else-texts-2-clause-starved g c = λ none unscripted.
     c.replay.ensures.starved
     (no_series c.args.align c.args.strict c.args.texts (c.in-Ok.settings, c.in-Ok.reading) (sym c.replay_of.ensures.value ∙ c.in-Ok.is) none)

@@ -1,0 +1,168 @@
+//! A replay whose heap is drawn as a chart.
+ghost use Rattle.std.specs.Prelude.{◌≡◌, ◌≢◌, ◌≤◌, ◌+◌, ◌↔◌, [], None, false, true, length, Err, IsErr, OnErr, OnOk};
+ghost use Rattle.std.specs.Io.KnownBytes.{Appends};
+ghost use Rattle.cc_io.specs.Answers.{AnswersInto};
+ghost use Rattle.cc_io.specs.Correct.{Pumps};
+ghost use Rattle.cc_io.specs.Devices.{TakesBeginning};
+ghost use Rattle.cc_io.specs.Frames.{lines};
+ghost use Rattle.cc_chart.specs.Chart.{no_chart};
+ghost use Rattle.cc_chart.specs.Drawing.{chart_text};
+ghost use Rattle.cc_devices.specs.Devices.{OnDevices, Traffic};
+ghost use Rattle.cc_traces.specs.Charting.{Charts, ChartsLine, ChartsRest, charted, levels_of};
+
+use cc_chart::{Chart, Levels, write_chart};
+use cc_devices::{Discard, Fault};
+use cc_io::{Answerer, IoError, Lines, Sink, Source, Summary, pump};
+use cc_placer::Placer;
+use cc_replay::{Figures, Progress, Replay};
+use cc_text::{Page, Waiting};
+use std::marker::Model;
+
+/// A replay, and the chart of its heap.
+#[derive(Drop)]
+pub(crate) struct Charting<P: Placer> {
+    replay: Replay<P>,
+    chart: Chart,
+}
+
+impl<P: Placer> Model for Charting<P> {
+    ghost use Rattle.cc_traces.specs.Charting.{Charted};
+
+    ghost Value = { Charted };
+
+    ghost view = { λ c. record { replay = c.replay; chart = c.chart } };
+}
+
+impl<P: Placer> Charting<P> {
+    /// Creates a chart of no events for a replay.
+    pub(crate) fn new(replay: Replay<P>) -> Self
+        ensures { result ≡ record { replay = replay; chart = no_chart } }
+    {
+        Charting {
+            replay,
+            chart: Chart::new(),
+        }
+    }
+
+    /// Returns whether lines are taken.
+    fn progress(&self) -> Progress
+        ensures { result ≡ self.now.replay.progress }
+    {
+        self.replay.progress()
+    }
+
+    /// Writes the chart, and flushes the sink.
+    fn write<W: Sink>(&self, sink: &mut W) -> Result<(), IoError>
+        requires { W.has_failed sink.old ≡ false }
+        ensures ok { OnOk result (Appends (W.taken_bytes sink.old) (W.taken_bytes sink.new) (chart_text self.now.chart)) }
+        ensures err { OnErr result (TakesBeginning (W.taken_bytes sink.old) (W.taken_bytes sink.new) (chart_text self.now.chart)) }
+        ensures flushed { OnOk result (W.is_flushed sink.new ≡ true) }
+        ensures fails { IsErr result ↔ (W.has_failed sink.new ≡ true) }
+        ensures write { OnErr result (result ≡ Err IoError.Write) }
+    {
+        write_chart(&self.chart, sink)
+    }
+
+    /// Takes a line, and adds the levels of its event to the chart, if it is one.
+    fn take_line<const N: usize>(&mut self, line: &[u8], out: &mut Page<N>) -> bool
+        requires { length out.old + 1301 ≤ N }
+        ensures { AnswersInto ChartsLine self.old line.now out.old out.new result self.new }
+    {
+        let events = self.replay.figures().counts.events;
+        self.replay.forget_peaks();
+        let is_refused = self.replay.answer(line, out);
+        add_event(&mut self.chart, events, &self.replay.figures());
+        is_refused
+    }
+
+    /// Takes trailing bytes.
+    fn take_rest<const N: usize>(&mut self, rest: &[u8], out: &mut Page<N>) -> bool
+        requires { length out.old + 1301 ≤ N }
+        ensures { AnswersInto ChartsRest self.old rest.now out.old out.new result self.new }
+    {
+        self.replay.end(rest, out)
+    }
+}
+
+/// Adds the levels of the last line to the chart, if there is one event more than before it.
+fn add_event(chart: &mut Chart, events_before: u64, figures: &Figures)
+    ensures { chart.new ≡ charted events_before figures.now chart.old }
+{
+    if figures.counts.events != events_before {
+        chart.add(levels_of(figures));
+    }
+}
+
+/// Returns the levels of an event, from the numbers after it.
+fn levels_of(figures: &Figures) -> Levels
+    ensures { result ≡ levels_of figures.now }
+{
+    let Figures { totals, usage, .. } = figures;
+    Levels {
+        live: totals.peak_live.max(usage.live),
+        quarantine: totals.peak_quarantine.max(usage.quarantine),
+        held: totals
+            .peak_held
+            .max(usage.live.saturating_add(usage.quarantine)),
+        high: totals.high,
+    }
+}
+
+impl<P: Placer, const N: usize> Answerer<N> for Charting<P> {
+    ghost Answered = { ChartsLine };
+
+    ghost Ended = { ChartsRest };
+
+    ghost MOST = { 1301 };
+
+    fn most() -> usize {
+        1301
+    }
+
+    fn answer(&mut self, entry: &[u8], out: &mut Page<N>) -> bool {
+        self.take_line(entry, out)
+    }
+
+    fn end(&mut self, rest: &[u8], out: &mut Page<N>) -> bool {
+        self.take_rest(rest, out)
+    }
+}
+
+/// Replays a trace, and adds its events to the chart.
+fn take_trace<P: Placer, S: Source>(
+    charting: &mut Charting<P>,
+    source: &mut S,
+) -> Result<Summary, IoError>
+    requires { S.has_failed source.old ≡ false }
+    ensures takes { Pumps ChartsLine ChartsRest lines 65536 1301 charting.old [] (S.to_come source.old) (S.to_come source.new) None None result charting.new }
+    ensures read { (result ≡ Err IoError.Read) ↔ (S.has_failed source.new ≡ true) }
+    ensures written { result ≢ Err IoError.Write }
+{
+    let mut page = Waiting::new();
+    pump(&Lines, charting, source, &mut Discard, &mut page)
+}
+
+/// Replays a trace, and writes the chart of its heap.
+pub(crate) fn draw<P: Placer, S: Source, W: Sink>(
+    charting: &mut Charting<P>,
+    source: &mut S,
+    sink: &mut W,
+) -> Result<Summary, Fault>
+    requires source { S.has_failed source.old ≡ false }
+    requires sink { W.has_failed sink.old ≡ false }
+    ensures charts { (traffic : Traffic) → traffic.unread ≡ S.to_come source.old → traffic.left ≡ S.to_come source.new
+        → traffic.output ≡ W.taken_bytes sink.old → traffic.output_now ≡ W.taken_bytes sink.new
+        → OnDevices (Charts charting.old traffic) result }
+    ensures open { result ≢ Err Fault.Open }
+    ensures starved { result ≡ Err Fault.Memory → W.taken_bytes sink.new ≡ W.taken_bytes sink.old }
+    ensures read { (result ≡ Err Fault.Read) ↔ (S.has_failed source.new ≡ true) }
+    ensures write { (result ≡ Err Fault.Write) ↔ (W.has_failed sink.new ≡ true) }
+    ensures flushed { OnOk result (W.is_flushed sink.new ≡ true) }
+{
+    let summary = take_trace(charting, source)?;
+    if let Progress::OutOfMemory = charting.progress() {
+        return Err(Fault::Memory);
+    }
+    charting.write(sink)?;
+    Ok(summary)
+}
