@@ -10,7 +10,7 @@ use Rattle.cc_arguments.specs.declared.invocation.Invocation.TheVariants.{Annota
 use Rattle.cc_devices.specs.Devices.{Console, FromInput}
 use Rattle.cc_devices.specs.Input.{file_input}
 use Rattle.cc_traces.specs.Replaying.{ReplaysTrace, WithReplay}
-use Rattle.cc_tasks.specs.Tasks.{AnnotatesWords, AnswersQuestion, ListsWords, RoundsLengths, WithListing}
+use Rattle.cc_tasks.specs.Tasks.{AnnotatesWords, AnswersQuestion, ListsWords, RoundsLengths, WithBase, WithListing}
 use Rattle.cc_runs.specs.Report.{report_of}
 use Rattle.cc_runs.specs.Runs.{MapsFile, PlansFile, ReportsRun}
 use Rattle.cc_runs.specs.declared.report.Terminals.{Terminals}
@@ -23,9 +23,11 @@ Executes (Run limit stats file) terminals console result =
 Executes (Plan limit pool align stats file) terminals console result = PlansFile (report_of stats terminals) limit pool align file console result
 Executes (Map limit pool align svg file) terminals console result = MapsFile limit pool align svg file console result
 Executes (Replay align strict format texts file) terminals console result =
-    WithReplay align strict texts console (λ settings reading. FromInput (file_input file) console (ReplaysTrace texts.sizes format settings reading)) result
+    WithReplay align strict texts console (λ settings reading. FromInput (file_input file) console (ReplaysTrace texts.sizes texts.svg texts.script format settings reading)) result
 Executes (Decode input format texts file) terminals console result =
     WithListing input format texts console (λ skipped options. FromInput (file_input file) console (ListsWords skipped options)) result
 Executes (Annotate file) terminals console result = FromInput (file_input file) console AnnotatesWords result
-Executes (Round sizes) terminals console result = RoundsTyped (texts sizes.now) console.output console.output_now result
-Executes (RoundList file) terminals console result = FromInput (file_input file) console RoundsLengths result
+Executes (Round base sizes) terminals console result =
+    WithBase base console.output console.output_now (λ base. RoundsTyped base (texts sizes.now) console.output console.output_now) result
+Executes (RoundList text file) terminals console result =
+    WithBase text console.output console.output_now (λ base. FromInput (file_input file) console (RoundsLengths text terminals.errors base)) result

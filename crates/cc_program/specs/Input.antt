@@ -1,14 +1,18 @@
 -- The files that a command reads, the machine that it creates, and whether it writes to standard error.
-use Rattle.std.specs.Prelude.{IsOk, IsSome, ⊤}
+use Rattle.std.specs.Prelude.{ℕ, ◌⊎◌, IsOk, IsSome, IsTrue, List, [], ⊤}
+use Rattle.clap.specs.Walk.{texts}
 use Rattle.cc_syntax.specs.Planning.{pool_of}
 use Rattle.cc_arguments.specs.declared.invocation.Invocation.{Invocation}
 use Rattle.cc_arguments.specs.declared.invocation.Invocation.TheVariants.{Annotate, Ask, Decode, Map, Plan, Replay, Round, RoundList, Run}
 use Rattle.cc_devices.specs.Input.{IsFile, file_input}
-use Rattle.cc_tasks.specs.Listing.{listing_in}
+use Rattle.cc_tasks.specs.Listing.{listing_in, place_in}
+use Rattle.cc_tasks.specs.NumberHint.{after_base, is_hinted}
+use Rattle.cc_tasks.specs.Questions.{numbers_of}
+use Rattle.cc_runs.specs.declared.report.Terminals.{Terminals}
 use Rattle.cc_traces.specs.ReplayTexts.{replay_in}
 
 -- ReadsFile holds if the command reads a file: FILE names one, BASE and LENGTH of `plan` and `map` are those of a pool, and the
--- numbers and names of `decode` and `replay` are such.
+-- numbers and names of `decode` and `replay`, and the base of `round`, are such.
 abbrev pub ReadsFile : Invocation → Type 0
 ReadsFile (Ask question) = ⊥
 ReadsFile (Run limit stats file) = IsFile (file_input file)
@@ -17,8 +21,8 @@ ReadsFile (Map limit pool align svg file) = IsOk (pool_of pool.base.now pool.len
 ReadsFile (Replay align strict format texts file) = IsOk (replay_in align strict texts) × IsFile (file_input file)
 ReadsFile (Decode input format texts file) = IsOk (listing_in input format texts) × IsFile (file_input file)
 ReadsFile (Annotate file) = IsFile (file_input file)
-ReadsFile (Round sizes) = ⊥
-ReadsFile (RoundList file) = IsFile (file_input file)
+ReadsFile (Round base sizes) = ⊥
+ReadsFile (RoundList base file) = IsOk (place_in base) × IsFile (file_input file)
 
 -- RunsMachine holds if the command creates a machine or a heap: `run`, `plan` and `map` if BASE and LENGTH are those of a pool, and
 -- `replay` if its numbers and names are such.
@@ -30,8 +34,8 @@ RunsMachine (Map limit pool align svg file) = IsOk (pool_of pool.base.now pool.l
 RunsMachine (Replay align strict format texts file) = IsOk (replay_in align strict texts)
 RunsMachine (Decode input format texts file) = ⊥
 RunsMachine (Annotate file) = ⊥
-RunsMachine (Round sizes) = ⊥
-RunsMachine (RoundList file) = ⊥
+RunsMachine (Round base sizes) = ⊥
+RunsMachine (RoundList base file) = ⊥
 
 -- IsRunOrPlan holds of `run` and `plan`, which write the replies to a script.
 abbrev pub IsRunOrPlan : Invocation → Type 0
@@ -39,13 +43,34 @@ IsRunOrPlan (Run limit stats file) = ⊤
 IsRunOrPlan (Plan limit pool align stats file) = ⊤
 IsRunOrPlan _ = ⊥
 
--- IsSampled holds if the command writes a series: `replay` with `--each`.
-abbrev pub IsSampled : Invocation → Type 0
-IsSampled (Replay align strict format texts file) = IsSome texts.each
-IsSampled _ = ⊥
+-- IsReplay holds of `replay`.
+abbrev pub IsReplay : Invocation → Type 0
+IsReplay (Replay align strict format texts file) = ⊤
+IsReplay _ = ⊥
 
--- IsReported holds if the command can write to standard error: `run`, and `plan` if BASE and LENGTH are those of a pool.
-abbrev pub IsReported : Invocation → Type 0
-IsReported (Run limit stats file) = ⊤
-IsReported (Plan limit pool align stats file) = IsOk (pool_of pool.base.now pool.length.now)
-IsReported _ = ⊥
+-- IsStreamed holds if the command writes a series or a script, while it reads a trace: `replay` with `--each` or `--script`.
+abbrev pub IsStreamed : Invocation → Type 0
+IsStreamed (Replay align strict format texts file) = IsSome texts.each ⊎ IsTrue texts.script
+IsStreamed _ = ⊥
+
+-- The numbers of `round` and of a question, as they were typed. The base of `round` comes first, if one is given.
+abbrev pub typed_numbers : Invocation → List (List ℕ)
+typed_numbers (Ask question) = numbers_of question
+typed_numbers (Round base sizes) = after_base base (texts sizes.now)
+typed_numbers _ = []
+
+-- IsHinted holds of the commands that write the hint on typed numbers: `show`, `explain` and `round N..`. `show` has no numbers.
+abbrev pub IsHinted : Invocation → Type 0
+IsHinted (Ask question) = ⊤
+IsHinted (Round base sizes) = ⊤
+IsHinted _ = ⊥
+
+-- IsReported holds if the command can write to standard error: `run`, and `plan` if BASE and LENGTH are those of a pool, and
+-- a command with a hint on its typed numbers, and `round` of a list if standard error is a terminal and the base is a number.
+abbrev pub IsReported : Terminals → Invocation → Type 0
+IsReported terminals (Run limit stats file) = ⊤
+IsReported terminals (Plan limit pool align stats file) = IsOk (pool_of pool.base.now pool.length.now)
+IsReported terminals (Ask question) = IsTrue (is_hinted terminals.errors (numbers_of question))
+IsReported terminals (Round base sizes) = IsTrue (is_hinted terminals.errors (after_base base (texts sizes.now)))
+IsReported terminals (RoundList base file) = IsTrue terminals.errors × IsOk (place_in base)
+IsReported terminals _ = ⊥

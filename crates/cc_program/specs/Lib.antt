@@ -3,3 +3,5 @@ pub mod Outcome
 pub mod Input
 pub mod Execution
 pub mod Ending
+pub mod Progress
+pub mod ElfHint

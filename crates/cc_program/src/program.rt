@@ -10,10 +10,11 @@ ghost use Rattle.cc_program.specs.Input.{ReadsFile};
 ghost use Rattle.cc_arguments.specs.Invocation.{HasItsTexts, IsInvocation, IsProgram, faults_of, is_taken};
 ghost use Rattle.cc_program.specs.Outcome.{EndsBy, EndsOn, status_of};
 
+use crate::elf_hint::hint_on_file;
 use crate::error_writer::ErrorWriter;
 use crate::execution::execute;
 use crate::outcome::{Ending, ending_of, ending_status};
-use crate::process_inputs::{ProcessInputs, writes_replies};
+use crate::process_inputs::{ProcessInputs, is_replay, writes_replies};
 use cc_arguments::{Invocation, invocation_of, read_words};
 use cc_devices::Fault;
 use cc_io::{FromWriter, Summary};
@@ -86,7 +87,10 @@ fn answer_matches<R: AllocGlobal + Files + Input + Print + Eprint>(
     ensures accepted { result ≢ ending.Refused }
     ensures executes { ExecutesCommand (subcommand_rows_of matches.now) terminals result }
 {
-    ending_of(execute_in_process(rt, terminals, invocation_of(matches)))
+    let invocation = invocation_of(matches);
+    let result = execute_in_process(rt, terminals, invocation);
+    hint_on_file(rt, terminals, invocation, &result);
+    ending_of(result)
 }
 
 /// Prints the reason that clap did not accept the arguments: the requested help or version on standard output, and the
@@ -120,7 +124,12 @@ fn execute_in_process<R: AllocGlobal + Files + Input + Print + Eprint>(
     ensures open { result ≡ Err Fault.Open → ReadsFile invocation.entry }
 {
     let is_typed = writes_replies(invocation) && terminals.input && terminals.errors;
-    let inputs = ProcessInputs { rt, is_typed };
+    let is_watched = is_replay(invocation) && terminals.errors;
+    let inputs = ProcessInputs {
+        rt,
+        is_typed,
+        is_watched,
+    };
     let mut errors = FromWriter::new(ErrorWriter { to: rt });
     if let Invocation::Map { svg: true, .. } = invocation {
         let Ok(output) = BufWriter::new(rt.alloc(), io::writer(rt)) else {
