@@ -104,12 +104,11 @@ is_current() {
   keep "$kept/seen" "$found" || true
 }
 
-# Keeps other builds out of this checkout until it is unlocked or this process ends, and the toolchain's commands out of the
-# crates' directories, which it locks in this order.
+# Keeps other builds out of this checkout, and the toolchain's commands out of the directory of the crate, until it is unlocked or
+# this process ends:  lock_checkout CRATE
 lock_checkout() {
-  local names name locked said=''
-  mapfile -t names < <(printf '%s\n' "${order[@]}" | LC_ALL=C sort)
-  for name in crates "${names[@]/#/crates/}"; do
+  local name locked said=''
+  for name in crates "crates/$1"; do
     exec {locked}<"$top/$name"
     locks+=("$locked")
     if type -P flock >/dev/null && ! flock -n "$locked"; then
@@ -124,31 +123,19 @@ unlock_checkout() {
   for locked in "${locks[@]}"; do exec {locked}<&-; done
 }
 
-# Removes the libraries of the crates in `order`, two fifths of the files of a build. A later build writes them again from the
-# files next to them, and proves nothing for it.
-drop_libraries() {
-  local name
-  for name in "${order[@]}"; do rm -rf -- "$top/crates/$name/out/rlib" || true; done
-}
-
-# Proves and builds all crates in `order`, the last by the given rt command, and stores the checksums. They are those of the
-# sources that were built, if all names, sizes and times are equal before and after. The first build of the program leaves no
-# libraries, since most users never need them. A build that follows a change keeps them for the next.
+# Proves all crates in `order`, builds the product of the last, and stores the checksums. They are those of the sources that were
+# built, if all names, sizes and times are equal before and after:  build_all PRODUCT DIRECTORY FLAG..
 build_all() {
-  local product=$1 kept=$2 first='' before found made_of
-  local slots processors memory
-  local -A costs=() ranks=()
+  local product=$1 kept=$2 why='not built yet' before found made_of
   mkdir -p -- "$kept" 2>/dev/null && keep "$kept/building" "$identity" || stop "the build cannot be stored: $kept is not writable"
   rm -f -- "$kept/building"
-  measure_machine
-  weigh_crates
-  [[ -f $top/$product ]] || { first=yes && announce; }
+  [[ ! -f $top/$product ]] || why='a source or the toolchain changed'
+  announce "$why"
   before=$(looks | LC_ALL=C sort) || stop 'the sources cannot be read'
-  prove_crates "${@:3}"
+  prove_crates "$product" "${@:3}"
   found=$(looks "$product") && made_of=$(checksums "$product") || stop "$product was not built"
   [[ $(looks | LC_ALL=C sort) == "$before" ]] || stop 'a source changed while it was built: start it again'
   keep "$kept/built-from" "$identity"$'\n'"$made_of" && keep "$kept/seen" "$found" || stop "the build cannot be stored in $kept"
-  [[ -z $first || $who != cheri-cap ]] || drop_libraries
 }
 
 # Sets `order`, `needs`, `cpu` and `identity` for a crate, and returns whether the file of its directory out/ is built from the present
@@ -184,7 +171,7 @@ want_toolchain() {
   [[ -n $identity ]] || stop "the toolchain's command rt was not found or has no version, and the existing build is not from these sources: see README.md, \"Install\""
 }
 
-# Builds a file of a crate's directory out/ by the rt command that follows, unless it is already built from the present sources:  stand_built CRATE FILE run -- --version
+# Proves and builds a file of a crate's directory out/, unless it is already built from the present sources:  stand_built CRATE FILE
 stand_built() {
   local product=crates/$1/out/$2 kept=$top/crates/$1/out identity cpu
   local -A needs listed
@@ -193,7 +180,7 @@ stand_built() {
   want_toolchain
   # shellcheck source=tools/proving.bash
   declare -F prove_crates >/dev/null || source "$top/tools/proving.bash"
-  lock_checkout
-  is_current "$identity" "$product" "$kept" || build_all "$product" "$kept" "$3" ${cpu:+--cpu "$cpu"} "${@:4}"
+  lock_checkout "$1"
+  is_current "$identity" "$product" "$kept" || build_all "$product" "$kept" ${cpu:+--cpu "$cpu"}
   unlock_checkout
 }

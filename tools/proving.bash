@@ -1,21 +1,18 @@
-# Proves and builds the crates of a program or of a static library, each as soon as the crates below it are built, and as
-# many at a time as the machine has processors and memory for. Sourced by tools/building.bash.
+# Proves the crates of a program or of a static library by `rt ci`, and builds the product. Sourced by tools/building.bash.
 #
-# `rt lib` locks the directories of its crate and of all crates below it. So in one checkout it never proves two crates at the
-# same time that have a crate below them in common. Each crate is therefore proved in a view, a directory with its sources, those
-# of the crates below it, and their libraries. The files of a view are hard links to one copy of the sources, made when the
-# build begins, and to crates/*/out/. When the crate is proved, the view's directory out/ is moved to the crate's own.
+# `rt ci` proves all crates of a repository from nothing, side by side. So the build has a view, a directory that is a repository of
+# its own, with copies of the sources of these crates alone. `rt ci` builds the program for the toolchain's default processor. The
+# program for another processor, and a static library, are proved and built over the libraries that `rt ci` has left in the view.
 
-# Memory of one job, in MB. A crate gets a job for each JOB_SECONDS of its cost, and at most MOST_JOBS.
-readonly JOB_MEMORY=2000 MOST_JOBS=4 JOB_SECONDS=45
-# The cost in seconds of a crate that tools/crate-costs does not name, and of one whose library exists.
-readonly UNKNOWN_COST=60 BUILT_COST=3
-# The time that 1 to 4 jobs take, in percent of the time of one job.
-readonly TIME_BY_JOBS=(0 100 75 65 60)
-# The interval at which the processes are checked, in seconds.
+# shellcheck source=tools/over-libraries.bash
+source "$top/tools/over-libraries.bash"
+
+# Memory of the proof of one crate, in MB. The cost in seconds of a crate that tools/crate-costs does not name.
+readonly PROOF_MEMORY=3500 UNKNOWN_COST=60
+# The interval at which signals are checked, in seconds.
 readonly LOOKS_EACH=0.1
 
-# Sets `processors`, `memory` to the free memory in MB, and `slots` to the number of jobs that fit both.
+# Sets `processors`, `memory` to the free memory in MB, and `slots` to the number of crates at a time that fit both.
 measure_machine() {
   local key value quota period held
   processors=$(nproc) memory=0
@@ -31,138 +28,77 @@ measure_machine() {
     value=$(((value - held) / 1024 / 1024))
     ((value >= memory)) || memory=$value
   fi
-  slots=$((memory / JOB_MEMORY))
+  slots=$((memory / PROOF_MEMORY))
   ((slots <= processors)) || slots=$processors
   ((slots > 0)) || slots=1
 }
 
-# Sets `costs` to the seconds that one job takes for each crate, and `ranks` to the sum of the costs on the longest chain that
-# begins at the crate and goes up.
-weigh_crates() {
-  local name cost at it
-  for name in "${order[@]}"; do costs[$name]=$UNKNOWN_COST ranks[$name]=0; done
+# Sets `minutes` to the time of the whole build, by the costs in tools/crate-costs: the share of each processor, and a sixth of the
+# longest chain of crates, in which processors wait; but at least three quarters of the chain, since several jobs share a proof.
+estimate() {
+  local name cost it sum=0 longest=0 seconds
+  local -A costs=() chains=()
   if [[ -r $top/tools/crate-costs ]]; then
     while read -r name cost _; do
-      [[ ! $cost =~ ^[0-9]+$ || -z ${costs[$name]-} ]] || costs[$name]=$cost
+      [[ ! $cost =~ ^[0-9]+$ ]] || costs[$name]=$cost
     done <"$top/tools/crate-costs"
   fi
-  for ((at = ${#order[@]} - 1; at >= 0; at--)); do
-    name=${order[at]} ranks[$name]=$((${ranks[$name]} + ${costs[$name]}))
-    for it in ${needs[$name]}; do
-      [[ -z ${ranks[$it]-} ]] || ((${ranks[$it]} >= ${ranks[$name]})) || ranks[$it]=${ranks[$name]}
-    done
-  done
-}
-
-# Sets `picked` to the crate to begin next, and `jobs` to its number of jobs. Fails if no crate can begin. Of the crates that
-# wait and have all crates below them built, it is the one of the highest rank. It gets the free slots, minus one for each other
-# crate that could begin: but at least two if the longest chain of crates that are not built begins with it, and one if a crate of
-# a higher rank waits for others.
-pick() {
-  local name it ready=0 most longest=yes
-  picked=''
-  # with no status, bash may return that of the command before a trap
-  ((busy < slots)) || return 1
   for name in "${order[@]}"; do
-    [[ ${states[$name]} == waits ]] || continue
-    for it in ${needs[$name]}; do [[ -z ${states[$it]-} || ${states[$it]} == built ]] || continue 2; done
-    ready=$((ready + 1))
-    if [[ -z $picked ]] || ((${ranks[$picked]} < ${ranks[$name]})); then picked=$name; fi
+    chains[$name]=0 cost=${costs[$name]:-$UNKNOWN_COST}
+    for it in ${needs[$name]}; do ((${chains[$it]:-0} <= ${chains[$name]})) || chains[$name]=${chains[$it]}; done
+    chains[$name]=$((${chains[$name]} + cost)) sum=$((sum + cost))
+    ((${chains[$name]} <= longest)) || longest=${chains[$name]}
   done
-  [[ -n $picked ]] || return 1
-  most=$((1 + ${costs[$picked]} / JOB_SECONDS)) jobs=$((slots - busy - ready + 1))
-  for name in "${order[@]}"; do
-    ((${ranks[$name]} > ${ranks[$picked]})) || continue
-    case ${states[$name]} in
-      waits) most=1 longest='' ;;
-      runs) longest='' ;;
-    esac
-  done
-  if [[ -n $longest ]] && ((slots > 2 && slots - busy > 1 && jobs < 2)); then jobs=2; fi
-  # the last crate itself has few functions, and one process compiles its code
-  [[ $picked != "${order[-1]}" ]] || most=1
-  ((most <= MOST_JOBS)) || most=$MOST_JOBS
-  ((jobs <= most)) || jobs=$most
-  ((jobs > 0)) || jobs=1
+  seconds=$((sum / slots + longest / 6))
+  ((seconds >= longest * 3 / 4)) || seconds=$((longest * 3 / 4))
+  minutes=$((seconds / 60 + 1))
 }
 
-# Sets `minutes` to the time of the whole build by the costs.
-estimate() {
-  local name next now=0 busy=0 jobs picked cost left=${#order[@]}
-  local -A states=() ends=() given=()
-  for name in "${order[@]}"; do states[$name]=waits; done
-  while ((left > 0)); do
-    while pick; do
-      cost=$((${costs[$picked]} * TIME_BY_JOBS[jobs] / 100))
-      [[ ! -f $top/crates/$picked/out/rlib/stamp ]] || cost=$BUILT_COST
-      states[$picked]=runs given[$picked]=$jobs busy=$((busy + jobs)) ends[$picked]=$((now + cost))
-    done
-    next=''
-    for name in "${!ends[@]}"; do
-      if [[ -z $next ]] || ((${ends[$name]} < ${ends[$next]})); then next=$name; fi
-    done
-    now=${ends[$next]} states[$next]=built busy=$((busy - ${given[$next]})) left=$((left - 1))
-    unset "ends[$next]"
-  done
-  minutes=$((now / 60 + 1))
-}
-
-# Says before a first build how long it takes on this machine, and which ways are quicker.
+# Says before a build how long it takes on this machine, and which ways are quicker:  announce WHY
 announce() {
-  local minutes
+  local minutes processors memory slots
+  measure_machine
   estimate
-  say "not built yet: proving and building ${#order[@]} crates takes about $minutes min here (processors: $processors, free memory: $((memory / 1000)) GB)"
+  say "$1: proving and building ${#order[@]} crates takes about $minutes min here (processors: $processors, free memory: $((memory / 1000)) GB)"
   if [[ $who == cheri-cap ]]; then
     say "'./cheri-cap --look ARGS..' runs the program in about a minute, with nothing proved; a program that ./install has installed needs none of this"
   fi
 }
 
-# Copies directories into another, as hard links if the file system has them:  link_directories FROM TO NAME..
-link_directories() {
-  local from=$1 to=$2
-  shift 2
-  (($# > 0)) || return 0
-  (cd -- "$from" && { cp -al --parents -- "$@" "$to" 2>/dev/null || cp -R --parents --remove-destination -- "$@" "$to"; })
-}
-
-# Copies the sources of all crates, so that a change during the build reaches no crate.
+# Copies the sources of all crates, so that a change during the build reaches no crate: those that `rt ci` proves into the view, and
+# those of the last crate, if it is built afterwards, next to it.
 copy_sources() {
-  local name it
+  local name line to it
+  mkdir -p -- "$view/.git" "$view/crates" || return
+  [[ ! -f $top/HANDLES ]] || cp -- "$top/HANDLES" "$view/" || return
   for name in "${order[@]}"; do
-    mkdir -p -- "$apart/sources/$name" || return
+    to=$view/crates/$name
+    [[ $name != "$later" ]] || to=$apart/$name
+    mkdir -- "$to" || return
     for it in "$top/crates/$name"/*; do
       case ${it##*/} in
         out | must-fail) ;;
-        *) cp -R --no-preserve=mode -- "$it" "$apart/sources/$name/" || return ;;
+        *) cp -R --no-preserve=mode -- "$it" "$to/" || return ;;
       esac
     done
   done
-  cp --no-preserve=mode -- "$top/crates.txt" "$apart/sources.txt"
-}
-
-# Adds the crates below a crate to `below`.
-list_below() {
-  local it
-  for it in ${needs[$1]}; do
-    [[ -z ${states[$it]-} || -n ${below[$it]-} ]] || { below[$it]=yes && list_below "$it"; }
-  done
-}
-
-# Prints the lines of crates.txt for the crates in `below`.
-list_lines() {
-  local name line
+  cp -- "$top/crates.txt" "$apart/" || return
   while read -r name line; do
-    [[ -z $name || -z ${below[${name%:}]-} ]] || printf '%s %s\n' "$name" "$line"
-  done <"$apart/sources.txt"
+    [[ -z $name || ! -d $view/crates/${name%:} ]] || printf '%s %s\n' "$name" "$line"
+  done <"$apart/crates.txt" >"$view/crates.txt"
 }
 
-# Runs a command in the background and waits for it, so that a signal ends the build at once. While bash waits for a process in
-# the foreground, it may lose a signal.
+# Runs a function in the background and waits for it, so that a signal ends the build at once. While bash waits for a process in
+# the foreground, it may lose a signal. The processes are a group of their own, which a signal to the build ends as a whole.
 aside() {
   local status=0
-  "$@" &
-  wait "$!" || status=$?
+  set -m
+  "$@" </dev/null &
+  set +m
+  running=-$!
+  wait "${running#-}" || status=$?
   heed_signal
+  running=''
   return "$status"
 }
 
@@ -171,114 +107,13 @@ heed_signal() {
   [[ -z $signal ]] || interrupt "$signal"
 }
 
-# Makes the view of a crate, with what earlier builds of it left.
-make_view() {
-  local name=$1 view=$apart/$1 out=() stand=() it
-  local -A below=()
-  mkdir -p -- "$view/crates" || return
-  list_below "$name"
-  below[$name]=yes
-  list_lines >"$view/crates.txt" || return
-  link_directories "$apart/sources" "$view/crates" "${!below[@]}" || return
-  for it in "${!below[@]}"; do
-    out+=("$view/crates/$it/out")
-    [[ ! -d $top/crates/$it/out/rlib ]] || stand+=("$it/out/rlib")
-  done
-  [[ ! -d $top/crates/$name/out/incremental ]] || stand+=("$name/out/incremental")
-  mkdir -- "${out[@]}" && link_directories "$top/crates" "$view/crates" "${stand[@]}"
-}
-
-# Moves the contents of a view's directory out/, or one entry of it, to the crate's own:  move_out CRATE [ENTRY]
-move_out() {
-  local name=$1 from=$apart/$1/crates/$1/out to=$top/crates/$1/out it
-  mkdir -p -- "$to" "$apart/$name/old" || return
-  for it in "$from/"${2:-*}; do
-    [[ -e $it ]] || continue
-    [[ ! -e $to/${it##*/} ]] || mv -- "$to/${it##*/}" "$apart/$name/old/" || return
-    mv -- "$it" "$to/" || return
-  done
-}
-
-# Calls move_out, and removes the view. A signal meanwhile ends no move.
-place() {
-  local name=$1 mover again status=128
-  (
-    trap '' INT TERM HUP
-    move_out "$@" && rm -rf -- "${apart:?}/$name"
-  ) &
-  mover=$!
-  # each signal ends a wait
-  for ((again = 0; status >= 128 && again < 99; again++)); do
-    status=0
-    wait "$mover" || status=$?
-  done
-  heed_signal
-  return "$status"
-}
-
-# Starts the proof of a crate in the background:  begin CRATE JOBS
-begin() {
-  local name=$1 how=(rt lib --jobs "$2")
-  aside make_view "$name" || stop "the sources of $name cannot be copied to $apart"
-  [[ $name != "${order[-1]}" ]] || how=(rt "${last[0]}" --jobs "$2" "${last[@]:1}")
-  begun=$((begun + 1)) busy=$((busy + $2)) states[$name]=runs given[$name]=$2
-  places[$name]="$begun of ${#order[@]}" began[$name]=$SECONDS told[$name]=$SECONDS
-  say "${places[$name]}: proving and building $name"
-  (cd -- "$apart/$name/crates/$name" && exec "${how[@]}") >"$apart/$name/said" 2>&1 </dev/null &
-  pids[$name]=$!
-}
-
-# Says the number of checked functions of a crate or, since one job prints no number, how long the crate takes by its cost.
-tell() {
-  local name=$1 after=$((SECONDS - ${began[$1]})) line=''
-  told[$name]=$SECONDS
-  line=$(grep -a '^so far: ' "$apart/$name/said" | tail -n 1) || true
-  if [[ $line =~ ^so\ far:\ ([1-9][0-9]*)\ of\ ([0-9]+)\ functions ]]; then
-    say "${places[$name]}: $name: ${BASH_REMATCH[1]} of ${BASH_REMATCH[2]} functions after $after s"
-  else
-    say "${places[$name]}: $name: $after s of about $((${costs[$name]} * ${TIME_BY_JOBS[${given[$name]}]} / 100))"
-  fi
-}
-
-# Moves a crate whose process has ended to its place. Stops the build if the process failed.
-finish() {
-  local name=$1 status=0
-  wait "${pids[$name]}" || status=$?
-  unset "pids[$name]"
-  busy=$((busy - ${given[$name]}))
-  # 129, 130, 143: ended by SIGHUP, SIGINT or SIGTERM, which bash itself may have missed
-  if ((status == 129 || status == 130 || status == 143)); then
-    place "$name" incremental || true
-    interrupt "$(kill -l "$status")"
-  fi
-  if ((status)); then
-    end_build
-    cat -- "$apart/$name/said" >&2
-    place "$name" incremental || true
-    stop "$name is not proved, so nothing was built"
-  fi
-  place "$name" || stop "the build of $name cannot be stored in crates/$name/out"
-  states[$name]=built left=$((left - 1))
-  say "${places[$name]}: $name took $((SECONDS - ${began[$name]})) s"
-}
-
-# Ends all processes, and keeps the modules that they have checked.
-end_build() {
-  local name running
-  running=$(jobs -p)
-  # shellcheck disable=SC2086 # a word for each process
-  [[ -z $running ]] || kill -TERM $running 2>/dev/null || true
-  for name in "${!pids[@]}"; do
-    wait "${pids[$name]}" 2>/dev/null || true
-    unset "pids[$name]"
-    place "$name" incremental || true
-  done
-}
-
+# Ends the process that proves, with all that it started, and removes the view. The toolchain's own processes end with `rt`.
 leave_build() {
-  end_build
-  wait 2>/dev/null || true
-  rm -rf -- "${apart:?}"
+  if [[ -n $running ]]; then
+    kill -TERM -- "$running" 2>/dev/null || true
+    wait "${running#-}" 2>/dev/null || true
+  fi
+  rm -rf -- "${apart:?}" || true
 }
 # Ends the build by a signal.
 interrupt() {
@@ -286,38 +121,102 @@ interrupt() {
   trap '' INT TERM HUP
   leave_build
   trap - EXIT INT TERM HUP
-  say 'interrupted: what is proved so far is kept'
+  say 'interrupted: nothing was built'
   kill -s "$1" "$BASHPID"
 }
 
-# Proves and builds all crates in `order`, the last one by the rt command given.
+# Says how many crates are proved.
+tell() {
+  told=$SECONDS
+  say "$proved of ${#order[@]} crates are proved after $((SECONDS - start)) s"
+}
+
+# Notes that a crate is proved, and says so.
+count() {
+  proved=$((proved + 1)) told=$SECONDS
+  say "$proved of ${#order[@]}: $1 is $2 after $((SECONDS - start)) s"
+}
+
+# Prints the toolchain's output since the last crate that is proved, with the paths of the checkout.
+show_said() {
+  local here
+  here=$(cd -- "$view" && pwd -P)/
+  printf '%s' "${said//"$here"/}" >&2
+}
+
+# Proves the crates of the view. Stops the build as soon as a crate is not proved, with the toolchain's output on it.
+prove_view() {
+  local lines line='' part='' said='' status=0
+  exec {lines}< <(cd -- "$view" && exec rt ci 2>&1 </dev/null)
+  running=$!
+  while true; do
+    status=0
+    IFS= read -r -t "$LOOKS_EACH" -u "$lines" part || status=$?
+    heed_signal
+    line+=$part
+    # at the end of the output the status is 1, and above 128 if no whole line has come in time
+    ((status != 1)) || break
+    if ((status > 128)); then
+      ((SECONDS - told < TELLS_EACH)) || tell
+      continue
+    fi
+    said+=$line$'\n'
+    if [[ $line =~ ^rt:\ ([a-z0-9_]+)\ (proved|is\ kept:.*)$ ]]; then
+      line=${BASH_REMATCH[2]/#is kept:*/kept from an earlier proof}
+      count "${BASH_REMATCH[1]}" "$line"
+      said=''
+    elif [[ $line =~ ^rt:\ ([a-z0-9_]+)\ NOT\ PROVED ]]; then
+      show_said
+      stop "${BASH_REMATCH[1]} is not proved, so nothing was built"
+    fi
+    line=''
+  done
+  exec {lines}<&-
+  status=0
+  wait "$running" || status=$?
+  heed_signal
+  running=''
+  # 129, 130, 143: ended by SIGHUP, SIGINT or SIGTERM, which bash itself may have missed
+  ((status != 129 && status != 130 && status != 143)) || interrupt "$(kill -l "$status")"
+  if ((status)); then
+    said+=$line
+    show_said
+    stop 'rt ci has failed, so nothing was built'
+  fi
+}
+
+# Proves and builds the last crate over the libraries of the others:  build_last FLAG..
+build_last() {
+  local name
+  mkdir -- "$apart/libraries" && : >"$apart/libraries/ended" || return
+  for name in "${order[@]}"; do
+    [[ $name == "$later" ]] || mv -- "$view/crates/$name/out/rlib/$name.rlib" "$apart/libraries/" || return
+  done
+  mv -- "$apart/$later" "$view/crates/" && cp -- "$apart/crates.txt" "$view/" || return
+  build_over "$apart/libraries" "$view" "$later" "$@" >"$apart/said" 2>&1
+}
+
+# Proves all crates in `order`, and builds the product of the last, with the flags that follow:  prove_crates PRODUCT FLAG..
 prove_crates() {
-  local apart=$top/crates/${order[-1]}/out/apart last=("$@") name picked jobs idle start=$SECONDS
-  local busy=0 begun=0 signal='' left=${#order[@]}
-  local -A states=() given=() pids=() places=() began=() told=()
+  local product=$1 crate=${order[-1]} later='' signal='' running='' proved=0 start=$SECONDS told=$SECONDS
+  local apart=$top/crates/$crate/out/apart
+  local view=$apart/view
   trap leave_build EXIT
   # A trap only notes the signal. If one did more while bash is in `read -t`, the timeout would end it in the middle.
   trap 'signal=INT' INT
   trap 'signal=TERM' TERM
   trap 'signal=HUP' HUP
+  # only `rt ci` makes a program for the default processor, and it makes no static library
+  (($# == 1)) || later=$crate
   rm -rf -- "$apart"
   aside copy_sources || stop "the sources cannot be copied to $apart"
-  for name in "${order[@]}"; do states[$name]=waits; done
-  # a pipe that nothing writes to, for waiting
-  exec {idle}<> <(:)
-  while ((left > 0)); do
-    while pick; do begin "$picked" "$jobs"; done
-    read -r -t "$LOOKS_EACH" -u "$idle" name || true
-    heed_signal
-    for name in "${!pids[@]}"; do
-      if ! kill -0 "${pids[$name]}" 2>/dev/null; then
-        finish "$name"
-      elif ((SECONDS - ${told[$name]} >= TELLS_EACH)); then
-        tell "$name"
-      fi
-    done
-  done
-  exec {idle}>&-
+  prove_view
+  if [[ -n $later ]]; then
+    say "${#order[@]} of ${#order[@]}: proving and building $later"
+    aside build_last "${@:2}" || { cat -- "$apart/said" >&2 && stop "$later is not proved, so nothing was built"; }
+    count "$later" proved
+  fi
+  mv -f -- "$view/$product" "$top/$product" || stop "the build of $crate cannot be stored in crates/$crate/out"
   heed_signal
   trap - EXIT INT TERM HUP
   rm -rf -- "$apart"
