@@ -38,12 +38,6 @@ none_short gaps from at less align none short k d low =
       | inr after ↦ λ other from_base _. omega (arith, short k d after low, from_base)
     ]
 
-pub none_fit : (gaps : List Span) (to size align : ℕ) → length gaps ≤ to → NoneBefore gaps to size align
-    → IsFirstFit gaps size align None
-none_fit gaps to size align all none other fits =
-    none_at fits.gap size align other
-    (rw (fits.among.2) at (none fits.among.0 fits.gap (omega (arith, fits.among.1, all)))) fits.aligned fits.within
-
 pub first_at : (gaps : List Span) (at : ℕ) (d : Span) (size align start : ℕ) → AreGaps gaps → at < length gaps
     → NoneBefore gaps at size align → IsLeastFit (get_or gaps at d).base (get_or gaps at d).top size align start
     → IsFirstFit gaps size align (Some start)

@@ -255,8 +255,7 @@ fn widest(gaps: &[Gap]) -> u64
 
 /// Returns an upper bound on the number of bytes, except one, of each of four gaps from a position on.
 ///
-/// Without it, a search for the widest gap is compiled to vectors of two, which take more
-/// instructions.
+/// A loop over single gaps would be compiled to vectors of two gaps, which take more instructions.
 #[inline(always)]
 fn widest_of_four(gaps: &[Gap], from: usize) -> u64
     requires { from + 4 ≤ length gaps.now }

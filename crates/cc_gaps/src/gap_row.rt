@@ -170,7 +170,8 @@ impl GapRow {
     /// Inserts a gap before the one at a place, as [`insert`](GapRow::insert) does, at the end or in a
     /// block that may be full.
     ///
-    /// If no further block fits, two neighbors are joined first.
+    /// If no further block fits, two neighbors are joined first. It is not inlined, so that the usual
+    /// insertion saves fewer registers.
     #[inline(never)]
     fn insert_apart(&mut self, place: Place, gap: Span)
         requires place { IsPlaceIn self.old place }
@@ -350,7 +351,8 @@ fn set_in(blocks: &mut GapBlocks, heads: &mut Heads, block: usize, at: usize, ga
     heads.set(block, head);
 }
 
-/// Removes a block, with its head.
+/// Removes a block, with its head. It is not inlined, so that the usual removal of a gap saves fewer
+/// registers.
 #[inline(never)]
 fn remove_block(blocks: &mut GapBlocks, heads: &mut Heads, block: usize)
     requires headed { AreHeaded blocks.old.blocks heads.old.heads }
