@@ -1,7 +1,8 @@
 //! A drawing of a pool: an SVG document with a rectangle for each held object.
-ghost use Rattle.std.specs.Prelude.{◌≡◌, ◌<◌, ◌≤◌, ◌+◌, ◌-◌, ◌*◌, ◌^◌, ◌++◌, ◌↔◌, [], false, true, Bool, IfOk, IsErr, OnErr, OnOk, length, min};
+ghost use Rattle.std.specs.Prelude.{◌≡◌, ◌<◌, ◌≤◌, ◌+◌, ◌-◌, ◌*◌, ◌^◌, ◌++◌, ◌↔◌, [], false, true, Bool, IfOk, IsErr, OnErr, OnOk, decimal, length, min};
 ghost use Rattle.std.specs.Io.KnownBytes.{Appends};
 ghost use Rattle.cc_io.specs.Devices.{TakesBeginning};
+ghost use Rattle.cc_word.specs.WordText.{hexadecimal};
 ghost use Rattle.cc_explain.specs.Answer.{WritesAnswer};
 ghost use Rattle.cc_draw.specs.Drawing.{IsDrawing, bounds_line, drawing_text, closing_text, fills_text, head_text, is_in, key_text, laid_out_text, layer_text, layout_for, live_text, mark_count, mark_text, marks_text, moved_text, names_text, object_text, part_text, parts_text, quarantined_text, rectangle_text, row_count, ground_text, rows_text, scale_text, stripes_text};
 
@@ -240,10 +241,12 @@ fn push_mark(text: &mut Text, layout: &Layout, cell: u32)
     ensures fits { length text.new ≤ length text.old + 193 }
 {
     let mut line = Line::new();
-    line.push(b"<g transform='translate(");
-    line.push_index(cell * layout.width);
-    line.push(b")'><path d='M0,-14V0' stroke='#000'/><text x='3' y='-5'>+");
-    line.push_hexadecimal(u128::from(cell) * layout.size);
+    push_index(&mut line, b"<g transform='translate(", cell * layout.width);
+    push_address(
+        &mut line,
+        b")'><path d='M0,-14V0' stroke='#000'/><text x='3' y='-5'>+",
+        u128::from(cell) * layout.size,
+    );
     line.push(b"</text></g>");
     text.push_line(&line);
 }
@@ -276,14 +279,14 @@ fn push_row(text: &mut Text, width: u32, y: u32, cells: u32, address: u128)
     ensures fits { length text.new ≤ length text.old + 193 }
 {
     let mut line = Line::new();
-    line.push(b"<rect y='");
-    line.push_index(y);
-    line.push(b"' width='");
-    line.push_index(cells * width);
-    line.push(b"' height='24' fill='#fff' stroke='#000'/><text x='-8' y='");
-    line.push_index(y + 16);
-    line.push(b"' text-anchor='end'>");
-    line.push_hexadecimal(address);
+    push_index(&mut line, b"<rect y='", y);
+    push_index(&mut line, b"' width='", cells * width);
+    push_index(
+        &mut line,
+        b"' height='24' fill='#fff' stroke='#000'/><text x='-8' y='",
+        y + 16,
+    );
+    push_address(&mut line, b"' text-anchor='end'>", address);
     line.push(b"</text>");
     text.push_line(&line);
 }
@@ -432,19 +435,36 @@ fn rectangle_line(width: u32, row: u32, from: u128, to: u128, number: u32, span:
     ensures { result ≡ rectangle_text width row from to number span.now }
 {
     let mut line = Line::new();
-    line.push(b"<rect x='");
-    line.push_index((from - u128::from(1024 * row)) as u32 * width);
-    line.push(b"' y='");
-    line.push_index(32 * row);
-    line.push(b"' width='");
-    line.push_index((to - from) as u32 * width);
-    line.push(b"' height='24'><title>object ");
-    line.push_index(number);
-    line.push(b": ");
-    line.push_hexadecimal(u128::from(span.base));
-    line.push(b"-");
-    line.push_hexadecimal(span.top);
+    let left = (from - u128::from(1024 * row)) as u32;
+    push_index(&mut line, b"<rect x='", left * width);
+    push_index(&mut line, b"' y='", 32 * row);
+    push_index(&mut line, b"' width='", (to - from) as u32 * width);
+    push_index(&mut line, b"' height='24'><title>object ", number);
+    push_address(&mut line, b": ", u128::from(span.base));
+    push_address(&mut line, b"-", span.top);
     line.push(b"</title></rect>");
     line.push(b"\n");
     line
+}
+
+/// Appends bytes, and then a number in decimal.
+fn push_index(line: &mut Line, before: &[u8], number: u32)
+    requires before { length before.now ≤ 60 }
+    requires room { length line.old + length before.now + 10 ≤ 192 }
+    ensures value { line.new ≡ line.old ++ before.now ++ decimal number }
+    ensures fits { length line.new ≤ length line.old + length before.now + 10 }
+{
+    line.push(before);
+    line.push_index(number);
+}
+
+/// Appends bytes, and then an address in hexadecimal.
+fn push_address(line: &mut Line, before: &[u8], address: u128)
+    requires before { length before.now ≤ 60 }
+    requires room { length line.old + length before.now + 34 ≤ 192 }
+    ensures value { line.new ≡ line.old ++ before.now ++ hexadecimal address }
+    ensures fits { length line.new ≤ length line.old + length before.now + 34 }
+{
+    line.push(before);
+    line.push_hexadecimal(address);
 }

@@ -8,11 +8,9 @@ unfolding mark_text
 returns-clause-value c =
     rw (
       c.push_line.ensures.value,
-      c.push-3.ensures,
-      c.push_hexadecimal.ensures.value,
-      c.push-2.ensures,
-      c.push_index.ensures.value,
       c.push.ensures,
+      c.push_address.ensures.value,
+      c.push_index.ensures.value,
       c.new-line.ensures,
       c.from.ensures,
     ) refl

@@ -8,14 +8,10 @@ unfolding ground_text
 returns-clause-value c =
     rw (
       c.push_line.ensures.value,
-      c.push-5.ensures,
-      c.push_hexadecimal.ensures.value,
-      c.push-4.ensures,
-      c.push_index-3.ensures.value,
-      c.push-3.ensures,
-      c.push_index-2.ensures.value,
-      c.push-2.ensures,
-      c.push_index.ensures.value,
       c.push.ensures,
+      c.push_address.ensures.value,
+      c.push_index-3.ensures.value,
+      c.push_index-2.ensures.value,
+      c.push_index.ensures.value,
       c.new-line.ensures,
     ) refl
