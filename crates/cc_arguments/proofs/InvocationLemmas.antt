@@ -1,8 +1,7 @@
 -- Arguments that clap accepts name one of the program's commands, and give it the values that it needs.
-use Rattle.std.proofs.Common.{◌≡◌, ◌==◌, ◌∙◌, ◌⊎◌, ℕ, Bool, true, false, List, [], ◌∷◌, Option, Some, None, arith, is_some, refl, subst, sym, ap, ap₂, inl, inr, codes, get_or, if◌then◌else◌, option_map}
-use Rattle.std.specs.Prelude.{cond, ⊤, ◌&&◌, ◌||◌, IfSome, IsSome, Result, Ok, Err, find, not, Box, pos, unwrap_or}
+use Rattle.std.proofs.Common.{◌≡◌, ◌==◌, ◌∙◌, ◌⊎◌, ℕ, Bool, true, false, List, [], ◌∷◌, Option, Some, None, arith, is_some, refl, subst, sym, ap, inl, inr, codes, get_or, if◌then◌else◌, option_map}
+use Rattle.std.specs.Prelude.{⊤, ◌&&◌, ◌||◌, IfSome, IsSome, Result, Ok, Err, find, not, pos, unwrap_or}
 use Rattle.std.specs.Borrow.{Bor}
-use Rattle.std.specs.Box.{box_value}
 use Rattle.std.specs.List.{list_any}
 use Rattle.std.specs.Option.{option_map_or}
 use Rattle.std.specs.Str.{bytes_eq}
@@ -12,16 +11,13 @@ use Rattle.std.proofs.lemmas.Slice.Eq.{bytes_eq-Decides}
 use Rattle.clap.specs.Kinds.{check_kinds}
 use Rattle.clap.specs.Lexer.{without_minus}
 use Rattle.clap.specs.Walk.{Row, Rule, Text, answers_to, arg_by_id, first_of, nothing_held, one_of, rows_after, texts, walk}
-use Rattle.clap.specs.Simple.{Shape, argument_words, built, entered, filled, help_rule, help_shape, label_of, names_of, rows_at, subcommand_of, subcommand_rows, subcommand_rows_of}
+use Rattle.clap.specs.Simple.{Shape, argument_words, built, entered, filled, help_rule, help_shape, label_of, names_of, rows_at, subcommand_of}
 use Rattle.clap.specs.Faults.{check_fault, entered_fault, fault_of, level_fault}
 use Rattle.clap.specs.Facts.{explicit_source}
-use Rattle.clap.specs.Matches.{ReadsOne, subcommand_name_of}
+use Rattle.clap.specs.Matches.{ReadsOne}
 use Rattle.clap.specs.Takes.{is_given}
 use Rattle.clap.specs.Values.{IsSignedIn, same_text}
 use Rattle.clap.specs.declared.builder.value_parser.ValueParser.TheVariants.{Signed}
-use Rattle.clap.specs.declared.parser.matches.ArgMatches.{ArgMatches}
-use Rattle.clap.specs.declared.parser.matches.ArgMatches.TheViews.{out-ArgMatches, out-SubCommand}
-use Rattle.clap.specs.declared.parser.matches.SubCommand.{SubCommand}
 use Rattle.clap.proofs.ValueTestLemmas.{accepts-Accepts}
 use Rattle.cc_bounds.specs.declared.align.Align.{Align}
 use Rattle.cc_bounds.specs.declared.align.Align.TheVariants.{One, Sixteen}
@@ -31,8 +27,7 @@ use Rattle.cc_io.specs.declared.input_form.InputForm.TheVariants.{Bytes, Lines}
 use Rattle.cc_io.specs.declared.format.Format.{Format}
 use Rattle.cc_io.specs.declared.format.Format.TheVariants.{Columns}
 use Rattle.cc_io.specs.declared.format.Format.TheVariants as format
-use Rattle.cc_arguments.specs.Invocation.{HasChoice, HasItsTexts, HasLimit, HasValues, HasWanted, IsChosen, IsGiven, IsLimit, IsInvocation, IsLimitText, choice_fault_in, align_named, decimal_value, format_named, format_names, program, slots_option, choice_option, command_name_of, input_named, order_names, HasFlag, flag_option, summary_named, summary_names}
-use Rattle.cc_arguments.specs.declared.invocation.Invocation.{Invocation}
+use Rattle.cc_arguments.specs.Invocation.{HasChoice, HasItsTexts, HasLimit, IsChosen, IsGiven, IsLimit, IsLimitText, choice_fault_in, align_named, decimal_value, format_named, format_names, program, slots_option, choice_option, input_named, order_names, HasFlag, flag_option, summary_named, summary_names}
 use Rattle.cc_arguments.specs.declared.invocation.SummaryFormat.{SummaryFormat}
 use Rattle.cc_arguments.specs.declared.invocation.SummaryFormat.TheVariants as summary
 use Rattle.cc_arguments.proofs.GivenLemmas.{GiveValues, GivesValue, IsTaken, flag_gives, level-given, level_parts, no_default-given, required_given, set_gives, taken}
@@ -537,76 +532,3 @@ module _ (aligns : Bor (List (Bor Text))) (are : texts aligns.now ≡ codes "1" 
       let end = walk app.top.rules (names_of app) nothing_held rest in
       let parts = level_parts app.top (names_of app) rest (is_some (entered app end.stopped)) (entered_fault app end.stopped) e in
       by_stop end.stopped (rows_after app.top.rules (names_of app) rest) parts.1 parts.3 choice
-
--- ---- the command that was found
-
-named_rows : {Z : Type 0} (o : Option (Box SubCommand Z)) → option_map (λ b. (out-SubCommand (box_value b)).name.now) o ≡ option_map (λ p. p.0) (subcommand_rows o)
-named_rows None = refl
-named_rows (Some b) = refl
-
-met_is : (met : Option (Text × List Row)) (name : Text) (rows : List Row) → Some name ≡ option_map (λ p. p.0) met → Some rows ≡ option_map (λ p. p.1) met → met ≡ Some (name, rows)
-met_is None name rows named told = cc named
-met_is (Some p) name rows named told =
-    let same_name : name ≡ p.0 = cc named in
-    let same_rows : rows ≡ p.1 = cc told in
-    ap₂ (λ (n : Text) (l : List Row). Some (n, l)) (sym same_name) (sym same_rows)
-
--- A command's name and its rows, read separately, are those that were found.
-command_is : (m : ArgMatches) (name : Text) (rows : List Row) → Some name ≡ subcommand_name_of m → Some rows ≡ option_map (λ p. p.1) (subcommand_rows_of m)
-    → subcommand_rows_of m ≡ Some (name, rows)
-command_is m name rows named told = met_is (subcommand_rows_of m) name rows (named ∙ named_rows (out-ArgMatches m).subcommand) told
-
--- The rows that were found have the values that their command needs.
-wanted_of : (met : Option (Text × List Row)) (name : Text) (rows : List Row) → met ≡ Some (name, rows) → HasItsTexts met → HasWanted name rows
-wanted_of met name rows is (named, given, told, has) =
-    let both : Some (named, given) ≡ Some (name, rows) = sym told ∙ is in
-    let same : (named, given) ≡ (name, rows) = cc both in
-    subst (λ (p : Text × List Row). HasWanted p.0 p.1) same has
-
--- A command's name and its rows, read separately, have the values that the command needs.
-pub command_wanted : (m : ArgMatches) (name : Text) (rows : List Row) → Some name ≡ subcommand_name_of m → Some rows ≡ option_map (λ p. p.1) (subcommand_rows_of m)
-    → HasItsTexts (subcommand_rows_of m) → HasWanted name rows
-command_wanted m name rows named told has = wanted_of (subcommand_rows_of m) name rows (command_is m name rows named told) has
-
-abbrev command_names : List Text
-command_names = codes "show" ∷ codes "round" ∷ codes "run" ∷ codes "plan" ∷ codes "map" ∷ codes "replay" ∷ codes "decode" ∷ codes "annotate" ∷ codes "explain" ∷ []
-
--- `IsNone` holds if the text is not one of these names.
-abbrev pub IsNone : (names : List Text) (text : Text) → Type 0
-IsNone [] text = ⊤
-IsNone (name ∷ names) text = (text ≡ name → ⊥) × IsNone names text
-
-not_this : (b : Bool) (P Q : Type 0) → (b ≡ true → ⊥) → (Q → ⊥) → cond b P Q → ⊥
-not_this true P Q other rest has = other refl
-not_this false P Q other rest has = rest has
-
--- The program has no other commands.
-none_wanted : (name : Text) (rows : List Row) → IsNone command_names name → HasWanted name rows → ⊥
-none_wanted name rows others =
-    not_this _ _ _ (λ e. others.0 ((bytes_eq-Decides name (codes "show")).0 e))
-    (not_this _ _ _ (λ e. others.1.0 ((bytes_eq-Decides name (codes "round")).0 e))
-    (not_this _ _ _ (λ e. others.1.1.0 ((bytes_eq-Decides name (codes "run")).0 e))
-    (not_this _ _ _ (λ e. others.1.1.1.0 ((bytes_eq-Decides name (codes "plan")).0 e))
-    (not_this _ _ _ (λ e. others.1.1.1.1.0 ((bytes_eq-Decides name (codes "map")).0 e))
-    (not_this _ _ _ (λ e. others.1.1.1.1.1.0 ((bytes_eq-Decides name (codes "replay")).0 e))
-    (not_this _ _ _ (λ e. others.1.1.1.1.1.1.0 ((bytes_eq-Decides name (codes "decode")).0 e))
-    (not_this _ _ _ (λ e. others.1.1.1.1.1.1.1.0 ((bytes_eq-Decides name (codes "annotate")).0 e))
-    (not_this _ _ _ (λ e. others.1.1.1.1.1.1.1.1.0 ((bytes_eq-Decides name (codes "explain")).0 e)) (λ none. none)))))))))
-
--- The command that was found is one of the program's.
-pub known : (met : Option (Text × List Row)) (name : Text) → HasItsTexts met → Some name ≡ option_map (λ p. p.0) met → IsNone command_names name → ⊥
-known met name (named, rows, is, has) told others =
-    let same : Some name ≡ Some named = told ∙ ap (λ (o : Option (Text × List Row)). option_map (λ p. p.0) o) is in
-    let name_is : name ≡ named = cc same in
-    none_wanted named rows (subst (IsNone command_names) name_is others) has
-
--- The invocation that was read is the one that was found.
-pub invocation_is : (m : ArgMatches) (name : Text) (rows : List Row) (invocation : Invocation)
-    → Some name ≡ subcommand_name_of m → Some rows ≡ option_map (λ p. p.1) (subcommand_rows_of m)
-    → command_name_of invocation ≡ name → HasValues rows invocation → IsInvocation (subcommand_rows_of m) invocation
-invocation_is m name rows invocation named told command values =
-    (rows, command_is m name rows named told ∙ ap (λ (n : Text). Some (n, rows)) (sym command), values)
-
--- The name that was found, with its rows.
-pub found_name : (m : ArgMatches) (name : Text) → Some name ≡ subcommand_name_of m → Some name ≡ option_map (λ p. p.0) (subcommand_rows_of m)
-found_name m name named = named ∙ named_rows (out-ArgMatches m).subcommand

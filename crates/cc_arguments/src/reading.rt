@@ -2,7 +2,7 @@
 ghost use Rattle.std.specs.Prelude.{◌≡◌, ◌∷◌, [], IfErr, IfOk, None, codes, is_some, true};
 ghost use Rattle.clap.specs.Walk.{texts};
 ghost use Rattle.clap.specs.Words.{App, FailsBy, first_of, found_of, kind_of, rows_of, subcommand_of, subcommand_rows_of};
-ghost use Rattle.cc_arguments.specs.Invocation.{HasChoice, HasFlag, HasItsTexts, HasLimit, HasPoolTexts, HasText, HasValues, IsInvocation, IsProgram, align_named, choice_fault_in, choice_fault_of, command_name_of, faults_of, format_named, format_names, input_named, is_dash, is_taken, kinds_in, list_fault_of, order_names, summary_named, summary_names};
+ghost use Rattle.cc_arguments.specs.Invocation.{HasChoice, HasFlag, HasItsTexts, HasLimit, HasPoolTexts, HasText, HasValues, HasWanted, IsInvocation, IsProgram, align_named, choice_fault_in, choice_fault_of, command_name_of, faults_of, format_named, format_names, input_named, is_dash, is_taken, kinds_in, list_fault_of, order_names, summary_named, summary_names};
 
 use crate::invocation::Invocation;
 use crate::question::Question;
@@ -145,15 +145,27 @@ pub fn invocation_of<'a>(matches: &'a ArgMatches<'_>) -> Invocation<'a>
     ensures { IsInvocation (subcommand_rows_of matches.now) result }
 {
     match matches.subcommand() {
-        Some(("show", show)) => read_show(show),
-        Some(("round", round)) => read_round(round),
-        Some(("run", run)) => read_run(run),
-        Some(("plan", plan)) => read_plan(plan),
-        Some(("map", map)) => read_map(map),
-        Some(("replay", replay)) => read_replay(replay),
-        Some(("decode", decode)) => read_decode(decode),
-        Some(("annotate", annotate)) => read_annotate(annotate),
-        Some(("explain", explain)) => read_explain(explain),
+        Some((name, values)) => read_command(name, values),
+        None => unreachable!(),
+    }
+}
+
+/// Returns the invocation of the command of this name with these values.
+fn read_command<'a>(name: &str, matches: &'a ArgMatches<'_>) -> Invocation<'a>
+    requires { HasWanted name.now (rows_of (found_of matches.now)) }
+    ensures command { command_name_of result ≡ name.now }
+    ensures values { HasValues (rows_of (found_of matches.now)) result }
+{
+    match name {
+        "show" => read_show(matches),
+        "round" => read_round(matches),
+        "run" => read_run(matches),
+        "plan" => read_plan(matches),
+        "map" => read_map(matches),
+        "replay" => read_replay(matches),
+        "decode" => read_decode(matches),
+        "annotate" => read_annotate(matches),
+        "explain" => read_explain(matches),
         _ => unreachable!(),
     }
 }
