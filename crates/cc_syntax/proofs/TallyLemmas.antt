@@ -1,5 +1,5 @@
 -- The change of a tally by one more reply.
-use Rattle.std.proofs.Common.{◌≡◌, ◌∙◌, ◌+◌, ◌-◌, ◌<◌, ◌≤◌, ◌^◌, ◌==◌, ◌&&◌, ◌||◌, ℕ, zero, suc, Bool, true, false, cond, List, [], ◌∷◌, ◌++◌, ap, arith, count_by, get_or, if◌then◌else◌, inl, inr, length, length-append, length-take, min, nat_le, refl, sym, take}
+use Rattle.std.proofs.Common.{◌≡◌, ◌∙◌, ◌+◌, ◌-◌, ◌<◌, ◌^◌, ◌==◌, ◌&&◌, ◌||◌, ℕ, zero, suc, Bool, true, false, cond, List, [], ◌∷◌, ◌++◌, ap, arith, count_by, get_or, if◌then◌else◌, inl, inr, length, length-append, length-take, min, nat_le, refl, sym, take}
 use Rattle.std.specs.List.{list_any}
 use Rattle.std.proofs.lemmas.Bool.{cases_lt, eqb-false, eqb-true, lt-leb, true≢false}
 use Rattle.std.proofs.Math.Dec.{eqb-suc-zero}
@@ -7,7 +7,7 @@ use Rattle.std.proofs.lemmas.List.{take_all}
 use Rattle.std.proofs.lemmas.List.Sums.{sum_by-cons, sum_by_push}
 use Rattle.cc_word.specs.Refusal.{code_of}
 use Rattle.cc_word.specs.declared.refusal.Refusal.{Refusal}
-use Rattle.cc_word.specs.declared.refusal.Refusal.TheVariants.{Syntax, Unfinished, TooLong, OutOfRange, NoSlot, Revoked, Sealed, Unsealed, OutOfBounds, Inexact, Unrepresentable, MissingPermission, ReservedType, TypeMismatch, NotCanonical, ExceedsAuthority, NoPool, PoolAlreadySet, ZeroSize, NoRoom, NoObject, Full}
+use Rattle.cc_word.specs.declared.refusal.Refusal.TheVariants.{Full}
 use Rattle.cc_ops.specs.declared.reply.Reply.{Reply}
 use Rattle.cc_ops.specs.declared.reply.Reply.TheVariants.{Made, Shown, Rounded, PoolSet, Allocated, Freed, Swept, Refused}
 use Rattle.cc_syntax.specs.LineHints.{ends_in_return, has_marked_word}
@@ -17,31 +17,6 @@ use Rattle.cc_syntax.specs.declared.tally.Count.{Count}
 use Rattle.cc_syntax.specs.declared.tally.Tally.{Tally}
 
 -- ---- the refusals
-
--- Each code is from 1 to 22.
-pub code_within : (refusal : Refusal) → (1 ≤ code_of refusal) × (code_of refusal ≤ 22)
-code_within Syntax = (omega arith, omega arith)
-code_within Unfinished = (omega arith, omega arith)
-code_within TooLong = (omega arith, omega arith)
-code_within OutOfRange = (omega arith, omega arith)
-code_within NoSlot = (omega arith, omega arith)
-code_within Revoked = (omega arith, omega arith)
-code_within Sealed = (omega arith, omega arith)
-code_within Unsealed = (omega arith, omega arith)
-code_within OutOfBounds = (omega arith, omega arith)
-code_within Inexact = (omega arith, omega arith)
-code_within Unrepresentable = (omega arith, omega arith)
-code_within MissingPermission = (omega arith, omega arith)
-code_within ReservedType = (omega arith, omega arith)
-code_within TypeMismatch = (omega arith, omega arith)
-code_within NotCanonical = (omega arith, omega arith)
-code_within ExceedsAuthority = (omega arith, omega arith)
-code_within NoPool = (omega arith, omega arith)
-code_within PoolAlreadySet = (omega arith, omega arith)
-code_within ZeroSize = (omega arith, omega arith)
-code_within NoRoom = (omega arith, omega arith)
-code_within NoObject = (omega arith, omega arith)
-code_within Full = (omega arith, omega arith)
 
 -- A reply that is not a refusal is not this refusal.
 no_refusal : (refusal : Refusal) (reply : Reply) → is_error reply ≡ false → is_refusal refusal reply ≡ false
