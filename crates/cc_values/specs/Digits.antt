@@ -1,5 +1,5 @@
--- Digits after those of a number, and the result of reading a number. No public clause cites this
--- file.
+-- Digits after those of a number, and the result of reading a number. Of this file, public clauses cite
+-- `Spells` alone.
 use Rattle.std.specs.Prelude.{◌≡◌, ◌<◌, ◌^◌, ℕ, List, if◌then◌else◌, Option, Some, None}
 use Rattle.std.specs.List.{list_all}
 use Rattle.std.specs.Char.{is_digit}

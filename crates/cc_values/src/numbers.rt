@@ -22,6 +22,8 @@ pub fn read_address(text: &[u8]) -> Result<u64, Refusal>
 }
 
 /// Parses the number of a slot or of an object, at most 2^32 - 1.
+///
+/// Errors, in order: `Syntax` if the string is not a number; `OutOfRange` above the maximum.
 #[inline(always)]
 pub fn read_index(text: &[u8]) -> Result<u32, Refusal>
     ensures { result ≡ index_in text.now }

@@ -27,6 +27,8 @@ pub fn both<A: Copy, B: Copy>(
 
 /// Parses a set of permissions: names in upper case, joined by `+`, in any order and repeated or
 /// not, or `-` for none.
+///
+/// Errors: `Syntax` for any other string.
 #[inline(always)]
 pub fn read_permissions(text: &[u8]) -> Result<Perms, Refusal>
     ensures { result ≡ permissions_in text.now }
