@@ -1,4 +1,4 @@
--- The columns of a chart: each has the largest levels of as many successive events.
+-- The columns of a chart: each has the largest levels of the same number of successive events.
 use Rattle.std.specs.Prelude.{ℕ, ◌≡◌, ◌⊎◌, ◌≤◌, ◌<◌, min, ◌+◌, ◌-◌, ◌*◌, ◌^◌, ◌==◌, nat_lt, List, [], ◌∷◌, ◌++◌, length, if◌then◌else◌}
 use Rattle.cc_chart.specs.declared.levels.Levels.{Levels}
 use Rattle.cc_chart.specs.Levels.{greater_of, greatest, no_levels}
@@ -21,7 +21,7 @@ joined [] = []
 joined (last ∷ []) = last ∷ []
 joined (first ∷ second ∷ others) = greater_of first second ∷ joined others
 
--- The chart with half as many columns, each of twice as many events, if it has 256.
+-- The chart with half as many columns, each of twice as many events, at most 2^64 - 1, if it has 256.
 abbrev pub halved_if_full : Chart → Chart
 halved_if_full chart =
     if length chart.columns == 256

@@ -39,7 +39,7 @@ curve_text curve scale columns = codes "<path d='M0,3200" ++ steps_text curve sc
 
 -- ---- The axes.
 
--- The name of the unit of 2^(10 * thousands) bytes.
+-- The name of the unit of 2^(10 * thousands) bytes, and the end of the label.
 unfoldable pub byte_unit : (thousands : ℕ) → List ℕ
 byte_unit zero = codes " B</text>\n"
 byte_unit (suc zero) = codes " KiB</text>\n"
@@ -67,7 +67,7 @@ abbrev pub event_unit : (step : ℕ) → ℕ
 event_unit step =
     if nat_lt step (10 ^ 3) then 1 else if nat_lt step (10 ^ 6) then 10 ^ 3 else if nat_lt step (10 ^ 9) then 10 ^ 6 else 10 ^ 9
 
--- The letter of this number of events.
+-- The letter of the unit by which a label counts events, and the end of the label.
 abbrev pub event_letter : (step : ℕ) → List ℕ
 event_letter step =
     if nat_lt step (10 ^ 3) then codes "</text>\n"
@@ -135,7 +135,7 @@ labels_text scale reach =
 abbrev pub scaled_text : Scale → (reach : ℕ) → List Levels → List ℕ
 scaled_text scale reach columns = labels_text scale reach ++ curves_text scale columns
 
--- The drawing of columns of as many events.
+-- The drawing of columns of `width` events each.
 abbrev pub drawing_of : (events width : ℕ) → List Levels → List ℕ
 drawing_of events width columns =
     opening_text ++ counts_text events width ++ sheet_text

@@ -10,8 +10,8 @@ use std::marker::Model;
 /// The number of columns at which each is joined with the next.
 const MOST_COLUMNS: usize = 256;
 
-/// The levels of a heap over its events, in fewer than 256 columns of as many successive events each, and
-/// one that is not full.
+/// The levels of a heap over its events, in fewer than 256 columns, each of the same number of successive
+/// events, and one that is not full.
 ///
 /// A column has the largest levels of its events. Once there are 256, each is joined with the next, and
 /// is of twice as many events from then on.

@@ -6,8 +6,8 @@ ghost use Rattle.cc_chart.specs.Chart.{IsChartOf, no_chart, with_events};
 ghost use Rattle.cc_chart.specs.Drawing.{bytes_of};
 ghost use Rattle.cc_chart.specs.Scale.{reach_of, step_count, step_power, top_of};
 
-/// Proves that a chart shows each of its events in a column: the first events in the first, as many in
-/// each, and that a column has the largest levels of its events.
+/// Proves that a chart shows each of its events in a column, in order, the same number of them in each
+/// full column, and that a column has the largest levels of its events.
 ///
 /// The events are fewer than 2^64. A chart has at most 256 columns, and all but the last have the same
 /// number of events: the smallest power of two for which fewer than 256 columns are full.

@@ -16,7 +16,7 @@ pub struct Levels {
 }
 
 /// The levels of a heap that has held nothing.
-pub const NO_LEVELS: Levels = Levels {
+pub(crate) const NO_LEVELS: Levels = Levels {
     live: 0,
     quarantine: 0,
     held: 0,

@@ -14,4 +14,4 @@ mod scale;
 pub use chart::Chart;
 pub use drawing::write_chart;
 pub use laws::{axes_reach_all_bytes, columns_are_of_all_events};
-pub use levels::{Levels, NO_LEVELS};
+pub use levels::Levels;
