@@ -2,4 +2,3 @@ pub mod EntryLemmas
 pub mod HistoryLemmas
 pub mod LineLemmas
 pub mod ScriptLemmas
-pub mod OutputLemmas

@@ -4,18 +4,18 @@ use Rattle.std.proofs.lemmas.Bool.Decides.{nat_tests}
 use Rattle.std.proofs.lemmas.List.{append-nil}
 use Rattle.std.proofs.lemmas.List.Elements.{All-nil}
 use Rattle.cc_bounds.specs.declared.align.Align.{Align}
-use Rattle.cc_heap.specs.declared.event.Event.{Event}
-use Rattle.cc_heap.specs.declared.event.Event.TheVariants.{Allocate, Clear, Reallocate, Free, Sweep, Clock}
+use Rattle.cc_events.specs.declared.event.Event.{Event}
+use Rattle.cc_events.specs.declared.event.Event.TheVariants.{Allocate, Clear, Reallocate, Free, Sweep, Clock}
 use Rattle.cc_heap.specs.declared.outcome.Outcome.{Outcome}
 use Rattle.cc_heap.specs.declared.reallocation.Reallocation.TheVariants.{Move}
 use Rattle.cc_heap.specs.declared.settings.Settings.{Settings}
 use Rattle.cc_heap.specs.Events.{FailsInEvent, FailsToMake, IsEvent, IsSweptOrNot}
 use Rattle.cc_heap.specs.Heap.{Heap, empty_heap}
 use Rattle.cc_io.specs.Answers.{AnswersInto}
-use Rattle.cc_replay.specs.declared.formats.Entry.{Entry}
-use Rattle.cc_replay.specs.declared.reading.Progress.TheVariants.{Stopped, OutOfMemory}
-use Rattle.cc_replay.specs.Reading.{progress_after}
-use Rattle.cc_replay.specs.Replay.{is_refused}
+use Rattle.cc_formats.specs.declared.formats.Entry.{Entry}
+use Rattle.cc_formats.specs.declared.reading.Progress.TheVariants.{Stopped, OutOfMemory}
+use Rattle.cc_formats.specs.Reading.{progress_after}
+use Rattle.cc_heap.specs.Outcomes.{is_refused}
 use Rattle.cc_changes.specs.declared.deeds.Deeds.{Deeds}
 use Rattle.cc_changes.specs.declared.deeds.Entry.{Entry as MadeEntry}
 use Rattle.cc_changes.specs.Changes.{AsksForUnit, asks_for_unit}

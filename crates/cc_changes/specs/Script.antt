@@ -1,21 +1,21 @@
 -- The script of a trace: the lines of the operations that its changes are, written while its lines are taken.
-use Rattle.std.specs.Prelude.{◌≡◌, ◌≤◌, ◌⊎◌, ℕ, Bool, true, false, ◌-◌, ◌^◌, ◌&&◌, ◌||◌, nat_lt, is_none, List, [], ◌++◌, length, Option, Some, None, Result, Ok, Err}
+use Rattle.std.specs.Prelude.{◌≡◌, ◌≤◌, ◌⊎◌, ℕ, Bool, true, false, ◌-◌, ◌^◌, ◌&&◌, ◌||◌, nat_lt, is_none, List, [], ◌++◌, Option, Some, None, Result, Ok, Err}
 use Rattle.std.specs.List.{AllByRecursion}
 use Rattle.cc_word.specs.declared.refusal.Refusal.{Refusal}
-use Rattle.cc_heap.specs.declared.event.Event.{Event}
+use Rattle.cc_events.specs.declared.event.Event.{Event}
 use Rattle.cc_heap.specs.declared.outcome.Outcome.{Outcome}
 use Rattle.cc_heap.specs.declared.settings.Settings.{Settings}
 use Rattle.cc_heap.specs.Events.{IsEvent}
 use Rattle.cc_heap.specs.Heap.{Heap, empty_heap}
-use Rattle.cc_replay.specs.declared.formats.Entry.{Entry}
-use Rattle.cc_replay.specs.declared.reading.Progress.{Progress}
-use Rattle.cc_replay.specs.declared.reading.Progress.TheVariants.{Running, Stopped, OutOfMemory}
-use Rattle.cc_replay.specs.declared.reading.Reading.{Reading}
-use Rattle.cc_replay.specs.Formats.{entry_in}
-use Rattle.cc_replay.specs.Reading.{progress_after}
-use Rattle.cc_replay.specs.Replay.{is_refused}
+use Rattle.cc_formats.specs.declared.formats.Entry.{Entry}
+use Rattle.cc_formats.specs.declared.reading.Progress.{Progress}
+use Rattle.cc_formats.specs.declared.reading.Progress.TheVariants.{Running, Stopped, OutOfMemory}
+use Rattle.cc_formats.specs.declared.reading.Reading.{Reading}
+use Rattle.cc_formats.specs.Formats.{entry_in}
+use Rattle.cc_formats.specs.Reading.{progress_after}
+use Rattle.cc_heap.specs.Outcomes.{is_refused}
 use Rattle.cc_changes.specs.Changes.{CanBePlanned, Change, Changes, asks_for_unit, objects_made}
-use Rattle.cc_changes.specs.Operations.{no_numbers, numbers_after, operation_lines, operations_of}
+use Rattle.cc_changes.specs.Operations.{numbers_after, operation_lines, operations_of}
 use Rattle.cc_changes.specs.Deeds.{NumberedIds, asked_entry, numbers_of}
 
 -- The state of a script: the heap, how the trace is read, the pointer of the first half of a reallocation whose second
@@ -37,7 +37,7 @@ script_begun settings reading = record {
   progress = Running;
 }
 
--- The number of objects that a machine of `plan` can make.
+-- The number of objects that a machine of `plan` with 65,536 slots can make.
 abbrev pub most_objects : ℕ
 most_objects = 65533
 
@@ -137,13 +137,3 @@ ScriptsRestIn _ old rest text is_error new = Passes old text is_error new
 -- ScriptsRest holds if trailing bytes are refused, unless no further line is taken.
 abbrev pub ScriptsRest : (old : ScriptState) → (rest text : List ℕ) → (is_error : Bool) → (new : ScriptState) → Type 0
 ScriptsRest old = ScriptsRestIn old.progress old
-
--- HasScript holds if the output is the script of changes that lead from a heap that held nothing to this one: the lines
--- of their operations, in order, with the numbers of objects from 1 on. A machine can make each of their objects, of which
--- there are no more than it has slots for.
-pub record HasScript (settings : Settings) (output : List ℕ) (heap : Heap) : Type 0 where
-  pub changes : List Change
-  pub are : Changes (empty_heap settings) changes heap
-  pub plannable : AllByRecursion (CanBePlanned settings.align) (objects_made changes)
-  pub few : length (objects_made changes) ≤ most_objects
-  pub output_is : output ≡ operation_lines (operations_of settings.policy no_numbers changes)

@@ -1,10 +1,10 @@
 //! The deeds of an event.
 ghost use Rattle.std.specs.Prelude.{◌≡◌};
-ghost use Rattle.cc_heap.specs.Lost.{freed_id, made_id};
 ghost use Rattle.cc_changes.specs.Deeds.{as_number, asked_entry, deeds_of, was_made};
 
 use crate::deeds::{Deeds, Entry};
-use cc_heap::{Event, Making, Outcome};
+use cc_events::Event;
+use cc_heap::{Making, Outcome};
 
 /// Returns the deeds of an event with this outcome, in which there was this number of sweeps, and after which the
 /// quarantine is empty or is not.
@@ -14,12 +14,12 @@ pub(crate) fn deeds_of(event: Event, outcome: Outcome, sweeps: u64, clean: bool)
     let freed = if outcome.unknown {
         None
     } else {
-        freed_id(event)
+        event.freed_id()
     };
     let is_swept = freed.is_some() && clean;
     Deeds {
         cleared: if outcome.was_live {
-            made_id(event)
+            event.made_id()
         } else {
             None
         },
@@ -39,28 +39,6 @@ pub(crate) fn as_number(flag: bool) -> u64
     ensures { result ≡ as_number flag }
 {
     if flag { 1 } else { 0 }
-}
-
-/// Returns the id that an event frees, or `None` if it frees none.
-fn freed_id(event: Event) -> Option<u64>
-    ensures { result ≡ freed_id event }
-{
-    match event {
-        Event::Reallocate { old, .. } => Some(old),
-        Event::Free { id } => Some(id),
-        Event::Allocate { .. } | Event::Clear { .. } | Event::Sweep | Event::Clock(_) => None,
-    }
-}
-
-/// Returns the id under which an event makes an object, or `None` if it makes none.
-fn made_id(event: Event) -> Option<u64>
-    ensures { result ≡ made_id event }
-{
-    match event {
-        Event::Allocate { id, .. } | Event::Clear { id, .. } => Some(id),
-        Event::Reallocate { new, .. } => Some(new),
-        Event::Free { .. } | Event::Sweep | Event::Clock(_) => None,
-    }
 }
 
 /// Returns the id and the size of the object that an event asks for, or `None` if it asks for none.

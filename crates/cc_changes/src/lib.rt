@@ -3,11 +3,9 @@
 
 mod deeds;
 mod doing;
-mod laws;
 mod lines;
 mod numbering;
 mod rules;
 mod script;
 
-pub use laws::outputs_are_scripts;
 pub use script::{Script, script_trace};

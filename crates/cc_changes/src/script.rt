@@ -4,7 +4,8 @@ ghost use Rattle.cc_io.specs.Answers.{AnswersInto};
 ghost use Rattle.cc_io.specs.Correct.{Pumps};
 ghost use Rattle.cc_io.specs.Frames.{lines};
 ghost use Rattle.cc_heap.specs.declared.reallocation.Reallocation.TheVariants.{Move};
-ghost use Rattle.cc_heap.specs.Events.{HasAlignment, IsEvent};
+ghost use Rattle.cc_events.specs.Alignment.{HasAlignment};
+ghost use Rattle.cc_heap.specs.Events.{IsEvent};
 ghost use Rattle.cc_changes.specs.Operations.{operation_lines};
 ghost use Rattle.cc_changes.specs.Deeds.{DoesDeeds, deed_operations, is_swept_clean, numbers_of, numbers_with};
 ghost use Rattle.cc_changes.specs.Script.{AppendsEntry, AppendsEvent, Refuses, ScriptsLine, ScriptsNext, ScriptsRest, can_have, most_objects, script_begun};
@@ -13,11 +14,12 @@ use crate::deeds::Deeds;
 use crate::doing::{asked_entry, deeds_of};
 use crate::lines::push_deeds;
 use crate::numbering::Numbering;
-use crate::rules::{asks_for_unit, is_immediate, is_refused, progress_after};
-use cc_heap::{Event, Heap, Outcome, Settings};
+use crate::rules::asks_for_unit;
+use cc_events::Event;
+use cc_formats::{Entry, Progress, Reading, read_entry};
+use cc_heap::{Heap, Outcome, Settings};
 use cc_io::{Answerer, IoError, Lines, Sink, Source, Summary, pump};
 use cc_placer::Placer;
-use cc_replay::{Entry, Progress, Reading, read_entry};
 use cc_text::{Page, Waiting};
 use std::alloc::{AllocError, Global};
 use std::marker::Model;
@@ -25,7 +27,7 @@ use std::marker::Model;
 /// The maximum number of objects of a script.
 const MOST_OBJECTS: u32 = 65533;
 
-/// The maximum number of sweeps after which an event is taken.
+/// The number of sweeps after which no event is taken.
 const MOST_SWEEPS: u64 = u64::MAX - 3;
 
 /// A heap over a trace, and the script of the operations by which a machine follows it.
@@ -133,7 +135,7 @@ impl<P: Placer> Script<P> {
     fn refuse(&mut self) -> bool
         ensures { Refuses self.old [] result self.new }
     {
-        self.progress = progress_after(self.reading, true);
+        self.progress = self.reading.progress_after(true);
         true
     }
 
@@ -165,8 +167,8 @@ impl<P: Placer> Script<P> {
             self.progress = Progress::OutOfMemory;
             return false;
         }
-        let is_refused = is_refused(outcome);
-        self.progress = progress_after(self.reading, is_refused);
+        let is_refused = outcome.is_refused();
+        self.progress = self.reading.progress_after(is_refused);
         is_refused
     }
 
@@ -222,7 +224,7 @@ impl<P: Placer> Script<P> {
     fn is_swept_clean(&self) -> bool
         ensures { result ≡ is_swept_clean self.now.heap }
     {
-        !is_immediate(self.heap.settings().policy) && self.heap.usage().quarantine == 0
+        !self.heap.settings().policy.is_immediate() && self.heap.usage().quarantine == 0
     }
 }
 
@@ -249,10 +251,12 @@ impl<P: Placer, const N: usize> Answerer<N> for Script<P> {
 
 /// Takes the lines of the trace that the source gives, and writes the script to the sink.
 ///
-/// The script has the operations of all changes of the heap, a line each. It ends before the first event that no
-/// script can have: one that asks for a larger alignment than the unit of its object, or for one object more than 65,533,
-/// or that comes after 2^64 - 4 sweeps. That line is refused. If an allocation fails, [`Script::progress`] says so, and no further line is taken. The
-/// source is read in chunks of up to 16 KiB. Before each read, the lines of earlier events are written. The sink is
+/// The script has the operations of all changes of the heap, a line each. It ends before the first event
+/// that no script can have: one that asks for a larger alignment than the unit of its object, or for one
+/// object more than 65,533, or that comes after 2^64 - 4 sweeps. That line is refused.
+///
+/// If an allocation fails, [`Script::progress`] says so, and no further line is taken. The source is read
+/// in chunks of up to 16 KiB. Before each read, the lines of earlier events are written. The sink is
 /// flushed once, at the end.
 ///
 /// Requires: neither the source nor the sink has failed.

@@ -2,8 +2,5 @@ pub mod MemoryLemmas
 pub mod PlaceLemmas
 pub mod HeapLemmas
 pub mod StepLemmas
-pub mod HistoryLemmas
-pub mod PeakLemmas
 pub mod RunLemmas
 pub mod SizeLemmas
-pub mod MadeLemmas

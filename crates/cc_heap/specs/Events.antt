@@ -1,9 +1,8 @@
 -- The effect of an event on a heap.
 use Rattle.std.specs.Prelude.{ℕ, Bool, true, false, ◌≡◌, ◌≢◌, ◌⊎◌, ◌≤◌, max, Option, Some, None, IsSome, IsNone, MatchOption, length, if◌then◌else◌}
-use Rattle.std.specs.Int.{IsPowerOfTwo}
 use Rattle.cc_placer.specs.Placement.{HasNoPlace}
-use Rattle.cc_heap.specs.declared.event.Event.{Event}
-use Rattle.cc_heap.specs.declared.event.Event.TheVariants.{Allocate, Clear, Reallocate, Free, Sweep, Clock}
+use Rattle.cc_events.specs.declared.event.Event.{Event}
+use Rattle.cc_events.specs.declared.event.Event.TheVariants.{Allocate, Clear, Reallocate, Free, Sweep, Clock}
 use Rattle.cc_heap.specs.declared.making.Making.{Making}
 use Rattle.cc_heap.specs.declared.making.Making.TheVariants.{Made}
 use Rattle.cc_heap.specs.declared.object.Object.{Object}
@@ -12,11 +11,6 @@ use Rattle.cc_placer.specs.Align.{padded_size_for}
 use Rattle.cc_heap.specs.Memory.{held_spans, start_unit}
 use Rattle.cc_heap.specs.Policy.{is_of_the_trace}
 use Rattle.cc_heap.specs.Heap.{Attempts, FreesObject, Heap, KeepsObject, MakesObject, MustSweep, kept_object, object_under, swept}
-
--- HasAlignment holds if an alignment that the event asks for is a power of two.
-abbrev pub HasAlignment : Event → Type 0
-HasAlignment (Allocate id size align) = IsPowerOfTwo align
-HasAlignment _ = Unit
 
 -- The size of an object: a requested size of 0 counts as 1.
 abbrev pub size_of : (requested : ℕ) → ℕ

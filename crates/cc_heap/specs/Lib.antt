@@ -5,6 +5,7 @@ pub mod Reallocation
 pub mod Totals
 pub mod Heap
 pub mod Events
+pub mod Outcomes
 pub mod Run
 pub mod Peaks
 pub mod Sizes

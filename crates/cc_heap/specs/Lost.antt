@@ -1,8 +1,8 @@
 -- A heap over a trace, and the ids whose objects were not made: the lost ones.
 use Rattle.std.specs.Prelude.{ℕ, Bool, true, false, not, ◌≡◌, ◌<◌, ◌&&◌, cond, get_or, nat_eq, List, [], ◌∷◌, Option, Some, None}
 use Rattle.std.specs.List.{list_any}
-use Rattle.cc_heap.specs.declared.event.Event.{Event}
-use Rattle.cc_heap.specs.declared.event.Event.TheVariants.{Allocate, Clear, Reallocate, Free}
+use Rattle.cc_events.specs.declared.event.Event.{Event}
+use Rattle.cc_events.specs.Ids.{freed_id, made_id}
 use Rattle.cc_heap.specs.declared.making.Making.{Making}
 use Rattle.cc_heap.specs.declared.making.Making.TheVariants.{NoRoom, Full}
 use Rattle.cc_heap.specs.declared.outcome.Outcome.{Outcome}
@@ -32,18 +32,6 @@ is_lost lost id = list_any (nat_eq id) lost
 abbrev pub is_lost_one : List ℕ → Option ℕ → Bool
 is_lost_one lost (Some id) = is_lost lost id
 is_lost_one lost None = false
-
--- The id that an event frees, and the id under which it makes an object.
-abbrev pub freed_id : Event → Option ℕ
-freed_id (Reallocate old new size) = Some old
-freed_id (Free id) = Some id
-freed_id _ = None
-
-abbrev pub made_id : Event → Option ℕ
-made_id (Allocate id size align) = Some id
-made_id (Clear id size) = Some id
-made_id (Reallocate old new size) = Some new
-made_id _ = None
 
 -- Whether an object was to be made, and was not.
 abbrev pub is_not_made : Option Making → Bool

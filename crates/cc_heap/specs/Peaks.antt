@@ -12,8 +12,8 @@ totals_without_peaks totals = record totals { peak_live = 0; peak_quarantine = 0
 abbrev pub without_peaks : Heap → Heap
 without_peaks heap = record heap { totals = totals_without_peaks heap.totals }
 
--- HasPeaks holds if the heap `old` passes some states on its way to `new`, and each peak of bytes is the largest
--- value over these states.
+-- HasPeaks holds if the heap `old`, without its peaks, passes some states on its way to `new`, and each peak of
+-- bytes is the largest value over these states.
 pub record HasPeaks (old new : Heap) : Type 0 where
   pub moments : List Moment
   pub passes : Passes (without_peaks old) moments new

@@ -3,9 +3,7 @@
 #![tactic(auto)]
 
 mod entries;
-mod event;
 mod heap;
-mod laws;
 mod making;
 mod object;
 mod outcome;
@@ -18,9 +16,8 @@ mod sizes;
 mod totals;
 mod usage;
 
-pub use event::Event;
+pub use cc_events::Event;
 pub use heap::Heap;
-pub use laws::{peaks_are_of_an_event, sizes_are_of_all_objects, totals_are_of_all_states};
 pub use making::Making;
 pub use object::Object;
 pub use outcome::Outcome;

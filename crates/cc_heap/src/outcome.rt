@@ -1,4 +1,7 @@
 //! The outcome of an event.
+ghost use Rattle.std.specs.Prelude.{◌≡◌};
+ghost use Rattle.cc_heap.specs.Outcomes.{is_refused};
+
 use crate::making::Making;
 
 /// The outcome of an event.
@@ -15,4 +18,18 @@ pub struct Outcome {
     pub lost: bool,
     /// Whether the object that the event makes is made, or `None` if it makes none.
     pub making: Option<Making>,
+}
+
+impl Outcome {
+    /// Returns whether the event is refused: the id of its object is not live or is lost, or is that
+    /// of a live one, or the object cannot be made.
+    pub fn is_refused(self) -> bool
+        ensures { result ≡ is_refused self }
+    {
+        self.unknown
+            || self.was_live
+            || self.lost
+            || matches!(self.making, Some(Making::NoRoom))
+            || matches!(self.making, Some(Making::Full))
+    }
 }

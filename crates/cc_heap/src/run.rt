@@ -1,12 +1,11 @@
 //! A heap over a trace, and the ids whose objects were not made.
 ghost use Rattle.std.specs.Prelude.{◌≡◌, ℕ, [], length, IfOk, IfSome, OnOk, ◌<◌, ◌≤◌};
-ghost use Rattle.cc_heap.specs.Events.{HasAlignment};
-ghost use Rattle.cc_heap.specs.Lost.{IsRunEvent, freed_id, is_lost, is_lost_one, is_not_made, made_id, noted};
+ghost use Rattle.cc_events.specs.Alignment.{HasAlignment};
+ghost use Rattle.cc_heap.specs.Lost.{IsRunEvent, is_lost, is_lost_one, is_not_made, noted};
 ghost use Rattle.cc_heap.specs.Memory.{IsSound, held_spans, usage_of};
 ghost use Rattle.cc_heap.specs.Peaks.{without_peaks};
 ghost use Rattle.cc_heap.specs.Sizes.{no_sizes, with_made_size};
 
-use crate::event::Event;
 use crate::heap::Heap;
 use crate::making::Making;
 use crate::outcome::Outcome;
@@ -16,6 +15,7 @@ use crate::sizes::{NO_OBJECTS, SizeTotals, count_size, made_size};
 use crate::totals::Totals;
 use crate::usage::Usage;
 use cc_bounds::Align;
+use cc_events::Event;
 use cc_placer::Placer;
 use std::alloc::{AllocError, Global};
 use std::collections::HashSet;
@@ -62,9 +62,9 @@ impl<P: Placer> Run<P> {
     {
         let align = self.heap.settings().align;
         let told = self.heap.event(event)?;
-        let was_lost = self.is_lost(freed_id(event));
-        self.note(freed_id(event), false)?;
-        self.note(made_id(event), is_not_made(told.making))?;
+        let was_lost = self.is_lost(event.freed_id());
+        self.note(event.freed_id(), false)?;
+        self.note(event.made_id(), is_not_made(told.making))?;
         count_made(&mut self.sizes, align, made_size(event, told.making));
         Ok(Outcome {
             unknown: told.unknown && !was_lost,
@@ -147,28 +147,6 @@ fn count_made(sizes: &mut [SizeTotals; 64], align: Align, size: Option<u64>)
 {
     if let Some(size) = size {
         count_size(sizes, size, padded_size(align, size));
-    }
-}
-
-/// Returns the id that an event frees, or `None` if it frees none.
-fn freed_id(event: Event) -> Option<u64>
-    ensures { result ≡ freed_id event }
-{
-    match event {
-        Event::Reallocate { old, .. } => Some(old),
-        Event::Free { id } => Some(id),
-        Event::Allocate { .. } | Event::Clear { .. } | Event::Sweep | Event::Clock(_) => None,
-    }
-}
-
-/// Returns the id under which an event makes an object, or `None` if it makes none.
-fn made_id(event: Event) -> Option<u64>
-    ensures { result ≡ made_id event }
-{
-    match event {
-        Event::Allocate { id, .. } | Event::Clear { id, .. } => Some(id),
-        Event::Reallocate { new, .. } => Some(new),
-        Event::Free { .. } | Event::Sweep | Event::Clock(_) => None,
     }
 }
 

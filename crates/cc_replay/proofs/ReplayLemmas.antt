@@ -1,16 +1,17 @@
 -- An event that was taken.
 use Rattle.std.proofs.Common.{◌≡◌, ℕ, Bool, List, ◌++◌, Option, refl, ◌∙◌, ap, inl, subst}
 use Rattle.cc_replay.specs.declared.counts.Counts.{Counts}
-use Rattle.cc_heap.specs.declared.event.Event.{Event}
+use Rattle.cc_events.specs.declared.event.Event.{Event}
 use Rattle.cc_io.specs.Answers.{AnswersInto}
-use Rattle.cc_replay.specs.declared.formats.Entry.{Entry}
+use Rattle.cc_formats.specs.declared.formats.Entry.{Entry}
 use Rattle.cc_heap.specs.declared.outcome.Outcome.{Outcome}
-use Rattle.cc_replay.specs.declared.reading.Progress.{Progress}
-use Rattle.cc_replay.specs.declared.reading.Reading.{Reading}
+use Rattle.cc_formats.specs.declared.reading.Progress.{Progress}
+use Rattle.cc_formats.specs.declared.reading.Reading.{Reading}
 use Rattle.cc_replay.specs.Counts.{with_event, with_outcome}
 use Rattle.cc_heap.specs.Lost.{IsRunEvent, RunState}
-use Rattle.cc_replay.specs.Reading.{is_due, progress_after}
-use Rattle.cc_replay.specs.Replay.{AppendsEntry, AppendsEvent, ReplayState, TakesNext, next_entry, is_refused, sample_text, time_after}
+use Rattle.cc_formats.specs.Reading.{is_due, progress_after}
+use Rattle.cc_heap.specs.Outcomes.{is_refused}
+use Rattle.cc_replay.specs.Replay.{AppendsEntry, AppendsEvent, ReplayState, TakesNext, next_entry, sample_text, time_after}
 
 -- the state after an event, by its parts
 abbrev pub state_of : RunState → Reading → Counts → (pending : Option ℕ) → ℕ → Progress → Bool → ReplayState

@@ -1,14 +1,13 @@
 -- The counts of the lines of a trace, with one line more.
-use Rattle.std.specs.Prelude.{ℕ, Bool, true, false, ◌+◌, ◌==◌, nat_lt, Option, Some, if◌then◌else◌}
+use Rattle.std.specs.Prelude.{ℕ, Bool, ◌+◌, ◌==◌, nat_lt, if◌then◌else◌}
 use Rattle.cc_word.specs.declared.refusal.Refusal.{Refusal}
 use Rattle.cc_word.specs.declared.refusal.Refusal.TheVariants.{OutOfRange, Unfinished}
 use Rattle.cc_replay.specs.declared.counts.Count.{Count}
 use Rattle.cc_replay.specs.declared.counts.Counts.{Counts}
-use Rattle.cc_heap.specs.declared.event.Event.{Event}
-use Rattle.cc_heap.specs.declared.event.Event.TheVariants.{Allocate, Clear, Reallocate, Free, Sweep, Clock}
-use Rattle.cc_heap.specs.declared.making.Making.{Making}
-use Rattle.cc_heap.specs.declared.making.Making.TheVariants.{NoRoom, Full}
+use Rattle.cc_events.specs.declared.event.Event.{Event}
+use Rattle.cc_events.specs.declared.event.Event.TheVariants.{Allocate, Clear, Reallocate, Free, Sweep, Clock}
 use Rattle.cc_heap.specs.declared.outcome.Outcome.{Outcome}
+use Rattle.cc_heap.specs.Outcomes.{is_full, is_no_room}
 use Rattle.cc_heap.specs.Totals.{capped_count}
 
 -- The count with this line, which is the first if there was none.
@@ -62,15 +61,6 @@ with_kind (Clock time) counts = counts
 -- The counts with the last line as this event.
 abbrev pub with_event : Event → Counts → Counts
 with_event event counts = with_kind event (record counts { events = capped_count (counts.events + 1) })
-
--- Whether there was no place for an object, and whether it was one more than the heap can hold.
-abbrev pub is_no_room : Option Making → Bool
-is_no_room (Some NoRoom) = true
-is_no_room _ = false
-
-abbrev pub is_full : Option Making → Bool
-is_full (Some Full) = true
-is_full _ = false
 
 -- The counts with what came of the event of the last line.
 abbrev pub with_outcome : Outcome → Counts → Counts

@@ -1,23 +1,24 @@
 -- A heap over a trace that takes its lines, and the output: the samples of a series.
-use Rattle.std.specs.Prelude.{◌≡◌, ◌⊎◌, ℕ, Bool, true, false, not, ◌&&◌, ◌||◌, ◌==◌, List, [], ◌∷◌, ◌++◌, if◌then◌else◌, Option, Some, None, Result, Ok, Err}
+use Rattle.std.specs.Prelude.{◌≡◌, ◌⊎◌, ℕ, Bool, true, false, not, ◌&&◌, ◌==◌, List, [], ◌∷◌, ◌++◌, if◌then◌else◌, Option, Some, None, Result, Ok, Err}
 use Rattle.cc_word.specs.declared.refusal.Refusal.{Refusal}
 use Rattle.cc_word.specs.declared.refusal.Refusal.TheVariants.{Unfinished}
 use Rattle.cc_replay.specs.declared.counts.Count.{Count}
 use Rattle.cc_replay.specs.declared.counts.Counts.{Counts}
-use Rattle.cc_heap.specs.declared.event.Event.{Event}
-use Rattle.cc_heap.specs.declared.event.Event.TheVariants.{Clock}
-use Rattle.cc_replay.specs.declared.formats.Entry.{Entry}
-use Rattle.cc_replay.specs.declared.formats.TraceFormat.{TraceFormat}
+use Rattle.cc_events.specs.declared.event.Event.{Event}
+use Rattle.cc_events.specs.declared.event.Event.TheVariants.{Clock}
+use Rattle.cc_formats.specs.declared.formats.Entry.{Entry}
+use Rattle.cc_formats.specs.declared.formats.TraceFormat.{TraceFormat}
 use Rattle.cc_heap.specs.declared.outcome.Outcome.{Outcome}
-use Rattle.cc_replay.specs.declared.reading.Progress.{Progress}
-use Rattle.cc_replay.specs.declared.reading.Progress.TheVariants.{Running, OutOfMemory}
-use Rattle.cc_replay.specs.declared.reading.Reading.{Reading}
+use Rattle.cc_formats.specs.declared.reading.Progress.{Progress}
+use Rattle.cc_formats.specs.declared.reading.Progress.TheVariants.{Running, OutOfMemory}
+use Rattle.cc_formats.specs.declared.reading.Reading.{Reading}
 use Rattle.cc_replay.specs.declared.summary.Figures.{Figures}
-use Rattle.cc_replay.specs.Counts.{is_full, is_no_room, with_event, with_failure, with_line, with_outcome, with_refusal}
-use Rattle.cc_replay.specs.Formats.{entry_in, has_pointers}
+use Rattle.cc_heap.specs.Outcomes.{is_refused}
+use Rattle.cc_replay.specs.Counts.{with_event, with_failure, with_line, with_outcome, with_refusal}
+use Rattle.cc_formats.specs.Formats.{entry_in, has_pointers}
 use Rattle.cc_heap.specs.Lost.{IsRunEvent, RunState}
 use Rattle.cc_heap.specs.Memory.{IsSound, usage_of}
-use Rattle.cc_replay.specs.Reading.{is_due, progress_after}
+use Rattle.cc_formats.specs.Reading.{is_due, progress_after}
 use Rattle.cc_replay.specs.Rows.{names_line, values_line}
 use Rattle.cc_replay.specs.Summary.{sample_rows}
 
@@ -77,12 +78,6 @@ figures_of state = record {
   usage = usage_of state.run.heap.memory;
   has_pointers = has_pointers state.reading.format;
 }
-
--- Whether an event is refused: the id of its object is not live or is lost, or is that of a live one, or
--- the object cannot be made.
-abbrev pub is_refused : Outcome → Bool
-is_refused outcome =
-    outcome.unknown || outcome.was_live || outcome.lost || is_no_room outcome.making || is_full outcome.making
 
 -- The time after an event.
 abbrev pub time_after : Event → (time : ℕ) → ℕ

@@ -5,7 +5,7 @@ use Rattle.cc_io.specs.Answers.{Output}
 use Rattle.cc_io.specs.Devices.{TakesBeginning}
 use Rattle.cc_io.specs.Frames.{lines}
 use Rattle.cc_io.specs.declared.summary.Summary.{Summary}
-use Rattle.cc_replay.specs.declared.reading.Progress.TheVariants.{OutOfMemory}
+use Rattle.cc_formats.specs.declared.reading.Progress.TheVariants.{OutOfMemory}
 use Rattle.cc_replay.specs.declared.summarizing.Failure.{Failure}
 use Rattle.cc_replay.specs.declared.summarizing.Failure.TheVariants.{Memory, Read, Write}
 use Rattle.cc_replay.specs.declared.table.Format.{Format}

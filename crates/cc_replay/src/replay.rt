@@ -5,18 +5,17 @@ ghost use Rattle.cc_io.specs.Correct.{Pumps};
 ghost use Rattle.cc_io.specs.Frames.{lines};
 ghost use Rattle.cc_io.specs.Devices.{TakesBeginning};
 ghost use Rattle.std.specs.Io.KnownBytes.{Appends};
-ghost use Rattle.cc_replay.specs.declared.reading.Progress.TheVariants.{OutOfMemory};
-ghost use Rattle.cc_heap.specs.Events.{HasAlignment};
+ghost use Rattle.cc_formats.specs.declared.reading.Progress.TheVariants.{OutOfMemory};
+ghost use Rattle.cc_events.specs.Alignment.{HasAlignment};
 ghost use Rattle.cc_heap.specs.Lost.{empty_run};
 ghost use Rattle.cc_heap.specs.Peaks.{without_peaks};
-ghost use Rattle.cc_replay.specs.Replay.{AppendsEntry, AppendsEvent, Refuses, TakesLine, TakesNext, TakesRest, begun, figures_of, is_refused, last_sample, series_header, time_after};
+ghost use Rattle.cc_replay.specs.Replay.{AppendsEntry, AppendsEvent, Refuses, TakesLine, TakesNext, TakesRest, begun, figures_of, last_sample, series_header, time_after};
 
 use crate::counts::{Count, Counts};
-use crate::formats::{Entry, read_entry};
-use crate::reading::{Progress, Reading};
 use crate::series::{MOST_SAMPLE, push_sample, push_series_header};
 use crate::summary::{Figures, write_page};
-use cc_heap::{Event, Heap, Making, Outcome, Run, Settings, SizeTotals};
+use cc_formats::{Entry, Progress, Reading, read_entry};
+use cc_heap::{Event, Heap, Run, Settings, SizeTotals};
 use cc_io::{Answerer, IoError, Lines, Sink, Source, Summary, pump};
 use cc_placer::Placer;
 use cc_text::{Page, Waiting};
@@ -256,7 +255,7 @@ impl<P: Placer> Replay<P> {
                 return false;
             }
         };
-        let is_refused = is_refused(outcome);
+        let is_refused = outcome.is_refused();
         self.counts = self.counts.with_event(event).with_outcome(outcome);
         self.time = time_after(event, self.time);
         self.progress = self.reading.progress_after(is_refused);
@@ -268,18 +267,6 @@ impl<P: Placer> Replay<P> {
         }
         is_refused
     }
-}
-
-/// Returns whether an event is refused: the id of its object is not live or is lost, or is that of a
-/// live one, or the object cannot be made.
-fn is_refused(outcome: Outcome) -> bool
-    ensures { result ≡ is_refused outcome }
-{
-    outcome.unknown
-        || outcome.was_live
-        || outcome.lost
-        || matches!(outcome.making, Some(Making::NoRoom))
-        || matches!(outcome.making, Some(Making::Full))
 }
 
 /// Returns the time after an event.

@@ -1,12 +1,12 @@
 //! The summary of a whole trace.
 ghost use Rattle.std.specs.Prelude.{◌≡◌, ◌≢◌, ◌↔◌, Err, false, true, None, IfOk, IsErr, OnOk};
-ghost use Rattle.cc_replay.specs.declared.reading.Progress.TheVariants.{OutOfMemory};
+ghost use Rattle.cc_formats.specs.declared.reading.Progress.TheVariants.{OutOfMemory};
 ghost use Rattle.cc_replay.specs.Summarizing.{Summarizes, TakesTrace};
 
-use crate::reading::Progress;
 use crate::replay::{Replay, replay_trace};
 use crate::summary::write_summary;
 use crate::table::Format;
+use cc_formats::Progress;
 use cc_io::{Failed, Sink, Source, Summary};
 use cc_placer::Placer;
 

@@ -1,0 +1,2 @@
+pub mod Alignment
+pub mod Ids

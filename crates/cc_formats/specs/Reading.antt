@@ -1,0 +1,15 @@
+-- How a trace is read: when no further line is taken, and which events have a sample.
+use Rattle.std.specs.Prelude.{ℕ, Bool, not, ◌&&◌, ◌||◌, ◌==◌, ◌%◌, if◌then◌else◌}
+use Rattle.cc_formats.specs.declared.reading.Progress.{Progress}
+use Rattle.cc_formats.specs.declared.reading.Progress.TheVariants.{Running, Stopped}
+use Rattle.cc_formats.specs.declared.reading.Reading.{Reading}
+
+-- Whether further lines are taken after a line: not if it is refused, and reading is strict.
+abbrev pub progress_after : Reading → (is_refused : Bool) → Progress
+progress_after reading is_refused = if reading.is_strict && is_refused then Stopped else Running
+
+-- Whether an event has a sample: each event whose number is a multiple of the given one, and each that
+-- leads to a sweep, if there is a series.
+abbrev pub is_due : Reading → (event sweeps sweeps_now : ℕ) → Bool
+is_due reading event sweeps sweeps_now =
+    not (reading.each == 0) && (event % reading.each == 0 || not (sweeps_now == sweeps))

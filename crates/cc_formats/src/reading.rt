@@ -1,0 +1,48 @@
+//! How a trace is read.
+ghost use Rattle.std.specs.Prelude.{◌≡◌};
+ghost use Rattle.cc_formats.specs.Reading.{is_due, progress_after};
+
+use crate::formats::TraceFormat;
+
+/// How a trace is read.
+#[derive(Clone, Copy, PartialEq, Eq, Debug)]
+pub struct Reading {
+    /// The format of the trace.
+    pub format: TraceFormat,
+    /// Whether no line is taken after the first that is refused.
+    pub is_strict: bool,
+    /// The number of events from a sample of the series to the next, or 0 if there is no series.
+    pub each: u64,
+}
+
+/// Whether lines are taken.
+#[derive(Clone, Copy, PartialEq, Eq, Debug)]
+pub enum Progress {
+    /// Lines are taken.
+    Running,
+    /// No line is taken after one that was refused.
+    Stopped,
+    /// No line is taken, since an allocation failed.
+    OutOfMemory,
+}
+
+impl Reading {
+    /// Returns whether lines are taken after one that is refused or not.
+    pub fn progress_after(self, is_refused: bool) -> Progress
+        ensures { result ≡ progress_after self is_refused }
+    {
+        if self.is_strict && is_refused {
+            Progress::Stopped
+        } else {
+            Progress::Running
+        }
+    }
+
+    /// Returns whether the event of this number has a sample, if these are the numbers of sweeps
+    /// before it and after it.
+    pub fn is_due(self, event: u64, sweeps: u64, sweeps_now: u64) -> bool
+        ensures { result ≡ is_due self event sweeps sweeps_now }
+    {
+        self.each != 0 && (event % self.each == 0 || sweeps_now != sweeps)
+    }
+}

@@ -1,0 +1,4 @@
+pub mod HistoryLemmas
+pub mod PeakLemmas
+pub mod MadeLemmas
+pub mod PeaklessLemmas
