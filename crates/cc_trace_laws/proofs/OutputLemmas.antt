@@ -1,10 +1,11 @@
 -- The script of a trace, and a machine that takes it.
-use Rattle.std.proofs.Common.{ℕ, Bool, ◌≡◌, ◌≢◌, ◌+◌, ◌<◌, ◌≤◌, ◌^◌, List, length, arith, refl, sym, ap, subst, ◌∙◌}
+use Rattle.std.proofs.Common.{ℕ, Bool, ◌≡◌, ◌≢◌, ◌+◌, ◌<◌, ◌≤◌, ◌^◌, List, None, length, arith, refl, sym, ap, subst, ◌∙◌}
 use Rattle.std.specs.List.{AllByRecursion}
 use Rattle.cc_bounds.specs.declared.span.Span.{Span}
 use Rattle.cc_bounds.specs.Span.{IsSpan, span_from}
 use Rattle.cc_io.specs.Answers.{Output}
 use Rattle.cc_io.specs.Frames.{lines}
+use Rattle.cc_io.specs.Lines.{lines_of}
 use Rattle.cc_ops.specs.declared.op.Op.{Op}
 use Rattle.cc_ops.specs.declared.reply.Reply.{Reply}
 use Rattle.cc_syntax.specs.Planning.{plan_opening}
@@ -14,16 +15,17 @@ use Rattle.cc_machine.proofs.CapabilityLemmas.{HoldsCapabilities-reached}
 use Rattle.cc_machine.proofs.TotalLemmas.{Run-outcome}
 use Rattle.cc_heap.specs.declared.settings.Settings.{Settings}
 use Rattle.cc_heap.specs.Heap.{empty_heap}
-use Rattle.cc_replay.specs.declared.reading.Progress.TheVariants.{OutOfMemory}
-use Rattle.cc_replay.specs.declared.reading.Reading.{Reading}
+use Rattle.cc_formats.specs.declared.reading.Progress.TheVariants.{OutOfMemory}
+use Rattle.cc_formats.specs.declared.reading.Reading.{Reading}
+use Rattle.cc_replay.specs.Replay.{events_in}
 use Rattle.cc_changes.specs.Changes.{objects_made}
 use Rattle.cc_changes.specs.Operations.{no_numbers, operations_of}
 use Rattle.cc_changes.specs.Script.{ScriptState, ScriptsLine, ScriptsRest, script_begun}
-use Rattle.cc_changes.proofs.OutputLemmas.{output_is_script}
-use Rattle.cc_translation.specs.Translation.{IsAccepted, IsFollowed, IsReadAs}
-use Rattle.cc_translation.proofs.LawLemmas.{places_alike}
-use Rattle.cc_translation.proofs.OpeningLemmas.{opened_ready}
-use Rattle.cc_translation.proofs.ReadLemmas.{CanBeRead, all_can, all_in_space, read_back}
+use Rattle.cc_trace_laws.proofs.ScriptedLemmas.{output_is_script}
+use Rattle.cc_trace_laws.specs.Translation.{IsAccepted, IsFollowed, IsReadAs}
+use Rattle.cc_trace_laws.proofs.LawLemmas.{places_alike}
+use Rattle.cc_trace_laws.proofs.OpeningLemmas.{opened_ready}
+use Rattle.cc_trace_laws.proofs.ReadLemmas.{CanBeRead, all_can, all_in_space, read_back}
 
 pub followed : (limit base size : ℕ) (settings : Settings) (reading : Reading) (new : ScriptState) (text output : List ℕ)
     (any_error : Bool) (opening : List Reply) (opened : State)
@@ -33,7 +35,7 @@ pub followed : (limit base size : ℕ) (settings : Settings) (reading : Reading)
     → Run (initial_state limit) (plan_opening base size settings.align) opening opened
     → AllByRecursion IsAccepted opening
     → 65536 ≤ limit
-    → IsFollowed settings output new.heap opened
+    → IsFollowed settings (events_in reading.format None (lines_of text)) new.progress output new.heap opened
 followed limit base size settings reading new text output any_error opening opened is has_memory pool_is opens accepted slots =
     let script = output_is_script settings reading new text output any_error is has_memory in
     let ready = (opened_ready limit base size settings.align opening opened opens accepted).0 in
@@ -49,9 +51,7 @@ followed limit base size settings reading new text output any_error opening open
     (λ id. (let none : 0 ≤ 0 = omega arith in none)) in
     let outcome = Run-outcome opened ops ready.reached (all_in_space ops can) in
     record {
-      changes = script.changes;
-      are = script.are;
-      output_is = script.output_is;
+      script = script;
       reads = subst (λ (t : List ℕ). IsReadAs t ops) (sym script.output_is)
           (read_back ops can);
       runs = (outcome.replies, outcome.new, outcome.run);

@@ -15,8 +15,8 @@ use Rattle.cc_machine.specs.State.{State, SlotState, initial_state, tagged_slot,
 use Rattle.cc_machine.specs.Run.{IsReached, Run}
 use Rattle.cc_machine.specs.Step.{Adds, Derives, Refuses, SetsPool, Step, usable_slot}
 use Rattle.cc_syntax.specs.Planning.{plan_opening}
-use Rattle.cc_translation.specs.Translation.{IsAccepted}
-use Rattle.cc_translation.proofs.StepLemmas.{IsReady, objects_of}
+use Rattle.cc_trace_laws.specs.Translation.{IsAccepted}
+use Rattle.cc_trace_laws.proofs.StepLemmas.{IsReady, objects_of}
 
 -- a refusal is not accepted
 pub refused : (reply : Reply) (refusal : Refusal) → reply ≡ Refused refusal → IsAccepted reply → ⊥

@@ -1,24 +1,26 @@
-//! Laws of heaps and machines.
-ghost use Rattle.std.specs.Prelude.{◌≡◌, ◌≢◌, ℕ, Bool, ◌+◌, ◌≤◌, List, length};
+//! Laws of heaps and machines: both place alike.
+ghost use Rattle.std.specs.Prelude.{◌≡◌, ◌≢◌, ℕ, Bool, ◌+◌, ◌≤◌, List, None, length};
 ghost use Rattle.std.specs.List.{AllByRecursion};
 ghost use Rattle.cc_bounds.specs.Span.{span_from};
 ghost use Rattle.cc_io.specs.Answers.{Output};
 ghost use Rattle.cc_io.specs.Frames.{lines};
+ghost use Rattle.cc_io.specs.Lines.{lines_of};
 ghost use Rattle.cc_ops.specs.declared.reply.Reply.{Reply};
 ghost use Rattle.cc_syntax.specs.Planning.{plan_opening};
 ghost use Rattle.cc_machine.specs.State.{State, initial_state};
 ghost use Rattle.cc_machine.specs.Run.{Run};
-ghost use Rattle.cc_heap.specs.declared.event.Event.{Event};
+ghost use Rattle.cc_events.specs.declared.event.Event.{Event};
 ghost use Rattle.cc_heap.specs.declared.reallocation.Reallocation.TheVariants.{Move};
 ghost use Rattle.cc_heap.specs.declared.settings.Settings.{Settings};
 ghost use Rattle.cc_heap.specs.Heap.{Heap, empty_heap};
 ghost use Rattle.cc_heap.specs.Run.{Runs};
-ghost use Rattle.cc_replay.specs.declared.reading.Progress.TheVariants.{OutOfMemory};
-ghost use Rattle.cc_replay.specs.declared.reading.Reading.{Reading};
+ghost use Rattle.cc_replay.specs.Replay.{events_in};
+ghost use Rattle.cc_formats.specs.declared.reading.Progress.TheVariants.{OutOfMemory};
+ghost use Rattle.cc_formats.specs.declared.reading.Reading.{Reading};
 ghost use Rattle.cc_changes.specs.Changes.{AsksForUnit, CanBePlanned, Change, Changes, objects_made};
 ghost use Rattle.cc_changes.specs.Operations.{no_numbers, operations_of};
 ghost use Rattle.cc_changes.specs.Script.{ScriptState, ScriptsLine, ScriptsRest, script_begun};
-ghost use Rattle.cc_translation.specs.Translation.{IsAccepted, IsFollowed, IsTranslated, PlacesAlike};
+ghost use Rattle.cc_trace_laws.specs.Translation.{IsAccepted, IsFollowed, IsTranslated, PlacesAlike};
 
 /// Proves that a machine that takes the changes of a heap as operations places each object at the bytes
 /// at which the heap placed it, and holds the same spans in the end.
@@ -62,9 +64,10 @@ pub fn traces_are_placed_alike()
 /// which the heap placed it, and holds the same spans in the end.
 ///
 /// `Output` is the relation between a trace and its output that
-/// [`script_trace`](cc_changes::script_trace) states by `Pumps`. The lines of the output are read by
-/// [`parse_line`](cc_syntax::parse_line) as the operations of the heap's changes, and the machine has a
-/// run of these. The pool of the machine is that of the heap, made by
+/// [`script_trace`](cc_changes::script_trace) states by `Pumps`. The output is the script of the trace's
+/// own events, as [`outputs_are_scripts`](crate::outputs_are_scripts) says. Its lines are read by
+/// [`parse_line`](cc_syntax::parse_line) as the operations of the changes of these events, and the
+/// machine has a run of these. The pool of the machine is that of the heap, made by
 /// [`plan_opening`](cc_syntax::plan_opening), with the heap's alignment. A script makes at most 65,533
 /// objects, so that 65,536 slots are enough. It holds for every trace.
 pub fn scripts_are_placed_alike()
@@ -75,5 +78,5 @@ pub fn scripts_are_placed_alike()
         → settings.pool ≡ span_from base size
         → Run (initial_state limit) (plan_opening base size settings.align) opening opened → AllByRecursion IsAccepted opening
         → 65536 ≤ limit
-        → IsFollowed settings output new.heap opened }
+        → IsFollowed settings (events_in reading.format None (lines_of text)) new.progress output new.heap opened }
 {}

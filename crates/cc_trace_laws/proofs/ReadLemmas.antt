@@ -25,8 +25,8 @@ use Rattle.cc_heap.specs.Policy.{is_immediate}
 use Rattle.cc_changes.specs.Changes.{Change, Changes, MakesThis, objects_made}
 use Rattle.cc_changes.specs.Changes.Change.{Make as MakeOne, Free as FreeOne, Replace as ReplaceOne, Sweep as SweepAll}
 use Rattle.cc_changes.specs.Operations.{Numbers, freeing, operation_line, operation_lines, operations_of, with_number}
-use Rattle.cc_changes.proofs.OutputLemmas.{change_settings}
-use Rattle.cc_translation.specs.Translation.{IsReadAs}
+use Rattle.cc_trace_laws.proofs.ScriptedLemmas.{change_settings}
+use Rattle.cc_trace_laws.specs.Translation.{IsReadAs}
 
 -- an operation of a change, whose value is in the range of its type
 abbrev pub CanBeRead : Op → Type 0

@@ -4,5 +4,10 @@ pub mod OpeningLemmas
 pub mod LawLemmas
 pub mod EventLemmas
 pub mod TraceLemmas
+pub mod SeenLemmas
+pub mod ScriptedLemmas
 pub mod ReadLemmas
 pub mod OutputLemmas
+pub mod ChartedRunLemmas
+pub mod TakenLemmas
+pub mod ReadBackLemmas

@@ -6,15 +6,15 @@ use Rattle.cc_ops.specs.declared.reply.Reply.{Reply}
 use Rattle.cc_machine.specs.State.{State, initial_state}
 use Rattle.cc_machine.specs.Run.{Run}
 use Rattle.cc_syntax.specs.Planning.{plan_opening}
-use Rattle.cc_heap.specs.declared.event.Event.{Event}
+use Rattle.cc_events.specs.declared.event.Event.{Event}
 use Rattle.cc_heap.specs.declared.reallocation.Reallocation.TheVariants.{Move}
 use Rattle.cc_heap.specs.declared.settings.Settings.{Settings}
 use Rattle.cc_heap.specs.Heap.{Heap, empty_heap}
 use Rattle.cc_heap.specs.Run.{Runs}
 use Rattle.cc_changes.specs.Changes.{AsksForUnit, objects_made}
-use Rattle.cc_translation.specs.Translation.{IsAccepted, IsTranslated}
-use Rattle.cc_translation.proofs.EventLemmas.{has_changes}
-use Rattle.cc_translation.proofs.LawLemmas.{places_alike}
+use Rattle.cc_trace_laws.specs.Translation.{IsAccepted, IsTranslated}
+use Rattle.cc_trace_laws.proofs.EventLemmas.{has_changes}
+use Rattle.cc_trace_laws.proofs.LawLemmas.{places_alike}
 
 pub translated : (limit base size : ℕ) (settings : Settings) (events : List Event) (heap : Heap)
     (opening : List Reply) (opened : State)

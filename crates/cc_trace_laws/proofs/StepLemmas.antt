@@ -32,7 +32,7 @@ use Rattle.cc_machine.proofs.RevokingLemmas.{RevokesFreed-same}
 use Rattle.cc_machine.proofs.RunLemmas.{IsReached-step}
 use Rattle.cc_machine.proofs.SlotLemmas.{IsSlot-same, IsSlot-stays, length-with_slot}
 use Rattle.cc_machine.proofs.TreeLemmas.{Keeps-reached}
-use Rattle.cc_translation.proofs.HoldLemmas.{new_object}
+use Rattle.cc_trace_laws.proofs.HoldLemmas.{new_object}
 
 -- the objects of a state, with their bounds
 abbrev pub objects_of : State → List PlannedObject

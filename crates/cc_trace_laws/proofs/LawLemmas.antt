@@ -37,12 +37,12 @@ use Rattle.cc_heap.proofs.MemoryLemmas.{found_first}
 use Rattle.cc_changes.specs.Changes.{CanBePlanned, Change, Changes, MakesThis, ReplacesThis, objects_made}
 use Rattle.cc_changes.specs.Changes.Change.{Make, Free, Replace, Sweep}
 use Rattle.cc_changes.specs.Operations.{Numbers, freeing, no_numbers, operations_of, with_number}
-use Rattle.cc_translation.specs.Translation.{IsAccepted, PlacesAlike, spans_in, spans_of}
+use Rattle.cc_trace_laws.specs.Translation.{IsAccepted, PlacesAlike, spans_in, spans_of}
 use Rattle.cc_changes.specs.Kept.{id_weight}
 use Rattle.cc_changes.proofs.EntryLemmas.{HasOneMore, itself, none_counted, one_fewer, one_more}
-use Rattle.cc_translation.proofs.HoldLemmas.{HoldAlike, alike_freed, alike_made, alike_swept, hold_same_spans, new_object, numbered}
-use Rattle.cc_translation.proofs.StepLemmas.{IsAllocated, IsReady, alloc_step, free_step, objects_of, sweep_step}
-use Rattle.cc_translation.proofs.OpeningLemmas.{opened_ready}
+use Rattle.cc_trace_laws.proofs.HoldLemmas.{HoldAlike, alike_freed, alike_made, alike_swept, hold_same_spans, new_object, numbered}
+use Rattle.cc_trace_laws.proofs.StepLemmas.{IsAllocated, IsReady, alloc_step, free_step, objects_of, sweep_step}
+use Rattle.cc_trace_laws.proofs.OpeningLemmas.{opened_ready}
 
 -- a heap and a machine that hold alike
 record AreAlike (settings : Settings) (limit : ℕ) (heap : Heap) (numbers : Numbers) (state : State) : Type 0 where

@@ -1,0 +1,35 @@
+//! The laws of replays.
+ghost use Rattle.std.specs.Prelude.{◌≡◌, ℕ, Bool, List, Ok, Some};
+ghost use Rattle.cc_io.specs.Answers.{Output};
+ghost use Rattle.cc_io.specs.Frames.{lines};
+ghost use Rattle.cc_io.specs.Lines.{lines_of};
+ghost use Rattle.cc_events.specs.declared.event.Event.{Event};
+ghost use Rattle.cc_events.specs.Alignment.{HasAlignment};
+ghost use Rattle.cc_heap.specs.Lost.{RunsNoting};
+ghost use Rattle.cc_replay.specs.Replay.{ReplayState, TakesLine, TakesRest, events_in};
+ghost use Rattle.cc_formats.specs.Trace.{HasNumbersInRange, entry_of, event_text};
+ghost use Rattle.cc_heap.specs.Run.{Runs};
+ghost use Rattle.cc_formats.specs.declared.reading.Progress.TheVariants.{Running};
+
+/// Proves that a replay has the events of the trace's lines happen to its heap, in order, and nothing
+/// else, if lines are still taken at its end. The ids that are lost are noted after each event.
+///
+/// `Output` is the relation between an input and its output that [`replay_trace`](cc_replay::replay_trace) states by `Pumps`. So
+/// the totals of a whole replay are numbers of all states that the heap has passed.
+pub fn replays_are_runs()
+    ensures heap { (old new : ReplayState) (text output : List ℕ) (any_error : Bool)
+        → Output TakesLine TakesRest lines old text output any_error new → new.progress ≡ Running
+        → Runs old.run.heap (events_in old.reading.format old.pending (lines_of text)) new.run.heap }
+    ensures lost { (old new : ReplayState) (text output : List ℕ) (any_error : Bool)
+        → Output TakesLine TakesRest lines old text output any_error new → new.progress ≡ Running
+        → RunsNoting old.run (events_in old.reading.format old.pending (lines_of text)) new.run }
+{}
+
+/// Proves that every event is the event of its line in the own format: its name and its numbers in
+/// decimal, with a space between.
+///
+/// So no two events have one line, and the format can give each event.
+pub fn events_are_read_back()
+    ensures { (event : Event) → HasAlignment event → HasNumbersInRange event
+        → entry_of (event_text event) ≡ Ok (Some event) }
+{}
