@@ -1,6 +1,5 @@
+mod InputLemmas
 mod ReplayTextsLemmas
 mod ReplayingLemmas
 mod ChartingLemmas
-mod ChartedRunLemmas
-mod PeaklessLemmas
 mod ScriptingLemmas

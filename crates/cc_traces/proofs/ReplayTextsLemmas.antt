@@ -7,9 +7,11 @@ use Rattle.cc_bounds.specs.declared.align.Align.{Align}
 use Rattle.cc_bounds.specs.declared.span.Span.{Span}
 use Rattle.cc_values.specs.Values.{both}
 use Rattle.cc_heap.specs.declared.policy.Policy.{Policy}
-use Rattle.cc_replay.specs.declared.formats.TraceFormat.{TraceFormat}
-use Rattle.cc_replay.specs.declared.reading.Reading.{Reading}
+use Rattle.cc_formats.specs.declared.formats.TraceFormat.{TraceFormat}
+use Rattle.cc_formats.specs.declared.reading.Reading.{Reading}
+use Rattle.cc_bounds.specs.Span.{IsSpan}
 use Rattle.cc_heap.specs.declared.reallocation.Reallocation.{Reallocation}
+use Rattle.cc_heap.specs.declared.reallocation.Reallocation.TheVariants.{Move}
 use Rattle.cc_heap.specs.declared.settings.Settings.{Settings}
 use Rattle.cc_arguments.specs.declared.invocation.ReplayTexts.{ReplayTexts}
 use Rattle.cc_devices.specs.Refused.{changed}
@@ -33,6 +35,24 @@ from_changed change (Err refusal) found e = cc e
 pub of_value : {A : Type 0} (P : A → Type 0) (result : Result A Refusal) (value : A) → IfOk result P → result ≡ Ok value → P value
 of_value P (Ok other) value holds e = let same : other ≡ value = cc e in subst P same holds
 of_value P (Err refusal) value holds e = cc e
+
+-- The pool of the texts is a span, if that of its own text is.
+pub pool_found : {A B C : Type 0} (sweeping : Result A Refusal) (each : Result B Refusal) (pool : Result Span Refusal) (naming : Result C Refusal)
+    (found : A × (B × (Span × C))) → both sweeping (both each (both pool naming)) ≡ Ok found → IfOk pool IsSpan → IsSpan found.1.1.0
+pool_found sweeping each pool naming found told holds =
+    let later = parts_of_both sweeping (both each (both pool naming)) found told in
+    let placing = parts_of_both each (both pool naming) found.1 later.1 in
+    of_value IsSpan pool found.1.1.0 holds (parts_of_both pool naming found.1.1 placing.1).0
+
+-- The effect of a reallocation by the texts is to move the object, if that by its own text is.
+pub moves_found : {A B C D : Type 0} (sweeping : Result A Refusal) (each : Result B Refusal) (pool : Result C Refusal) (format : Result D Refusal)
+    (realloc : Result Reallocation Refusal) (found : A × (B × (C × (D × Reallocation))))
+    → both sweeping (both each (both pool (both format realloc))) ≡ Ok found → IfOk realloc (λ effect. effect ≡ Move) → found.1.1.1.1 ≡ Move
+moves_found sweeping each pool format realloc found told holds =
+    let later = parts_of_both sweeping (both each (both pool (both format realloc))) found told in
+    let placing = parts_of_both each (both pool (both format realloc)) found.1 later.1 in
+    let naming = parts_of_both pool (both format realloc) found.1.1 placing.1 in
+    of_value (λ effect. effect ≡ Move) realloc found.1.1.1.1 holds (parts_of_both format realloc found.1.1.1 naming.1).1
 
 none_given : (sizes svg script : Bool) (each : ℕ) → each_in sizes svg script None ≡ Ok each → 0 ≡ each
 none_given sizes svg script each e = by_two (are_two sizes svg script) e

@@ -1,6 +1,5 @@
 -- The output of `replay`, from that of its parts.
-use Rattle.std.proofs.Common.{◌≡◌, ◌≢◌, ℕ, Bool, true, false, zero, suc, List, Option, Some, None, Result, Ok, Err, MatchResult, refl, subst, sym, inl}
-use Rattle.std.specs.Prelude.{IfSome}
+use Rattle.std.proofs.Common.{◌≡◌, ◌≢◌, ℕ, Bool, true, false, zero, suc, List, Option, None, Result, Ok, Err, MatchResult, refl, subst, sym, inl, inr}
 use Rattle.std.specs.Borrow.{Bor}
 use Rattle.clap.specs.Words.{Text}
 use Rattle.cc_word.specs.declared.refusal.Refusal.{Refusal}
@@ -10,23 +9,22 @@ use Rattle.cc_io.specs.Devices.{TakesBeginning}
 use Rattle.cc_io.specs.declared.summary.IoError.{IoError}
 use Rattle.cc_io.specs.declared.summary.IoError.TheVariants.{Read, Write}
 use Rattle.cc_io.specs.declared.summary.Summary.{Summary}
-use Rattle.cc_heap.specs.Lost.{empty_run}
-use Rattle.cc_replay.specs.Replay.{ReplayState, begun, last_sample}
-use Rattle.cc_replay.specs.declared.reading.Progress.TheVariants.{OutOfMemory}
-use Rattle.cc_replay.specs.declared.reading.Reading.{Reading}
+use Rattle.cc_replay.specs.Replay.{ReplayState, last_sample}
+use Rattle.cc_formats.specs.declared.reading.Progress.TheVariants.{OutOfMemory}
+use Rattle.cc_formats.specs.declared.reading.Reading.{Reading}
 use Rattle.cc_heap.specs.declared.settings.Settings.{Settings}
 use Rattle.cc_arguments.specs.declared.invocation.ReplayTexts.{ReplayTexts}
 use Rattle.cc_arguments.specs.declared.invocation.SummaryFormat.{SummaryFormat}
-use Rattle.cc_devices.specs.Devices.{Console, FromInput, OnDevices, Traffic, traffic_of}
+use Rattle.cc_devices.specs.Devices.{Console, FromInput, OnDevices, Traffic}
 use Rattle.cc_devices.specs.Input.{file_input}
 use Rattle.cc_traces.specs.Charting.{ChartsTrace}
 use Rattle.cc_traces.specs.ReplayTexts.{replay_in}
 use Rattle.cc_traces.specs.Scripting.{ScriptsTrace}
-use Rattle.cc_traces.specs.Replaying.{Replays, ReplaysAll, ReplaysTrace, Samples, SamplesAll, StopsInSummary, StopsSampling, SumsUp, SumsUpAll, WithReplay, WritesReplay, WritesTrace, end_text}
+use Rattle.cc_traces.specs.Replaying.{Replays, ReplaysAll, ReplaysTrace, Samples, SamplesAll, StopsInSummary, StopsSampling, SumsUp, SumsUpAll, WithReplay, WritesReplay, WritesTrace}
 use Rattle.cc_devices.specs.Refused.{WritesRefusal}
 use Rattle.cc_devices.specs.declared.fault.Fault.{Fault}
 use Rattle.cc_devices.specs.declared.input.InputName.{InputName}
-use Rattle.cc_devices.proofs.DeviceLemmas.{from_input, on_devices-map}
+use Rattle.cc_devices.proofs.DeviceLemmas.{on_devices-map}
 
 -- The whole trace was taken, for bytes that are the same.
 replays_all : (old new : ReplayState) (unread unread_too left left_too output output_now : Option (List ℕ)) (summary : Summary) → unread_too ≡ unread → left_too ≡ left
@@ -92,47 +90,31 @@ stops_sampling old new traffic unread left output output_now error u l o n repla
     by_error Read stops = stops
     by_error Write stops = inl stops
 
+-- A series of whose last sample a prefix was written, for the traffic of the devices.
+pub stops_in_last : (old new : ReplayState) (traffic : Traffic) (unread left output output_then output_now : Option (List ℕ)) (summary : Summary)
+    → traffic.unread ≡ unread → traffic.left ≡ left → traffic.output ≡ output → traffic.output_now ≡ output_now
+    → Replays old unread left output output_then (Ok summary) new → new.progress ≢ OutOfMemory → TakesBeginning output_then output_now (last_sample new)
+    → Samples old traffic (Err Write)
+stops_in_last old new traffic unread left output output_then output_now summary u l o n replays has_memory written = inr (record {
+  summary = summary;
+  new = new;
+  output_then = output_then;
+  all = subst (λ (b : Option (List ℕ)). ReplaysAll old traffic.unread traffic.left b output_then summary new) (sym o)
+      (replays_all old new unread traffic.unread left traffic.left output output_then summary u l replays has_memory);
+  written = subst (λ (b : Option (List ℕ)). TakesBeginning output_then b (last_sample new)) (sym n) written;
+})
+
 -- The summary, if no samples are asked for.
-sums_up : (each : ℕ) (text_of : ReplayState → List ℕ) (old : ReplayState) (traffic : Traffic) (result : Result Summary IoError) → each ≡ 0 → SumsUp text_of old traffic result
-    → WritesReplay each text_of old traffic result
+pub sums_up : (each : ℕ) (text_of : ReplayState → List ℕ) (old : ReplayState) (traffic : Traffic) (result : Result Summary Fault) → each ≡ 0
+    → OnDevices (SumsUp text_of old traffic) result → OnDevices (WritesReplay each text_of old traffic) result
 sums_up zero text_of old traffic result none holds = holds
 sums_up (suc less) text_of old traffic result none holds = cc none
 
 -- The series, if samples are asked for.
-samples : (each : ℕ) (text_of : ReplayState → List ℕ) (old : ReplayState) (traffic : Traffic) (result : Result Summary IoError) → each ≢ 0 → Samples old traffic result
-    → WritesReplay each text_of old traffic result
+pub samples : (each : ℕ) (text_of : ReplayState → List ℕ) (old : ReplayState) (traffic : Traffic) (result : Result Summary Fault) → each ≢ 0
+    → OnDevices (Samples old traffic) result → OnDevices (WritesReplay each text_of old traffic) result
 samples zero text_of old traffic result some holds = absurd (some refl)
 samples (suc less) text_of old traffic result some holds = holds
-
--- A replay of an input, of which the summary was written.
-pub sums_up_input : (sizes : Bool) (format : SummaryFormat) (settings : Settings) (reading : Reading) (old : ReplayState) (input : InputName) (console : Console)
-    (bytes_of : InputName → Option (List ℕ)) (unread remaining left output output_now : Option (List ℕ)) (result : Result Summary Fault)
-    → old ≡ begun (empty_run settings) reading → reading.each ≡ 0 → console.input ≡ bytes_of → unread ≡ remaining
-    → IfSome (bytes_of input) (λ bytes. remaining ≡ Some bytes) → console.output ≡ output → console.output_now ≡ output_now
-    → ((traffic : Traffic) → traffic.unread ≡ unread → traffic.left ≡ left → traffic.output ≡ output → traffic.output_now ≡ output_now
-    → OnDevices (SumsUp (end_text sizes format) old traffic) result)
-    → OnDevices (FromInput input console (WritesTrace sizes format settings reading)) result
-sums_up_input sizes format settings reading old input console bytes_of unread remaining left output output_now result is none same has told o n holds =
-    on_devices-map (SumsUp (end_text sizes format) old (traffic_of console unread left)) (FromInput input console (WritesTrace sizes format settings reading))
-    (λ io done. from_input input console (WritesTrace sizes format settings reading) bytes_of unread remaining left io same has told
-    (sums_up reading.each (end_text sizes format) (begun (empty_run settings) reading) (traffic_of console unread left) io none
-    (subst (λ (state : ReplayState). SumsUp (end_text sizes format) state (traffic_of console unread left) io) is done)))
-    result (holds (traffic_of console unread left) refl refl o n)
-
--- A replay of an input, of which the series was written.
-pub samples_input : (sizes : Bool) (format : SummaryFormat) (settings : Settings) (reading : Reading) (old : ReplayState) (input : InputName) (console : Console)
-    (bytes_of : InputName → Option (List ℕ)) (unread remaining left output output_now : Option (List ℕ)) (result : Result Summary Fault)
-    → old ≡ begun (empty_run settings) reading → reading.each ≢ 0 → console.input ≡ bytes_of → unread ≡ remaining
-    → IfSome (bytes_of input) (λ bytes. remaining ≡ Some bytes) → console.output ≡ output → console.output_now ≡ output_now
-    → ((traffic : Traffic) → traffic.unread ≡ unread → traffic.left ≡ left → traffic.output ≡ output → traffic.output_now ≡ output_now
-    → OnDevices (Samples old traffic) result)
-    → OnDevices (FromInput input console (WritesTrace sizes format settings reading)) result
-samples_input sizes format settings reading old input console bytes_of unread remaining left output output_now result is some same has told o n holds =
-    on_devices-map (Samples old (traffic_of console unread left)) (FromInput input console (WritesTrace sizes format settings reading))
-    (λ io done. from_input input console (WritesTrace sizes format settings reading) bytes_of unread remaining left io same has told
-    (samples reading.each (end_text sizes format) (begun (empty_run settings) reading) (traffic_of console unread left) io some
-    (subst (λ (state : ReplayState). Samples state (traffic_of console unread left) io) is done)))
-    result (holds (traffic_of console unread left) refl refl o n)
 
 -- The replay that the texts ask for, from that of these settings.
 pub with_replay : (align : Align) (strict : Bool) (format : SummaryFormat) (texts : ReplayTexts) (file : Option (Bor Text)) (console : Console)

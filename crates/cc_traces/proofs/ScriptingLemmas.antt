@@ -1,19 +1,13 @@
 -- The output of `replay --script`, from that of its parts.
-use Rattle.std.proofs.Common.{◌≡◌, ◌≢◌, ℕ, List, [], Option, Some, Result, Ok, Err, refl, subst, sym}
-use Rattle.std.specs.Prelude.{IfSome}
+use Rattle.std.proofs.Common.{◌≡◌, ◌≢◌, ℕ, List, [], Option, Result, Ok, Err, subst, sym}
 use Rattle.cc_io.specs.Correct.{Pumps}
 use Rattle.cc_io.specs.Frames.{lines}
 use Rattle.cc_io.specs.declared.summary.IoError.{IoError}
 use Rattle.cc_io.specs.declared.summary.Summary.{Summary}
-use Rattle.cc_heap.specs.declared.settings.Settings.{Settings}
-use Rattle.cc_replay.specs.declared.reading.Progress.TheVariants.{OutOfMemory}
-use Rattle.cc_replay.specs.declared.reading.Reading.{Reading}
-use Rattle.cc_changes.specs.Script.{ScriptState, ScriptsLine, ScriptsRest, script_begun}
-use Rattle.cc_devices.specs.Devices.{Console, FromInput, OnDevices, Traffic, traffic_of}
-use Rattle.cc_devices.specs.declared.fault.Fault.{Fault}
-use Rattle.cc_devices.specs.declared.input.InputName.{InputName}
-use Rattle.cc_devices.proofs.DeviceLemmas.{from_input, on_devices-map}
-use Rattle.cc_traces.specs.Scripting.{Scripts, ScriptsAll, ScriptsTrace, StopsScript, WritesLines}
+use Rattle.cc_formats.specs.declared.reading.Progress.TheVariants.{OutOfMemory}
+use Rattle.cc_changes.specs.Script.{ScriptState, ScriptsLine, ScriptsRest}
+use Rattle.cc_devices.specs.Devices.{Traffic}
+use Rattle.cc_traces.specs.Scripting.{ScriptsAll, StopsScript, WritesLines}
 
 -- The lines were written, for bytes that are the same.
 writes_lines : (old new : ScriptState) (traffic : Traffic) (unread left output output_now : Option (List ℕ)) (result : Result Summary IoError)
@@ -44,17 +38,3 @@ stops_script old new traffic unread left output output_now error u l o n writes 
   new = new;
   writes = writes_lines old new traffic unread left output output_now (Err error) u l o n writes;
 }
-
--- The script of an input.
-pub scripts_input : (settings : Settings) (reading : Reading) (old : ScriptState) (input : InputName) (console : Console)
-    (bytes_of : InputName → Option (List ℕ)) (unread remaining left output output_now : Option (List ℕ)) (result : Result Summary Fault)
-    → old ≡ script_begun settings reading → console.input ≡ bytes_of → unread ≡ remaining
-    → IfSome (bytes_of input) (λ bytes. remaining ≡ Some bytes) → console.output ≡ output → console.output_now ≡ output_now
-    → ((traffic : Traffic) → traffic.unread ≡ unread → traffic.left ≡ left → traffic.output ≡ output → traffic.output_now ≡ output_now
-    → OnDevices (Scripts old traffic) result)
-    → OnDevices (FromInput input console (ScriptsTrace settings reading)) result
-scripts_input settings reading old input console bytes_of unread remaining left output output_now result is same has told o n holds =
-    on_devices-map (Scripts old (traffic_of console unread left)) (FromInput input console (ScriptsTrace settings reading))
-    (λ io done. from_input input console (ScriptsTrace settings reading) bytes_of unread remaining left io same has told
-    (subst (λ (state : ScriptState). Scripts state (traffic_of console unread left) io) is done))
-    result (holds (traffic_of console unread left) refl refl o n)

@@ -15,8 +15,8 @@ use Rattle.cc_heap.specs.Peaks.{without_peaks}
 use Rattle.cc_heap.specs.Totals.{capped_sum}
 use Rattle.cc_heap.specs.declared.settings.Settings.{Settings}
 use Rattle.cc_replay.specs.Replay.{ReplayState, TakesLine, TakesRest, begun, figures_of}
-use Rattle.cc_replay.specs.declared.reading.Progress.TheVariants.{OutOfMemory}
-use Rattle.cc_replay.specs.declared.reading.Reading.{Reading}
+use Rattle.cc_formats.specs.declared.reading.Progress.TheVariants.{OutOfMemory}
+use Rattle.cc_formats.specs.declared.reading.Reading.{Reading}
 use Rattle.cc_replay.specs.declared.summary.Figures.{Figures}
 use Rattle.cc_devices.specs.Devices.{Traffic}
 

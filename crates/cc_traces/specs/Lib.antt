@@ -1,6 +1,5 @@
 -- In reading order.
 pub mod ReplayTexts
 pub mod Charting
-pub mod ChartedRun
 pub mod Scripting
 pub mod Replaying

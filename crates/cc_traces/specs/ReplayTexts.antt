@@ -11,12 +11,12 @@ use Rattle.cc_bounds.specs.declared.span.Span.{Span}
 use Rattle.cc_values.specs.Values.{address_in, both}
 use Rattle.cc_command.specs.Request.{request_in}
 use Rattle.cc_replay.specs.PolicyText.{policy_in}
-use Rattle.cc_replay.specs.declared.formats.TraceFormat.{TraceFormat}
-use Rattle.cc_replay.specs.declared.formats.TraceFormat.TheVariants.{Own, Mtrace, Heaptrack, Ltrace}
+use Rattle.cc_formats.specs.declared.formats.TraceFormat.{TraceFormat}
+use Rattle.cc_formats.specs.declared.formats.TraceFormat.TheVariants.{Own, Mtrace, Heaptrack, Ltrace}
 use Rattle.cc_heap.specs.declared.policy.Policy.{Policy}
 use Rattle.cc_heap.specs.declared.policy.Policy.TheVariants.{Percent}
 use Rattle.cc_heap.specs.declared.policy.Share.TheVariants.{Held}
-use Rattle.cc_replay.specs.declared.reading.Reading.{Reading}
+use Rattle.cc_formats.specs.declared.reading.Reading.{Reading}
 use Rattle.cc_heap.specs.declared.reallocation.Reallocation.{Reallocation}
 use Rattle.cc_heap.specs.declared.reallocation.Reallocation.TheVariants.{Move, Keep}
 use Rattle.cc_heap.specs.declared.settings.Settings.{Settings}
@@ -39,12 +39,12 @@ not_zero (Ok zero) = Err OutOfRange
 not_zero (Ok (suc less)) = Ok (suc less)
 not_zero (Err refusal) = Err refusal
 
--- Whether two of the three are given.
+-- Whether at least two of the three are given.
 abbrev pub are_two : (sizes svg script : Bool) → Bool
 are_two sizes svg script = sizes && svg || (sizes && script || svg && script)
 
--- The number of events from one sample to the next that `--each` gives, or 0 if there is no series. `--sizes`, `--svg`, `--script`
--- and a series exclude each other.
+-- The number of events from one sample to the next that `--each` gives, or 0 if there is no series. A series
+-- excludes `--sizes`, `--svg` and `--script`, as each of these does the others.
 abbrev pub each_in : (sizes svg script : Bool) → Option (Bor Text) → Result ℕ Refusal
 each_in sizes svg script None = if are_two sizes svg script then Err Syntax else Ok 0
 each_in sizes svg script (Some text) = if sizes || (svg || script) then Err Syntax else not_zero (address_in text.now)
@@ -92,9 +92,10 @@ abbrev pub realloc_in : (script : Bool) → Option (Bor Text) → Result Realloc
 realloc_in script None = Ok Move
 realloc_in script (Some text) = in_script script (realloc_named text.now)
 
--- The settings of the heap and how the trace is read, or the error: that a text is not a number, not a policy, not a pool or not
--- one of the names, that two of `--sizes`, `--svg`, `--script` and `--each` are given, or `--script` with `--realloc keep`, comes first. Then comes that
--- a pool ends past 2^64, and then that a number is out of range.
+-- The settings of the heap and how the trace is read, or the first error. `Syntax` comes first: a text is not a
+-- number, not a policy, not a pool or not one of the names, or two of `--sizes`, `--svg`, `--script` and `--each`
+-- are given, or `--script` with `--realloc keep`. Then comes that a pool ends past 2^64, and then that a number is
+-- out of range.
 abbrev pub replay_in : Align → (strict : Bool) → ReplayTexts → Result (Settings × Reading) Refusal
 replay_in align strict texts =
     changed

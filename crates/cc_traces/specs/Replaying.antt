@@ -13,8 +13,8 @@ use Rattle.cc_replay.specs.Replay.{ReplayState, TakesLine, TakesRest, begun, fig
 use Rattle.cc_replay.specs.Rows.{table_text}
 use Rattle.cc_replay.specs.SizeTable.{sizes_text}
 use Rattle.cc_replay.specs.Summary.{summary_rows}
-use Rattle.cc_replay.specs.declared.reading.Progress.TheVariants.{OutOfMemory}
-use Rattle.cc_replay.specs.declared.reading.Reading.{Reading}
+use Rattle.cc_formats.specs.declared.reading.Progress.TheVariants.{OutOfMemory}
+use Rattle.cc_formats.specs.declared.reading.Reading.{Reading}
 use Rattle.cc_heap.specs.declared.settings.Settings.{Settings}
 use Rattle.cc_replay.specs.declared.table.Format.{Format}
 use Rattle.cc_replay.specs.declared.table.Format.TheVariants.{Text, Csv, Json}

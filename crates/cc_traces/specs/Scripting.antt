@@ -5,8 +5,8 @@ use Rattle.cc_io.specs.Frames.{lines}
 use Rattle.cc_io.specs.declared.summary.IoError.{IoError}
 use Rattle.cc_io.specs.declared.summary.Summary.{Summary}
 use Rattle.cc_heap.specs.declared.settings.Settings.{Settings}
-use Rattle.cc_replay.specs.declared.reading.Progress.TheVariants.{OutOfMemory}
-use Rattle.cc_replay.specs.declared.reading.Reading.{Reading}
+use Rattle.cc_formats.specs.declared.reading.Progress.TheVariants.{OutOfMemory}
+use Rattle.cc_formats.specs.declared.reading.Reading.{Reading}
 use Rattle.cc_changes.specs.Script.{ScriptState, ScriptsLine, ScriptsRest, script_begun}
 use Rattle.cc_devices.specs.Devices.{Traffic}
 

@@ -1,21 +1,21 @@
 //! A replay whose heap is drawn as a chart.
-ghost use Rattle.std.specs.Prelude.{◌≡◌, ◌≢◌, ◌≤◌, ◌+◌, ◌↔◌, [], None, false, true, length, Err, IsErr, OnErr, OnOk};
-ghost use Rattle.std.specs.Io.KnownBytes.{Appends};
+ghost use Rattle.std.specs.Prelude.{◌≡◌, ◌≢◌, ◌≤◌, ◌+◌, ◌^◌, ◌↔◌, [], None, false, true, length, Err, IfOk, OnOk};
+ghost use Rattle.cc_bounds.specs.Span.{IsSpan};
 ghost use Rattle.cc_io.specs.Answers.{AnswersInto};
 ghost use Rattle.cc_io.specs.Correct.{Pumps};
-ghost use Rattle.cc_io.specs.Devices.{TakesBeginning};
 ghost use Rattle.cc_io.specs.Frames.{lines};
-ghost use Rattle.cc_chart.specs.Chart.{no_chart};
-ghost use Rattle.cc_chart.specs.Drawing.{chart_text};
-ghost use Rattle.cc_devices.specs.Devices.{OnDevices, Traffic};
-ghost use Rattle.cc_traces.specs.Charting.{Charts, ChartsLine, ChartsRest, charted, levels_of};
+ghost use Rattle.cc_devices.specs.Devices.{FromInput, OnDevices, OnOutput, Traffic};
+ghost use Rattle.cc_devices.specs.Input.{IsFile};
+ghost use Rattle.cc_traces.specs.Charting.{Charts, ChartsLine, ChartsRest, begun_chart, charted, levels_of};
 
+use crate::MOST_REPLAYED;
 use cc_chart::{Chart, Levels, write_chart};
-use cc_devices::{Discard, Fault};
-use cc_io::{Answerer, IoError, Lines, Sink, Source, Summary, pump};
+use cc_devices::{Discard, Fault, InputName, Inputs};
+use cc_io::{Answerer, FromReader, IoError, Lines, Sink, Source, Summary, pump};
 use cc_placer::Placer;
-use cc_replay::{Figures, Progress, Replay};
+use cc_replay::{Figures, Progress, Reading, Replay, Settings};
 use cc_text::{Page, Waiting};
+use std::alloc::{AllocError, Global};
 use std::marker::Model;
 
 /// A replay, and the chart of its heap.
@@ -34,14 +34,23 @@ impl<P: Placer> Model for Charting<P> {
 }
 
 impl<P: Placer> Charting<P> {
-    /// Creates a chart of no events for a replay.
-    pub(crate) fn new(replay: Replay<P>) -> Self
-        ensures { result ≡ record { replay = replay; chart = no_chart } }
+    /// Creates a replay with a heap that holds nothing, and a chart of no events.
+    ///
+    /// Errors: `AllocError` if an allocation fails.
+    pub(crate) fn with_settings(
+        alloc: Global,
+        settings: Settings,
+        reading: Reading,
+    ) -> Result<Self, AllocError>
+        requires some { 1 ≤ settings.limit }
+        requires few { settings.limit ≤ 2 ^ 24 }
+        requires pool { IsSpan settings.pool }
+        ensures { IfOk result (λ charting. charting ≡ begun_chart settings reading) }
     {
-        Charting {
-            replay,
+        Ok(Charting {
+            replay: Replay::with_settings(alloc, settings, reading)?,
             chart: Chart::new(),
-        }
+        })
     }
 
     /// Returns whether lines are taken.
@@ -51,16 +60,11 @@ impl<P: Placer> Charting<P> {
         self.replay.progress()
     }
 
-    /// Writes the chart, and flushes the sink.
-    fn write<W: Sink>(&self, sink: &mut W) -> Result<(), IoError>
-        requires { W.has_failed sink.old ≡ false }
-        ensures ok { OnOk result (Appends (W.taken_bytes sink.old) (W.taken_bytes sink.new) (chart_text self.now.chart)) }
-        ensures err { OnErr result (TakesBeginning (W.taken_bytes sink.old) (W.taken_bytes sink.new) (chart_text self.now.chart)) }
-        ensures flushed { OnOk result (W.is_flushed sink.new ≡ true) }
-        ensures fails { IsErr result ↔ (W.has_failed sink.new ≡ true) }
-        ensures write { OnErr result (result ≡ Err IoError.Write) }
+    /// Returns the chart.
+    fn chart(&self) -> &Chart
+        ensures { result.now ≡ self.now.chart }
     {
-        write_chart(&self.chart, sink)
+        &self.chart
     }
 
     /// Takes a line, and adds the levels of its event to the chart, if it is one.
@@ -142,8 +146,28 @@ fn take_trace<P: Placer, S: Source>(
     pump(&Lines, charting, source, &mut Discard, &mut page)
 }
 
+/// Replays the trace of an input, and writes the chart of its heap.
+pub(crate) fn draw_input<P: Placer, I: Inputs, W: Sink>(
+    charting: &mut Charting<P>,
+    inputs: &I,
+    input: InputName<'_>,
+    sink: &mut W,
+) -> Result<Summary, Fault>
+    requires { W.has_failed sink.old ≡ false }
+    ensures charts { OnOutput (I.bytes_of inputs.now) (W.taken_bytes sink.old) (W.taken_bytes sink.new)
+        (λ console. FromInput input.entry console (Charts charting.old)) result }
+    ensures open { result ≡ Err Fault.Open → IsFile input.entry }
+    ensures untouched { result ≡ Err Fault.Open → W.taken_bytes sink.new ≡ W.taken_bytes sink.old }
+    ensures starved { result ≡ Err Fault.Memory → W.taken_bytes sink.new ≡ W.taken_bytes sink.old }
+    ensures write { (result ≡ Err Fault.Write) ↔ (W.has_failed sink.new ≡ true) }
+    ensures flushed { OnOk result (W.is_flushed sink.new ≡ true) }
+{
+    let mut source = FromReader::with_limit(inputs.open(input)?, MOST_REPLAYED);
+    draw(charting, &mut source, sink)
+}
+
 /// Replays a trace, and writes the chart of its heap.
-pub(crate) fn draw<P: Placer, S: Source, W: Sink>(
+fn draw<P: Placer, S: Source, W: Sink>(
     charting: &mut Charting<P>,
     source: &mut S,
     sink: &mut W,
@@ -163,6 +187,6 @@ pub(crate) fn draw<P: Placer, S: Source, W: Sink>(
     if let Progress::OutOfMemory = charting.progress() {
         return Err(Fault::Memory);
     }
-    charting.write(sink)?;
+    write_chart(charting.chart(), sink)?;
     Ok(summary)
 }

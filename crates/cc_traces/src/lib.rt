@@ -2,10 +2,11 @@
 #![tactic(auto)]
 
 mod charting;
-mod laws;
 mod replay_texts;
 mod replaying;
 mod scripting;
 
-pub use laws::{charts_are_of_all_events, events_ignore_peaks};
 pub use replaying::replay_file;
+
+/// The maximum number of bytes of a trace, more than any file or pipe gives.
+const MOST_REPLAYED: usize = 1 << 62;

@@ -22,9 +22,9 @@ const ALL_ABOVE: Span = Span {
 
 /// Returns the settings of the heap, and how the trace is read.
 ///
-/// Errors, in order: `Syntax` if a text is not a number, not a policy, not a pool or not one of the names, if two of `--sizes`, `--svg`,
-/// `--script` and `--each` are given, or `--script` with `--realloc keep`; `OutOfBounds` if the pool ends past 2^64;
-/// `OutOfRange` if a number is too large, or that of `--each` is 0.
+/// Errors, in order: `Syntax` if a text is not a number, not a policy, not a pool or not one of the names,
+/// if two of `--sizes`, `--svg`, `--script` and `--each` are given, or `--script` with `--realloc keep`;
+/// `OutOfBounds` if the pool ends past 2^64; `OutOfRange` if a number is too large, or that of `--each` is 0.
 pub(crate) fn replay_of(
     align: Align,
     strict: bool,
@@ -107,7 +107,7 @@ fn each_of(sizes: bool, svg: bool, script: bool, text: Option<&str>) -> Result<u
     }
 }
 
-/// Returns whether two of the three are given.
+/// Returns whether at least two of the three are given.
 fn are_two(sizes: bool, svg: bool, script: bool) -> bool
     ensures { result ≡ are_two sizes svg script }
 {

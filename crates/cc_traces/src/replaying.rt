@@ -11,12 +11,13 @@ ghost use Rattle.cc_devices.specs.Devices.{FromInput, OnDevices, OnOutput, Traff
 ghost use Rattle.cc_devices.specs.Input.{IsFile, file_input};
 ghost use Rattle.cc_traces.specs.Charting.{ChartsTrace};
 ghost use Rattle.cc_traces.specs.ReplayTexts.{replay_in};
-ghost use Rattle.cc_traces.specs.Replaying.{ReplaysTrace, Samples, SumsUp, WithReplay, WritesTrace, end_text, summary_text, table_format};
+ghost use Rattle.cc_traces.specs.Replaying.{ReplaysTrace, Samples, SumsUp, WithReplay, WritesReplay, WritesTrace, end_text, summary_text, table_format};
 ghost use Rattle.cc_traces.specs.Scripting.{ScriptsTrace};
 
-use crate::charting::{Charting, draw};
+use crate::MOST_REPLAYED;
+use crate::charting::{Charting, draw_input};
 use crate::replay_texts::replay_of;
-use crate::scripting::write_script;
+use crate::scripting::script_input;
 use cc_arguments::{ReplayTexts, SummaryFormat};
 use cc_bounds::Align;
 use cc_changes::Script;
@@ -29,19 +30,18 @@ use cc_replay::{
     Format, Progress, Reading, Replay, Settings, replay_trace, write_sizes, write_summary,
 };
 
-/// The maximum number of bytes of a trace, more than any file or pipe gives.
-const MOST_REPLAYED: usize = 1 << 62;
-
-/// Replays the trace that FILE names on a heap with exact bounds, and writes the summary, or in place of it the table of sizes if
-/// `--sizes` is given, the chart if `--svg` is, the script if `--script` is, or the series if `--each` is. Two of these together are
-/// refused.
+/// Replays the trace that FILE names on a heap with exact bounds, and writes the summary, or in place of it
+/// the table of sizes (`--sizes`), the chart (`--svg`), the script (`--script`) or the series (`--each`). Two
+/// of these together are refused.
+///
 /// The texts are read first. If one is refused, the output is that refusal, and nothing is read.
 ///
 /// The summary of the result has an error if a line of the trace is refused.
 ///
 /// Requires: the sink has not failed.
-/// Errors: `Memory` if an allocation fails, and without `--each` and `--script` nothing was written then; `Open` if the input cannot be opened,
-/// and nothing was written then; `Read` if a read fails; `Write` if and only if the sink failed.
+/// Errors: `Memory` if an allocation fails, and without `--each` and `--script` nothing was written then;
+/// `Open` if the input cannot be opened, and nothing was written then; `Read` if a read fails; `Write` if and
+/// only if the sink failed.
 pub fn replay_file<R: AllocGlobal, I: Inputs, W: Sink>(
     rt: &R,
     align: Align,
@@ -66,12 +66,12 @@ pub fn replay_file<R: AllocGlobal, I: Inputs, W: Sink>(
         Ok((settings, reading)) => {
             let input = file_input(file);
             if texts.script {
-                return to_script(rt, settings, reading, inputs, input, sink);
+                return to_script::<GapPlacer, _, _, _>(rt, settings, reading, inputs, input, sink);
             }
             if texts.svg {
-                return chart(rt, settings, reading, inputs, input, sink);
+                return chart::<GapPlacer, _, _, _>(rt, settings, reading, inputs, input, sink);
             }
-            replay(
+            replay::<GapPlacer, _, _, _>(
                 rt,
                 settings,
                 reading,
@@ -86,10 +86,11 @@ pub fn replay_file<R: AllocGlobal, I: Inputs, W: Sink>(
     }
 }
 
-/// Replays a trace on a heap of these settings, and writes the summary or the table of sizes, or the series if samples are asked for.
+/// Replays a trace on a heap of these settings, and writes the summary or the table of sizes, or the series if
+/// samples are asked for.
 // not inlined, so that other commands do not touch the pages of its buffers on the stack
 #[inline(never)]
-fn replay<R: AllocGlobal, I: Inputs, W: Sink>(
+fn replay<P: Placer, R: AllocGlobal, I: Inputs, W: Sink>(
     rt: &R,
     settings: Settings,
     reading: Reading,
@@ -111,19 +112,42 @@ fn replay<R: AllocGlobal, I: Inputs, W: Sink>(
     ensures write { (result ≡ Err Fault.Write) ↔ (W.has_failed sink.new ≡ true) }
     ensures flushed { OnOk result (W.is_flushed sink.new ≡ true) }
 {
-    let mut replay: Replay<GapPlacer> = Replay::with_settings(rt.alloc(), settings, reading)?;
+    let each = reading.each;
+    let mut replay: Replay<P> = Replay::with_settings(rt.alloc(), settings, reading)?;
+    replay_input(each, sizes, format, &mut replay, inputs, input, sink)
+}
+
+/// Replays the trace of an input, and writes the summary or the table of sizes, or the series if samples are asked for.
+fn replay_input<P: Placer, I: Inputs, W: Sink>(
+    each: u64,
+    sizes: bool,
+    format: SummaryFormat,
+    replay: &mut Replay<P>,
+    inputs: &I,
+    input: InputName<'_>,
+    sink: &mut W,
+) -> Result<Summary, Fault>
+    requires { W.has_failed sink.old ≡ false }
+    ensures replays { OnOutput (I.bytes_of inputs.now) (W.taken_bytes sink.old) (W.taken_bytes sink.new)
+        (λ console. FromInput input.entry console (WritesReplay each (end_text sizes format) replay.old)) result }
+    ensures open { result ≡ Err Fault.Open → IsFile input.entry }
+    ensures untouched { result ≡ Err Fault.Open → W.taken_bytes sink.new ≡ W.taken_bytes sink.old }
+    ensures starved { each ≡ 0 → result ≡ Err Fault.Memory → W.taken_bytes sink.new ≡ W.taken_bytes sink.old }
+    ensures write { (result ≡ Err Fault.Write) ↔ (W.has_failed sink.new ≡ true) }
+    ensures flushed { OnOk result (W.is_flushed sink.new ≡ true) }
+{
     let mut source = FromReader::with_limit(inputs.open(input)?, MOST_REPLAYED);
-    if reading.each == 0 {
-        sum_up(sizes, format, &mut replay, &mut source, sink)
+    if each == 0 {
+        sum_up(sizes, format, replay, &mut source, sink)
     } else {
-        sample(&mut replay, &mut source, sink)
+        sample(replay, &mut source, sink)
     }
 }
 
 /// Replays a trace on a heap of these settings, and writes the chart of the heap.
 // not inlined, so that other commands do not touch the pages of its buffers on the stack
 #[inline(never)]
-fn chart<R: AllocGlobal, I: Inputs, W: Sink>(
+fn chart<P: Placer, R: AllocGlobal, I: Inputs, W: Sink>(
     rt: &R,
     settings: Settings,
     reading: Reading,
@@ -143,16 +167,14 @@ fn chart<R: AllocGlobal, I: Inputs, W: Sink>(
     ensures write { (result ≡ Err Fault.Write) ↔ (W.has_failed sink.new ≡ true) }
     ensures flushed { OnOk result (W.is_flushed sink.new ≡ true) }
 {
-    let replay: Replay<GapPlacer> = Replay::with_settings(rt.alloc(), settings, reading)?;
-    let mut source = FromReader::with_limit(inputs.open(input)?, MOST_REPLAYED);
-    let mut charting = Charting::new(replay);
-    draw(&mut charting, &mut source, sink)
+    let mut charting: Charting<P> = Charting::with_settings(rt.alloc(), settings, reading)?;
+    draw_input(&mut charting, inputs, input, sink)
 }
 
 /// Replays a trace on a heap of these settings, and writes the script of its changes.
 // not inlined, so that other commands do not touch the pages of its buffers on the stack
 #[inline(never)]
-fn to_script<R: AllocGlobal, I: Inputs, W: Sink>(
+fn to_script<P: Placer, R: AllocGlobal, I: Inputs, W: Sink>(
     rt: &R,
     settings: Settings,
     reading: Reading,
@@ -172,9 +194,8 @@ fn to_script<R: AllocGlobal, I: Inputs, W: Sink>(
     ensures write { (result ≡ Err Fault.Write) ↔ (W.has_failed sink.new ≡ true) }
     ensures flushed { OnOk result (W.is_flushed sink.new ≡ true) }
 {
-    let mut script: Script<GapPlacer> = Script::with_settings(rt.alloc(), settings, reading)?;
-    let mut source = FromReader::with_limit(inputs.open(input)?, MOST_REPLAYED);
-    write_script(&mut script, &mut source, sink)
+    let mut script: Script<P> = Script::with_settings(rt.alloc(), settings, reading)?;
+    script_input(&mut script, inputs, input, sink)
 }
 
 /// Replays a trace, and writes the text of its end.

@@ -1,16 +1,37 @@
 //! A trace whose script is written.
 ghost use Rattle.std.specs.Prelude.{◌≡◌, ◌≢◌, ◌↔◌, false, true, Err, OnOk};
-ghost use Rattle.cc_devices.specs.Devices.{OnDevices, Traffic};
+ghost use Rattle.cc_devices.specs.Devices.{FromInput, OnDevices, OnOutput, Traffic};
+ghost use Rattle.cc_devices.specs.Input.{IsFile};
 ghost use Rattle.cc_traces.specs.Scripting.{Scripts};
 
+use crate::MOST_REPLAYED;
 use cc_changes::{Script, script_trace};
-use cc_devices::Fault;
-use cc_io::{Sink, Source, Summary};
+use cc_devices::{Fault, InputName, Inputs};
+use cc_io::{FromReader, Sink, Source, Summary};
 use cc_placer::Placer;
 use cc_replay::Progress;
 
+/// Takes the trace of an input, and writes its script.
+pub(crate) fn script_input<P: Placer, I: Inputs, W: Sink>(
+    script: &mut Script<P>,
+    inputs: &I,
+    input: InputName<'_>,
+    sink: &mut W,
+) -> Result<Summary, Fault>
+    requires { W.has_failed sink.old ≡ false }
+    ensures scripts { OnOutput (I.bytes_of inputs.now) (W.taken_bytes sink.old) (W.taken_bytes sink.new)
+        (λ console. FromInput input.entry console (Scripts script.old)) result }
+    ensures open { result ≡ Err Fault.Open → IsFile input.entry }
+    ensures untouched { result ≡ Err Fault.Open → W.taken_bytes sink.new ≡ W.taken_bytes sink.old }
+    ensures write { (result ≡ Err Fault.Write) ↔ (W.has_failed sink.new ≡ true) }
+    ensures flushed { OnOk result (W.is_flushed sink.new ≡ true) }
+{
+    let mut source = FromReader::with_limit(inputs.open(input)?, MOST_REPLAYED);
+    write_script(script, &mut source, sink)
+}
+
 /// Takes a trace, and writes its script.
-pub(crate) fn write_script<P: Placer, S: Source, W: Sink>(
+fn write_script<P: Placer, S: Source, W: Sink>(
     script: &mut Script<P>,
     source: &mut S,
     sink: &mut W,

@@ -1,8 +1,10 @@
-use Rattle.std.proofs.Common.{◌∙◌, Err, ap}
+use Rattle.std.proofs.Common.{◌≡◌, ◌∙◌, Err, ap}
 use Rattle.std.proofs.lemmas.Result.{err_from_is_err_and}
+use Rattle.cc_io.specs.declared.summary.IoError.TheVariants.{Write}
+use Rattle.cc_devices.specs.Devices.{fault_of}
 use Rattle.cc_traces.specs.Replaying.{Samples}
 use Rattle.cc_devices.proofs.DeviceLemmas.{on_devices}
-use Rattle.cc_traces.proofs.ReplayingLemmas.{samples_all, stops_sampling}
+use Rattle.cc_traces.proofs.ReplayingLemmas.{samples_all, stops_in_last, stops_sampling}
 use Rattle.cc_traces.proofs.replaying.sample.Goals as goal
 
 pub returns-in_err-summary-clause-samples : goal.returns-in_err-summary-clause-samples
@@ -10,6 +12,15 @@ returns-in_err-summary-clause-samples g c = λ traffic unread left output output
     let told = err_from_is_err_and c.from_residual.result c.from_residual.ensures.1 in
     on_devices (Samples c.args.replay.now traffic) c.from_residual.result (Err c.in_err-summary.field-0.0) (told.1 ∙ ap Err told.2)
     (stops_sampling c.args.replay.now c.replay_trace.new.replay traffic _ _ _ _ c.in_err-summary.field-0.0 unread left output output_now c.in_err-summary.ensures.replays)
+
+pub returns-in_err-end_series-clause-samples : goal.returns-in_err-end_series-clause-samples
+returns-in_err-end_series-clause-samples g c = λ traffic unread left output output_now.
+    let told = err_from_is_err_and c.from_residual-in_err-end_series.result c.from_residual-in_err-end_series.ensures.1 in
+    let is_write : c.in_err-end_series.field-0.0 ≡ Write = cc c.in_err-end_series.ensures.write in
+    on_devices (Samples c.args.replay.now traffic) c.from_residual-in_err-end_series.result (Err Write)
+    (told.1 ∙ ap Err (told.2 ∙ ap fault_of is_write))
+    (stops_in_last c.args.replay.now c.replay_trace.new.replay traffic _ _ _ _ _ _ unread left output output_now c.in_ok-summary.ensures.replays
+    (λ is. c.in_default.not-OutOfMemory (c.progress.ensures ∙ is)) c.in_err-end_series.ensures.err)
 
 pub returns-clause-samples : goal.returns-clause-samples
 returns-clause-samples g c = λ traffic unread left output output_now.

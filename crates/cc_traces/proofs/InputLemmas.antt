@@ -1,0 +1,22 @@
+-- The run of a command that reads an input, from that of its devices.
+use Rattle.std.proofs.Common.{◌≡◌, ℕ, List, Option, Some, Result, refl}
+use Rattle.std.specs.Prelude.{IfSome}
+use Rattle.cc_io.specs.declared.summary.IoError.{IoError}
+use Rattle.cc_io.specs.declared.summary.Summary.{Summary}
+use Rattle.cc_devices.specs.Devices.{Console, FromInput, OnDevices, Traffic, traffic_of}
+use Rattle.cc_devices.specs.declared.fault.Fault.{Fault}
+use Rattle.cc_devices.specs.declared.input.InputName.{InputName}
+use Rattle.cc_devices.proofs.DeviceLemmas.{from_input, on_devices-map}
+
+-- What holds for the traffic of a source that reads an input holds for the input.
+pub reads_input : (Does : Traffic → Result Summary IoError → Type 0) (input : InputName) (console : Console)
+    (bytes_of : InputName → Option (List ℕ)) (unread remaining left output output_now : Option (List ℕ)) (result : Result Summary Fault)
+    → console.input ≡ bytes_of → unread ≡ remaining
+    → IfSome (bytes_of input) (λ bytes. remaining ≡ Some bytes) → console.output ≡ output → console.output_now ≡ output_now
+    → ((traffic : Traffic) → traffic.unread ≡ unread → traffic.left ≡ left → traffic.output ≡ output → traffic.output_now ≡ output_now
+    → OnDevices (Does traffic) result)
+    → OnDevices (FromInput input console Does) result
+reads_input Does input console bytes_of unread remaining left output output_now result same has told o n holds =
+    on_devices-map (Does (traffic_of console unread left)) (FromInput input console Does)
+    (λ io done. from_input input console Does bytes_of unread remaining left io same has told done)
+    result (holds (traffic_of console unread left) refl refl o n)

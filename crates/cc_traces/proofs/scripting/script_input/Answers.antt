@@ -1,0 +1,18 @@
+use Rattle.std.proofs.Common.{refl}
+use Rattle.cc_traces.specs.Scripting.{Scripts}
+use Rattle.cc_traces.proofs.InputLemmas.{reads_input}
+use Rattle.cc_traces.proofs.scripting.script_input.Goals as goal
+
+pub returns-clause-scripts : goal.returns-clause-scripts
+returns-clause-scripts g c = λ errors errors_now errors_failed.
+    reads_input (Scripts c.args.script.now) c.args.input
+    (record {
+      input = g.I.Inputs.bytes_of c.args.inputs.now;
+      output = g.W.Sink.taken_bytes c.args.sink.now;
+      output_now = g.W.Sink.taken_bytes c.write_script.new.sink;
+      errors = errors;
+      errors_now = errors_now;
+      errors_failed = errors_failed;
+    })
+    (g.I.Inputs.bytes_of c.args.inputs.now) _ _ _ _ _ c.write_script.result refl c.with_limit-source.ensures.to_come
+    c.in_ok-open.ensures.opened refl refl c.write_script.ensures.scripts
