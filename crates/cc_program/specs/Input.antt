@@ -1,5 +1,5 @@
 -- The files that a command reads, the machine that it creates, and whether it writes to standard error.
-use Rattle.std.specs.Prelude.{ℕ, ◌⊎◌, IsOk, IsSome, IsTrue, List, [], ⊤}
+use Rattle.std.specs.Prelude.{ℕ, ◌≡◌, ◌⊎◌, false, IsOk, IsSome, IsTrue, List, [], ⊤}
 use Rattle.clap.specs.Walk.{texts}
 use Rattle.cc_syntax.specs.Planning.{pool_of}
 use Rattle.cc_arguments.specs.declared.invocation.Invocation.{Invocation}
@@ -43,10 +43,11 @@ IsRunOrPlan (Run limit stats file) = ⊤
 IsRunOrPlan (Plan limit pool align stats file) = ⊤
 IsRunOrPlan _ = ⊥
 
--- IsReplay holds of `replay`.
-abbrev pub IsReplay : Invocation → Type 0
-IsReplay (Replay align strict format texts file) = ⊤
-IsReplay _ = ⊥
+-- IsWatched holds of the commands whose progress is shown: `replay` without `--script`, whose lines may be shorter than
+-- the text of the progress.
+abbrev pub IsWatched : Invocation → Type 0
+IsWatched (Replay align strict format texts file) = texts.script ≡ false
+IsWatched _ = ⊥
 
 -- IsStreamed holds if the command writes a series or a script, while it reads a trace: `replay` with `--each` or `--script`.
 abbrev pub IsStreamed : Invocation → Type 0
@@ -59,7 +60,7 @@ typed_numbers (Ask question) = numbers_of question
 typed_numbers (Round base sizes) = after_base base (texts sizes.now)
 typed_numbers _ = []
 
--- IsHinted holds of the commands that write the hint on typed numbers: `show`, `explain` and `round N..`. `show` has no numbers.
+-- IsHinted holds of the commands that get the hint on the numbers that were typed: `show`, which has none, `explain` and `round N..`.
 abbrev pub IsHinted : Invocation → Type 0
 IsHinted (Ask question) = ⊤
 IsHinted (Round base sizes) = ⊤

@@ -1,14 +1,14 @@
 -- The progress of a replay, as it is shown.
 use Rattle.std.specs.Prelude.{ℕ, ◌*◌, ◌/◌, ◌++◌, nat_lt, codes, decimal, List, Option, Some, None, if◌then◌else◌}
 
--- How many percent of a file have been read, rounded down, or none once all of it has been.
+-- The percentage of a file that has been read, rounded down, or none once all of it has been.
 abbrev pub percent_of : (done length : ℕ) → Option ℕ
 percent_of done length = if nat_lt done length then Some (done * 100 / length) else None
 
--- The text of a percentage, after which the next text begins at the start of the line.
+-- The text of a percentage. The cursor is at the start of the line after it.
 abbrev pub progress_text : (percent : ℕ) → List ℕ
 progress_text percent = codes "replay: " ++ decimal percent ++ codes " %\r"
 
--- The text that clears it.
+-- The text that clears a percentage.
 abbrev pub clearing_text : List ℕ
 clearing_text = codes "            \r"

@@ -18,9 +18,9 @@ use cc_traces::replay_file;
 /// Executes a command: reads its input, writes its output to `sink`, and reports a run on `errors`, or a hint on
 /// the numbers of `round`, its list and `explain --length`, if standard error is a terminal.
 ///
-/// BASE and LENGTH of `plan` and `map`, the numbers and names of `decode`, and the base of `round` are read first. If one is refused, the output
-/// is that refusal, and nothing is read.
-/// So are the texts of `replay`. The machine or the heap is created next, and then the input is opened.
+/// BASE and LENGTH of `plan` and `map`, the numbers and names of `decode`, the base of `round` and the texts of `replay`
+/// are read first. If one is refused, the output is that refusal, and nothing is read. The machine or the heap is
+/// created next, and then the input is opened.
 ///
 /// Requires: no device has failed.
 /// Errors: `Memory` if an allocation fails, in a command that creates a machine or a heap; `Open` if the input cannot be

@@ -2,7 +2,7 @@
 ghost use Rattle.std.specs.Prelude.{◌≡◌, None, IfErr, IfOk, IsTrue, ◌↔◌};
 ghost use Rattle.either.specs.Either.{is_left};
 ghost use Rattle.cc_devices.specs.Input.{IsFile};
-ghost use Rattle.cc_program.specs.Input.{IsReplay, IsRunOrPlan};
+ghost use Rattle.cc_program.specs.Input.{IsWatched, IsRunOrPlan};
 
 use crate::error_writer::ErrorWriter;
 use crate::watched::Watched;
@@ -76,11 +76,12 @@ fn length_of<F: OpenFile>(file: &F) -> u64 {
     }
 }
 
-/// Returns whether a command replays a trace.
-pub fn is_replay(invocation: Invocation<'_>) -> bool
-    ensures { IsTrue result ↔ IsReplay invocation.entry }
+/// Returns whether the progress of a command is shown at a terminal: that of `replay`, except with
+/// `--script`, whose lines may be shorter than the text of the progress.
+pub fn is_watched(invocation: Invocation<'_>) -> bool
+    ensures { IsTrue result ↔ IsWatched invocation.entry }
 {
-    matches!(invocation, Invocation::Replay { .. })
+    matches!(invocation, Invocation::Replay { texts, .. } if !texts.script)
 }
 
 /// Returns whether a command writes the replies to a script: `run` and `plan` do.

@@ -14,7 +14,7 @@ use crate::elf_hint::hint_on_file;
 use crate::error_writer::ErrorWriter;
 use crate::execution::execute;
 use crate::outcome::{Ending, ending_of, ending_status};
-use crate::process_inputs::{ProcessInputs, is_replay, writes_replies};
+use crate::process_inputs::{ProcessInputs, is_watched, writes_replies};
 use cc_arguments::{Invocation, invocation_of, read_words};
 use cc_devices::Fault;
 use cc_io::{FromWriter, Summary};
@@ -124,7 +124,7 @@ fn execute_in_process<R: AllocGlobal + Files + Input + Print + Eprint>(
     ensures open { result ≡ Err Fault.Open → ReadsFile invocation.entry }
 {
     let is_typed = writes_replies(invocation) && terminals.input && terminals.errors;
-    let is_watched = is_replay(invocation) && terminals.errors;
+    let is_watched = is_watched(invocation) && terminals.errors;
     let inputs = ProcessInputs {
         rt,
         is_typed,

@@ -6,7 +6,7 @@ ghost use Rattle.cc_program.specs.Progress.{clearing_text, percent_of, progress_
 use cc_io::{Sink, write_all};
 use cc_text::Page;
 
-/// Returns how many percent of a file have been read, rounded down, or `None` once all of it has been.
+/// Returns the percentage of a file that has been read, rounded down, or `None` once all of it has been.
 pub fn percent_of(done: u64, length: u64) -> Option<u64>
     ensures { result ≡ percent_of done length }
 {
@@ -17,7 +17,7 @@ pub fn percent_of(done: u64, length: u64) -> Option<u64>
     }
 }
 
-/// Writes how many percent of the trace have been read, over what was written before. Errors of the sink are ignored.
+/// Writes the percentage of the trace that has been read, over what was written before. Errors of the sink are ignored.
 ///
 /// The cursor is at the start of the line then, so that other output takes the place of the text.
 pub fn show_progress<E: Sink>(percent: u64, errors: &mut E)
