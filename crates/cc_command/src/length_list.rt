@@ -117,9 +117,10 @@ fn granted_to(request: &Span) -> Span
 /// Writes the line `round LENGTH GRANULE MASK` for each line of a list of lengths, in order, or with
 /// a base the line `round LENGTH GRANULE MASK BASE TOP`.
 ///
-/// BASE and TOP are the bounds that a request of this length from `base` on is granted. LENGTH is the number of bytes that bounds of this length take. Their base must be a multiple of
-/// GRANULE. MASK rounds an address down to such a multiple. For any other line, the output is the
-/// first of these refusals that applies:
+/// LENGTH is the number of bytes that bounds of this length take. Their base must be a multiple of
+/// GRANULE. MASK rounds an address down to such a multiple. BASE and TOP are the bounds that a request of
+/// this length from `base` on is granted. For any other line, the output is the first of these refusals
+/// that applies:
 ///
 /// - `error 3 long`: the line has more than 128 bytes
 /// - `error 1 syntax`: the line is not a number
