@@ -93,7 +93,7 @@ cheri-cap round [--base <B>] <N>...
 pub const ROUND_CHOICE: &str = "give either one or more lengths N, or `--list FILE`";
 
 pub(crate) const ROUND_BASE_HELP: &str =
-    "Show the bounds granted to each N bytes from address B, in the form of N";
+    "Also show the bounds granted to N bytes from address B, for each N; B is a number like N";
 
 pub(crate) const LIST_HELP: &str =
     "Read the lengths from FILE, one on each line; `-` is standard input";
@@ -109,15 +109,15 @@ The output for each N is one line, `round LENGTH GRANULE MASK`, with each number
   MASK     rounds an address down to such a multiple, as `address & MASK`
 A capability for bytes that are placed so grants them, and no others.
 
-With --base two more numbers follow, BASE and TOP: the bounds that are granted to N bytes from B.
+With --base, two more numbers follow, BASE and TOP: the bounds that are granted to N bytes from B.
 They are exact if and only if BASE is B and TOP is B + N.
 
 For a list the output has such a line for each line of the list, in their order. An unterminated
 last line gets `error 2 unfinished`.
 
 Input that is not a number gets `error 1 syntax`, a number above 2^64 gets `error 4 range`, and
-input of more than 128 bytes gets `error 3 long`, each with exit status 1. So does `error 9 bounds`,
-for bytes from B on that end past 2^64. If B is refused, that is the only line of output.
+input of more than 128 bytes gets `error 3 long`, each with exit status 1. Bytes from B on that end
+past 2^64 get `error 9 bounds`, also with exit status 1. If B is refused, that is the only line.
 
 Examples:
   cheri-cap round 8191 5000
@@ -243,16 +243,16 @@ each event that sweeps, and at the end";
 
 pub(crate) const SIZES_HELP: &str = "\
 Print a table of the objects that were made in place of the summary, in its format: a row for each
-power of two of their sizes; not with --each";
+power of two of their sizes; not with --each, --svg or --script";
 
 pub(crate) const CHART_HELP: &str = "\
 Print a chart of the heap over the events in place of the summary, as SVG for a page: the live,
-quarantined and held bytes, and the high-water mark; not with --each or --sizes";
+quarantined and held bytes, and the high-water mark; not with --each, --sizes or --script";
 
 pub(crate) const SCRIPT_HELP: &str = "\
-Print the changes of the heap as a script in place of the summary: `plan` with this pool and
-alignment places each object at the same bytes; not with --each, --sizes, --svg or
---realloc keep";
+Print the changes of the heap as a script in place of the summary: `plan --slots 65536` with this
+alignment and this pool, if its bounds are exact, places each object at the same bytes; not with
+--each, --sizes, --svg or --realloc keep";
 
 pub(crate) const TRACE_FILE_HELP: &str = "Trace file; standard input if `-` or omitted";
 
@@ -330,7 +330,7 @@ A line that is not a word gets `error 1 syntax`. An unterminated last line, or f
 bytes, get `error 2 unfinished`. Each word is decoded independently, so parts of the input can be
 decoded separately; but with `--format csv` the output of each part begins with the header.
 
-With --at the address of a word comes first, as a column of its own. START is the address of the
+With --at the address of a word comes first, as a separate column. START is the address of the
 first word after those N bytes that --skip omits. In a core file, a segment need not begin at a
 multiple of 16: `readelf -lW` prints the Offset of each, for --skip, and its VirtAddr, for --at.
 With --holds or --perms only words that could be capabilities get a line: they are canonical, their
