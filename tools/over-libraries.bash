@@ -1,4 +1,4 @@
-# Proves a static library, or a program for another processor, over libraries that `rt ci` has proved, and builds it, so that no crate
+# Proves a static library or the program over libraries that `rt ci` has proved, and builds it, so that no crate
 # below it is proved a second time. Sourced by tools/proving.bash, and by tools/build-apart, tools/build-aarch64 and web/build, to
 # which CI gives the directory into which it puts these libraries.
 

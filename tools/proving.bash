@@ -1,8 +1,9 @@
 # Proves the crates of a program or of a static library by `rt ci`, and builds the product. Sourced by tools/building.bash.
 #
-# `rt ci` proves all crates of a repository from nothing, side by side. So the build has a view, a directory that is a repository of
-# its own, with copies of the sources of these crates alone. `rt ci` builds the program for the toolchain's default processor. The
-# program for another processor, and a static library, are proved and built over the libraries that `rt ci` has left in the view.
+# `rt ci` proves all crates of a repository from nothing, side by side. So the build has a view, a directory that is a repository by
+# itself, with copies of the sources of these crates except the last. That one, the program or the static library, is proved and built
+# over the libraries that `rt ci` has left in the view: `rt ci` makes no static library, and would build the program twice, by two
+# compilers, which takes a minute.
 
 # shellcheck source=tools/over-libraries.bash
 source "$top/tools/over-libraries.bash"
@@ -34,7 +35,7 @@ measure_machine() {
 }
 
 # Sets `minutes` to the time of the whole build, by the costs in tools/crate-costs: the share of each processor, and a sixth of the
-# longest chain of crates, in which processors wait; but at least three quarters of the chain, since several jobs share a proof.
+# longest chain of crates, in which processors wait; but at least the chain, since `rt ci` proves a crate by one job.
 estimate() {
   local name cost it sum=0 longest=0 seconds
   local -A costs=() chains=()
@@ -50,7 +51,7 @@ estimate() {
     ((${chains[$name]} <= longest)) || longest=${chains[$name]}
   done
   seconds=$((sum / slots + longest / 6))
-  ((seconds >= longest * 3 / 4)) || seconds=$((longest * 3 / 4))
+  ((seconds >= longest)) || seconds=$longest
   minutes=$((seconds / 60 + 1))
 }
 
@@ -66,14 +67,14 @@ announce() {
 }
 
 # Copies the sources of all crates, so that a change during the build reaches no crate: those that `rt ci` proves into the view, and
-# those of the last crate, if it is built afterwards, next to it.
+# those of the last crate next to it.
 copy_sources() {
   local name line to it
   mkdir -p -- "$view/.git" "$view/crates" || return
   [[ ! -f $top/HANDLES ]] || cp -- "$top/HANDLES" "$view/" || return
   for name in "${order[@]}"; do
     to=$view/crates/$name
-    [[ $name != "$later" ]] || to=$apart/$name
+    [[ $name != "$last" ]] || to=$apart/$name
     mkdir -- "$to" || return
     for it in "$top/crates/$name"/*; do
       case ${it##*/} in
@@ -89,7 +90,7 @@ copy_sources() {
 }
 
 # Runs a function in the background and waits for it, so that a signal ends the build at once. While bash waits for a process in
-# the foreground, it may lose a signal. The processes are a group of their own, which a signal to the build ends as a whole.
+# the foreground, it may lose a signal. The processes are a separate group, which a signal to the build ends as a whole.
 aside() {
   local status=0
   set -m
@@ -190,33 +191,29 @@ build_last() {
   local name
   mkdir -- "$apart/libraries" && : >"$apart/libraries/ended" || return
   for name in "${order[@]}"; do
-    [[ $name == "$later" ]] || mv -- "$view/crates/$name/out/rlib/$name.rlib" "$apart/libraries/" || return
+    [[ $name == "$last" ]] || mv -- "$view/crates/$name/out/rlib/$name.rlib" "$apart/libraries/" || return
   done
-  mv -- "$apart/$later" "$view/crates/" && cp -- "$apart/crates.txt" "$view/" || return
-  build_over "$apart/libraries" "$view" "$later" "$@" >"$apart/said" 2>&1
+  mv -- "$apart/$last" "$view/crates/" && cp -- "$apart/crates.txt" "$view/" || return
+  build_over "$apart/libraries" "$view" "$last" "$@" >"$apart/said" 2>&1
 }
 
 # Proves all crates in `order`, and builds the product of the last, with the flags that follow:  prove_crates PRODUCT FLAG..
 prove_crates() {
-  local product=$1 crate=${order[-1]} later='' signal='' running='' proved=0 start=$SECONDS told=$SECONDS
-  local apart=$top/crates/$crate/out/apart
+  local product=$1 last=${order[-1]} signal='' running='' proved=0 start=$SECONDS told=$SECONDS
+  local apart=$top/crates/$last/out/apart
   local view=$apart/view
   trap leave_build EXIT
   # A trap only notes the signal. If one did more while bash is in `read -t`, the timeout would end it in the middle.
   trap 'signal=INT' INT
   trap 'signal=TERM' TERM
   trap 'signal=HUP' HUP
-  # only `rt ci` makes a program for the default processor, and it makes no static library
-  (($# == 1)) || later=$crate
   rm -rf -- "$apart"
   aside copy_sources || stop "the sources cannot be copied to $apart"
   prove_view
-  if [[ -n $later ]]; then
-    say "${#order[@]} of ${#order[@]}: proving and building $later"
-    aside build_last "${@:2}" || { cat -- "$apart/said" >&2 && stop "$later is not proved, so nothing was built"; }
-    count "$later" proved
-  fi
-  mv -f -- "$view/$product" "$top/$product" || stop "the build of $crate cannot be stored in crates/$crate/out"
+  say "${#order[@]} of ${#order[@]}: proving and building $last"
+  aside build_last "${@:2}" || { cat -- "$apart/said" >&2 && stop "$last is not proved, so nothing was built"; }
+  count "$last" proved
+  mv -f -- "$view/$product" "$top/$product" || stop "the build of $last cannot be stored in crates/$last/out"
   heed_signal
   trap - EXIT INT TERM HUP
   rm -rf -- "$apart"
