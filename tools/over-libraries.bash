@@ -1,6 +1,6 @@
-# Proves a static library or the program over libraries that `rt ci` has proved, and builds it, so that no crate
-# below it is proved a second time. Sourced by tools/proving.bash, and by tools/build-apart, tools/build-aarch64 and web/build, to
-# which CI gives the directory into which it puts these libraries.
+# Proves one crate by the compiler over libraries of the crates below it, so that none of these is proved a second time. Sourced by
+# tools/proving.bash, which makes these libraries, and by tools/build-apart, tools/build-aarch64 and web/build, to which CI gives the
+# directory into which it puts those that `rt ci` has proved.
 
 # Waits until the libraries of these crates are in a directory. Fails if `rt ci` ended without one of them:  wait_for DIRECTORY CRATE..
 wait_for() {
@@ -13,21 +13,39 @@ wait_for() {
   done
 }
 
-# Proves and builds the static library or the program of a crate, in a copy of the checkout, with the flags that follow, for example
-# a target. Fails if it cannot, and its output says why:  build_over DIRECTORY COPY CRATE FLAG..
-build_over() {
-  local given from each flags=() own=() entry=src/lib.rt written=out/lib$3.a
-  given=$(realpath -ms -- "$1") && from=$(dirname -- "$(rt doc)") || return
-  if [[ -f $2/crates/$3/src/main.rt ]]; then entry=src/main.rt written=out/$3.o; else flags+=(--crate-type staticlib); fi
-  for each in std $(sed -En "s/^$3( staticlib)?: *//p" "$2/crates.txt"); do
-    if [[ -d $2/crates/$each ]]; then own+=("$each") flags+=(--extern "$each=$given/$each.rlib"); else flags+=(--extern "$each=$from/rlibs/$each.rlib"); fi
+# Sets `kit` to the directory of the toolchain.
+find_kit() {
+  kit=$(dirname -- "$(rt doc)")
+}
+
+# Proves a crate of a copy of the checkout over the libraries in a directory, whose path is absolute, and builds it, with the flags that
+# follow, by the toolchain in `kit`:  compile DIRECTORY COPY CRATE ENTRY FLAG..
+compile() {
+  local each line below=std used=() words=()
+  while read -r line; do
+    [[ $line != "$3"[:\ ]* ]] || below+=" ${line#*:}"
+  done <"$2/crates.txt"
+  for each in $below; do
+    if [[ -d $2/crates/$each ]]; then used+=("$each") words+=(--extern "$each=$1/$each.rlib"); else words+=(--extern "$each=$kit/rlibs/$each.rlib"); fi
   done
-  wait_for "$given" "${own[@]}" || return
-  flags+=(-L "dependency=$from/rlibs" -L "dependency=$given" --antt-project "$from/rattle/logic/antt-project.json" --logic-built "$from/logic_built")
-  flags+=(--jobs 1 --links "$3=" --toolchain "$from/toolchain" --backend llvm)
-  (
-    cd -- "$2/crates/$3" && mkdir -p out && "$from/bin/rattle" build --crate-name "$3" "$entry" "${flags[@]}" "${@:4}" -o "$written" || exit
-    [[ $written != *.o ]] ||
-      "$from/bin/rattle-link" --target x86_64-unknown-linux-gnu --toolchain "$from/toolchain" -o "out/$3" "$written" "$from/c/libos_c.a" "$from/c/liblibc_c.a"
-  )
+  wait_for "$1" "${used[@]}" || return
+  words+=(-L "dependency=$kit/rlibs" -L "dependency=$1" --antt-project "$kit/rattle/logic/antt-project.json" --logic-built "$kit/logic_built")
+  (cd -- "$2/crates/$3" && mkdir -p out && exec "$kit/bin/rattle" build --crate-name "$3" "$4" "${words[@]}" --links "$3=" "${@:5}")
+}
+
+# Proves and builds the static library or the program of a crate, with the flags that follow, for example a target. Fails if it
+# cannot, and its output says why:  build_over DIRECTORY COPY CRATE FLAG..
+build_over() {
+  local kit given entry=src/lib.rt written=out/lib$3.a flags=(--crate-type staticlib)
+  find_kit && given=$(realpath -ms -- "$1") || return
+  if [[ -f $2/crates/$3/src/main.rt ]]; then entry=src/main.rt written=out/$3.o flags=(); fi
+  compile "$given" "$2" "$3" "$entry" "${flags[@]}" --jobs 1 --toolchain "$kit/toolchain" --backend llvm "${@:4}" -o "$written" || return
+  [[ $written != *.o ]] ||
+    "$kit/bin/rattle-link" --target x86_64-unknown-linux-gnu --toolchain "$kit/toolchain" -o "$2/crates/$3/out/$3" "$2/crates/$3/$written" "$kit/c/libos_c.a" "$kit/c/liblibc_c.a"
+}
+
+# Proves the library of a crate by this number of jobs, by the toolchain in `kit`, and adds it to the directory, whose path is
+# absolute:  prove_over DIRECTORY COPY CRATE JOBS
+prove_over() {
+  compile "$1" "$2" "$3" src/lib.rt --statements --jobs "$4" -o "$1/$3.rlib"
 }

@@ -1,15 +1,15 @@
-# Proves the crates of a program or of a static library by `rt ci`, and builds the product. Sourced by tools/building.bash.
+# Proves the crates of a program or of a static library, and builds the product. Sourced by tools/building.bash.
 #
-# `rt ci` proves all crates of a repository from nothing, side by side. So the build has a view, a directory that is a repository by
-# itself, with copies of the sources of these crates except the last. That one, the program or the static library, is proved and built
-# over the libraries that `rt ci` has left in the view: `rt ci` makes no static library, and would build the program twice, by two
-# compilers, which takes a minute.
+# The compiler proves each crate over the libraries of those below it, and writes its library, which has what is proved of it. Crates
+# that do not need each other are proved side by side, from copies of the sources. The libraries are kept for later builds, by checksums.
+# CI proves the crates by `rt ci`, which also searches for contracts that no call can meet, and takes a quarter longer for it.
 
 # shellcheck source=tools/over-libraries.bash
 source "$top/tools/over-libraries.bash"
 
-# Memory of the proof of one crate, in MB. The cost in seconds of a crate that tools/crate-costs does not name.
-readonly PROOF_MEMORY=3500 UNKNOWN_COST=60
+# Memory of the proof of one crate, in MB. The cost in seconds of a crate that tools/crate-costs does not name. The numbers of libraries
+# of a crate that are kept.
+readonly PROOF_MEMORY=2500 UNKNOWN_COST=60 KEPT_EACH=2
 # The interval at which signals are checked, in seconds.
 readonly LOOKS_EACH=0.1
 
@@ -34,72 +34,72 @@ measure_machine() {
   ((slots > 0)) || slots=1
 }
 
-# Sets `minutes` to the time of the whole build, by the costs in tools/crate-costs: the share of each processor, and a sixth of the
-# longest chain of crates, in which processors wait; but at least the chain, since `rt ci` proves a crate by one job.
-estimate() {
-  local name cost it sum=0 longest=0 seconds
-  local -A costs=() chains=()
+# Sets `behind` to the seconds of each crate and of the longest chain of crates above it, and `work` to those of all crates, by the
+# costs in tools/crate-costs.
+read_costs() {
+  local name cost it at
+  local -A costs=()
   if [[ -r $top/tools/crate-costs ]]; then
     while read -r name cost _; do
       [[ ! $cost =~ ^[0-9]+$ ]] || costs[$name]=$cost
     done <"$top/tools/crate-costs"
   fi
-  for name in "${order[@]}"; do
-    chains[$name]=0 cost=${costs[$name]:-$UNKNOWN_COST}
-    for it in ${needs[$name]}; do ((${chains[$it]:-0} <= ${chains[$name]})) || chains[$name]=${chains[$it]}; done
-    chains[$name]=$((${chains[$name]} + cost)) sum=$((sum + cost))
-    ((${chains[$name]} <= longest)) || longest=${chains[$name]}
+  work=0
+  for ((at = ${#order[@]} - 1; at >= 0; at--)); do
+    name=${order[at]} cost=${costs[${order[at]}]:-$UNKNOWN_COST}
+    behind[$name]=$((${behind[$name]:-0} + cost)) work=$((work + cost))
+    for it in ${needs[$name]}; do ((${behind[$it]:-0} >= ${behind[$name]})) || behind[$it]=${behind[$name]}; done
   done
-  seconds=$((sum / slots + longest / 6))
-  ((seconds >= longest)) || seconds=$longest
-  minutes=$((seconds / 60 + 1))
 }
 
 # Says before a build how long it takes on this machine, and which ways are quicker:  announce WHY
 announce() {
-  local minutes processors memory slots
+  local processors memory slots work name longest=0 seconds
+  local -A behind=()
   measure_machine
-  estimate
-  say "$1: proving and building ${#order[@]} crates takes about $minutes min here (processors: $processors, free memory: $((memory / 1000)) GB)"
+  read_costs
+  for name in "${order[@]}"; do ((behind[$name] <= longest)) || longest=${behind[$name]}; done
+  # the share of each processor, and a sixth of the longest chain of crates, in which processors wait; but at least the chain
+  seconds=$((work / slots + longest / 6))
+  ((seconds >= longest)) || seconds=$longest
+  say "$1: proving and building ${#order[@]} crates takes about $((seconds / 60 + 1)) min here (processors: $processors, free memory: $((memory / 1000)) GB)"
   if [[ $who == cheri-cap ]]; then
     say "'./cheri-cap --look ARGS..' runs the program in about a minute, with nothing proved; a program that ./install has installed needs none of this"
   fi
 }
 
-# Copies the sources of all crates, so that a change during the build reaches no crate: those that `rt ci` proves into the view, and
-# those of the last crate next to it.
+# Copies the sources of all crates, so that a change during the build reaches no crate.
 copy_sources() {
-  local name line to it
-  mkdir -p -- "$view/.git" "$view/crates" || return
-  [[ ! -f $top/HANDLES ]] || cp -- "$top/HANDLES" "$view/" || return
+  local name it
+  mkdir -p -- "$apart/crates" "$libraries" "$apart/tmp" || return
+  cp -- "$top/crates.txt" "$apart/" || return
   for name in "${order[@]}"; do
-    to=$view/crates/$name
-    [[ $name != "$last" ]] || to=$apart/$name
-    mkdir -- "$to" || return
+    mkdir -- "$apart/crates/$name" || return
     for it in "$top/crates/$name"/*; do
       case ${it##*/} in
         out | must-fail) ;;
-        *) cp -R --no-preserve=mode -- "$it" "$to/" || return ;;
+        *) cp -R --no-preserve=mode -- "$it" "$apart/crates/$name/" || return ;;
       esac
     done
   done
-  cp -- "$top/crates.txt" "$apart/" || return
-  while read -r name line; do
-    [[ -z $name || ! -d $view/crates/${name%:} ]] || printf '%s %s\n' "$name" "$line"
-  done <"$apart/crates.txt" >"$view/crates.txt"
 }
 
-# Runs a function in the background and waits for it, so that a signal ends the build at once. While bash waits for a process in
-# the foreground, it may lose a signal. The processes are a separate group, which a signal to the build ends as a whole.
-aside() {
-  local status=0
+# Runs a function in the background, as a separate group of processes, which a signal to the build ends as a whole:  begin FUNCTION ARG..
+begin() {
   set -m
   "$@" </dev/null &
   set +m
-  running=-$!
-  wait "${running#-}" || status=$?
+}
+
+# Runs a function in the background and waits for it, so that a signal ends the build at once. While bash waits for a process in
+# the foreground, it may lose a signal.
+aside() {
+  local status=0
+  begin "$@"
+  running[aside]=$!
+  wait "${running[aside]}" || status=$?
   heed_signal
-  running=''
+  unset 'running[aside]'
   return "$status"
 }
 
@@ -108,12 +108,11 @@ heed_signal() {
   [[ -z $signal ]] || interrupt "$signal"
 }
 
-# Ends the process that proves, with all that it started, and removes the view. The toolchain's own processes end with `rt`.
+# Ends all processes that prove, and removes the copies.
 leave_build() {
-  if [[ -n $running ]]; then
-    kill -TERM -- "$running" 2>/dev/null || true
-    wait "${running#-}" 2>/dev/null || true
-  fi
+  local it
+  for it in "${running[@]}"; do kill -TERM -- "-$it" 2>/dev/null || true; done
+  for it in "${running[@]}"; do wait "$it" 2>/dev/null || true; done
   rm -rf -- "${apart:?}" || true
 }
 # Ends the build by a signal.
@@ -126,82 +125,169 @@ interrupt() {
   kill -s "$1" "$BASHPID"
 }
 
-# Says how many crates are proved.
-tell() {
-  told=$SECONDS
-  say "$proved of ${#order[@]} crates are proved after $((SECONDS - start)) s"
-}
-
 # Notes that a crate is proved, and says so.
 count() {
-  proved=$((proved + 1)) told=$SECONDS
+  given[$1]=yes proved=$((proved + 1)) told=$SECONDS
   say "$proved of ${#order[@]}: $1 is $2 after $((SECONDS - start)) s"
 }
 
-# Prints the toolchain's output since the last crate that is proved, with the paths of the checkout.
-show_said() {
-  local here
-  here=$(cd -- "$view" && pwd -P)/
-  printf '%s' "${said//"$here"/}" >&2
+# Stops the build, with the compiler's output on a crate, which is not proved, and the paths of the checkout.
+refuse() {
+  local said
+  said=$(<"$apart/said-$1")
+  printf '%s\n' "${said//"$apart"\//}" >&2
+  stop "$1 is not proved, so nothing was built"
 }
 
-# Proves the crates of the view. Stops the build as soon as a crate is not proved, with the toolchain's output on it.
-prove_view() {
-  local lines line='' part='' said='' status=0
-  exec {lines}< <(cd -- "$view" && exec rt ci 2>&1 </dev/null)
-  running=$!
-  while true; do
-    status=0
-    IFS= read -r -t "$LOOKS_EACH" -u "$lines" part || status=$?
+# Sets `keys` to the checksum of all that the library of each crate is made from: the toolchain, and the sources of the crate and of
+# those below it.
+read_keys() {
+  local sum path name text it
+  local -A sums=()
+  while read -r sum path; do
+    name=${path#crates/} && name=${name%%/*}
+    sums[$name]+="$sum $path"$'\n'
+  done < <(cd -- "$apart" && find crates -type f -print0 | LC_ALL=C sort -z | xargs -0 sha256sum --)
+  for name in "${order[@]}"; do
+    text="${identity% for *} $name: ${needs[$name]}"$'\n'"${sums[$name]-}"
+    for it in ${needs[$name]}; do text+="$it ${keys[$it]-}"$'\n'; done
+    read -r sum _ < <(sha256sum <<<"$text")
+    keys[$name]=$sum
+  done
+}
+
+# Sets `store` to the directory of libraries that builds on this machine have kept, or to nothing if there is none of this user.
+find_store() {
+  store=${XDG_CACHE_HOME:-${HOME-}/.cache}/cheri-cap/proofs
+  { mkdir -p -m 700 -- "$store" && [[ -O $store && ! -L $store ]]; } 2>/dev/null || store=''
+}
+
+# Takes the library of a crate that an earlier build has kept, if there is one and it is whole.
+take_kept() {
+  local from=$store/$1-${keys[$1]}
+  [[ -n $store && -f $from/sums ]] || return
+  if (cd -- "$from" && sha256sum --check --status sums) 2>/dev/null &&
+    { cp -Rl -- "$from/rlib" "$libraries/$1.rlib" || cp -R -- "$from/rlib" "$libraries/$1.rlib"; } 2>/dev/null; then
+    touch -- "$from" 2>/dev/null || true
+    return
+  fi
+  rm -rf -- "$libraries/$1.rlib" "$from"
+  return 1
+}
+
+# Keeps the library of a crate, if there is room.
+keep_library() {
+  local to=$store/$1-${keys[$1]} new=$store/new-$1-$$
+  [[ -n $store && ! -e $to ]] || return 0
+  {
+    mkdir -- "$new" && { cp -Rl -- "$libraries/$1.rlib" "$new/rlib" || cp -R -- "$libraries/$1.rlib" "$new/rlib"; } &&
+      (cd -- "$new" && find rlib -type f -print0 | xargs -0 sha256sum -- >sums) && mv -T -- "$new" "$to"
+  } 2>/dev/null || rm -rf -- "$new"
+}
+
+# Removes all but the newest libraries of each crate that are kept.
+trim_store() {
+  local it name
+  local -A count=()
+  [[ -n $store ]] || return 0
+  while read -r _ it; do
+    name=${it%-*}
+    count[$name]=$((${count[$name]:-0} + 1))
+    ((${count[$name]} <= KEPT_EACH)) || rm -rf -- "${store:?}/$it"
+  done < <(cd -- "$store" && find . -mindepth 1 -maxdepth 1 -printf '%T@ %f\n' | LC_ALL=C sort -rn)
+}
+
+# Proves a crate by this number of jobs, and reports its name and the status:  prove_crate CRATE JOBS
+prove_crate() {
+  local status=0
+  TMPDIR=$apart/tmp prove_over "$libraries" "$apart" "$1" "$2" >"$apart/said-$1" 2>&1 || status=$?
+  ((status)) || keep_library "$1"
+  printf '%s %s\n' "$1" "$status" >"$apart/ended"
+}
+
+# Returns whether the library of each crate below one is there.
+is_ready() {
+  local it
+  for it in ${needs[$1]}; do [[ -z ${needs[$it]+known} || -n ${given[$it]-} ]] || return; done
+}
+
+# Begins the proofs for which there are slots, first of the crates with the longest chain above. If fewer crates are ready than there
+# are slots, they have several jobs each.
+begin_ready() {
+  local name ready=() later=() free=$slots jobs
+  for name in "${!running[@]}"; do free=$((free - jobs_of[$name])); done
+  for name in "${left[@]}"; do
+    if is_ready "$name"; then
+      if take_kept "$name"; then count "$name" 'kept from an earlier proof'; else ready+=("$name"); fi
+    fi
+  done
+  while ((${#ready[@]} && free > 0)); do
+    name=${ready[0]} jobs=$((free / ${#ready[@]}))
+    ((jobs > 0)) || jobs=1
+    begin prove_crate "$name" "$jobs"
+    running[$name]=$! jobs_of[$name]=$jobs free=$((free - jobs)) ready=("${ready[@]:1}")
+  done
+  for name in "${left[@]}"; do [[ -n ${given[$name]-}${running[$name]-} ]] || later+=("$name"); done
+  left=("${later[@]}")
+}
+
+# Waits for the end of a proof, and sets `name` and `status` to what it reports. One that ends without a report has failed.
+await_proof() {
+  local line='' part='' gone=''
+  # the timeout can come in the middle of a line
+  until IFS= read -r -t "$LOOKS_EACH" -u "$ended" part; do
     heed_signal
     line+=$part
-    # at the end of the output the status is 1, and above 128 if no whole line has come in time
-    ((status != 1)) || break
-    if ((status > 128)); then
-      ((SECONDS - told < TELLS_EACH)) || tell
-      continue
-    fi
-    said+=$line$'\n'
-    if [[ $line =~ ^rt:\ ([a-z0-9_]+)\ (proved|is\ kept:.*)$ ]]; then
-      line=${BASH_REMATCH[2]/#is kept:*/kept from an earlier proof}
-      count "${BASH_REMATCH[1]}" "$line"
-      said=''
-    elif [[ $line =~ ^rt:\ ([a-z0-9_]+)\ NOT\ PROVED ]]; then
-      show_said
-      stop "${BASH_REMATCH[1]} is not proved, so nothing was built"
-    fi
-    line=''
+    for name in "${!running[@]}"; do
+      if [[ -n $line ]] || kill -0 "${running[$name]}" 2>/dev/null; then continue; fi
+      # its report can have come since the read
+      if [[ $gone == "$name" ]]; then status=1 && return; fi
+      gone=$name
+    done
+    ((SECONDS - told < TELLS_EACH)) || { told=$SECONDS && say "$proved of ${#order[@]} crates are proved after $((SECONDS - start)) s"; }
   done
-  exec {lines}<&-
-  status=0
-  wait "$running" || status=$?
   heed_signal
-  running=''
-  # 129, 130, 143: ended by SIGHUP, SIGINT or SIGTERM, which bash itself may have missed
-  ((status != 129 && status != 130 && status != 143)) || interrupt "$(kill -l "$status")"
-  if ((status)); then
-    said+=$line
-    show_said
-    stop 'rt ci has failed, so nothing was built'
-  fi
+  read -r name status <<<"$line$part"
+}
+
+# Proves all crates in `order` except the last. A proof that the system killed, most likely for memory, is tried once more, and then
+# with none next to it.
+prove_below() {
+  local ended name status left=() again='' it
+  local -A keys=() jobs_of=()
+  { read_keys && mkfifo -- "$apart/ended" && exec {ended}<>"$apart/ended"; } || stop "the build cannot use $apart"
+  mapfile -t left < <(for it in "${order[@]:0:${#order[@]}-1}"; do printf '%s %s\n' "${behind[$it]}" "$it"; done | LC_ALL=C sort -k1,1nr -k2,2 | cut -d' ' -f2)
+  while ((${#left[@]} + ${#running[@]})); do
+    begin_ready
+    ((${#running[@]})) || continue
+    await_proof
+    wait "${running[$name]}" || true
+    unset "running[$name]"
+    if ((status == 137)) && [[ $again != "$name" ]]; then
+      again=$name slots=1 left=("$name" "${left[@]}")
+      say "the proof of $name was killed, most likely for memory: it is tried again, with none next to it"
+    elif ((status)); then
+      refuse "$name"
+    else
+      count "$name" proved
+    fi
+  done
+  exec {ended}<&-
+  trim_store
 }
 
 # Proves and builds the last crate over the libraries of the others:  build_last FLAG..
 build_last() {
-  local name
-  mkdir -- "$apart/libraries" && : >"$apart/libraries/ended" || return
-  for name in "${order[@]}"; do
-    [[ $name == "$last" ]] || mv -- "$view/crates/$name/out/rlib/$name.rlib" "$apart/libraries/" || return
-  done
-  mv -- "$apart/$last" "$view/crates/" && cp -- "$apart/crates.txt" "$view/" || return
-  build_over "$apart/libraries" "$view" "$last" "$@" >"$apart/said" 2>&1
+  build_over "$libraries" "$apart" "$last" "$@" >"$apart/said-$last" 2>&1
 }
 
 # Proves all crates in `order`, and builds the product of the last, with the flags that follow:  prove_crates PRODUCT FLAG..
 prove_crates() {
-  local product=$1 last=${order[-1]} signal='' running='' proved=0 start=$SECONDS told=$SECONDS
-  local apart=$top/crates/$last/out/apart
-  local view=$apart/view
+  local product=$1 last=${order[-1]} signal='' kit store proved=0 start=$SECONDS told=$SECONDS processors memory slots work
+  local apart libraries
+  apart=$(cd -- "$top" && pwd -P)/crates/$last/out/apart
+  libraries=$apart/libraries
+  local -A behind=() given=() running=()
   trap leave_build EXIT
   # A trap only notes the signal. If one did more while bash is in `read -t`, the timeout would end it in the middle.
   trap 'signal=INT' INT
@@ -209,11 +295,16 @@ prove_crates() {
   trap 'signal=HUP' HUP
   rm -rf -- "$apart"
   aside copy_sources || stop "the sources cannot be copied to $apart"
-  prove_view
+  measure_machine
+  read_costs
+  find_store
+  find_kit || stop 'the toolchain was not found'
+  prove_below
   say "${#order[@]} of ${#order[@]}: proving and building $last"
-  aside build_last "${@:2}" || { cat -- "$apart/said" >&2 && stop "$last is not proved, so nothing was built"; }
+  : >"$libraries/ended"
+  aside build_last "${@:2}" || refuse "$last"
   count "$last" proved
-  mv -f -- "$view/$product" "$top/$product" || stop "the build of $last cannot be stored in crates/$last/out"
+  mv -f -- "$apart/$product" "$top/$product" || stop "the build of $last cannot be stored in crates/$last/out"
   heed_signal
   trap - EXIT INT TERM HUP
   rm -rf -- "$apart"
