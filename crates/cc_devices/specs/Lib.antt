@@ -1,4 +1,4 @@
 -- In reading order.
 pub mod Input
 pub mod Devices
-pub mod Refused
+pub mod Notices

@@ -3,5 +3,4 @@ pub mod Outcome
 pub mod Input
 pub mod Execution
 pub mod Ending
-pub mod Progress
 pub mod ElfHint

@@ -2,13 +2,9 @@
 #![tactic(auto)]
 
 mod elf_hint;
-mod error_writer;
 mod execution;
 mod outcome;
-mod process_inputs;
 mod program;
-mod progress;
-mod watched;
 
 pub use cc_arguments::{DecodeTexts, Invocation, PoolTexts, Question, invocation_of, read_words};
 pub use cc_devices::{Fault, InputName, Inputs, file_input};

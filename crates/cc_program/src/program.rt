@@ -1,22 +1,20 @@
 //! The execution of the program's command line.
-ghost use Rattle.std.specs.Prelude.{◌≡◌, ◌≢◌, false, true, Err, List, Option};
+ghost use Rattle.std.specs.Prelude.{◌≡◌, ◌≢◌, ◌↔◌, false, true, Err, IsTrue, List, Option};
 ghost use Rattle.clap.specs.Walk.{texts};
 ghost use Rattle.clap.specs.Words.{App, Row, Text, kind_of, subcommand_of, subcommand_rows_of};
 ghost use Rattle.cc_program.specs.declared.outcome.Ending.TheVariants as ending;
 ghost use Rattle.cc_program.specs.Ending.{EndsCommand, ExecutesCommand};
 ghost use Rattle.cc_devices.specs.Devices.{Console, OnDevices};
 ghost use Rattle.cc_program.specs.Execution.{Executes};
-ghost use Rattle.cc_program.specs.Input.{ReadsFile};
+ghost use Rattle.cc_program.specs.Input.{IsRunOrPlan, IsWatched, ReadsFile};
 ghost use Rattle.cc_arguments.specs.Invocation.{HasItsTexts, IsInvocation, IsProgram, faults_of, is_taken};
 ghost use Rattle.cc_program.specs.Outcome.{EndsBy, EndsOn, status_of};
 
 use crate::elf_hint::hint_on_file;
-use crate::error_writer::ErrorWriter;
 use crate::execution::execute;
 use crate::outcome::{Ending, ending_of, ending_status};
-use crate::process_inputs::{ProcessInputs, is_watched, writes_replies};
 use cc_arguments::{Invocation, invocation_of, read_words};
-use cc_devices::Fault;
+use cc_devices::{ErrorWriter, Fault, ProcessInputs};
 use cc_io::{FromWriter, Summary};
 use cc_runs::Terminals;
 use clap::error::ErrorKind;
@@ -109,6 +107,21 @@ fn tell<R: Print + Eprint>(rt: &R, error: &Error) -> Ending
             Ending::Refused
         }
     }
+}
+
+/// Returns whether the progress of a command is shown at a terminal: that of `replay`, except with
+/// `--script`, whose lines may be shorter than the text of the progress.
+fn is_watched(invocation: Invocation<'_>) -> bool
+    ensures { IsTrue result ↔ IsWatched invocation.entry }
+{
+    matches!(invocation, Invocation::Replay { texts, .. } if !texts.script)
+}
+
+/// Returns whether a command writes the replies to a script: `run` and `plan` do.
+fn writes_replies(invocation: Invocation<'_>) -> bool
+    ensures { IsTrue result ↔ IsRunOrPlan invocation.entry }
+{
+    matches!(invocation, Invocation::Run { .. } | Invocation::Plan { .. })
 }
 
 /// Executes a command on the files and the standard streams of the process.

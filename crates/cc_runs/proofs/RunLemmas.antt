@@ -15,7 +15,7 @@ use Rattle.cc_script.specs.Session.{AnswersSession, SessionState}
 use Rattle.cc_arguments.specs.declared.invocation.PoolTexts.{PoolTexts}
 use Rattle.cc_devices.specs.Devices.{Console, FromInput, OnDevices, Traffic, traffic_of}
 use Rattle.cc_devices.specs.Input.{file_input}
-use Rattle.cc_devices.specs.Refused.{WritesRefusal}
+use Rattle.cc_explain.specs.Refused.{WritesRefusal}
 use Rattle.cc_devices.specs.declared.fault.Fault.{Fault}
 use Rattle.cc_devices.specs.declared.input.InputName.{InputName}
 use Rattle.cc_devices.proofs.DeviceLemmas.{from_input, on_devices-map}

@@ -17,10 +17,6 @@ use Rattle.cc_runs.specs.declared.report.Terminals.{Terminals}
 abbrev pub report_of : (stats : Bool) → Terminals → Report
 report_of stats terminals = record { stats = stats; hints = stats || terminals.errors }
 
--- The text written before a script is read from a terminal.
-abbrev pub waiting_text : List ℕ
-waiting_text = codes "hint: reading a script from the terminal, a command on each line; Control-D ends it\n"
-
 -- IsMachineUsage holds if the usage is that of a machine in this state: of its slots and of its plan.
 abbrev pub IsMachineUsage : State → Usage → Type 0
 IsMachineUsage state usage = IsUsage (length state.slots) (plan_of state) usage

@@ -21,7 +21,7 @@ use Rattle.cc_ops.specs.declared.usage.Usage.{Usage}
 use Rattle.cc_arguments.specs.declared.invocation.PoolTexts.{PoolTexts}
 use Rattle.cc_devices.specs.Devices.{Console, FromInput, Traffic}
 use Rattle.cc_devices.specs.Input.{file_input}
-use Rattle.cc_devices.specs.Refused.{WritesRefusal}
+use Rattle.cc_explain.specs.Refused.{WritesRefusal}
 use Rattle.cc_runs.specs.Report.{IsMachineUsage, WritesReport}
 use Rattle.cc_runs.specs.declared.report.Report.{Report}
 

@@ -9,5 +9,5 @@ mod session;
 
 pub use laws::{holes_are_the_free_bytes, objects_are_drawn_exactly};
 pub use maps::map_file;
-pub use report::{Report, Terminals, announce};
+pub use report::{Report, Terminals};
 pub use runs::{plan_file, run_file};

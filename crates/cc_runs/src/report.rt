@@ -1,13 +1,13 @@
-//! Reports on standard error: that a script is read from the terminal, and the summary of a run and hints.
+//! Reports on standard error: the summary of a run, and hints.
 ghost use Rattle.std.specs.Prelude.{◌≡◌, ◌≤◌, ◌^◌, List, ℕ, IfOk, OnErr, OnOk, false};
 ghost use Rattle.std.specs.Io.KnownBytes.{Appends};
 ghost use Rattle.cc_ops.specs.declared.reply.Reply.{Reply};
 ghost use Rattle.cc_syntax.specs.Tally.{Exchange, IsTally};
-ghost use Rattle.cc_runs.specs.Report.{IsMachineUsage, WritesReport, report_of, waiting_text};
+ghost use Rattle.cc_runs.specs.Report.{IsMachineUsage, WritesReport, report_of};
 
 use cc_command::{Hints, show_hints, show_statistics};
 use cc_draw::usage_of;
-use cc_io::{Sink, write_all};
+use cc_io::Sink;
 use cc_machine::{Len, Machine};
 use cc_ops::Usage;
 use cc_script::Session;
@@ -41,17 +41,6 @@ impl Report {
             hints: stats || terminals.errors,
         }
     }
-}
-
-/// Writes that the script is read from the terminal. Errors of the sink are ignored.
-pub fn announce<E: Sink>(errors: &mut E)
-    requires { E.has_failed errors.old ≡ false }
-    ensures { E.has_failed errors.new ≡ false → Appends (E.taken_bytes errors.old) (E.taken_bytes errors.new) waiting_text }
-{
-    let _ = write_all(
-        errors,
-        b"hint: reading a script from the terminal, a command on each line; Control-D ends it\n",
-    );
 }
 
 /// Writes the summary of a run and hints, if the report has them. `pool` is the length of the pool that the opening

@@ -16,7 +16,7 @@ use Rattle.cc_arguments.specs.declared.invocation.DecodeTexts.{DecodeTexts}
 use Rattle.cc_devices.specs.Devices.{Console, FromInput, OnDevices}
 use Rattle.cc_devices.specs.Input.{file_input}
 use Rattle.cc_tasks.specs.Listing.{listing_in, place_in}
-use Rattle.cc_devices.specs.Refused.{WritesRefusal}
+use Rattle.cc_explain.specs.Refused.{WritesRefusal}
 use Rattle.cc_command.specs.BareDigits.{is_bare}
 use Rattle.cc_tasks.specs.NumberHint.{after_base, hint_if}
 use Rattle.cc_tasks.specs.Tasks.{ListsWords, RoundsLengths, SeesLengths, WithBase, WithListing}

@@ -18,7 +18,7 @@ use Rattle.cc_io.specs.declared.input_form.InputForm.{InputForm}
 use Rattle.cc_arguments.specs.declared.invocation.DecodeTexts.{DecodeTexts}
 use Rattle.cc_arguments.specs.declared.question.Question.{Question}
 use Rattle.cc_devices.specs.Devices.{Console, Traffic}
-use Rattle.cc_devices.specs.Refused.{WritesRefusal}
+use Rattle.cc_explain.specs.Refused.{WritesRefusal}
 use Rattle.cc_tasks.specs.Listing.{listing_in, place_in}
 use Rattle.cc_tasks.specs.NumberHint.{after_base, hint_if}
 use Rattle.cc_tasks.specs.Questions.{IsAnswerTo, IsUnanswerable}

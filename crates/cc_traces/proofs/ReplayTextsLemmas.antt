@@ -14,7 +14,7 @@ use Rattle.cc_heap.specs.declared.reallocation.Reallocation.{Reallocation}
 use Rattle.cc_heap.specs.declared.reallocation.Reallocation.TheVariants.{Move}
 use Rattle.cc_heap.specs.declared.settings.Settings.{Settings}
 use Rattle.cc_arguments.specs.declared.invocation.ReplayTexts.{ReplayTexts}
-use Rattle.cc_devices.specs.Refused.{changed}
+use Rattle.cc_explain.specs.Refused.{changed}
 use Rattle.cc_traces.specs.ReplayTexts.{are_two, each_in, format_in, least_in, realloc_in, replay_in, span_given, sweep_in}
 
 -- Both values are those of the two results.

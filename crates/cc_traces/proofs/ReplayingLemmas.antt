@@ -21,7 +21,7 @@ use Rattle.cc_traces.specs.Charting.{ChartsTrace}
 use Rattle.cc_traces.specs.ReplayTexts.{replay_in}
 use Rattle.cc_traces.specs.Scripting.{ScriptsTrace}
 use Rattle.cc_traces.specs.Replaying.{Replays, ReplaysAll, ReplaysTrace, Samples, SamplesAll, StopsInSummary, StopsSampling, SumsUp, SumsUpAll, WithReplay, WritesReplay, WritesTrace}
-use Rattle.cc_devices.specs.Refused.{WritesRefusal}
+use Rattle.cc_explain.specs.Refused.{WritesRefusal}
 use Rattle.cc_devices.specs.declared.fault.Fault.{Fault}
 use Rattle.cc_devices.specs.declared.input.InputName.{InputName}
 use Rattle.cc_devices.proofs.DeviceLemmas.{on_devices-map}

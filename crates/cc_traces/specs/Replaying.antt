@@ -25,7 +25,7 @@ use Rattle.cc_devices.specs.Devices.{Console, Traffic}
 use Rattle.cc_traces.specs.Charting.{ChartsTrace}
 use Rattle.cc_traces.specs.Scripting.{ScriptsTrace}
 use Rattle.cc_traces.specs.ReplayTexts.{replay_in}
-use Rattle.cc_devices.specs.Refused.{WritesRefusal}
+use Rattle.cc_explain.specs.Refused.{WritesRefusal}
 
 -- The format of a table.
 abbrev pub table_format : SummaryFormat → Format

@@ -1,7 +1,7 @@
-//! The progress of a replay on standard error: how much of the trace has been read.
+//! What is shown on a terminal while a command reads: how much of a trace has been read, and that a script is read from it.
 ghost use Rattle.std.specs.Prelude.{◌≡◌, false};
 ghost use Rattle.std.specs.Io.KnownBytes.{Appends};
-ghost use Rattle.cc_program.specs.Progress.{clearing_text, percent_of, progress_text};
+ghost use Rattle.cc_devices.specs.Notices.{clearing_text, percent_of, progress_text, waiting_text};
 
 use cc_io::{Sink, write_all};
 use cc_text::Page;
@@ -37,4 +37,15 @@ pub fn clear_progress<E: Sink>(errors: &mut E)
     ensures { E.has_failed errors.new ≡ false → Appends (E.taken_bytes errors.old) (E.taken_bytes errors.new) clearing_text }
 {
     let _ = write_all(errors, b"            \r");
+}
+
+/// Writes that the script is read from the terminal. Errors of the sink are ignored.
+pub fn announce<E: Sink>(errors: &mut E)
+    requires { E.has_failed errors.old ≡ false }
+    ensures { E.has_failed errors.new ≡ false → Appends (E.taken_bytes errors.old) (E.taken_bytes errors.new) waiting_text }
+{
+    let _ = write_all(
+        errors,
+        b"hint: reading a script from the terminal, a command on each line; Control-D ends it\n",
+    );
 }

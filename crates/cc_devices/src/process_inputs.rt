@@ -2,14 +2,13 @@
 ghost use Rattle.std.specs.Prelude.{◌≡◌, None, IfErr, IfOk, IsTrue, ◌↔◌};
 ghost use Rattle.either.specs.Either.{is_left};
 ghost use Rattle.cc_devices.specs.Input.{IsFile};
-ghost use Rattle.cc_program.specs.Input.{IsWatched, IsRunOrPlan};
 
 use crate::error_writer::ErrorWriter;
+use crate::fault::Fault;
+use crate::input::{InputName, Inputs};
+use crate::notices::announce;
 use crate::watched::Watched;
-use cc_arguments::Invocation;
-use cc_devices::{Fault, InputName, Inputs};
 use cc_io::FromWriter;
-use cc_runs::announce;
 use either::{Either, Left, Right};
 use std::fs::{self, OpenFile};
 use std::rt::Files;
@@ -74,19 +73,4 @@ fn length_of<F: OpenFile>(file: &F) -> u64 {
         Ok(metadata) if metadata.is_file() => metadata.len(),
         _ => 0,
     }
-}
-
-/// Returns whether the progress of a command is shown at a terminal: that of `replay`, except with
-/// `--script`, whose lines may be shorter than the text of the progress.
-pub fn is_watched(invocation: Invocation<'_>) -> bool
-    ensures { IsTrue result ↔ IsWatched invocation.entry }
-{
-    matches!(invocation, Invocation::Replay { texts, .. } if !texts.script)
-}
-
-/// Returns whether a command writes the replies to a script: `run` and `plan` do.
-pub fn writes_replies(invocation: Invocation<'_>) -> bool
-    ensures { IsTrue result ↔ IsRunOrPlan invocation.entry }
-{
-    matches!(invocation, Invocation::Run { .. } | Invocation::Plan { .. })
 }

@@ -2,7 +2,7 @@
 ghost use Rattle.std.specs.Prelude.{◌≡◌};
 
 use crate::error_writer::ErrorWriter;
-use crate::progress::{clear_progress, percent_of, show_progress};
+use crate::notices::{clear_progress, percent_of, show_progress};
 use cc_io::FromWriter;
 use std::io::{self, Read};
 

@@ -1,4 +1,4 @@
--- The progress of a replay, as it is shown.
+-- What is shown on a terminal while a command reads: the progress of a replay, and that a script is read from it.
 use Rattle.std.specs.Prelude.{ℕ, ◌*◌, ◌/◌, ◌++◌, nat_lt, codes, decimal, List, Option, Some, None, if◌then◌else◌}
 
 -- The percentage of a file that has been read, rounded down, or none once all of it has been.
@@ -12,3 +12,7 @@ progress_text percent = codes "replay: " ++ decimal percent ++ codes " %\r"
 -- The text that clears a percentage.
 abbrev pub clearing_text : List ℕ
 clearing_text = codes "            \r"
+
+-- The text written before a script is read from a terminal.
+abbrev pub waiting_text : List ℕ
+waiting_text = codes "hint: reading a script from the terminal, a command on each line; Control-D ends it\n"
