@@ -3,7 +3,7 @@ ghost use Rattle.std.specs.Prelude.{◌≡◌};
 ghost use Rattle.cc_chart.specs.Levels.{greater_of, greatest};
 
 /// The numbers of bytes of a heap that a chart shows.
-#[derive(Clone, Copy, PartialEq, Eq, Debug, Default)]
+#[derive(Clone, Copy, Default)]
 pub struct Levels {
     /// The bytes of live objects.
     pub live: u128,

@@ -16,7 +16,7 @@ use cc_text::{ROOM, Text, end_with_decimal, end_with_hexadecimal, push_hexadecim
 
 /// The facts about a run that are worth a hint. Lines of the script are numbered from 1, and 0
 /// means that there is no such line.
-#[derive(Clone, Copy, Debug, PartialEq, Eq)]
+#[derive(Clone, Copy, PartialEq, Eq)]
 pub struct Hints {
     /// The requested length of the pool in bytes, if a reply to the setup operations is `Inexact`.
     pub inexact: Option<Len>,

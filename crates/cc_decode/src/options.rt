@@ -3,7 +3,7 @@ use cc_io::{Format, InputForm};
 use cc_word::Perms;
 
 /// The form of the input, the format of the replies, and the words that get a reply.
-#[derive(Clone, Copy, Debug, PartialEq, Eq)]
+#[derive(Clone, Copy)]
 pub struct Options {
     /// The form of words in the input.
     pub input: InputForm,
@@ -17,7 +17,7 @@ pub struct Options {
 }
 
 /// A search for words that could be capabilities: they are canonical and have a permission.
-#[derive(Clone, Copy, Debug, PartialEq, Eq)]
+#[derive(Clone, Copy)]
 pub struct Search {
     /// The address of a byte that the bounds contain, if one is searched for.
     pub holds: Option<u64>,

@@ -6,7 +6,7 @@ ghost use Rattle.cc_events.specs.Ids.{freed_id, made_id};
 ///
 /// An id names an object from the event that makes it to the event that frees it, and can be used
 /// again after that. A size of 0 counts as 1.
-#[derive(Clone, Copy, PartialEq, Eq, Debug)]
+#[derive(Clone, Copy)]
 pub enum Event {
     /// An object is made, as by `malloc` and `aligned_alloc`.
     Allocate {

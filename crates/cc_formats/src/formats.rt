@@ -12,7 +12,7 @@ use cc_events::Event;
 use cc_word::Refusal;
 
 /// The format of a trace.
-#[derive(Clone, Copy, PartialEq, Eq, Debug)]
+#[derive(Clone, Copy)]
 pub enum TraceFormat {
     /// The format of [`read_event`].
     Own,

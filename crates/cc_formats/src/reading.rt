@@ -5,7 +5,7 @@ ghost use Rattle.cc_formats.specs.Reading.{is_due, progress_after};
 use crate::formats::TraceFormat;
 
 /// How a trace is read.
-#[derive(Clone, Copy, PartialEq, Eq, Debug)]
+#[derive(Clone, Copy)]
 pub struct Reading {
     /// The format of the trace.
     pub format: TraceFormat,
@@ -16,7 +16,7 @@ pub struct Reading {
 }
 
 /// Whether lines are taken.
-#[derive(Clone, Copy, PartialEq, Eq, Debug)]
+#[derive(Clone, Copy)]
 pub enum Progress {
     /// Lines are taken.
     Running,

@@ -6,7 +6,7 @@ ghost use Rattle.cc_formats.specs.Reports.{allocation, clearing, free, reallocat
 ///
 /// An object is named by its pointer. It is not 0 in the reports of the readers, except in `From` and
 /// `To`.
-#[derive(Clone, Copy, PartialEq, Eq, Debug)]
+#[derive(Clone, Copy)]
 pub enum Report {
     /// The line reports no change.
     Nothing,

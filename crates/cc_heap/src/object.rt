@@ -2,7 +2,7 @@
 use cc_bounds::Span;
 
 /// A live object.
-#[derive(Clone, Copy, PartialEq, Eq, Debug)]
+#[derive(Clone, Copy)]
 pub struct Object {
     /// The requested size in bytes, at least 1.
     pub size: u64,

@@ -5,7 +5,7 @@ ghost use Rattle.cc_heap.specs.Outcomes.{is_refused};
 use crate::making::Making;
 
 /// The outcome of an event.
-#[derive(Clone, Copy, PartialEq, Eq, Debug)]
+#[derive(Clone, Copy)]
 pub struct Outcome {
     /// Whether the id of the object that the event makes was live. The object under it was freed
     /// first.

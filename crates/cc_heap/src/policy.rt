@@ -5,7 +5,7 @@ ghost use Rattle.cc_heap.specs.Policy.{AsksForSweep, is_immediate, is_of_the_tra
 use crate::usage::Usage;
 
 /// The bytes of which a policy takes a percentage.
-#[derive(Clone, Copy, PartialEq, Eq, Debug)]
+#[derive(Clone, Copy, PartialEq, Eq)]
 pub enum Share {
     /// The held bytes: those of live objects, and the quarantined ones.
     Held,
@@ -19,7 +19,7 @@ pub enum Share {
 /// that does not keep its object.
 ///
 /// Whatever the policy, a heap that has no place for an object sweeps once, and tries again.
-#[derive(Clone, Copy, PartialEq, Eq, Debug)]
+#[derive(Clone, Copy, PartialEq, Eq)]
 pub enum Policy {
     /// There is no quarantine: the bytes of an object are released when it is freed.
     Immediate,

@@ -3,7 +3,7 @@ ghost use Rattle.std.specs.Prelude.{◌≡◌};
 ghost use Rattle.cc_heap.specs.Reallocation.{is_keep};
 
 /// The effect of a reallocation on an object whose bytes the new one can take.
-#[derive(Clone, Copy, PartialEq, Eq, Debug)]
+#[derive(Clone, Copy)]
 pub enum Reallocation {
     /// The new object is made while the old one is held, and then the old one is freed.
     Move,

@@ -4,7 +4,7 @@ use crate::reallocation::Reallocation;
 use cc_bounds::{Align, Span};
 
 /// The settings of a heap, which no event changes.
-#[derive(Clone, Copy, PartialEq, Eq, Debug)]
+#[derive(Clone, Copy)]
 pub struct Settings {
     /// The maximum number of held spans, from 1 to 2^24.
     pub limit: u32,

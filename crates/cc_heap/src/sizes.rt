@@ -7,7 +7,7 @@ use cc_events::Event;
 
 /// The numbers of the objects that were made whose sizes are at least a power of two, and below the
 /// next.
-#[derive(Clone, Copy, PartialEq, Eq, Debug, Default)]
+#[derive(Clone, Copy, Default)]
 pub struct SizeTotals {
     /// The number of these objects, at most 2^64 - 1.
     pub made: u64,

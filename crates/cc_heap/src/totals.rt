@@ -12,7 +12,7 @@ use crate::usage::Usage;
 /// A state is what the heap holds after an object is made, after one is freed, after a sweep, and
 /// after a `realloc` that keeps its object. One that moves it has a state with both objects. Numbers of objects and of
 /// sweeps stay at 2^64 - 1 once they reach it, and sums of bytes at 2^128 - 1.
-#[derive(Clone, Copy, PartialEq, Eq, Debug, Default)]
+#[derive(Clone, Copy, Default)]
 pub struct Totals {
     /// The number of objects that were made.
     pub made: u64,

@@ -5,7 +5,7 @@ ghost use Rattle.cc_bounds.specs.Span.{length_of};
 use crate::object::Object;
 
 /// The number of objects and of bytes that a heap holds.
-#[derive(Clone, Copy, PartialEq, Eq, Debug, Default)]
+#[derive(Clone, Copy, Default)]
 pub struct Usage {
     /// The number of live objects.
     pub objects: u64,

@@ -1,7 +1,7 @@
 //! The formats of words in an output.
 
 /// The format of the reply to a word. Each reply is one line.
-#[derive(Clone, Copy, Debug, PartialEq, Eq)]
+#[derive(Clone, Copy)]
 pub enum Format {
     /// `WORD BASE TOP PERMS FLAG TYPE EXPONENT CANONICAL`, with one space between, in the notation
     /// of `show`.

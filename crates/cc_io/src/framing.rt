@@ -34,7 +34,7 @@ pub trait Framing {
 }
 
 /// Entries that are lines, each ended by a line feed (LF).
-#[derive(Clone, Copy, Debug, PartialEq, Eq)]
+#[derive(Clone, Copy)]
 pub struct Lines;
 
 impl Framing for Lines {
@@ -56,7 +56,7 @@ impl Framing for Lines {
 const BLOCK: usize = 16;
 
 /// Entries that are blocks of 16 bytes.
-#[derive(Clone, Copy, Debug, PartialEq, Eq)]
+#[derive(Clone, Copy)]
 pub struct Blocks;
 
 impl Framing for Blocks {

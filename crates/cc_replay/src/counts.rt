@@ -7,7 +7,7 @@ use cc_heap::{Event, Making, Outcome};
 use cc_word::Refusal;
 
 /// The number of lines of one kind, and the first of them.
-#[derive(Clone, Copy, PartialEq, Eq, Debug, Default)]
+#[derive(Clone, Copy, Default)]
 pub struct Count {
     /// The number of lines, at most 2^64 - 1.
     pub times: u64,
@@ -16,7 +16,7 @@ pub struct Count {
 }
 
 /// The counts of the lines of a trace. Each number stays at 2^64 - 1 once it reaches it.
-#[derive(Clone, Copy, PartialEq, Eq, Debug, Default)]
+#[derive(Clone, Copy, Default)]
 pub struct Counts {
     /// The number of lines, including empty ones and comments. Trailing bytes count as a line.
     pub lines: u64,

@@ -11,7 +11,7 @@ use cc_io::{Failed, Sink, Source, Summary};
 use cc_placer::Placer;
 
 /// The reason for which a trace has no summary.
-#[derive(Clone, Copy, PartialEq, Eq, Debug)]
+#[derive(Clone, Copy)]
 pub enum Failure {
     /// An allocation failed.
     Memory,

@@ -22,7 +22,7 @@ const MOST_SUMMARY: usize = 16384;
 const MOST_ROWS: usize = 43;
 
 /// The numbers of a replay.
-#[derive(Clone, Copy, PartialEq, Eq, Debug)]
+#[derive(Clone, Copy)]
 pub struct Figures {
     /// The counts of the lines of the trace.
     pub counts: Counts,

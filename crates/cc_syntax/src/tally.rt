@@ -12,7 +12,7 @@ use cc_ops::Reply;
 use cc_word::Refusal;
 
 /// The number of replies that are one refusal, and the line that got the first of them.
-#[derive(Clone, Copy, Debug, PartialEq, Eq)]
+#[derive(Clone, Copy, PartialEq, Eq)]
 pub struct Count {
     /// The refusal.
     pub refusal: Refusal,
