@@ -1,4 +1,4 @@
--- What is shown on a terminal while a command reads: the progress of a replay, and that a script is read from it.
+-- The notices at a terminal while a command reads: the progress of a replay, and that a script is awaited.
 use Rattle.std.specs.Prelude.{ℕ, ◌*◌, ◌/◌, ◌++◌, nat_lt, codes, decimal, List, Option, Some, None, if◌then◌else◌}
 
 -- The percentage of a file that has been read, rounded down, or none once all of it has been.

@@ -1,4 +1,4 @@
-//! What is shown on a terminal while a command reads: how much of a trace has been read, and that a script is read from it.
+//! Notices at a terminal while a command reads: how much of a trace has been read, and that a script is awaited.
 ghost use Rattle.std.specs.Prelude.{◌≡◌, false};
 ghost use Rattle.std.specs.Io.KnownBytes.{Appends};
 ghost use Rattle.cc_devices.specs.Notices.{clearing_text, percent_of, progress_text, waiting_text};
