@@ -33,13 +33,13 @@ compile() {
   (cd -- "$2/crates/$3" && mkdir -p out && exec "$kit/bin/rattle" build --crate-name "$3" "$4" "${words[@]}" --links "$3=" "${@:5}")
 }
 
-# Proves and builds the static library or the program of a crate, with the flags that follow, for example a target. Fails if it
-# cannot, and its output says why:  build_over DIRECTORY COPY CRATE FLAG..
+# Proves and builds the static library or the program of a crate by `jobs` jobs, or by one, with the flags that follow, for example a
+# target. Fails if it cannot, and its output says why:  build_over DIRECTORY COPY CRATE FLAG..
 build_over() {
   local kit given entry=src/lib.rt written=out/lib$3.a flags=(--crate-type staticlib)
   find_kit && given=$(realpath -ms -- "$1") || return
   if [[ -f $2/crates/$3/src/main.rt ]]; then entry=src/main.rt written=out/$3.o flags=(); fi
-  compile "$given" "$2" "$3" "$entry" "${flags[@]}" --jobs 1 --toolchain "$kit/toolchain" --backend llvm "${@:4}" -o "$written" || return
+  compile "$given" "$2" "$3" "$entry" "${flags[@]}" --jobs "${jobs:-1}" --toolchain "$kit/toolchain" --backend llvm "${@:4}" -o "$written" || return
   [[ $written != *.o ]] ||
     "$kit/bin/rattle-link" --target x86_64-unknown-linux-gnu --toolchain "$kit/toolchain" -o "$2/crates/$3/out/$3" "$2/crates/$3/$written" "$kit/c/libos_c.a" "$kit/c/liblibc_c.a"
 }

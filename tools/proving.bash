@@ -7,9 +7,9 @@
 # shellcheck source=tools/over-libraries.bash
 source "$top/tools/over-libraries.bash"
 
-# Memory of the proof of one crate, in MB. The cost in seconds of a crate that tools/crate-costs does not name. The numbers of libraries
-# of a crate that are kept.
-readonly PROOF_MEMORY=2500 UNKNOWN_COST=60 KEPT_EACH=2
+# Memory of the proof of one crate, in MB. The cost in seconds of a crate that tools/crate-costs does not name. The maximum numbers of
+# jobs that prove a crate, and of libraries of a crate that are kept.
+readonly PROOF_MEMORY=2500 UNKNOWN_COST=60 MOST_JOBS=4 KEPT_EACH=2
 # The interval at which signals are checked, in seconds.
 readonly LOOKS_EACH=0.1
 
@@ -224,6 +224,7 @@ begin_ready() {
   while ((${#ready[@]} && free > 0)); do
     name=${ready[0]} jobs=$((free / ${#ready[@]}))
     ((jobs > 0)) || jobs=1
+    ((jobs <= MOST_JOBS)) || jobs=$MOST_JOBS
     begin prove_crate "$name" "$jobs"
     running[$name]=$! jobs_of[$name]=$jobs free=$((free - jobs)) ready=("${ready[@]:1}")
   done
@@ -278,6 +279,7 @@ prove_below() {
 
 # Proves and builds the last crate over the libraries of the others:  build_last FLAG..
 build_last() {
+  local jobs=$((slots < MOST_JOBS ? slots : MOST_JOBS))
   build_over "$libraries" "$apart" "$last" "$@" >"$apart/said-$last" 2>&1
 }
 
