@@ -7,9 +7,9 @@
 # shellcheck source=tools/over-libraries.bash
 source "$top/tools/over-libraries.bash"
 
-# Memory of the proof of one crate, in MB. The cost in seconds of a crate that tools/crate-costs does not name. The maximum numbers of
-# jobs that prove a crate, and of libraries of a crate that are kept.
-readonly PROOF_MEMORY=2500 UNKNOWN_COST=60 MOST_JOBS=4 KEPT_EACH=2
+# Memory of the proof of one crate, in MB. The cost in seconds of a crate that tools/crate-costs does not name. The maximum number of
+# jobs that prove a crate. The maximum number of libraries of a crate that are kept, and the days for which one is that no build takes.
+readonly PROOF_MEMORY=2500 UNKNOWN_COST=60 MOST_JOBS=4 KEPT_EACH=2 KEPT_DAYS=60
 # The interval at which signals are checked, in seconds.
 readonly LOOKS_EACH=0.1
 
@@ -185,11 +185,13 @@ keep_library() {
   } 2>/dev/null || rm -rf -- "$new"
 }
 
-# Removes all but the newest libraries of each crate that are kept.
+# Removes all but the newest libraries of each crate that are kept, those that no build has taken for KEPT_DAYS, and what a build that
+# was killed has left.
 trim_store() {
   local it name
   local -A count=()
   [[ -n $store ]] || return 0
+  find "$store" -mindepth 1 -maxdepth 1 \( -mtime "+$KEPT_DAYS" -o -name 'new-*' -mtime +0 \) -exec rm -rf -- {} +
   while read -r _ it; do
     name=${it%-*}
     count[$name]=$((${count[$name]:-0} + 1))
@@ -216,6 +218,7 @@ is_ready() {
 begin_ready() {
   local name ready=() later=() free=$slots jobs
   for name in "${!running[@]}"; do free=$((free - jobs_of[$name])); done
+  # a crate comes after those that it needs, so one that is above a library taken here is seen
   for name in "${left[@]}"; do
     if is_ready "$name"; then
       if take_kept "$name"; then count "$name" 'kept from an earlier proof'; else ready+=("$name"); fi
