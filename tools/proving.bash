@@ -175,7 +175,7 @@ take_kept() {
   return 1
 }
 
-# Keeps the library of a crate, if there is room.
+# Keeps the library of a crate, unless the disk is full.
 keep_library() {
   local to=$store/$1-${keys[$1]} new=$store/new-$1-$$
   [[ -n $store && ! -e $to ]] || return 0
@@ -288,7 +288,7 @@ build_last() {
 
 # Proves all crates in `order`, and builds the product of the last, with the flags that follow:  prove_crates PRODUCT FLAG..
 prove_crates() {
-  local product=$1 last=${order[-1]} signal='' kit store proved=0 start=$SECONDS told=$SECONDS processors memory slots work
+  local product=$1 last=${order[-1]} signal='' toolkit store proved=0 start=$SECONDS told=$SECONDS processors memory slots work
   local apart libraries
   apart=$(cd -- "$top" && pwd -P)/crates/$last/out/apart
   libraries=$apart/libraries
@@ -303,7 +303,7 @@ prove_crates() {
   measure_machine
   read_costs
   find_store
-  find_kit || stop 'the toolchain was not found'
+  find_toolkit || stop 'the toolchain was not found'
   prove_below
   say "${#order[@]} of ${#order[@]}: proving and building $last"
   : >"$libraries/ended"
