@@ -2,7 +2,7 @@
 #
 # The compiler proves each crate over the libraries of those below it, and writes its library, which has what is proved of it. Crates
 # that do not need each other are proved side by side, from copies of the sources. The libraries are kept for later builds, by checksums.
-# CI proves the crates by `rt ci`, which also searches for contracts that no call can meet, and takes a quarter longer for it.
+# CI proves the crates by `rt ci`, which also searches for contracts that no call can meet.
 
 # shellcheck source=tools/over-libraries.bash
 source "$top/tools/over-libraries.bash"
