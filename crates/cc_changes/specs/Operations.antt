@@ -1,7 +1,7 @@
 -- The operations of a machine that correspond to the changes of a heap, and the numbers of its objects.
 use Rattle.std.specs.Prelude.{ℕ, ◌+◌, List, [], ◌∷◌, ◌++◌, codes, decimal, nat_eq, if◌then◌else◌}
-use Rattle.cc_ops.specs.declared.op.Op.{Op}
-use Rattle.cc_ops.specs.declared.op.Op.TheVariants.{Alloc, Free, Sweep}
+use Rattle.cc_values.specs.declared.op.Op.{Op}
+use Rattle.cc_values.specs.declared.op.Op.TheVariants.{Alloc, Free, Sweep}
 use Rattle.cc_heap.specs.declared.policy.Policy.{Policy}
 use Rattle.cc_heap.specs.Policy.{is_immediate}
 use Rattle.cc_changes.specs.Changes.{Change}

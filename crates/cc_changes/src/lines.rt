@@ -1,13 +1,13 @@
 //! The lines of operations.
 ghost use Rattle.std.specs.Prelude.{◌≡◌, ◌≤◌, ◌+◌, ◌++◌, length, replicate};
-ghost use Rattle.cc_ops.specs.declared.op.Op.TheVariants.{Sweep};
+ghost use Rattle.cc_values.specs.declared.op.Op.TheVariants.{Sweep};
 ghost use Rattle.cc_changes.specs.Operations.{operation_lines};
 ghost use Rattle.cc_changes.specs.Deeds.{alloc_operations, numbered_free, numbered_operations};
 
 use crate::deeds::{Deeds, Entry};
 use crate::doing::as_number;
 use cc_heap::Policy;
-use cc_text::Page;
+use cc_io::Page;
 
 /// Appends the lines of deeds that free the objects of these numbers.
 #[tactic(auto, using(crate::proofs::LineLemmas::deeds_pushed))]

@@ -3,7 +3,7 @@ ghost use Rattle.std.specs.Prelude.{◌≡◌};
 ghost use Rattle.cc_changes.specs.Changes.{asks_for_unit};
 
 use cc_bounds::{Align, granule};
-use cc_events::Event;
+use cc_placer::Event;
 
 /// Returns whether the alignment that an event asks for is at most the unit of its size.
 pub(crate) fn asks_for_unit(align: Align, event: Event) -> bool

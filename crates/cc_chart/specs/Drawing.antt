@@ -1,7 +1,7 @@
 -- The SVG document of a chart. Its curves are 6,400 units wide and 3,200 high. It has only fixed strings and
 -- digits, so no character needs an escape.
 use Rattle.std.specs.Prelude.{ℕ, zero, suc, ◌+◌, ◌*◌, ◌/◌, ◌%◌, ◌^◌, min, nat_lt, List, [], ◌∷◌, ◌++◌, codes, if◌then◌else◌}
-use Rattle.cc_text.specs.Numbered.{line_with_decimal, with_decimal}
+use Rattle.cc_io.specs.Numbered.{line_with_decimal, with_decimal}
 use Rattle.cc_chart.specs.declared.curves.Curve.{Curve}
 use Rattle.cc_chart.specs.declared.curves.Curve.TheVariants.{Live, Quarantine, Held, High}
 use Rattle.cc_chart.specs.declared.levels.Levels.{Levels}

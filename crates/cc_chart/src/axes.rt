@@ -3,7 +3,7 @@ ghost use Rattle.std.specs.Prelude.{◌≡◌, ◌≤◌, ◌<◌, ◌+◌, ◌*
 ghost use Rattle.cc_chart.specs.Scale.{decade, event_step, reach_of, step_count, step_power, top_of};
 
 use crate::levels::Levels;
-use cc_text::Line;
+use cc_io::Line;
 
 /// Returns the bytes that the vertical axis has to reach.
 pub(crate) fn reach_of(most: Levels) -> u128

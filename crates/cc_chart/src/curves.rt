@@ -1,13 +1,13 @@
 //! The curves of a chart.
 ghost use Rattle.std.specs.Prelude.{◌≡◌, ◌<◌, ◌≤◌, ◌+◌, ◌*◌, ◌++◌, codes, length};
-ghost use Rattle.cc_text.specs.Numbered.{with_decimal};
+ghost use Rattle.cc_io.specs.Numbered.{with_decimal};
 ghost use Rattle.cc_chart.specs.Scale.{down_to, right_to};
 ghost use Rattle.cc_chart.specs.Drawing.{bytes_of, curve_text, curves_text, steps_text, stroke_text};
 
 use crate::levels::Levels;
 use crate::numbered::push_number;
 use crate::scale::Scale;
-use cc_text::Page;
+use cc_io::Page;
 
 /// A curve of a chart.
 #[derive(Clone, Copy)]

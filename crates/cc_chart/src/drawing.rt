@@ -12,8 +12,7 @@ use crate::curves::{Curve, push_curves, stroke};
 use crate::levels::{Levels, greatest};
 use crate::numbered::{end_number, push_number};
 use crate::scale::Scale;
-use cc_io::{IoError, Sink, write_all};
-use cc_text::Page;
+use cc_io::{IoError, Page, Sink, write_all};
 
 /// The maximum number of bytes of a drawing.
 const MOST_DRAWING: usize = 98304;

@@ -4,7 +4,7 @@ use Rattle.std.specs.List.{list_any}
 use Rattle.std.proofs.lemmas.Bool.{lt-ltb}
 use Rattle.std.proofs.Math.Dec.{eqb-suc-zero}
 use Rattle.cc_word.specs.declared.refusal.Refusal.{Refusal}
-use Rattle.cc_ops.specs.declared.reply.Reply.{Reply}
+use Rattle.cc_values.specs.declared.reply.Reply.{Reply}
 use Rattle.cc_command.specs.Hints.{is_in_opening}
 use Rattle.cc_syntax.specs.Tally.{Exchange, count_in, is_refusal}
 use Rattle.cc_syntax.specs.declared.tally.Count.{Count}

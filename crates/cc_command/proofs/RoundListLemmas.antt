@@ -6,7 +6,7 @@ use Rattle.std.specs.Io.KnownBytes.{Appends}
 use Rattle.std.proofs.lemmas.Bool.{cases_lt, and_left, ne_eqb}
 use Rattle.std.proofs.lemmas.List.{take_all}
 use Rattle.std.proofs.Math.Dec.{eqb-suc-zero}
-use Rattle.cc_text.specs.Text.{rest_text}
+use Rattle.cc_io.specs.Text.{rest_text}
 use Rattle.cc_io.specs.Answers.{Answer, AnswersAll, EndsWith, answers_text, seen}
 use Rattle.cc_io.specs.Correct.{Pumps, PumpsText, WritesOutput, StopsOnPage as StopsPage, StopsAfterAnswers as StopsAfter}
 use Rattle.cc_io.specs.Frames.{lines}

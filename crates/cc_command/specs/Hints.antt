@@ -2,11 +2,11 @@
 use Rattle.std.specs.Prelude.{ℕ, zero, suc, Bool, ◌==◌, ◌&&◌, nat_lt, List, [], ◌++◌, Option, Some, None, codes, if◌then◌else◌}
 use Rattle.std.specs.List.{list_any}
 use Rattle.cc_word.specs.declared.refusal.Refusal.TheVariants.{Full, Inexact}
-use Rattle.cc_ops.specs.declared.reply.Reply.{Reply}
+use Rattle.cc_values.specs.declared.reply.Reply.{Reply}
 use Rattle.cc_syntax.specs.Replies.{is_error}
 use Rattle.cc_bounds.specs.Granule.{granule_of, padded_size}
 use Rattle.cc_bounds.specs.Span.{from_zero}
-use Rattle.cc_text.specs.Numbered.{line_with_decimal, line_with_hexadecimal, with_hexadecimal}
+use Rattle.cc_io.specs.Numbered.{line_with_decimal, line_with_hexadecimal, with_hexadecimal}
 use Rattle.cc_syntax.specs.LineHints.{ends_in_return, has_marked_word}
 use Rattle.cc_syntax.specs.Tally.{Exchange, counted, first_from, is_refusal}
 use Rattle.cc_command.specs.declared.hints.Hints.{Hints}

@@ -4,7 +4,7 @@ use Rattle.std.specs.Prelude.{◌≡◌, ◌≤◌, ◌<◌, ◌⊎◌, ◌↔�
 use Rattle.std.specs.List.{list_any}
 use Rattle.std.specs.Io.KnownBytes.{Appends, Consumes, IsAtEnd}
 use Rattle.cc_word.specs.declared.refusal.Refusal.TheVariants.{TooLong}
-use Rattle.cc_text.specs.Text.{rest_text}
+use Rattle.cc_io.specs.Text.{rest_text}
 use Rattle.cc_values.specs.Values.{length_in}
 use Rattle.cc_explain.specs.Answer.{IsRefusalLine}
 use Rattle.cc_io.specs.Answers.{Answer, answers_text, LastFits}

@@ -3,10 +3,10 @@ use Rattle.std.specs.Prelude.{◌≡◌, ⊤, ℕ, List, ◌++◌, codes, IsErr,
 use Rattle.cc_word.specs.declared.refusal.Refusal.{Refusal}
 use Rattle.cc_bounds.specs.declared.span.Span.{Span}
 use Rattle.cc_bounds.specs.Granule.{IsGranted}
-use Rattle.cc_ops.specs.declared.reply.Reply.{Reply}
-use Rattle.cc_ops.specs.RoundedLength.{RoundsLength}
+use Rattle.cc_values.specs.declared.reply.Reply.{Reply}
+use Rattle.cc_values.specs.RoundedLength.{RoundsLength}
 use Rattle.cc_values.specs.Values.{length_in}
-use Rattle.cc_text.specs.Text.{with_line_feed}
+use Rattle.cc_io.specs.Text.{with_line_feed}
 use Rattle.cc_syntax.specs.Replies.{bounds_text, reply_text}
 use Rattle.cc_explain.specs.Answer.{AnswersResult}
 use Rattle.cc_command.specs.Request.{request_from}

@@ -2,11 +2,11 @@
 -- number.
 use Rattle.std.specs.Prelude.{ℕ, zero, suc, ◌-◌, ◌*◌, ◌/◌, ◌%◌, List, [], ◌∷◌, ◌++◌, codes, decimal}
 use Rattle.cc_word.specs.Refusal.{name_of}
-use Rattle.cc_text.specs.Text.{with_line_feed}
-use Rattle.cc_text.specs.Numbered.{line_with_decimal, line_with_hexadecimal}
+use Rattle.cc_io.specs.Text.{with_line_feed}
+use Rattle.cc_io.specs.Numbered.{line_with_decimal, line_with_hexadecimal}
 use Rattle.cc_syntax.specs.declared.tally.Count.{Count}
 use Rattle.cc_syntax.specs.declared.tally.Tally.{Tally}
-use Rattle.cc_ops.specs.declared.usage.Usage.{Usage}
+use Rattle.cc_values.specs.declared.usage.Usage.{Usage}
 
 -- The lines of a refusal: the number of replies that are it, and the number of the script's line
 -- that got the first. The second number is 0 if a reply to the setup operations is this refusal.

@@ -5,8 +5,7 @@ ghost use Rattle.cc_command.specs.Request.{IsLengthExplanation, request_in};
 
 use crate::request::read_request;
 use cc_explain::{push_explained_request, push_refusal, write_answer};
-use cc_io::{IoError, Sink, Summary};
-use cc_text::Text;
+use cc_io::{IoError, Sink, Summary, Text};
 
 /// Writes the bounds that are granted to a request with this base and length, and why. Flushes the
 /// sink once after the last line.

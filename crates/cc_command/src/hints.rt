@@ -2,7 +2,7 @@
 ghost use Rattle.std.specs.Prelude.{◌≡◌, ◌+◌, ◌≤◌, ◌++◌, ◌↔◌, [], Err, IsErr, List, OnErr, OnOk, codes, false, length, option_map, true};
 ghost use Rattle.std.specs.Io.KnownBytes.{Appends};
 ghost use Rattle.cc_io.specs.Devices.{TakesBeginning};
-ghost use Rattle.cc_ops.specs.declared.reply.Reply.{Reply};
+ghost use Rattle.cc_values.specs.declared.reply.Reply.{Reply};
 ghost use Rattle.std.specs.List.{list_any};
 ghost use Rattle.cc_word.specs.declared.refusal.Refusal.TheVariants.{Inexact};
 ghost use Rattle.cc_command.specs.Hints.{hints_of, hints_text, is_in_opening, line_hint, pool_hint};
@@ -10,9 +10,8 @@ ghost use Rattle.cc_syntax.specs.Tally.{Exchange, IsTally, is_refusal};
 
 use cc_bounds::{Len, granule, round_length};
 use cc_explain::write_answer;
-use cc_io::{IoError, Sink};
+use cc_io::{IoError, ROOM, Sink, Text, end_with_decimal, end_with_hexadecimal, push_hexadecimal};
 use cc_syntax::{Count, Tally};
-use cc_text::{ROOM, Text, end_with_decimal, end_with_hexadecimal, push_hexadecimal};
 
 /// The facts about a run that are worth a hint. Lines of the script are numbered from 1, and 0
 /// means that there is no such line.

@@ -12,10 +12,9 @@ use crate::bare_digits::is_bare;
 use crate::request::request_from;
 use crate::typed_lines::TypedLines;
 use cc_bounds::{Len, Span, set_bounds};
-use cc_io::{Answerer, IoError, Lines, Page, Sink, Source, Summary, pump};
-use cc_ops::Reply;
+use cc_io::{Answerer, IoError, Lines, Page, Sink, Source, Summary, pump, refusal_bytes};
+use cc_values::Reply;
 use cc_syntax::{read_length, reply_line};
-use cc_text::refusal_bytes;
 use cc_word::Refusal;
 
 /// The length of the page of output in bytes.

@@ -2,14 +2,13 @@
 ghost use Rattle.std.specs.Prelude.{◌≡◌, ◌+◌, ◌*◌, ◌≤◌, ◌^◌, ◌++◌, ◌↔◌, [], Err, IsErr, OnErr, OnOk, codes, false, length, true};
 ghost use Rattle.std.specs.Io.KnownBytes.{Appends};
 ghost use Rattle.cc_io.specs.Devices.{TakesBeginning};
-ghost use Rattle.cc_text.specs.Numbered.{line_with_decimal};
+ghost use Rattle.cc_io.specs.Numbered.{line_with_decimal};
 ghost use Rattle.cc_command.specs.Statistics.{bytes_text, count_lines, counts_text, end_text, holes_text, hundredths_of, objects_text, percent_text, statistics_text};
 
 use cc_explain::write_answer;
-use cc_io::{IoError, Sink};
-use cc_ops::Usage;
+use cc_io::{IoError, Line, ROOM, Sink, Text, end_with_decimal, end_with_hexadecimal};
+use cc_values::Usage;
 use cc_syntax::{Count, Tally};
-use cc_text::{Line, ROOM, Text, end_with_decimal, end_with_hexadecimal};
 
 /// Writes the summary of a run, a line for each number, and flushes the sink once after the last.
 ///

@@ -4,7 +4,7 @@ use Rattle.std.specs.Prelude.{IsSome}
 use Rattle.std.proofs.lemmas.Bool.{cases_lt}
 use Rattle.std.proofs.lemmas.List.{take_all}
 use Rattle.std.proofs.Math.Dec.{eqb-suc-zero}
-use Rattle.cc_text.specs.Text.{rest_text}
+use Rattle.cc_io.specs.Text.{rest_text}
 use Rattle.cc_io.specs.Answers.{Answer, AnswersAll, EndsWith, Relation, seen}
 use Rattle.cc_decode.specs.Input.{IsWordEntry, word_of_entry}
 use Rattle.cc_decode.specs.Output.{IsAnswer, IsWordAnswer, AreAnswers}

@@ -2,7 +2,7 @@
 use Rattle.std.proofs.Common.{◌≡◌, ℕ, ◌≤◌, Bool, List, [], ◌∷◌, ◌++◌, length, take, refl, sym, ◌∙◌, ap, subst, append_assoc, append-nil, ◌||◌, Option, Some, None, IfSome, Result, Ok, Err, inl, inr}
 use Rattle.std.specs.List.{list_any}
 use Rattle.std.specs.Io.KnownBytes.{Appends, Consumes, IsAtEnd}
-use Rattle.cc_text.specs.Text.{rest_text}
+use Rattle.cc_io.specs.Text.{rest_text}
 use Rattle.cc_io.specs.Frames.{Frame, IsFrame}
 use Rattle.cc_io.specs.FrameLaws.{lines_frame, blocks_frame}
 use Rattle.cc_io.specs.Answers.{Answer, AnswersAll, Relation, answers_text, seen}

@@ -6,7 +6,7 @@ use Rattle.std.specs.Prelude.{◌↔◌}
 use Rattle.std.specs.Io.KnownBytes.{Appends}
 use Rattle.std.specs.List.{list_any}
 use Rattle.std.proofs.lemmas.List.Folds.{list_any-append}
-use Rattle.cc_text.specs.Text.{rest_text}
+use Rattle.cc_io.specs.Text.{rest_text}
 use Rattle.cc_io.specs.Blocks.{block_rest_from}
 use Rattle.cc_io.specs.Answers.{Answer, answers_text}
 use Rattle.cc_io.specs.FrameLaws.{lines_frame, blocks_frame}

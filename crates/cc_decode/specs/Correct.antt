@@ -3,7 +3,7 @@
 use Rattle.std.specs.Prelude.{◌≡◌, ◌≤◌, ℕ, Bool, not, ◌||◌, ◌==◌, List, [], ◌++◌, length, take, Option, Some, Result, Ok, Err, ◌⊎◌}
 use Rattle.std.specs.Io.KnownBytes.{Appends, Consumes, IsAtEnd}
 use Rattle.std.specs.List.{list_any}
-use Rattle.cc_text.specs.Text.{rest_text}
+use Rattle.cc_io.specs.Text.{rest_text}
 use Rattle.cc_io.specs.Devices.{TakesBeginning}
 use Rattle.cc_io.specs.Answers.{Answer, answers_text, LastFits}
 use Rattle.cc_io.specs.declared.summary.IoError.{IoError}

@@ -1,7 +1,7 @@
 -- The replies of a decoder. No public clause cites this file.
 use Rattle.std.specs.Prelude.{◌≡◌, ℕ, Bool, true, false, List, ◌++◌, Option, None, Some}
 use Rattle.cc_word.specs.declared.refusal.Refusal.TheVariants.{Unfinished}
-use Rattle.cc_text.specs.Text.{with_line_feed, refusal_text}
+use Rattle.cc_io.specs.Text.{with_line_feed, refusal_text}
 use Rattle.cc_io.specs.Answers.{Relation}
 use Rattle.cc_decode.specs.Place.{after_entry}
 use Rattle.cc_decode.specs.Row.{IsWordRow}

@@ -1,7 +1,7 @@
 -- The replies to the entries of an input.
 use Rattle.std.specs.Prelude.{◌≡◌, ◌⊎◌, ℕ, true, false, List, [], ◌∷◌, ◌++◌, Option, None, Some, ⊤}
 use Rattle.cc_word.specs.declared.refusal.Refusal.TheVariants.{Syntax}
-use Rattle.cc_text.specs.Text.{with_line_feed, refusal_text}
+use Rattle.cc_io.specs.Text.{with_line_feed, refusal_text}
 use Rattle.cc_io.specs.Answers.{Answer}
 use Rattle.cc_decode.specs.Input.{IsWordEntry, word_of_entry}
 use Rattle.cc_decode.specs.Place.{after_entry, place_text}

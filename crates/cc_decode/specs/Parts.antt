@@ -1,7 +1,7 @@
 -- The listing of an input in two parts.
 use Rattle.std.specs.Prelude.{◌≡◌, ℕ, Bool, not, ◌||◌, ◌==◌, List, ◌++◌, length}
 use Rattle.std.specs.List.{list_any}
-use Rattle.cc_text.specs.Text.{rest_text}
+use Rattle.cc_io.specs.Text.{rest_text}
 use Rattle.cc_io.specs.Answers.{Answer, answers_text}
 use Rattle.cc_decode.specs.Input.{entries_of, left_of}
 use Rattle.cc_decode.specs.Output.{AreAnswers}

@@ -1,6 +1,6 @@
 //! The replies to entries, and the refusal of trailing bytes.
 ghost use Rattle.std.specs.Prelude.{◌≡◌, ◌≤◌, ◌+◌, ◌++◌, ℕ, length, true};
-ghost use Rattle.cc_text.specs.Text.{refusal_text, with_line_feed};
+ghost use Rattle.cc_io.specs.Text.{refusal_text, with_line_feed};
 ghost use Rattle.cc_word.specs.declared.refusal.Refusal.TheVariants as RefusalSpec;
 ghost use Rattle.cc_decode.specs.Decoder.{AnswersEntry, AnswersPlainly, AppendsReply, AppendsWord, RefusesRest};
 
@@ -10,8 +10,7 @@ use crate::places::{next_place, push_place};
 use crate::rows::push_row;
 use crate::search::is_listed;
 use crate::writers::{Batch, ROOM, push_byte};
-use cc_io::{Answerer, Format, InputForm};
-use cc_text::refusal_bytes;
+use cc_io::{Answerer, Format, InputForm, refusal_bytes};
 use cc_word::Refusal;
 
 /// Replies to an entry with the row of its word, or with `error 1 syntax`. Each reply has a line

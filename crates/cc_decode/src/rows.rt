@@ -15,8 +15,7 @@ use bitflags::Flags;
 use cc_bounds::{Span, decode, exponent};
 use cc_cap::is_canonical;
 use cc_explain::push_permissions;
-use cc_io::Format;
-use cc_text::Line;
+use cc_io::{Format, Line};
 use cc_word::{Fields, Perms, SENTRY_TYPE, UNSEALED_TYPE, unpack};
 
 /// Appends the reply to a word in this format, without a line feed: at most 450 bytes.

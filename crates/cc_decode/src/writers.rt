@@ -3,7 +3,7 @@ ghost use Rattle.std.specs.Prelude.{◌≡◌, ◌+◌, ◌≤◌, ◌<◌, ◌+
 ghost use Rattle.std.specs.Fmt.{digits};
 ghost use Rattle.cc_word.specs.WordText.{digits_of, hexadecimal};
 ghost use Rattle.cc_decode.specs.Row.{padded};
-ghost use Rattle.cc_text.proofs.DigitLemmas.{HasDigits};
+ghost use Rattle.cc_io.proofs.DigitLemmas.{HasDigits};
 
 use cc_io::Page;
 use cc_word::write_half;
@@ -49,7 +49,7 @@ pub(crate) fn push_digits(batch: &mut Batch, number: u64, count: usize)
 
 /// Appends a number below 100 in decimal digits.
 #[inline(always)]
-#[tactic(auto, using(cc_text::proofs::DecimalLemmas::one_digit, cc_text::proofs::DecimalLemmas::two_digits))]
+#[tactic(auto, using(cc_io::proofs::DecimalLemmas::one_digit, cc_io::proofs::DecimalLemmas::two_digits))]
 pub(crate) fn push_decimal(batch: &mut Batch, number: u8)
     requires small { number < 100 }
     requires room { length batch.old + 2 ≤ 32768 }

@@ -15,7 +15,7 @@ use Rattle.cc_plan.specs.declared.object.PlannedObject.{PlannedObject}
 use Rattle.cc_plan.specs.Plan.{held_bytes_of, held_spans, is_held}
 use Rattle.cc_plan.proofs.HeldSpanLemmas.{sum_held}
 use Rattle.cc_plan.proofs.PackingLemmas.{below, covered-next}
-use Rattle.cc_ops.specs.declared.usage.Usage.{Usage}
+use Rattle.cc_values.specs.declared.usage.Usage.{Usage}
 use Rattle.cc_draw.specs.Usage.{HasHoles, greatest, hole, holes}
 use Rattle.cc_draw.specs.Laws.{AreHoles, ArePlaced, CountsFreeBytes, IsFree}
 

@@ -8,7 +8,7 @@ use Rattle.cc_bounds.specs.Span.{IsWithin, length_of}
 use Rattle.cc_bounds.proofs.GranuleLemmas.{div_ceil-le, le-div_ceil}
 use Rattle.cc_explain.specs.Picture.{cell_bytes, cell_count}
 use Rattle.cc_plan.specs.Plan.{Plan, held_spans}
-use Rattle.cc_ops.specs.declared.usage.Usage.{Usage}
+use Rattle.cc_values.specs.declared.usage.Usage.{Usage}
 use Rattle.cc_draw.specs.Usage.{IsUsage, pool_span}
 use Rattle.cc_draw.specs.Drawing.{end_cell, first_cell, layout_for}
 use Rattle.cc_draw.specs.Laws.{ArePlaced, CountsFreeBytes, IsDrawnExactly}

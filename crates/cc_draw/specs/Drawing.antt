@@ -10,8 +10,8 @@ use Rattle.cc_plan.specs.declared.object.ObjectState.{ObjectState}
 use Rattle.cc_plan.specs.declared.object.ObjectState.TheVariants.{Live, Freed, Swept}
 use Rattle.cc_plan.specs.declared.object.PlannedObject.{PlannedObject}
 use Rattle.cc_plan.specs.Plan.{Plan, is_freed}
-use Rattle.cc_text.specs.Text.{with_line_feed}
-use Rattle.cc_text.specs.Numbered.{line_with_decimal, line_with_hexadecimal, with_hexadecimal}
+use Rattle.cc_io.specs.Text.{with_line_feed}
+use Rattle.cc_io.specs.Numbered.{line_with_decimal, line_with_hexadecimal, with_hexadecimal}
 use Rattle.cc_explain.specs.Picture.{cell_bytes, cell_count, cell_of}
 use Rattle.cc_draw.specs.Usage.{is_live, is_swept, pool_span}
 use Rattle.cc_draw.specs.declared.layout.Layout.{Layout}

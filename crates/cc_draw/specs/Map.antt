@@ -9,8 +9,8 @@ use Rattle.cc_plan.specs.declared.object.ObjectState.{ObjectState}
 use Rattle.cc_plan.specs.declared.object.ObjectState.TheVariants.{Live, Freed}
 use Rattle.cc_plan.specs.declared.object.PlannedObject.{PlannedObject}
 use Rattle.cc_plan.specs.Plan.{Plan}
-use Rattle.cc_text.specs.Text.{with_line_feed}
-use Rattle.cc_text.specs.Numbered.{line_with_hexadecimal}
+use Rattle.cc_io.specs.Text.{with_line_feed}
+use Rattle.cc_io.specs.Numbered.{line_with_hexadecimal}
 use Rattle.cc_explain.specs.Picture.{cell_bytes, cell_count, cell_of}
 use Rattle.cc_draw.specs.Usage.{pool_span}
 

@@ -7,7 +7,7 @@ use Rattle.cc_plan.specs.declared.object.ObjectState.{ObjectState}
 use Rattle.cc_plan.specs.declared.object.ObjectState.TheVariants.{Live, Freed, Swept}
 use Rattle.cc_plan.specs.declared.object.PlannedObject.{PlannedObject}
 use Rattle.cc_plan.specs.Plan.{Plan, held_bytes_of, held_spans, is_freed, is_held}
-use Rattle.cc_ops.specs.declared.usage.Usage.{Usage}
+use Rattle.cc_values.specs.declared.usage.Usage.{Usage}
 
 -- `is_live` holds if the object is live: it was not freed.
 abbrev pub is_live : ObjectState → Bool

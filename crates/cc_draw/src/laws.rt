@@ -5,7 +5,7 @@
 //! the same layout. The objects of each plan of a machine are placed as the laws want it, in every
 //! state that a run leads to: the laws of the same names of the program say so.
 ghost use Rattle.std.specs.Prelude.{ℕ, All};
-ghost use Rattle.cc_ops.specs.declared.usage.Usage.{Usage};
+ghost use Rattle.cc_values.specs.declared.usage.Usage.{Usage};
 ghost use Rattle.cc_plan.specs.Plan.{Plan, held_spans};
 ghost use Rattle.cc_draw.specs.Usage.{IsUsage, pool_span};
 ghost use Rattle.cc_draw.specs.Drawing.{layout_for};

@@ -8,7 +8,7 @@ mod layout;
 mod map;
 mod usage;
 
-pub use cc_ops::Usage;
+pub use cc_values::Usage;
 pub use drawing::show_drawing;
 pub use laws::{holes_are_the_free_bytes, objects_are_drawn_exactly};
 pub use layout::cells_of;

@@ -8,10 +8,9 @@ ghost use Rattle.cc_explain.specs.Picture.{cell_bytes, cell_count};
 use crate::usage::pool_span;
 use cc_bounds::Span;
 use cc_explain::{CELLS, Stretch, shares_byte, write_answer};
-use cc_io::{IoError, Sink, Summary};
+use cc_io::{IoError, Line, ROOM, Sink, Summary, Text, end_with_hexadecimal};
 use cc_placer::Placer;
 use cc_plan::{ObjectState, PlannedObject, Planner};
-use cc_text::{Line, ROOM, Text, end_with_hexadecimal};
 
 /// The maximum number of cells of a map.
 const MOST_CELLS: u128 = 1024;

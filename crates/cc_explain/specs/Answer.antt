@@ -7,7 +7,7 @@ use Rattle.cc_word.specs.WordText.{IsWordText}
 use Rattle.cc_word.specs.declared.refusal.Refusal.{Refusal}
 use Rattle.cc_word.specs.declared.refusal.Refusal.TheVariants.{Syntax}
 use Rattle.cc_io.specs.Devices.{TakesBeginning}
-use Rattle.cc_text.specs.Text.{refusal_text, with_line_feed}
+use Rattle.cc_io.specs.Text.{refusal_text, with_line_feed}
 use Rattle.cc_io.specs.declared.summary.IoError.{IoError}
 use Rattle.cc_io.specs.declared.summary.Summary.{Summary}
 

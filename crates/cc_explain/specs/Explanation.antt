@@ -6,8 +6,8 @@ use Rattle.cc_bounds.specs.declared.span.Span.{Span}
 use Rattle.cc_bounds.specs.Decoding.{DecodesTo, raised}
 use Rattle.cc_bounds.specs.Span.{span_from}
 use Rattle.cc_bounds.specs.Window.{section_of}
-use Rattle.cc_text.specs.Text.{with_line_feed}
-use Rattle.cc_text.specs.Numbered.{line_feed, line_with_decimal, line_with_hexadecimal, with_decimal, with_digits, with_hexadecimal}
+use Rattle.cc_io.specs.Text.{with_line_feed}
+use Rattle.cc_io.specs.Numbered.{line_feed, line_with_decimal, line_with_hexadecimal, with_decimal, with_digits, with_hexadecimal}
 use Rattle.cc_explain.specs.Answer.{AnswersTyped}
 use Rattle.cc_explain.specs.Picture.{IsPictureRow}
 use Rattle.cc_explain.specs.Standing.{IsStanding}

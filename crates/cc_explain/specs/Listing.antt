@@ -5,7 +5,7 @@ use Rattle.cc_word.specs.WordText.{digits_of, hexadecimal}
 use Rattle.cc_word.specs.declared.fields.Fields.{Fields}
 use Rattle.cc_bounds.specs.declared.span.Span.{Span}
 use Rattle.cc_bounds.specs.Decoding.{stored_exponent}
-use Rattle.cc_text.specs.Text.{with_line_feed}
+use Rattle.cc_io.specs.Text.{with_line_feed}
 use Rattle.cc_explain.specs.Answer.{AnswersTyped}
 use Rattle.cc_explain.specs.Permissions.{permissions_text}
 use Rattle.cc_explain.specs.WordTelling.{TellsWord}

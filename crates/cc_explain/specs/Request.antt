@@ -5,9 +5,9 @@ use Rattle.cc_bounds.specs.Span.{from_zero, length_of}
 use Rattle.cc_bounds.specs.Granule.{IsGranted, IsGranule, granule_count, granule_of, padded_size}
 use Rattle.cc_cap.specs.Capability.{Capability, at_address, root_capability, with_span}
 use Rattle.cc_cap.specs.Canonical.{IsWordOf}
-use Rattle.cc_text.specs.Text.{with_line_feed}
+use Rattle.cc_io.specs.Text.{with_line_feed}
 use Rattle.cc_explain.specs.Explanation.{word_text}
-use Rattle.cc_text.specs.Numbered.{line_with_decimal, line_with_hexadecimal, with_hexadecimal}
+use Rattle.cc_io.specs.Numbered.{line_with_decimal, line_with_hexadecimal, with_hexadecimal}
 use Rattle.cc_explain.specs.declared.request.Grant.{Grant}
 
 -- ---- the grant

@@ -7,7 +7,7 @@ use Rattle.cc_word.specs.declared.fields.Fields.{Fields}
 use Rattle.cc_bounds.specs.declared.span.Span.{Span}
 use Rattle.cc_bounds.specs.Decoding.{DecodesTo, raised}
 use Rattle.cc_bounds.specs.Window.{section_of}
-use Rattle.cc_text.specs.Numbered.{line_with_decimal, line_with_hexadecimal, with_decimal, with_digits, with_hexadecimal}
+use Rattle.cc_io.specs.Numbered.{line_with_decimal, line_with_hexadecimal, with_decimal, with_digits, with_hexadecimal}
 use Rattle.cc_explain.specs.Answer.{AnswersTyped}
 use Rattle.cc_explain.specs.Steps.{AreSteps}
 use Rattle.cc_explain.specs.declared.steps.Steps.{Steps}

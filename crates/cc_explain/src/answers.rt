@@ -6,8 +6,7 @@ ghost use Rattle.std.specs.Str.Parse.{digits_value};
 ghost use Rattle.cc_io.specs.Devices.{TakesBeginning};
 ghost use Rattle.cc_explain.specs.Answer.{IsRefusalLine, IsTypedWord, WritesAnswer, digits_in};
 
-use cc_io::{IoError, Sink, Summary, write_all};
-use cc_text::{Text, refusal_bytes};
+use cc_io::{IoError, Sink, Summary, Text, refusal_bytes, write_all};
 use cc_word::{Refusal, read_word};
 
 /// Writes the line of a refusal, `error CODE NAME`, and flushes the sink once after it. The summary

@@ -7,7 +7,7 @@ ghost use Rattle.cc_explain.specs.Request.{IsGrant, IsRequestExplanation, exact_
 use crate::explained_steps::push_word;
 use crate::request::{Grant, grant_of, granule_count, length_of};
 use cc_bounds::{Span, granule, round_length};
-use cc_text::{ROOM, Text, end_with_decimal, end_with_hexadecimal, push_hexadecimal};
+use cc_io::{ROOM, Text, end_with_decimal, end_with_hexadecimal, push_hexadecimal};
 
 /// Puts the explanation of a request for bounds into an empty text: the granule, and why half of it is not enough; the
 /// granted bounds, and the number of their bytes below and above the request; the length with exact bounds, and its bases;

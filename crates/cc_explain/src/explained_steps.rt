@@ -6,7 +6,7 @@ ghost use Rattle.cc_explain.specs.Explanation.{base_mantissa_text, bounds_fields
 use crate::standing::Standing;
 use crate::steps::{Steps, section, unit};
 use cc_bounds::Span;
-use cc_text::{
+use cc_io::{
     ROOM, Text, end_with_decimal, end_with_hexadecimal, push_decimal, push_digits, push_hexadecimal,
 };
 use cc_word::Fields;

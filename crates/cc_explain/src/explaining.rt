@@ -10,8 +10,7 @@ use crate::picture::{push_picture, rows_of};
 use crate::standing::standing_of;
 use crate::steps::decoding_steps;
 use cc_bounds::decode;
-use cc_io::{IoError, Sink, Summary};
-use cc_text::Text;
+use cc_io::{IoError, Sink, Summary, Text};
 use cc_word::{Refusal, unpack};
 
 /// Writes how a word is decoded: its fields, each step with its numbers, the bounds, whether the

@@ -11,8 +11,7 @@ use crate::permissions::push_permissions;
 use bitflags::Flags;
 use cc_bounds::{Span, decode, exponent};
 use cc_cap::{Perms, is_canonical};
-use cc_io::{IoError, Sink, Summary};
-use cc_text::{Line, ROOM, Text};
+use cc_io::{IoError, Line, ROOM, Sink, Summary, Text};
 use cc_word::{Fields, Refusal, unpack};
 
 /// Writes the listing of a word, and flushes the sink once after the last line.

@@ -6,7 +6,7 @@ ghost use Rattle.cc_explain.specs.Permissions.{names_of_set, permissions_text, n
 
 use bitflags::{Flag, Flags};
 use cc_cap::Perms;
-use cc_text::Line;
+use cc_io::Line;
 
 /// Appends the names of the permissions from bit 0 up, joined by `+`, or `-` if there are none: at
 /// most 125 bytes.

@@ -5,7 +5,7 @@ ghost use Rattle.cc_explain.specs.Explanation.{AreRows, cell_size, picture_text,
 ghost use Rattle.cc_explain.specs.Picture.{IsPictureRow};
 
 use crate::steps::{LAPS, Steps, section};
-use cc_text::{ROOM, Text, end_with_hexadecimal, push_decimal};
+use cc_io::{ROOM, Text, end_with_hexadecimal, push_decimal};
 use cc_word::Fields;
 
 /// The number of cells in a row: eight for each section of the window.

@@ -5,8 +5,7 @@ ghost use Rattle.cc_explain.specs.LineAnswer.{IsLineAnswer};
 
 use crate::answers::{push_refusal, read_typed_word, write_answer};
 use cc_cap::WordLine;
-use cc_io::{IoError, Sink, Summary};
-use cc_text::Text;
+use cc_io::{IoError, Sink, Summary, Text};
 use cc_word::Refusal;
 
 /// Writes the one-line form of a word, such as `0x10070 [rwxRW,0x10070-0x12070]`, and flushes the

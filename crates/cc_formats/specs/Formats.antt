@@ -8,8 +8,8 @@ use Rattle.cc_formats.specs.Mtrace.{mtrace_in}
 use Rattle.cc_formats.specs.declared.report.Report.{Report}
 use Rattle.cc_formats.specs.declared.report.Report.TheVariants.{Nothing, Failure, Allocation, Clearing, Reallocation, From, To}
 use Rattle.cc_formats.specs.declared.report.Report.TheVariants as report
-use Rattle.cc_events.specs.declared.event.Event.{Event}
-use Rattle.cc_events.specs.declared.event.Event.TheVariants as event
+use Rattle.cc_placer.specs.declared.event.Event.{Event}
+use Rattle.cc_placer.specs.declared.event.Event.TheVariants as event
 use Rattle.cc_formats.specs.declared.formats.Entry.{Entry}
 use Rattle.cc_formats.specs.declared.formats.TraceFormat.{TraceFormat}
 use Rattle.cc_formats.specs.declared.formats.TraceFormat.TheVariants.{Own, Mtrace, Heaptrack, Ltrace}

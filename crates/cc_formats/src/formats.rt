@@ -1,6 +1,6 @@
 //! The event of a line of a trace in each format.
 ghost use Rattle.std.specs.Prelude.{◌≡◌, take, IfOk, IfSome};
-ghost use Rattle.cc_events.specs.Alignment.{HasAlignment};
+ghost use Rattle.cc_placer.specs.Alignment.{HasAlignment};
 ghost use Rattle.cc_formats.specs.Formats.{entry_from, entry_in, entry_with, event_of, has_pointers, joined_entry, reported_entry};
 
 use crate::heaptrack::read_heaptrack;
@@ -8,7 +8,7 @@ use crate::ltrace::read_ltrace;
 use crate::mtrace::read_mtrace;
 use crate::report::Report;
 use crate::trace::read_event;
-use cc_events::Event;
+use cc_placer::Event;
 use cc_word::Refusal;
 
 /// The format of a trace.

@@ -4,7 +4,7 @@ ghost use Rattle.cc_formats.specs.Heaptrack.{heaptrack_in, hexadecimal_in, is_to
 
 use crate::cutting::cut;
 use crate::report::{Report, allocation, free};
-use cc_text::Line;
+use cc_io::Line;
 use cc_values::{both, read_address};
 use cc_word::Refusal;
 

@@ -12,7 +12,7 @@ mod reading;
 mod report;
 mod trace;
 
-pub use cc_events::Event;
+pub use cc_placer::Event;
 pub use formats::{Entry, TraceFormat, read_entry};
 pub use heaptrack::read_heaptrack;
 pub use laws::mtrace_lines_are_read_back;

@@ -16,7 +16,7 @@ mod sizes;
 mod totals;
 mod usage;
 
-pub use cc_events::Event;
+pub use cc_placer::Event;
 pub use heap::Heap;
 pub use making::Making;
 pub use object::Object;

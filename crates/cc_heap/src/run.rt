@@ -1,6 +1,6 @@
 //! A heap over a trace, and the ids whose objects were not made.
 ghost use Rattle.std.specs.Prelude.{◌≡◌, ℕ, [], length, IfOk, IfSome, OnOk, ◌<◌, ◌≤◌};
-ghost use Rattle.cc_events.specs.Alignment.{HasAlignment};
+ghost use Rattle.cc_placer.specs.Alignment.{HasAlignment};
 ghost use Rattle.cc_heap.specs.Lost.{IsRunEvent, is_lost, is_lost_one, is_not_made, noted};
 ghost use Rattle.cc_heap.specs.Memory.{IsSound, held_spans, usage_of};
 ghost use Rattle.cc_heap.specs.Peaks.{without_peaks};
@@ -15,8 +15,7 @@ use crate::sizes::{NO_OBJECTS, SizeTotals, count_size, made_size};
 use crate::totals::Totals;
 use crate::usage::Usage;
 use cc_bounds::Align;
-use cc_events::Event;
-use cc_placer::Placer;
+use cc_placer::{Event, Placer};
 use std::alloc::{AllocError, Global};
 use std::collections::HashSet;
 use std::marker::Model;

@@ -2,7 +2,7 @@
 ghost use Rattle.std.specs.Prelude.{◌≡◌, ℕ, ◌+◌, ◌≤◌, length};
 ghost use Rattle.cc_io.specs.Answers.{Relation, AnswersInto};
 
-use cc_text::Page;
+use crate::Page;
 
 /// A type that replies to entries on a page of `N` bytes.
 ///

@@ -8,20 +8,29 @@ mod framing;
 mod input_form;
 mod laws;
 mod line_start;
+mod numbered;
+mod page;
 mod pumping;
+mod refusals;
 mod slice_devices;
 mod std_devices;
 mod summary;
+mod text;
 
 pub use answerer::Answerer;
-pub use cc_text::Page;
 pub use devices::{Failed, Sink, Source, write_all};
 pub use format::Format;
 pub use framing::{Blocks, Framing, Lines};
 pub use input_form::{ByteOrder, InputForm};
 pub use laws::{one_cut, one_on_page, one_split, parts, stops_begins};
 pub use line_start::{LineStart, split_at_line_feed};
+pub use numbered::{
+    end_with_decimal, end_with_hexadecimal, push_decimal, push_digits, push_hexadecimal,
+};
+pub use page::{Line, MOST_LINE, MOST_REPLY, MOST_WAITING, Page, Waiting, WholeLine};
 pub use pumping::pump;
+pub use refusals::refusal_bytes;
 pub use slice_devices::{SliceSink, SliceSource};
 pub use std_devices::{FromReader, FromWriter};
 pub use summary::{IoError, Summary};
+pub use text::{ROOM, Text};

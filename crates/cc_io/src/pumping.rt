@@ -11,7 +11,7 @@ use crate::devices::{Failed, Sink, Source, write_all};
 use crate::framing::Framing;
 use crate::line_start::LineStart;
 use crate::summary::{IoError, Summary};
-use cc_text::Page;
+use crate::Page;
 
 /// The maximum number of bytes in one read.
 const PIECE: usize = 16384;

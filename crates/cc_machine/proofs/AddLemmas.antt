@@ -7,8 +7,8 @@ use Rattle.cc_cap.specs.Capability.{Capability}
 use Rattle.cc_cap.specs.Canonical.{IsWordOf}
 use Rattle.cc_plan.specs.Plan.{Plan}
 use Rattle.cc_machine.specs.declared.slot.Slot.{Slot}
-use Rattle.cc_ops.specs.declared.reply.Reply.{Reply}
-use Rattle.cc_ops.specs.declared.reply.Reply.TheVariants.{Made}
+use Rattle.cc_values.specs.declared.reply.Reply.{Reply}
+use Rattle.cc_values.specs.declared.reply.Reply.TheVariants.{Made}
 use Rattle.cc_machine.specs.State.{State, SlotState, with_slot}
 use Rattle.cc_machine.specs.Step.{Adds}
 use Rattle.cc_machine.specs.Run.{IsReached}

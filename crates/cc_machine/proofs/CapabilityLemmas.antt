@@ -6,14 +6,14 @@ use Rattle.cc_cap.specs.Capability.{Capability, IsCapability, IsUnsealed, root_c
 use Rattle.cc_cap.proofs.BoundsLemmas.{root-IsCapability}
 use Rattle.cc_bounds.specs.declared.align.Align.{Align}
 use Rattle.cc_plan.specs.Plan.{capability_over, span_at}
-use Rattle.cc_ops.specs.declared.op.Op.{Op}
-use Rattle.cc_ops.specs.declared.op.Op.TheVariants.{Show, Bounds, Exact, Addr, Inc, Perms, Flag}
-use Rattle.cc_ops.specs.declared.op.Op.TheVariants.{Seal, Unseal, Rebuild, Round, Pool, Alloc, Free, Sweep}
-use Rattle.cc_ops.specs.declared.reply.Reply.{Reply}
+use Rattle.cc_values.specs.declared.op.Op.{Op}
+use Rattle.cc_values.specs.declared.op.Op.TheVariants.{Show, Bounds, Exact, Addr, Inc, Perms, Flag}
+use Rattle.cc_values.specs.declared.op.Op.TheVariants.{Seal, Unseal, Rebuild, Round, Pool, Alloc, Free, Sweep}
+use Rattle.cc_values.specs.declared.reply.Reply.{Reply}
 use Rattle.cc_machine.specs.State.{State, SlotState, tagged_slot, initial_state, with_slot}
 use Rattle.cc_machine.specs.Objects.{with_object}
 use Rattle.cc_machine.specs.Step.{Adds, Allocates, Frees, Refuses, usable_slot, Step}
-use Rattle.cc_ops.specs.declared.reply.Reply.TheVariants.{PoolSet}
+use Rattle.cc_values.specs.declared.reply.Reply.TheVariants.{PoolSet}
 use Rattle.cc_word.specs.declared.refusal.Refusal.TheVariants.{Sealed, PoolAlreadySet}
 use Rattle.cc_machine.specs.Run.{Run, IsReached}
 use Rattle.cc_machine.specs.Laws.{HoldsCapabilities}

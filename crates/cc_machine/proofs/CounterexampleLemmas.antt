@@ -21,8 +21,8 @@ use Rattle.cc_bounds.specs.declared.align.Align.TheVariants.{Sixteen}
 use Rattle.cc_plan.specs.declared.object.ObjectState.TheVariants.{Live, Swept}
 use Rattle.cc_machine.specs.declared.object.Object.{Object}
 use Rattle.cc_machine.specs.State.{State, SlotState, tagged_slot, initial_state, IsSlot, IsParent, IsAncestor}
-use Rattle.cc_ops.specs.declared.op.Op.TheVariants.{Addr}
-use Rattle.cc_ops.specs.declared.reply.Reply.{Reply}
+use Rattle.cc_values.specs.declared.op.Op.TheVariants.{Addr}
+use Rattle.cc_values.specs.declared.reply.Reply.{Reply}
 use Rattle.cc_machine.specs.Step.{Adds, Step}
 use Rattle.cc_machine.proofs.RootLemmas.{whole-least}
 use Rattle.cc_machine.specs.State.IsAncestor.{parent_of, above_parent}

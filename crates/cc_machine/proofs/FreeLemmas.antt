@@ -12,7 +12,7 @@ use Rattle.cc_plan.specs.declared.object.ObjectState.TheVariants.{Live, Freed}
 use Rattle.cc_plan.specs.declared.object.PlannedObject.{PlannedObject}
 use Rattle.cc_plan.specs.Plan.{Plan, PlanFrees, held_bytes_of as planned_bytes, IsLive, object_numbered}
 use Rattle.cc_machine.specs.declared.object.Object.{Object}
-use Rattle.cc_ops.specs.declared.reply.Reply.TheVariants.{Freed as ToldFreed}
+use Rattle.cc_values.specs.declared.reply.Reply.TheVariants.{Freed as ToldFreed}
 use Rattle.cc_machine.specs.State.{State, SlotState}
 use Rattle.cc_machine.specs.Objects.{object_at, IsObject, held_bytes_of}
 use Rattle.cc_machine.specs.Step.{FreesObject}

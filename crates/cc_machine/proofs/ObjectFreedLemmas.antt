@@ -6,7 +6,7 @@ use Rattle.cc_plan.specs.declared.object.ObjectState.{ObjectState}
 use Rattle.cc_plan.specs.declared.object.ObjectState.TheVariants.{Freed, Live, Swept}
 use Rattle.cc_plan.specs.Plan.{is_held}
 use Rattle.cc_machine.specs.declared.object.Object.{Object}
-use Rattle.cc_ops.specs.declared.reply.Reply.{Reply}
+use Rattle.cc_values.specs.declared.reply.Reply.{Reply}
 use Rattle.cc_machine.specs.State.{State}
 use Rattle.cc_machine.specs.Objects.{IsObject, BelongsToSome}
 use Rattle.cc_machine.specs.Step.{FreesObject}

@@ -4,8 +4,8 @@ use Rattle.cc_bounds.specs.Span.{IsWithin}
 use Rattle.cc_cap.specs.Capability.{Capability}
 use Rattle.cc_plan.specs.Plan.{capability_over, span_at}
 use Rattle.cc_machine.specs.declared.object.Object.{Object}
-use Rattle.cc_ops.specs.declared.op.Op.{Op}
-use Rattle.cc_ops.specs.declared.reply.Reply.{Reply}
+use Rattle.cc_values.specs.declared.op.Op.{Op}
+use Rattle.cc_values.specs.declared.reply.Reply.{Reply}
 use Rattle.cc_machine.specs.State.{State, SlotState, initial_state, IsSlot, IsParent, IsAncestor}
 use Rattle.cc_machine.specs.State.IsAncestor.{parent_of, above_parent}
 use Rattle.cc_machine.specs.Objects.{IsObject, BelongsTo}

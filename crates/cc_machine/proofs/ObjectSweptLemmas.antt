@@ -8,7 +8,7 @@ use Rattle.cc_plan.specs.declared.object.ObjectState.{ObjectState}
 use Rattle.cc_plan.specs.declared.object.ObjectState.TheVariants.{Live, Freed, Swept}
 use Rattle.cc_plan.specs.Plan.{is_freed, is_held}
 use Rattle.cc_machine.specs.declared.object.Object.{Object}
-use Rattle.cc_ops.specs.declared.reply.Reply.{Reply}
+use Rattle.cc_values.specs.declared.reply.Reply.{Reply}
 use Rattle.cc_machine.specs.State.{State, SlotState, IsSlot, IsParent, IsAncestor}
 use Rattle.cc_machine.specs.Objects.{object_at, IsObject, IsPool, BelongsTo, BelongsToSome}
 use Rattle.cc_machine.specs.Step.{RevokesIf, Sweeps}

@@ -8,10 +8,10 @@ use Rattle.cc_word.specs.Permissions.{bits_of}
 use Rattle.cc_cap.specs.Capability.{Capability}
 use Rattle.cc_word.specs.declared.perms.Perms.{Perms}
 use Rattle.cc_cap.specs.Derivation.{SetsAddress, Increments, SetsBounds, SetsExactBounds, MasksPermissions, SetsFlag, Seals, Unseals, Rebuilds}
-use Rattle.cc_ops.specs.declared.op.Op.{Op}
-use Rattle.cc_ops.specs.declared.op.Op.TheVariants.{Bounds, Exact, Addr, Inc, Flag, Seal, Unseal, Rebuild}
-use Rattle.cc_ops.specs.declared.op.Op.TheVariants as op
-use Rattle.cc_ops.specs.declared.reply.Reply.{Reply}
+use Rattle.cc_values.specs.declared.op.Op.{Op}
+use Rattle.cc_values.specs.declared.op.Op.TheVariants.{Bounds, Exact, Addr, Inc, Flag, Seal, Unseal, Rebuild}
+use Rattle.cc_values.specs.declared.op.Op.TheVariants as op
+use Rattle.cc_values.specs.declared.reply.Reply.{Reply}
 use Rattle.cc_machine.specs.declared.slot.Slot.{Slot}
 use Rattle.cc_machine.specs.State.{State, SlotState, tagged_slot, IsSlot}
 use Rattle.cc_machine.specs.Step.{usable, usable_slot, OnSlot, Derives, Step}

@@ -9,7 +9,7 @@ use Rattle.cc_plan.specs.declared.object.PlannedObject.{PlannedObject}
 use Rattle.cc_plan.specs.Plan.{Plan, is_freed, held_bytes_of as planned_bytes, freed_count as planned_freed_count, swept as planned_swept}
 use Rattle.cc_machine.specs.declared.object.Object.{Object}
 use Rattle.cc_machine.specs.declared.slot.Slot.{Slot}
-use Rattle.cc_ops.specs.declared.reply.Reply.TheVariants.{Swept as ToldSwept}
+use Rattle.cc_values.specs.declared.reply.Reply.TheVariants.{Swept as ToldSwept}
 use Rattle.cc_machine.specs.State.{State, SlotState}
 use Rattle.cc_machine.specs.Objects.{IsObject, BelongsToSome, held_bytes_of}
 use Rattle.cc_machine.specs.Step.{RevokesIf, RevokesFreed, Sweeps}

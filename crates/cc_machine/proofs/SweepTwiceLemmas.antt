@@ -5,10 +5,10 @@ use Rattle.std.proofs.lemmas.List.Sums.{sum_by-cons}
 use Rattle.cc_plan.specs.declared.object.ObjectState.{ObjectState}
 use Rattle.cc_plan.specs.declared.object.ObjectState.TheVariants.{Live, Freed, Swept}
 use Rattle.cc_plan.specs.Plan.{is_freed}
-use Rattle.cc_ops.specs.declared.op.Op.TheVariants.{Sweep}
+use Rattle.cc_values.specs.declared.op.Op.TheVariants.{Sweep}
 use Rattle.cc_machine.specs.declared.object.Object.{Object}
-use Rattle.cc_ops.specs.declared.reply.Reply.{Reply}
-use Rattle.cc_ops.specs.declared.reply.Reply.TheVariants.{Swept as ToldSwept}
+use Rattle.cc_values.specs.declared.reply.Reply.{Reply}
+use Rattle.cc_values.specs.declared.reply.Reply.TheVariants.{Swept as ToldSwept}
 use Rattle.cc_machine.specs.State.{State}
 use Rattle.cc_machine.specs.Objects.{object_at, BelongsToSome, held_bytes_of, freed_count, swept}
 use Rattle.cc_machine.specs.Step.{Sweeps, Step}

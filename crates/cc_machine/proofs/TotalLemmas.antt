@@ -22,15 +22,15 @@ use Rattle.cc_placer.proofs.UnitLemmas.{size-HasUnit}
 use Rattle.cc_placer.specs.Placement.{HasNoPlace}
 use Rattle.cc_plan.specs.Plan.{span_at, capability_over}
 use Rattle.cc_placer.proofs.SearchLemmas.{HasPlacement, placement_or_none}
-use Rattle.cc_ops.specs.declared.op.Op.{Op}
-use Rattle.cc_ops.specs.declared.op.Op.TheVariants.{Show, Bounds, Exact, Addr, Inc, Perms, Flag}
-use Rattle.cc_ops.specs.declared.op.Op.TheVariants.{Seal, Unseal, Rebuild, Round, Pool, Alloc, Free, Sweep}
+use Rattle.cc_values.specs.declared.op.Op.{Op}
+use Rattle.cc_values.specs.declared.op.Op.TheVariants.{Show, Bounds, Exact, Addr, Inc, Perms, Flag}
+use Rattle.cc_values.specs.declared.op.Op.TheVariants.{Seal, Unseal, Rebuild, Round, Pool, Alloc, Free, Sweep}
 use Rattle.cc_machine.specs.declared.object.Object.{Object}
-use Rattle.cc_ops.specs.declared.reply.Reply.{Reply}
-use Rattle.cc_ops.specs.declared.reply.Reply.TheVariants.{Made, Shown, Rounded, PoolSet, Allocated, Refused, Freed as ToldFreed, Swept as ToldSwept}
+use Rattle.cc_values.specs.declared.reply.Reply.{Reply}
+use Rattle.cc_values.specs.declared.reply.Reply.TheVariants.{Made, Shown, Rounded, PoolSet, Allocated, Refused, Freed as ToldFreed, Swept as ToldSwept}
 use Rattle.cc_machine.specs.State.{State, SlotState, IsSlot, with_slot}
 use Rattle.cc_machine.specs.Objects.{object_at, BelongsToSome, IsLiveObject, IsPool, held_spans, held_bytes_of, freed_count, swept, with_object}
-use Rattle.cc_ops.specs.RoundedLength.{RoundsLength}
+use Rattle.cc_values.specs.RoundedLength.{RoundsLength}
 use Rattle.cc_machine.specs.Step.{usable_slot, OnSlot, Refuses, Adds, Derives, ShowsSlot, Shows, SetsPool, PlacesObject, Allocates, Frees, RevokesIf, Sweeps, Step}
 use Rattle.cc_machine.specs.Run.{Run, IsReached, IsInAddressSpace}
 use Rattle.cc_machine.specs.Laws.{HoldsCapabilities}

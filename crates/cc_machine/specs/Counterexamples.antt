@@ -8,8 +8,8 @@ use Rattle.cc_bounds.specs.declared.align.Align.TheVariants.{One, Sixteen}
 use Rattle.cc_plan.specs.declared.object.ObjectState.{ObjectState}
 use Rattle.cc_plan.specs.declared.object.ObjectState.TheVariants.{Live, Freed, Swept}
 use Rattle.cc_machine.specs.declared.object.Object.{Object}
-use Rattle.cc_ops.specs.declared.reply.Reply.{Reply}
-use Rattle.cc_ops.specs.declared.reply.Reply.TheVariants.{Refused}
+use Rattle.cc_values.specs.declared.reply.Reply.{Reply}
+use Rattle.cc_values.specs.declared.reply.Reply.TheVariants.{Refused}
 use Rattle.cc_machine.specs.State.{State, SlotState, tagged_slot}
 
 -- A state of these slots, with no pool and no object.

@@ -2,8 +2,8 @@
 //! nothing, and its contract is the claim.
 ghost use Rattle.std.specs.Prelude.{◌^◌, ◌≤◌};
 ghost use Rattle.cc_cap.specs.Capability.{root_capability};
-ghost use Rattle.cc_ops.specs.declared.op.Op.TheVariants.{Addr};
-ghost use Rattle.cc_ops.specs.declared.reply.Reply.{Reply};
+ghost use Rattle.cc_values.specs.declared.op.Op.TheVariants.{Addr};
+ghost use Rattle.cc_values.specs.declared.reply.Reply.{Reply};
 ghost use Rattle.cc_machine.specs.State.{State, SlotState, IsSlot, initial_state};
 ghost use Rattle.cc_machine.specs.Step.{Step};
 ghost use Rattle.cc_machine.specs.Laws.{HoldsCapabilities, IsMonotonicTree, HasSealingAuthority};

@@ -11,7 +11,7 @@ mod owners;
 mod slot;
 
 pub use cc_bounds::{Align, Len};
-pub use cc_ops::{Op, Reply};
+pub use cc_values::{Op, Reply};
 pub use cc_plan::{ObjectState, PlannedObject};
 pub use laws::{
     confinement, confinement_to_an_object, disjoint_objects, every_run_has_an_outcome,

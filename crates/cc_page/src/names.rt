@@ -8,7 +8,7 @@ use crate::texts::put;
 use bitflags::Flags;
 use cc_cap::Perms;
 use cc_explain::{push_permissions, push_refusal};
-use cc_text::{Line, ROOM, Text};
+use cc_io::{Line, ROOM, Text};
 use cc_word::Refusal;
 
 /// Writes the names of permissions, joined by `+`, or `-` for none, to the start of the bytes, and

@@ -14,7 +14,7 @@ use cc_bounds::{ADDRESS_SPACE, Span};
 use cc_explain::{
     push_explained_request, push_explained_word, push_listing, push_refusal, push_window_drawing,
 };
-use cc_text::{ROOM, Text};
+use cc_io::{ROOM, Text};
 use cc_word::Refusal;
 
 /// Writes the output of `show` for a word to the start of the bytes, and returns its length. The

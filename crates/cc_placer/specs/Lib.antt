@@ -2,3 +2,5 @@
 pub mod Placement
 pub mod PlacerState
 pub mod Align
+pub mod Alignment
+pub mod Ids

@@ -2,6 +2,7 @@
 //! to them.
 #![tactic(auto)]
 
+mod event;
 mod hint;
 mod placer;
 mod position;
@@ -9,6 +10,7 @@ mod rounding;
 mod scan;
 mod sorted;
 
+pub use event::Event;
 pub use hint::Hint;
 pub use placer::Placer;
 pub use rounding::round_up;

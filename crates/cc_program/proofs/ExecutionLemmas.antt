@@ -2,9 +2,9 @@
 use Rattle.std.proofs.Common.{◌≡◌, Bool, true, false, Option, Some, None, Result, refl, subst, sym}
 use Rattle.std.specs.Prelude.{IsSome, IsTrue}
 use Rattle.cc_io.specs.declared.summary.Summary.{Summary}
-use Rattle.cc_arguments.specs.declared.invocation.Invocation.{Invocation}
-use Rattle.cc_devices.specs.Devices.{Console, OnDevices}
-use Rattle.cc_devices.specs.declared.fault.Fault.{Fault}
+use Rattle.cc_console.specs.declared.invocation.Invocation.{Invocation}
+use Rattle.cc_console.specs.Devices.{Console, OnDevices}
+use Rattle.cc_console.specs.declared.fault.Fault.{Fault}
 use Rattle.cc_program.specs.Execution.{Executes}
 use Rattle.cc_runs.specs.declared.report.Terminals.{Terminals}
 

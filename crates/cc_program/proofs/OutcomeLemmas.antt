@@ -8,8 +8,8 @@ use Rattle.clap.specs.declared.error.kind.ErrorKind.TheVariants.{OutOfMemory}
 use Rattle.cc_io.specs.declared.summary.Summary.{Summary}
 use Rattle.cc_program.specs.declared.outcome.Ending.{Ending}
 use Rattle.cc_program.specs.declared.outcome.Ending.TheVariants.{Refused, Stopped}
-use Rattle.cc_devices.specs.declared.fault.Fault.{Fault}
-use Rattle.cc_devices.specs.declared.fault.Fault.TheVariants as fault
+use Rattle.cc_console.specs.declared.fault.Fault.{Fault}
+use Rattle.cc_console.specs.declared.fault.Fault.TheVariants as fault
 use Rattle.cc_program.specs.Outcome.{EndsBy, EndsOn, ending_of}
 
 -- An error that refuses the command line does not mean that memory ran out.

@@ -4,11 +4,11 @@ use Rattle.std.specs.Borrow.{Bor}
 use Rattle.std.specs.List.{starts_with}
 use Rattle.clap.specs.Words.{Text}
 use Rattle.cc_io.specs.declared.input_form.InputForm.TheVariants.{Bytes}
-use Rattle.cc_arguments.specs.declared.invocation.Invocation.{Invocation}
-use Rattle.cc_arguments.specs.declared.invocation.Invocation.TheVariants.{Decode}
-use Rattle.cc_devices.specs.Input.{file_input}
-use Rattle.cc_devices.specs.declared.input.InputName.{InputName}
-use Rattle.cc_devices.specs.declared.input.InputName.TheVariants.{File, Standard}
+use Rattle.cc_console.specs.declared.invocation.Invocation.{Invocation}
+use Rattle.cc_console.specs.declared.invocation.Invocation.TheVariants.{Decode}
+use Rattle.cc_console.specs.Input.{file_input}
+use Rattle.cc_console.specs.declared.input.InputName.{InputName}
+use Rattle.cc_console.specs.declared.input.InputName.TheVariants.{File, Standard}
 use Rattle.cc_tasks.specs.Listing.{listing_in}
 
 -- Whether a file that begins with these bytes is an ELF file.

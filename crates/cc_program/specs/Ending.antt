@@ -2,16 +2,16 @@
 use Rattle.std.specs.Prelude.{◌≡◌, ◌⊎◌, Err, List, Option, Result}
 use Rattle.clap.specs.Words.{Row, Text}
 use Rattle.cc_io.specs.declared.summary.Summary.{Summary}
-use Rattle.cc_devices.specs.Devices.{Console, OnDevices}
+use Rattle.cc_console.specs.Devices.{Console, OnDevices}
 use Rattle.cc_program.specs.Execution.{Executes}
-use Rattle.cc_arguments.specs.Invocation.{IsInvocation}
+use Rattle.cc_console.specs.Invocation.{IsInvocation}
 use Rattle.cc_program.specs.Input.{ReadsFile}
 use Rattle.cc_program.specs.Outcome.{ending_of}
-use Rattle.cc_arguments.specs.declared.invocation.Invocation.{Invocation}
+use Rattle.cc_console.specs.declared.invocation.Invocation.{Invocation}
 use Rattle.cc_program.specs.declared.outcome.Ending.{Ending}
 use Rattle.cc_program.specs.declared.outcome.Ending.TheVariants.{Stopped}
-use Rattle.cc_devices.specs.declared.fault.Fault.{Fault}
-use Rattle.cc_devices.specs.declared.fault.Fault.TheVariants as fault
+use Rattle.cc_console.specs.declared.fault.Fault.{Fault}
+use Rattle.cc_console.specs.declared.fault.Fault.TheVariants as fault
 use Rattle.cc_runs.specs.declared.report.Terminals.{Terminals}
 
 -- ExecutesCommand holds if the command that clap found was executed, and its result ends the program. Only a command that reads

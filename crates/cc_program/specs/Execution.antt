@@ -5,10 +5,10 @@ use Rattle.cc_io.specs.declared.summary.Summary.{Summary}
 use Rattle.clap.specs.Walk.{texts}
 use Rattle.cc_command.specs.RoundList.{RoundsTyped}
 use Rattle.cc_machine.specs.State.{initial_state}
-use Rattle.cc_arguments.specs.declared.invocation.Invocation.{Invocation}
-use Rattle.cc_arguments.specs.declared.invocation.Invocation.TheVariants.{Annotate, Ask, Decode, Map, Plan, Replay, Round, RoundList, Run}
-use Rattle.cc_devices.specs.Devices.{Console, FromInput}
-use Rattle.cc_devices.specs.Input.{file_input}
+use Rattle.cc_console.specs.declared.invocation.Invocation.{Invocation}
+use Rattle.cc_console.specs.declared.invocation.Invocation.TheVariants.{Annotate, Ask, Decode, Map, Plan, Replay, Round, RoundList, Run}
+use Rattle.cc_console.specs.Devices.{Console, FromInput}
+use Rattle.cc_console.specs.Input.{file_input}
 use Rattle.cc_traces.specs.Replaying.{ReplaysTrace, WithReplay}
 use Rattle.cc_tasks.specs.Tasks.{AnnotatesWords, AnswersQuestion, ListsWords, RoundsLengths, WithBase, WithListing}
 use Rattle.cc_runs.specs.Report.{report_of}

@@ -2,9 +2,9 @@
 use Rattle.std.specs.Prelude.{ℕ, ◌≡◌, ◌⊎◌, false, IsOk, IsSome, IsTrue, List, [], ⊤}
 use Rattle.clap.specs.Walk.{texts}
 use Rattle.cc_syntax.specs.Planning.{pool_of}
-use Rattle.cc_arguments.specs.declared.invocation.Invocation.{Invocation}
-use Rattle.cc_arguments.specs.declared.invocation.Invocation.TheVariants.{Annotate, Ask, Decode, Map, Plan, Replay, Round, RoundList, Run}
-use Rattle.cc_devices.specs.Input.{IsFile, file_input}
+use Rattle.cc_console.specs.declared.invocation.Invocation.{Invocation}
+use Rattle.cc_console.specs.declared.invocation.Invocation.TheVariants.{Annotate, Ask, Decode, Map, Plan, Replay, Round, RoundList, Run}
+use Rattle.cc_console.specs.Input.{IsFile, file_input}
 use Rattle.cc_tasks.specs.Listing.{listing_in, place_in}
 use Rattle.cc_tasks.specs.NumberHint.{after_base, is_hinted}
 use Rattle.cc_tasks.specs.Questions.{numbers_of}

@@ -6,8 +6,8 @@ use Rattle.clap.specs.declared.error.kind.ErrorKind.TheVariants.{DisplayHelp, Di
 use Rattle.cc_word.specs.Word.{bit_of}
 use Rattle.cc_program.specs.declared.outcome.Ending.{Ending}
 use Rattle.cc_program.specs.declared.outcome.Ending.TheVariants.{Answered, Refused, Stopped}
-use Rattle.cc_devices.specs.declared.fault.Fault.{Fault}
-use Rattle.cc_devices.specs.declared.fault.Fault.TheVariants as fault
+use Rattle.cc_console.specs.declared.fault.Fault.{Fault}
+use Rattle.cc_console.specs.declared.fault.Fault.TheVariants as fault
 use Rattle.cc_io.specs.declared.summary.Summary.{Summary}
 
 -- The end of a program whose command had this result.

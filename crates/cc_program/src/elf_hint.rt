@@ -3,8 +3,7 @@ ghost use Rattle.std.specs.Prelude.{◌≡◌, IsTrue, false};
 ghost use Rattle.std.specs.Io.KnownBytes.{Appends};
 ghost use Rattle.cc_program.specs.ElfHint.{elf_hint, is_elf, raw_file};
 
-use cc_arguments::Invocation;
-use cc_devices::{ErrorWriter, Fault, InputName, file_input};
+use cc_console::{ErrorWriter, Fault, InputName, Invocation, file_input};
 use cc_io::{FromWriter, InputForm, Sink, Summary, write_all};
 use cc_runs::Terminals;
 use cc_tasks::listing_of;

@@ -1,15 +1,14 @@
 //! Executes a command on given devices.
 ghost use Rattle.std.specs.Prelude.{◌≡◌, ◌↔◌, false, true, Err, Option, List, OnErr, OnOk};
 ghost use Rattle.clap.specs.Words.{Row, Text};
-ghost use Rattle.cc_arguments.specs.Invocation.{IsInvocation};
+ghost use Rattle.cc_console.specs.Invocation.{IsInvocation};
 ghost use Rattle.std.specs.Io.KnownBytes.{Appends};
-ghost use Rattle.cc_devices.specs.Devices.{OnDevices};
+ghost use Rattle.cc_console.specs.Devices.{OnDevices};
 ghost use Rattle.cc_tasks.specs.NumberHint.{number_hint};
 ghost use Rattle.cc_program.specs.Execution.{Executes};
 ghost use Rattle.cc_program.specs.Input.{IsHinted, IsReported, IsStreamed, ReadsFile, RunsMachine, typed_numbers};
 
-use cc_arguments::Invocation;
-use cc_devices::{Fault, Inputs};
+use cc_console::{Fault, Inputs, Invocation};
 use cc_io::{Sink, Summary};
 use cc_runs::{Report, Terminals, map_file, plan_file, run_file};
 use cc_tasks::{annotate_file, ask, decode_file, round_file, round_lengths};

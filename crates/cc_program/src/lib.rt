@@ -6,8 +6,7 @@ mod execution;
 mod outcome;
 mod program;
 
-pub use cc_arguments::{DecodeTexts, Invocation, PoolTexts, Question, invocation_of, read_words};
-pub use cc_devices::{Fault, InputName, Inputs, file_input};
+pub use cc_console::{DecodeTexts, Fault, InputName, Inputs, Invocation, PoolTexts, Question, file_input, invocation_of, read_words};
 pub use cc_runs::Terminals;
 pub use execution::execute;
 pub use outcome::{Ending, status};

@@ -2,7 +2,7 @@
 ghost use Rattle.std.specs.Prelude.{◌≡◌};
 ghost use Rattle.cc_program.specs.Outcome.{ending_of, status_of};
 
-use cc_devices::Fault;
+use cc_console::Fault;
 use cc_io::Summary;
 
 /// The end of the program.

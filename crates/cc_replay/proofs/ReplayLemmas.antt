@@ -1,7 +1,7 @@
 -- An event that was taken.
 use Rattle.std.proofs.Common.{◌≡◌, ℕ, Bool, List, ◌++◌, Option, refl, ◌∙◌, ap, inl, subst}
 use Rattle.cc_replay.specs.declared.counts.Counts.{Counts}
-use Rattle.cc_events.specs.declared.event.Event.{Event}
+use Rattle.cc_placer.specs.declared.event.Event.{Event}
 use Rattle.cc_io.specs.Answers.{AnswersInto}
 use Rattle.cc_formats.specs.declared.formats.Entry.{Entry}
 use Rattle.cc_heap.specs.declared.outcome.Outcome.{Outcome}

@@ -1,7 +1,7 @@
 -- The digits of a percentage, and rows after others.
 use Rattle.std.proofs.Common.{◌≡◌, ℕ, ◌%◌, ◌+◌, List, [], ◌∷◌, ◌++◌, ◌∙◌, ap, arith, refl}
 use Rattle.std.specs.Prelude.{decimal}
-use Rattle.cc_text.proofs.DecimalLemmas.{one_digit}
+use Rattle.cc_io.proofs.DecimalLemmas.{one_digit}
 use Rattle.cc_replay.specs.declared.table.Row.{Row as RowValue}
 use Rattle.cc_replay.specs.Rows.{Row, rows_of}
 

@@ -1,6 +1,6 @@
 -- The rows of a summary or of a series: names and values, and their text in each format.
 use Rattle.std.specs.Prelude.{ℕ, zero, suc, ◌*◌, ◌/◌, ◌%◌, ◌^◌, List, [], ◌∷◌, ◌++◌, codes, decimal, map, min}
-use Rattle.cc_text.specs.Text.{with_line_feed}
+use Rattle.cc_io.specs.Text.{with_line_feed}
 use Rattle.cc_replay.specs.declared.table.Part.{Part}
 use Rattle.cc_replay.specs.declared.table.Part.TheVariants.{Line, Name, Quantity, Member, Heading, Cell}
 use Rattle.cc_replay.specs.declared.table.Row.{Row as RowValue}

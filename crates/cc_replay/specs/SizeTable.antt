@@ -1,6 +1,6 @@
 -- The table of the objects that were made, by the powers of two of their sizes, and its text in each format.
 use Rattle.std.specs.Prelude.{ℕ, Bool, true, false, ◌+◌, ◌-◌, ◌*◌, ◌^◌, ◌==◌, List, [], ◌∷◌, ◌++◌, codes, if◌then◌else◌}
-use Rattle.cc_text.specs.Text.{with_line_feed}
+use Rattle.cc_io.specs.Text.{with_line_feed}
 use Rattle.cc_heap.specs.declared.sizes.SizeTotals.{SizeTotals}
 use Rattle.cc_replay.specs.declared.table.Format.{Format}
 use Rattle.cc_replay.specs.declared.table.Format.TheVariants.{Text, Csv, Json}

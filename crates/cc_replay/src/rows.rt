@@ -3,7 +3,7 @@ ghost use Rattle.std.specs.Prelude.{◌≡◌, ◌≤◌, ◌+◌, ◌*◌, ◌%
 ghost use Rattle.cc_replay.specs.Rows.{item_text, items_text, more_items, names_line, parts_of, percent_text, rows_of, separator_of, table_text, value_text, values_line};
 
 use crate::table::{Format, Part, Row, Value};
-use cc_text::{Line, Page};
+use cc_io::{Line, Page};
 
 /// The maximum part of a percentage.
 const MOST_PART: u128 = 1 << 100;

@@ -7,7 +7,7 @@ use crate::row;
 use crate::rows::{push_names, push_values};
 use crate::summary::Figures;
 use crate::table::{Row, Value};
-use cc_text::Page;
+use cc_io::Page;
 
 /// The maximum number of bytes of a line of a series.
 pub const MOST_SAMPLE: usize = 1301;

@@ -10,8 +10,7 @@ use crate::rows::{push_items, push_names, push_values};
 use crate::summary::write_page;
 use crate::table::{Format, Part, Row, Value};
 use cc_heap::{NO_OBJECTS, SizeTotals};
-use cc_io::{IoError, Sink};
-use cc_text::Page;
+use cc_io::{IoError, Page, Sink};
 
 /// The maximum number of bytes of a table.
 const MOST_SIZES: usize = 40960;

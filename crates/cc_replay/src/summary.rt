@@ -12,8 +12,7 @@ use crate::rows::{parts_of, push_table};
 use crate::table::{Format, Row, Value};
 use arrayvec::ArrayVec;
 use cc_heap::{Totals, Usage};
-use cc_io::{IoError, Sink, write_all};
-use cc_text::Page;
+use cc_io::{IoError, Page, Sink, write_all};
 
 /// The maximum number of bytes of a summary.
 const MOST_SUMMARY: usize = 16384;

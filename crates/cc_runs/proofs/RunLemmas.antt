@@ -8,17 +8,17 @@ use Rattle.clap.specs.Words.{Text}
 use Rattle.cc_word.specs.declared.refusal.Refusal.{Refusal}
 use Rattle.cc_io.specs.declared.summary.Summary.{Summary}
 use Rattle.cc_bounds.specs.declared.align.Align.{Align}
-use Rattle.cc_ops.specs.declared.op.Op.{Op}
+use Rattle.cc_values.specs.declared.op.Op.{Op}
 use Rattle.cc_machine.specs.State.{State, initial_state}
 use Rattle.cc_syntax.specs.Planning.{plan_opening, pool_of}
 use Rattle.cc_script.specs.Session.{AnswersSession, SessionState}
-use Rattle.cc_arguments.specs.declared.invocation.PoolTexts.{PoolTexts}
-use Rattle.cc_devices.specs.Devices.{Console, FromInput, OnDevices, Traffic, traffic_of}
-use Rattle.cc_devices.specs.Input.{file_input}
+use Rattle.cc_console.specs.declared.invocation.PoolTexts.{PoolTexts}
+use Rattle.cc_console.specs.Devices.{Console, FromInput, OnDevices, Traffic, traffic_of}
+use Rattle.cc_console.specs.Input.{file_input}
 use Rattle.cc_explain.specs.Refused.{WritesRefusal}
-use Rattle.cc_devices.specs.declared.fault.Fault.{Fault}
-use Rattle.cc_devices.specs.declared.input.InputName.{InputName}
-use Rattle.cc_devices.proofs.DeviceLemmas.{from_input, on_devices-map}
+use Rattle.cc_console.specs.declared.fault.Fault.{Fault}
+use Rattle.cc_console.specs.declared.input.InputName.{InputName}
+use Rattle.cc_console.proofs.DeviceLemmas.{from_input, on_devices-map}
 use Rattle.cc_runs.specs.Runs.{DrawsEnd, DrawsMap, DrawsPage, DrawsPool, DrawsRun, MapsFile, ReportsRun}
 use Rattle.cc_runs.specs.declared.report.Report.{Report}
 

@@ -1,7 +1,7 @@
 -- The report of a run on standard error.
 use Rattle.std.specs.Prelude.{ℕ, Bool, true, false, ◌≡◌, ◌||◌, List, [], ◌++◌, Option, codes, if◌then◌else◌, length}
 use Rattle.std.specs.Io.KnownBytes.{Appends}
-use Rattle.cc_ops.specs.declared.reply.Reply.{Reply}
+use Rattle.cc_values.specs.declared.reply.Reply.{Reply}
 use Rattle.cc_command.specs.Hints.{hints_of, hints_text}
 use Rattle.cc_machine.specs.Planned.{plan_of}
 use Rattle.cc_machine.specs.State.{State}
@@ -9,7 +9,7 @@ use Rattle.cc_script.specs.Session.{SessionState}
 use Rattle.cc_command.specs.Statistics.{statistics_text}
 use Rattle.cc_syntax.specs.Tally.{Exchange}
 use Rattle.cc_draw.specs.Usage.{IsUsage}
-use Rattle.cc_ops.specs.declared.usage.Usage.{Usage}
+use Rattle.cc_values.specs.declared.usage.Usage.{Usage}
 use Rattle.cc_runs.specs.declared.report.Report.{Report}
 use Rattle.cc_runs.specs.declared.report.Terminals.{Terminals}
 

@@ -7,8 +7,8 @@ use Rattle.cc_io.specs.declared.summary.IoError.{IoError}
 use Rattle.cc_io.specs.declared.summary.IoError.TheVariants.{Read, Write}
 use Rattle.cc_io.specs.declared.summary.Summary.{Summary}
 use Rattle.cc_bounds.specs.declared.align.Align.{Align}
-use Rattle.cc_ops.specs.declared.op.Op.{Op}
-use Rattle.cc_ops.specs.declared.reply.Reply.{Reply}
+use Rattle.cc_values.specs.declared.op.Op.{Op}
+use Rattle.cc_values.specs.declared.reply.Reply.{Reply}
 use Rattle.cc_machine.specs.State.{State, initial_state}
 use Rattle.cc_machine.specs.Planned.{plan_of}
 use Rattle.cc_draw.specs.Drawing.{IsDrawing}
@@ -17,10 +17,10 @@ use Rattle.cc_syntax.specs.Planning.{plan_opening, pool_of}
 use Rattle.cc_script.specs.Session.{AnswersSession, SessionState}
 use Rattle.cc_command.specs.Statistics.{statistics_text}
 use Rattle.cc_syntax.specs.Tally.{Exchange, IsTally}
-use Rattle.cc_ops.specs.declared.usage.Usage.{Usage}
-use Rattle.cc_arguments.specs.declared.invocation.PoolTexts.{PoolTexts}
-use Rattle.cc_devices.specs.Devices.{Console, FromInput, Traffic}
-use Rattle.cc_devices.specs.Input.{file_input}
+use Rattle.cc_values.specs.declared.usage.Usage.{Usage}
+use Rattle.cc_console.specs.declared.invocation.PoolTexts.{PoolTexts}
+use Rattle.cc_console.specs.Devices.{Console, FromInput, Traffic}
+use Rattle.cc_console.specs.Input.{file_input}
 use Rattle.cc_explain.specs.Refused.{WritesRefusal}
 use Rattle.cc_runs.specs.Report.{IsMachineUsage, WritesReport}
 use Rattle.cc_runs.specs.declared.report.Report.{Report}

@@ -4,7 +4,7 @@
 //! of the same name in `cc_draw`, for the plan of each state that a run leads to. Every machine is in
 //! such a state, by the clause `reached` of `Machine::slots`.
 ghost use Rattle.std.specs.Prelude.{All};
-ghost use Rattle.cc_ops.specs.declared.usage.Usage.{Usage};
+ghost use Rattle.cc_values.specs.declared.usage.Usage.{Usage};
 ghost use Rattle.cc_plan.specs.Plan.{held_spans};
 ghost use Rattle.cc_machine.specs.State.{State};
 ghost use Rattle.cc_machine.specs.Planned.{plan_of};

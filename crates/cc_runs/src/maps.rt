@@ -3,22 +3,20 @@ ghost use Rattle.std.specs.Prelude.{◌≡◌, ◌≢◌, ◌≤◌, ◌*◌, �
 ghost use Rattle.cc_machine.specs.State.{initial_state};
 ghost use Rattle.cc_syntax.specs.Planning.{pool_of};
 ghost use Rattle.cc_syntax.specs.Tally.{IsTally};
-ghost use Rattle.cc_devices.specs.Devices.{FromInput, OnDevices, OnOutput, Traffic};
-ghost use Rattle.cc_devices.specs.Input.{IsFile, file_input};
+ghost use Rattle.cc_console.specs.Devices.{FromInput, OnDevices, OnOutput, Traffic};
+ghost use Rattle.cc_console.specs.Input.{IsFile, file_input};
 ghost use Rattle.cc_runs.specs.Runs.{DrawsRun, MapsFile};
 
 use crate::report::machine_usage;
 use crate::session::new_session;
-use cc_arguments::PoolTexts;
+use cc_console::{Discard, Fault, InputName, Inputs, PoolTexts, file_input};
 use cc_bounds::Align;
 use cc_command::{show_statistics, write_refusal};
-use cc_devices::{Discard, Fault, InputName, Inputs, file_input};
 use cc_draw::{show_drawing, show_map};
-use cc_io::{FromReader, Sink, Source, Summary};
+use cc_io::{FromReader, Sink, Source, Summary, Waiting};
 use cc_machine::Op;
 use cc_script::{Session, run_session};
 use cc_syntax::{plan_numbers, plan_opening};
-use cc_text::Waiting;
 
 /// Runs the script that FILE names on a new machine with a pool, without writing the replies, and draws the pool: as an SVG
 /// document, or as a map with the summary of the run. BASE and LENGTH are read first. If one is refused, the output is that refusal,

@@ -1,7 +1,7 @@
 //! Reports on standard error: the summary of a run, and hints.
 ghost use Rattle.std.specs.Prelude.{◌≡◌, ◌≤◌, ◌^◌, List, ℕ, IfOk, OnErr, OnOk, false};
 ghost use Rattle.std.specs.Io.KnownBytes.{Appends};
-ghost use Rattle.cc_ops.specs.declared.reply.Reply.{Reply};
+ghost use Rattle.cc_values.specs.declared.reply.Reply.{Reply};
 ghost use Rattle.cc_syntax.specs.Tally.{Exchange, IsTally};
 ghost use Rattle.cc_runs.specs.Report.{IsMachineUsage, WritesReport, report_of};
 
@@ -9,7 +9,7 @@ use cc_command::{Hints, show_hints, show_statistics};
 use cc_draw::usage_of;
 use cc_io::Sink;
 use cc_machine::{Len, Machine};
-use cc_ops::Usage;
+use cc_values::Usage;
 use cc_script::Session;
 use std::alloc::{AllocError, Global};
 

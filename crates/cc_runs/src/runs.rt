@@ -3,21 +3,19 @@ ghost use Rattle.std.specs.Prelude.{◌≡◌, ◌≢◌, ◌≤◌, ◌*◌, �
 ghost use Rattle.cc_machine.specs.State.{initial_state};
 ghost use Rattle.cc_syntax.specs.Planning.{pool_of};
 ghost use Rattle.cc_syntax.specs.Tally.{IsTally};
-ghost use Rattle.cc_devices.specs.Devices.{FromInput, OnDevices};
-ghost use Rattle.cc_devices.specs.Input.{IsFile, file_input};
+ghost use Rattle.cc_console.specs.Devices.{FromInput, OnDevices};
+ghost use Rattle.cc_console.specs.Input.{IsFile, file_input};
 ghost use Rattle.cc_runs.specs.Runs.{PlansFile, ReportsRun};
 
 use crate::report::{Report, write_report};
 use crate::session::new_session;
-use cc_arguments::PoolTexts;
+use cc_console::{Fault, InputName, Inputs, PoolTexts, file_input};
 use cc_bounds::Align;
 use cc_command::write_refusal;
-use cc_devices::{Fault, InputName, Inputs, file_input};
-use cc_io::{FromReader, Sink, Source, Summary};
+use cc_io::{FromReader, Sink, Source, Summary, Waiting};
 use cc_machine::{Len, Op};
 use cc_script::{Session, run_session};
 use cc_syntax::{plan_numbers, plan_opening};
-use cc_text::Waiting;
 
 /// Runs the script that FILE names on a new machine with at most `limit` slots and objects: writes the replies to `sink`, and the
 /// report of a run that came to its end to `errors`.

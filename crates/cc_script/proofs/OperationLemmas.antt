@@ -18,8 +18,8 @@ use Rattle.cc_word.specs.declared.refusal.Refusal.TheVariants.{Syntax}
 use Rattle.cc_word.specs.Permissions.{bits_of, permission_table}
 use Rattle.cc_word.specs.declared.perms.Perms.{Perms}
 use Rattle.cc_bounds.specs.declared.align.Align.TheVariants.{One, Sixteen}
-use Rattle.cc_ops.specs.declared.op.Op.{Op}
-use Rattle.cc_ops.specs.declared.op.Op.TheVariants as o
+use Rattle.cc_values.specs.declared.op.Op.{Op}
+use Rattle.cc_values.specs.declared.op.Op.TheVariants as o
 use Rattle.cc_values.specs.Values.{IsWord, words_of, index_in, address_in, length_in, flag_in, word_in, permissions_in, with_names, both, single}
 use Rattle.cc_syntax.specs.Commands.{align_in, slot_and, one, two, command_in, operation_of}
 use Rattle.cc_values.specs.Numbers.{number_of, within_limit}

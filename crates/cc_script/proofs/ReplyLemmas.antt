@@ -1,8 +1,8 @@
 -- Commands that are taken one after another, and the lines of their replies.
 use Rattle.std.proofs.Common.{◌≡◌, ℕ, List, [], ◌∷◌, ◌++◌, sym, refl, ◌∙◌, ap, subst, append_assoc, Bool, true, false, ◌||◌, Result}
 use Rattle.cc_word.specs.declared.refusal.Refusal.{Refusal}
-use Rattle.cc_ops.specs.declared.op.Op.{Op}
-use Rattle.cc_ops.specs.declared.reply.Reply.{Reply}
+use Rattle.cc_values.specs.declared.op.Op.{Op}
+use Rattle.cc_values.specs.declared.reply.Reply.{Reply}
 use Rattle.cc_machine.specs.State.{State}
 use Rattle.cc_syntax.specs.Replies.{reply_text}
 use Rattle.cc_script.specs.Output.{TakesAll, with_line_feed, replies_text}

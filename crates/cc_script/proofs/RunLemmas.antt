@@ -1,8 +1,8 @@
 -- The effect of a run of commands on the machine.
 use Rattle.std.proofs.Common.{ℕ, Bool, List, [], ◌∷◌, subst, Result, Ok, Err}
-use Rattle.cc_ops.specs.declared.reply.Reply.{Reply}
+use Rattle.cc_values.specs.declared.reply.Reply.{Reply}
 use Rattle.cc_word.specs.declared.refusal.Refusal.{Refusal}
-use Rattle.cc_ops.specs.declared.op.Op.{Op}
+use Rattle.cc_values.specs.declared.op.Op.{Op}
 use Rattle.cc_machine.specs.State.{State}
 use Rattle.cc_machine.specs.Run.{Run, IsReached}
 use Rattle.cc_machine.specs.Confinement.{RunsWithin, IsConfined}

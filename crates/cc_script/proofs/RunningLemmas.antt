@@ -7,8 +7,8 @@ use Rattle.std.proofs.Math.Dec.{eqb-suc-zero}
 use Rattle.std.specs.List.{list_any}
 use Rattle.std.specs.Io.KnownBytes.{Appends, IsAtEnd}
 use Rattle.cc_word.specs.declared.refusal.Refusal.{Refusal}
-use Rattle.cc_ops.specs.declared.op.Op.{Op}
-use Rattle.cc_ops.specs.declared.reply.Reply.{Reply}
+use Rattle.cc_values.specs.declared.op.Op.{Op}
+use Rattle.cc_values.specs.declared.reply.Reply.{Reply}
 use Rattle.cc_machine.specs.State.{State}
 use Rattle.cc_io.specs.Lines.{lines_of, rest_of, lines_from, rest_from}
 use Rattle.cc_io.specs.FrameLaws.{lines_further}
@@ -21,7 +21,7 @@ use Rattle.cc_io.specs.declared.summary.Summary.{Summary}
 use Rattle.cc_io.proofs.DeviceLemmas.{appends_twice, consumes_none}
 use Rattle.cc_io.proofs.LawLemmas.{one_on_page}
 use Rattle.cc_syntax.specs.Commands.{operation_of}
-use Rattle.cc_ops.specs.declared.reply.Reply.TheVariants.{Refused}
+use Rattle.cc_values.specs.declared.reply.Reply.TheVariants.{Refused}
 use Rattle.cc_syntax.specs.Replies.{reply_text, refusal_text, is_error}
 use Rattle.cc_script.specs.declared.answering.Script.{Script}
 use Rattle.cc_script.specs.Lent.{ByLent, ByLentAtEnd}

@@ -1,7 +1,7 @@
 -- The replies of a borrowed machine. No public clause cites this file.
 use Rattle.std.specs.Prelude.{◌≡◌, ◌+◌, ◌≤◌, ⊤, ℕ, Bool, List, Result, length}
 use Rattle.cc_word.specs.declared.refusal.Refusal.{Refusal}
-use Rattle.cc_ops.specs.declared.op.Op.{Op}
+use Rattle.cc_values.specs.declared.op.Op.{Op}
 use Rattle.cc_script.specs.Answering.{AnswersLine, IsAnswered, RefusesRest}
 use Rattle.cc_script.specs.declared.answering.Script.{Script}
 

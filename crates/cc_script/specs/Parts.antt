@@ -1,6 +1,6 @@
 -- The output of a text in two parts.
 use Rattle.std.specs.Prelude.{◌≡◌, ℕ, Bool, ◌||◌, List, [], ◌++◌}
-use Rattle.cc_ops.specs.declared.op.Op.{Op}
+use Rattle.cc_values.specs.declared.op.Op.{Op}
 use Rattle.cc_machine.specs.State.{State}
 use Rattle.cc_io.specs.Lines.{rest_of}
 use Rattle.cc_script.specs.Output.{ScriptOutput}

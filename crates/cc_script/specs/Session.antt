@@ -5,9 +5,9 @@ use Rattle.cc_word.specs.declared.refusal.Refusal.TheVariants.{Unfinished}
 use Rattle.cc_io.specs.Lines.{lines_of, rest_of}
 use Rattle.cc_io.specs.declared.summary.IoError.{IoError}
 use Rattle.cc_io.specs.declared.summary.Summary.{Summary}
-use Rattle.cc_ops.specs.declared.op.Op.{Op}
-use Rattle.cc_ops.specs.declared.reply.Reply.{Reply}
-use Rattle.cc_ops.specs.declared.reply.Reply.TheVariants.{Refused}
+use Rattle.cc_values.specs.declared.op.Op.{Op}
+use Rattle.cc_values.specs.declared.reply.Reply.{Reply}
+use Rattle.cc_values.specs.declared.reply.Reply.TheVariants.{Refused}
 use Rattle.cc_machine.specs.State.{State}
 use Rattle.cc_machine.specs.Step.{Step}
 use Rattle.cc_script.specs.Answering.{AnswersLine, RefusesRest}

@@ -1,17 +1,16 @@
 //! Replies to one line.
 ghost use Rattle.std.specs.Prelude.{◌≡◌, ◌+◌, ◌≤◌, length, true, Result, Ok};
 ghost use Rattle.cc_word.specs.declared.refusal.Refusal.{Refusal as RefusalSpec};
-ghost use Rattle.cc_ops.specs.declared.op.Op.{Op as OpSpec};
+ghost use Rattle.cc_values.specs.declared.op.Op.{Op as OpSpec};
 ghost use Rattle.cc_machine.specs.Step.{Step};
 ghost use Rattle.cc_syntax.specs.Commands.{operation_of};
 ghost use Rattle.cc_script.specs.Answering.{IsAnswered};
 ghost use Rattle.cc_io.specs.Answers.{AnswersInto};
 ghost use Rattle.cc_script.specs.Lent.{ByLent, ByLentAtEnd, TakenByLent};
 
-use cc_io::Answerer;
+use cc_io::{Answerer, Page, refusal_bytes};
 use cc_machine::{Machine, Op, Reply};
 use cc_syntax::{MOST_BYTES, Taker, push_reply, take_command};
-use cc_text::{Page, refusal_bytes};
 use cc_word::Refusal;
 
 /// Replies to the lines of a script by a borrowed machine.

@@ -4,8 +4,8 @@ ghost use Rattle.std.specs.Prelude.{◌≡◌, ◌⊎◌, ◌↔◌, ◌++◌, [
 ghost use Rattle.std.specs.Io.KnownBytes.{Appends};
 ghost use Rattle.std.specs.List.{AllByRecursion};
 ghost use Rattle.cc_word.specs.declared.refusal.Refusal.{Refusal};
-ghost use Rattle.cc_ops.specs.declared.op.Op.{Op};
-ghost use Rattle.cc_ops.specs.declared.reply.Reply.{Reply};
+ghost use Rattle.cc_values.specs.declared.op.Op.{Op};
+ghost use Rattle.cc_values.specs.declared.reply.Reply.{Reply};
 ghost use Rattle.cc_machine.specs.declared.object.Object.{Object};
 ghost use Rattle.cc_machine.specs.State.{State};
 ghost use Rattle.cc_machine.specs.Objects.{IsHeldObject};

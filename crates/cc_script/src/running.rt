@@ -10,10 +10,9 @@ ghost use Rattle.cc_script.specs.Laws.{KeepsLaws};
 ghost use Rattle.cc_script.specs.Answering.{AnswersOpening};
 
 use crate::answering::{Script, step};
-use cc_io::{Failed, IoError, Lines, Sink, Source, Summary, pump, write_all};
+use cc_io::{Failed, IoError, Lines, Sink, Source, Summary, WholeLine, pump, write_all};
 use cc_machine::{Machine, Op, Reply};
 use cc_syntax::push_any_reply;
-use cc_text::WholeLine;
 
 /// Runs the script that the source gives: steps the machine by each line, and writes its reply
 /// before the next line is taken.

@@ -8,10 +8,9 @@ ghost use Rattle.cc_syntax.specs.Tally.{IsTally};
 
 use crate::answering::answer_line;
 use crate::running::is_refusal;
-use cc_io::{Answerer, IoError, Lines, Sink, Source, Summary, pump};
+use cc_io::{Answerer, IoError, Lines, Page, Sink, Source, Summary, pump, refusal_bytes};
 use cc_machine::{Machine, Op};
 use cc_syntax::{Tally, reply_line};
-use cc_text::{Page, refusal_bytes};
 use cc_word::Refusal;
 use std::marker::Model;
 

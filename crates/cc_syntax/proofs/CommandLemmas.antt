@@ -7,7 +7,7 @@ use Rattle.std.specs.Str.{bytes_eq}
 use Rattle.cc_word.specs.declared.refusal.Refusal.{Refusal}
 use Rattle.cc_word.specs.declared.refusal.Refusal.TheVariants.{Syntax}
 use Rattle.cc_values.specs.Values.{words_of}
-use Rattle.cc_ops.specs.declared.op.Op.{Op}
+use Rattle.cc_values.specs.declared.op.Op.{Op}
 use Rattle.cc_syntax.specs.Commands.{Command, commands, operation_in, command_in}
 
 -- the operation of a line of any length, or its error

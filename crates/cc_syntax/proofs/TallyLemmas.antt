@@ -8,8 +8,8 @@ use Rattle.std.proofs.lemmas.List.Sums.{sum_by-cons, sum_by_push}
 use Rattle.cc_word.specs.Refusal.{code_of}
 use Rattle.cc_word.specs.declared.refusal.Refusal.{Refusal}
 use Rattle.cc_word.specs.declared.refusal.Refusal.TheVariants.{Full}
-use Rattle.cc_ops.specs.declared.reply.Reply.{Reply}
-use Rattle.cc_ops.specs.declared.reply.Reply.TheVariants.{Made, Shown, Rounded, PoolSet, Allocated, Freed, Swept, Refused}
+use Rattle.cc_values.specs.declared.reply.Reply.{Reply}
+use Rattle.cc_values.specs.declared.reply.Reply.TheVariants.{Made, Shown, Rounded, PoolSet, Allocated, Freed, Swept, Refused}
 use Rattle.cc_syntax.specs.LineHints.{ends_in_return, has_marked_word}
 use Rattle.cc_syntax.specs.Replies.{is_error}
 use Rattle.cc_syntax.specs.Tally.{Exchange, HasOneMore, IsTally, count_in, count_more, counted, first_after, first_from, is_refusal}

@@ -7,8 +7,8 @@ use Rattle.cc_bounds.specs.declared.align.Align.{Align}
 use Rattle.cc_bounds.specs.declared.align.Align.TheVariants.{One, Sixteen}
 use Rattle.cc_values.specs.Numbers.{number_of}
 use Rattle.cc_values.specs.Values.{address_in, both, flag_in, index_in, length_in, permissions_in, single, word_in, words_of}
-use Rattle.cc_ops.specs.declared.op.Op.{Op}
-use Rattle.cc_ops.specs.declared.op.Op.TheVariants as op
+use Rattle.cc_values.specs.declared.op.Op.{Op}
+use Rattle.cc_values.specs.declared.op.Op.TheVariants as op
 
 -- The alignment: `1` or `16`.
 abbrev pub align_in : (text : List ℕ) → Result Align Refusal

@@ -3,13 +3,13 @@ use Rattle.std.specs.Prelude.{ℕ, Bool, true, false, List, [], ◌++◌, codes,
 use Rattle.cc_word.specs.Word.{bit_of}
 use Rattle.cc_word.specs.WordText.{digits_of}
 pub use Rattle.cc_word.specs.WordText.{hexadecimal}
-pub use Rattle.cc_text.specs.Text.{refusal_text}
+pub use Rattle.cc_io.specs.Text.{refusal_text}
 use Rattle.cc_bounds.specs.declared.span.Span.{Span}
 use Rattle.cc_word.specs.Permissions.{bits_of}
 use Rattle.cc_bounds.specs.declared.align.Align.{Align}
 use Rattle.cc_bounds.specs.declared.align.Align.TheVariants.{One, Sixteen}
-use Rattle.cc_ops.specs.declared.reply.Reply.{Reply}
-use Rattle.cc_ops.specs.declared.reply.Reply.TheVariants.{Made, Shown, Rounded, PoolSet, Allocated, Freed, Swept, Refused}
+use Rattle.cc_values.specs.declared.reply.Reply.{Reply}
+use Rattle.cc_values.specs.declared.reply.Reply.TheVariants.{Made, Shown, Rounded, PoolSet, Allocated, Freed, Swept, Refused}
 
 -- The base and the top.
 abbrev pub bounds_text : Span → List ℕ

@@ -4,8 +4,8 @@ use Rattle.std.specs.List.{list_any}
 use Rattle.cc_word.specs.Refusal.{code_of}
 use Rattle.cc_word.specs.declared.refusal.Refusal.{Refusal}
 use Rattle.cc_word.specs.declared.refusal.Refusal.TheVariants.{Full}
-use Rattle.cc_ops.specs.declared.reply.Reply.{Reply}
-use Rattle.cc_ops.specs.declared.reply.Reply.TheVariants.{Refused}
+use Rattle.cc_values.specs.declared.reply.Reply.{Reply}
+use Rattle.cc_values.specs.declared.reply.Reply.TheVariants.{Refused}
 use Rattle.cc_syntax.specs.Replies.{is_error}
 use Rattle.cc_syntax.specs.LineHints.{ends_in_return, has_marked_word}
 use Rattle.cc_syntax.specs.declared.tally.Count.{Count}

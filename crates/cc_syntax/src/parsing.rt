@@ -1,15 +1,15 @@
 //! Parses a line as an operation: the table of commands.
 ghost use Rattle.std.specs.Prelude.{◌≡◌, ◌+◌, ◌≤◌, ℕ, List, Result, length};
 ghost use Rattle.cc_word.specs.declared.refusal.Refusal.{Refusal as RefusalSpec};
-ghost use Rattle.cc_ops.specs.declared.op.Op.{Op as OpSpec};
+ghost use Rattle.cc_values.specs.declared.op.Op.{Op as OpSpec};
 ghost use Rattle.cc_values.specs.Values.{words_of};
 ghost use Rattle.cc_syntax.specs.Commands.{command_in, operation_of};
 
 use crate::values::{Value, slot_and, slot_and_perhaps};
 use crate::words::{after, is};
 use cc_bounds::{Align, Len};
-use cc_ops::Op;
-use cc_text::{Page, WholeLine};
+use cc_values::Op;
+use cc_io::{Page, WholeLine};
 use cc_word::Refusal;
 
 /// The maximum number of bytes of a line.

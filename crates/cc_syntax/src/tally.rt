@@ -1,14 +1,14 @@
 //! The counts of the replies to a script.
 ghost use Rattle.std.specs.Prelude.{◌≡◌, ◌-◌, ◌<◌, ℕ, List, [], ◌∷◌, ◌++◌, Bool, false, length, take};
-ghost use Rattle.cc_ops.specs.declared.reply.Reply.{Reply as ReplySpec};
-ghost use Rattle.cc_ops.specs.declared.reply.Reply.TheVariants.{Refused};
+ghost use Rattle.cc_values.specs.declared.reply.Reply.{Reply as ReplySpec};
+ghost use Rattle.cc_values.specs.declared.reply.Reply.TheVariants.{Refused};
 ghost use Rattle.cc_word.specs.Refusal.{code_of};
 ghost use Rattle.cc_word.specs.declared.refusal.Refusal.TheVariants.{Full};
 ghost use Rattle.cc_syntax.specs.Replies.{is_error};
 ghost use Rattle.cc_syntax.specs.Tally.{Exchange, HasOneMore, IsTally, first_after, is_refusal};
 
 use crate::line_hints::{ends_in_return, has_marked_word};
-use cc_ops::Reply;
+use cc_values::Reply;
 use cc_word::Refusal;
 
 /// The number of replies that are one refusal, and the line that got the first of them.

@@ -6,7 +6,7 @@ use Rattle.cc_word.specs.declared.refusal.Refusal.{Refusal}
 use Rattle.cc_values.specs.Values.{both}
 use Rattle.cc_io.specs.declared.format.Format.{Format}
 use Rattle.cc_io.specs.declared.input_form.InputForm.{InputForm}
-use Rattle.cc_arguments.specs.declared.invocation.DecodeTexts.{DecodeTexts}
+use Rattle.cc_console.specs.declared.invocation.DecodeTexts.{DecodeTexts}
 use Rattle.cc_explain.specs.Refused.{changed}
 use Rattle.cc_tasks.specs.Listing.{listing_in, named_in, place_in, search_in, skipped_in}
 

@@ -12,18 +12,18 @@ use Rattle.cc_io.specs.declared.summary.Summary.{Summary}
 use Rattle.cc_io.specs.declared.format.Format.{Format}
 use Rattle.cc_io.specs.declared.input_form.InputForm.{InputForm}
 use Rattle.cc_decode.specs.declared.options.Options.{Options}
-use Rattle.cc_arguments.specs.declared.invocation.DecodeTexts.{DecodeTexts}
-use Rattle.cc_devices.specs.Devices.{Console, FromInput, OnDevices}
-use Rattle.cc_devices.specs.Input.{file_input}
+use Rattle.cc_console.specs.declared.invocation.DecodeTexts.{DecodeTexts}
+use Rattle.cc_console.specs.Devices.{Console, FromInput, OnDevices}
+use Rattle.cc_console.specs.Input.{file_input}
 use Rattle.cc_tasks.specs.Listing.{listing_in, place_in}
 use Rattle.cc_explain.specs.Refused.{WritesRefusal}
 use Rattle.cc_command.specs.BareDigits.{is_bare}
 use Rattle.cc_tasks.specs.NumberHint.{after_base, hint_if}
 use Rattle.cc_tasks.specs.Tasks.{ListsWords, RoundsLengths, SeesLengths, WithBase, WithListing}
-use Rattle.cc_devices.specs.declared.fault.Fault.{Fault}
-use Rattle.cc_devices.specs.declared.fault.Fault.TheVariants as fault
-use Rattle.cc_devices.specs.declared.input.InputName.{InputName}
-use Rattle.cc_devices.proofs.DeviceLemmas.{on_devices-map}
+use Rattle.cc_console.specs.declared.fault.Fault.{Fault}
+use Rattle.cc_console.specs.declared.fault.Fault.TheVariants as fault
+use Rattle.cc_console.specs.declared.input.InputName.{InputName}
+use Rattle.cc_console.proofs.DeviceLemmas.{on_devices-map}
 
 -- The rows of the words of the input that FILE names, in the listing that the texts give.
 pub decodes : (input : InputForm) (format : Format) (texts : DecodeTexts) (file : Option (Bor Text)) (console : Console)

@@ -10,7 +10,7 @@ use Rattle.cc_io.specs.declared.format.Format.{Format}
 use Rattle.cc_io.specs.declared.input_form.InputForm.{InputForm}
 use Rattle.cc_decode.specs.declared.options.Options.{Options}
 use Rattle.cc_decode.specs.declared.options.Search.{Search}
-use Rattle.cc_arguments.specs.declared.invocation.DecodeTexts.{DecodeTexts}
+use Rattle.cc_console.specs.declared.invocation.DecodeTexts.{DecodeTexts}
 
 -- The number of bytes to skip that `--skip` gives: an address, or 0 if the option is not given.
 abbrev pub skipped_in : Option (Bor Text) → Result ℕ Refusal

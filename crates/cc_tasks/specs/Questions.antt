@@ -6,8 +6,8 @@ use Rattle.cc_explain.specs.Answer.{IsTypedWord}
 use Rattle.cc_explain.specs.Listing.{IsListing}
 use Rattle.cc_explain.specs.WindowDrawing.{IsWindowDrawing}
 use Rattle.cc_command.specs.Request.{IsLengthExplanation, request_in}
-use Rattle.cc_arguments.specs.declared.question.Question.{Question}
-use Rattle.cc_arguments.specs.declared.question.Question.TheVariants.{DrawWindow, Explain, ExplainLength, Show}
+use Rattle.cc_console.specs.declared.question.Question.{Question}
+use Rattle.cc_console.specs.declared.question.Question.TheVariants.{DrawWindow, Explain, ExplainLength, Show}
 
 -- IsAnswerTo holds if the bytes are the output for the question.
 abbrev pub IsAnswerTo : Question → (answer : List ℕ) → Type 0

@@ -15,9 +15,9 @@ use Rattle.cc_decode.specs.Annotate.{AnnotatesGiven}
 use Rattle.cc_decode.specs.Skip.{ListsAfter, ListsWholeAfter}
 use Rattle.cc_io.specs.declared.format.Format.{Format}
 use Rattle.cc_io.specs.declared.input_form.InputForm.{InputForm}
-use Rattle.cc_arguments.specs.declared.invocation.DecodeTexts.{DecodeTexts}
-use Rattle.cc_arguments.specs.declared.question.Question.{Question}
-use Rattle.cc_devices.specs.Devices.{Console, Traffic}
+use Rattle.cc_console.specs.declared.invocation.DecodeTexts.{DecodeTexts}
+use Rattle.cc_console.specs.declared.question.Question.{Question}
+use Rattle.cc_console.specs.Devices.{Console, Traffic}
 use Rattle.cc_explain.specs.Refused.{WritesRefusal}
 use Rattle.cc_tasks.specs.Listing.{listing_in, place_in}
 use Rattle.cc_tasks.specs.NumberHint.{after_base, hint_if}

@@ -2,7 +2,7 @@
 ghost use Rattle.std.specs.Prelude.{◌≡◌};
 ghost use Rattle.cc_tasks.specs.Listing.{listing_in, named_in, place_in, search_in, skipped_in};
 
-use cc_arguments::DecodeTexts;
+use cc_console::DecodeTexts;
 use cc_decode::{Format, InputForm, Options, Search};
 use cc_syntax::{both, read_address, read_permissions};
 use cc_word::{Perms, Refusal};

@@ -3,14 +3,13 @@ ghost use Rattle.std.specs.Io.KnownBytes.{Appends};
 ghost use Rattle.cc_tasks.specs.NumberHint.{is_hinted, number_hint};
 ghost use Rattle.std.specs.Prelude.{◌≡◌, ◌≢◌, ◌↔◌, [], Err, false, true, IfOk, IsErr, IsTrue, OnErr, OnOk};
 ghost use Rattle.cc_explain.specs.Answer.{WritesAnswer};
-ghost use Rattle.cc_devices.specs.Devices.{OnDevices};
+ghost use Rattle.cc_console.specs.Devices.{OnDevices};
 ghost use Rattle.cc_tasks.specs.Questions.{IsAnswerTo, IsUnanswerable, numbers_of};
 ghost use Rattle.cc_tasks.specs.Tasks.{AnswersQuestion};
 
 use crate::number_hint::hint_numbers;
-use cc_arguments::Question;
+use cc_console::{Fault, Question};
 use cc_command::{draw_window, explain_length, explain_word, show_line, show_word};
-use cc_devices::Fault;
 use cc_io::{IoError, Sink, Summary};
 
 /// Writes the listing, line, explanation or drawing that a question asks for. Then writes the hint on numbers to `errors`, if

@@ -3,18 +3,17 @@ ghost use Rattle.std.specs.Prelude.{◌≡◌, ◌≢◌, ◌↔◌, IsTrue, fal
 ghost use Rattle.std.specs.Io.KnownBytes.{Appends};
 ghost use Rattle.clap.specs.Walk.{texts};
 ghost use Rattle.cc_command.specs.RoundList.{RoundsTyped};
-ghost use Rattle.cc_devices.specs.Devices.{FromInput, OnDevices, OnOutput};
-ghost use Rattle.cc_devices.specs.Input.{IsFile, file_input};
+ghost use Rattle.cc_console.specs.Devices.{FromInput, OnDevices, OnOutput};
+ghost use Rattle.cc_console.specs.Input.{IsFile, file_input};
 ghost use Rattle.cc_tasks.specs.Listing.{listing_in, place_in};
 ghost use Rattle.cc_tasks.specs.NumberHint.{after_base, is_hinted, number_hint};
 ghost use Rattle.cc_tasks.specs.Tasks.{AnnotatesWords, ListsWords, RoundsLengths, SeesLengths, WithBase, WithListing};
 
 use crate::listing::{listing_of, place_of};
 use crate::number_hint::{hint_list, hint_numbers};
-use cc_arguments::DecodeTexts;
+use cc_console::{DecodeTexts, Fault, InputName, Inputs, file_input};
 use cc_command::{round_list, round_typed, write_refusal};
 use cc_decode::{Format, InputForm, Options, annotate, decode_words_after};
-use cc_devices::{Fault, InputName, Inputs, file_input};
 use cc_io::{FromReader, Sink, Summary};
 
 /// The maximum number of bytes of the input of `decode`, of `annotate` and of `round`, more than any file or pipe gives.

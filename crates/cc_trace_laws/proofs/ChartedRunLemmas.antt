@@ -8,8 +8,8 @@ use Rattle.cc_io.specs.Lines.{lines_of}
 use Rattle.cc_chart.specs.declared.levels.Levels.{Levels}
 use Rattle.cc_chart.specs.Chart.{Chart, IsChartOf, with_event as with_levels, with_events}
 use Rattle.cc_chart.proofs.ChartLemmas.{shows_all}
-use Rattle.cc_events.specs.declared.event.Event.{Event}
-use Rattle.cc_events.specs.declared.event.Event.TheVariants.{Allocate, Clear, Reallocate, Free, Sweep, Clock}
+use Rattle.cc_placer.specs.declared.event.Event.{Event}
+use Rattle.cc_placer.specs.declared.event.Event.TheVariants.{Allocate, Clear, Reallocate, Free, Sweep, Clock}
 use Rattle.cc_heap.specs.declared.outcome.Outcome.{Outcome}
 use Rattle.cc_heap.specs.declared.settings.Settings.{Settings}
 use Rattle.cc_heap.specs.Events.{IsEvent}

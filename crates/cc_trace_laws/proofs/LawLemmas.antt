@@ -15,10 +15,10 @@ use Rattle.cc_plan.specs.declared.object.PlannedObject.{PlannedObject}
 use Rattle.cc_plan.specs.Plan.{swept as planned_swept}
 use Rattle.cc_placer.specs.Align.{padded_size_for, unit_of}
 use Rattle.cc_plan.proofs.HeldSpanLemmas.{as_freed}
-use Rattle.cc_ops.specs.declared.op.Op.{Op}
-use Rattle.cc_ops.specs.declared.op.Op.TheVariants as op
-use Rattle.cc_ops.specs.declared.reply.Reply.{Reply}
-use Rattle.cc_ops.specs.declared.reply.Reply.TheVariants.{Allocated, Freed, Swept}
+use Rattle.cc_values.specs.declared.op.Op.{Op}
+use Rattle.cc_values.specs.declared.op.Op.TheVariants as op
+use Rattle.cc_values.specs.declared.reply.Reply.{Reply}
+use Rattle.cc_values.specs.declared.reply.Reply.TheVariants.{Allocated, Freed, Swept}
 use Rattle.cc_machine.specs.State.{State, initial_state}
 use Rattle.cc_machine.specs.Objects.{held_spans}
 use Rattle.cc_machine.specs.Planned.{plan_of}

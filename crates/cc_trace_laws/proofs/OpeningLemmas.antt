@@ -8,9 +8,9 @@ use Rattle.cc_bounds.specs.declared.align.Align.{Align}
 use Rattle.cc_bounds.specs.Span.{span_from}
 use Rattle.cc_cap.specs.Capability.{Capability, IsUnsealed, at_address, root_capability, with_span}
 use Rattle.cc_cap.specs.Derivation.{SetsAddress, SetsExactBounds}
-use Rattle.cc_ops.specs.declared.op.Op.TheVariants as op
-use Rattle.cc_ops.specs.declared.reply.Reply.{Reply}
-use Rattle.cc_ops.specs.declared.reply.Reply.TheVariants.{PoolSet, Refused}
+use Rattle.cc_values.specs.declared.op.Op.TheVariants as op
+use Rattle.cc_values.specs.declared.reply.Reply.{Reply}
+use Rattle.cc_values.specs.declared.reply.Reply.TheVariants.{PoolSet, Refused}
 use Rattle.cc_machine.specs.State.{State, SlotState, initial_state, tagged_slot, with_slot}
 use Rattle.cc_machine.specs.Run.{IsReached, Run}
 use Rattle.cc_machine.specs.Step.{Adds, Derives, Refuses, SetsPool, Step, usable_slot}

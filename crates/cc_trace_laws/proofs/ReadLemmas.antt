@@ -10,8 +10,8 @@ use Rattle.std.proofs.lemmas.Str.Parse.{digit_from_value}
 use Rattle.cc_placer.proofs.AlignLemmas.{padded_for-enough}
 use Rattle.cc_io.specs.Lines.{IsLine, lines_of, rest_of}
 use Rattle.cc_io.proofs.SplitLemmas.{lines_line, rest_line}
-use Rattle.cc_ops.specs.declared.op.Op.{Op}
-use Rattle.cc_ops.specs.declared.op.Op.TheVariants as op
+use Rattle.cc_values.specs.declared.op.Op.{Op}
+use Rattle.cc_values.specs.declared.op.Op.TheVariants as op
 use Rattle.cc_values.specs.Values.{IsWord, index_in, length_in, words_of}
 use Rattle.cc_values.proofs.PieceLemmas.{one_join}
 use Rattle.cc_values.proofs.ReadBackLemmas.{decimal-read}

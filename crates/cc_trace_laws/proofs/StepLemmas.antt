@@ -15,9 +15,9 @@ use Rattle.cc_plan.specs.Plan.{Plan, capability_over, span_at, swept as planned_
 use Rattle.cc_placer.proofs.AlignLemmas.{padded_for-enough}
 use Rattle.cc_plan.proofs.HeldSpanLemmas.{as_freed}
 use Rattle.cc_placer.proofs.UnitLemmas.{IsUnit-one}
-use Rattle.cc_ops.specs.declared.op.Op.TheVariants as op
-use Rattle.cc_ops.specs.declared.reply.Reply.{Reply}
-use Rattle.cc_ops.specs.declared.reply.Reply.TheVariants.{Allocated, Freed as ToldFreed, Swept as ToldSwept}
+use Rattle.cc_values.specs.declared.op.Op.TheVariants as op
+use Rattle.cc_values.specs.declared.reply.Reply.{Reply}
+use Rattle.cc_values.specs.declared.reply.Reply.TheVariants.{Allocated, Freed as ToldFreed, Swept as ToldSwept}
 use Rattle.cc_machine.specs.declared.object.Object.{Object}
 use Rattle.cc_machine.specs.State.{State, SlotState, IsSlot}
 use Rattle.cc_machine.specs.Objects.{IsLiveObject, IsObject, IsPool, freed_count, held_bytes_of, held_spans}

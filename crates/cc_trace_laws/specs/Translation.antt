@@ -3,15 +3,15 @@ use Rattle.std.specs.Prelude.{◌≡◌, ◌≤◌, ℕ, List, [], ◌∷◌, �
 use Rattle.std.specs.List.{AllByRecursion}
 use Rattle.cc_bounds.specs.declared.span.Span.{Span}
 use Rattle.cc_io.specs.Lines.{lines_of, rest_of}
-use Rattle.cc_ops.specs.declared.op.Op.{Op}
-use Rattle.cc_ops.specs.declared.reply.Reply.{Reply}
-use Rattle.cc_ops.specs.declared.reply.Reply.TheVariants.{Allocated, Refused}
+use Rattle.cc_values.specs.declared.op.Op.{Op}
+use Rattle.cc_values.specs.declared.reply.Reply.{Reply}
+use Rattle.cc_values.specs.declared.reply.Reply.TheVariants.{Allocated, Refused}
 use Rattle.cc_placer.specs.Placement.{HaveSameSpans}
 use Rattle.cc_syntax.specs.Commands.{operation_of}
 use Rattle.cc_machine.specs.State.{State}
 use Rattle.cc_machine.specs.Objects.{held_spans}
 use Rattle.cc_machine.specs.Run.{Run}
-use Rattle.cc_events.specs.declared.event.Event.{Event}
+use Rattle.cc_placer.specs.declared.event.Event.{Event}
 use Rattle.cc_heap.specs.declared.object.Object.{Object}
 use Rattle.cc_heap.specs.declared.settings.Settings.{Settings}
 use Rattle.cc_heap.specs.Memory.{held_spans as heap_spans}

@@ -7,7 +7,7 @@ use Rattle.cc_io.specs.Frames.{lines}
 use Rattle.cc_io.specs.declared.summary.Summary.{Summary}
 use Rattle.cc_chart.specs.Drawing.{chart_text}
 use Rattle.cc_formats.specs.declared.reading.Progress.TheVariants.{OutOfMemory}
-use Rattle.cc_devices.specs.Devices.{Traffic}
+use Rattle.cc_console.specs.Devices.{Traffic}
 use Rattle.cc_traces.specs.Charting.{Charted, ChartsAll, ChartsLine, ChartsRest, StopsInChart, TakesAll}
 
 -- The whole trace was taken, for bytes that are the same.

@@ -3,10 +3,10 @@ use Rattle.std.proofs.Common.{◌≡◌, ℕ, List, Option, Some, Result, refl}
 use Rattle.std.specs.Prelude.{IfSome}
 use Rattle.cc_io.specs.declared.summary.IoError.{IoError}
 use Rattle.cc_io.specs.declared.summary.Summary.{Summary}
-use Rattle.cc_devices.specs.Devices.{Console, FromInput, OnDevices, Traffic, traffic_of}
-use Rattle.cc_devices.specs.declared.fault.Fault.{Fault}
-use Rattle.cc_devices.specs.declared.input.InputName.{InputName}
-use Rattle.cc_devices.proofs.DeviceLemmas.{from_input, on_devices-map}
+use Rattle.cc_console.specs.Devices.{Console, FromInput, OnDevices, Traffic, traffic_of}
+use Rattle.cc_console.specs.declared.fault.Fault.{Fault}
+use Rattle.cc_console.specs.declared.input.InputName.{InputName}
+use Rattle.cc_console.proofs.DeviceLemmas.{from_input, on_devices-map}
 
 -- What holds for the traffic of a source that reads an input holds for the input.
 pub reads_input : (Does : Traffic → Result Summary IoError → Type 0) (input : InputName) (console : Console)

@@ -13,7 +13,7 @@ use Rattle.cc_bounds.specs.Span.{IsSpan}
 use Rattle.cc_heap.specs.declared.reallocation.Reallocation.{Reallocation}
 use Rattle.cc_heap.specs.declared.reallocation.Reallocation.TheVariants.{Move}
 use Rattle.cc_heap.specs.declared.settings.Settings.{Settings}
-use Rattle.cc_arguments.specs.declared.invocation.ReplayTexts.{ReplayTexts}
+use Rattle.cc_console.specs.declared.invocation.ReplayTexts.{ReplayTexts}
 use Rattle.cc_explain.specs.Refused.{changed}
 use Rattle.cc_traces.specs.ReplayTexts.{are_two, each_in, format_in, least_in, realloc_in, replay_in, span_given, sweep_in}
 

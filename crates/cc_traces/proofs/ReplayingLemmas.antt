@@ -13,18 +13,18 @@ use Rattle.cc_replay.specs.Replay.{ReplayState, last_sample}
 use Rattle.cc_formats.specs.declared.reading.Progress.TheVariants.{OutOfMemory}
 use Rattle.cc_formats.specs.declared.reading.Reading.{Reading}
 use Rattle.cc_heap.specs.declared.settings.Settings.{Settings}
-use Rattle.cc_arguments.specs.declared.invocation.ReplayTexts.{ReplayTexts}
-use Rattle.cc_arguments.specs.declared.invocation.SummaryFormat.{SummaryFormat}
-use Rattle.cc_devices.specs.Devices.{Console, FromInput, OnDevices, Traffic}
-use Rattle.cc_devices.specs.Input.{file_input}
+use Rattle.cc_console.specs.declared.invocation.ReplayTexts.{ReplayTexts}
+use Rattle.cc_console.specs.declared.invocation.SummaryFormat.{SummaryFormat}
+use Rattle.cc_console.specs.Devices.{Console, FromInput, OnDevices, Traffic}
+use Rattle.cc_console.specs.Input.{file_input}
 use Rattle.cc_traces.specs.Charting.{ChartsTrace}
 use Rattle.cc_traces.specs.ReplayTexts.{replay_in}
 use Rattle.cc_traces.specs.Scripting.{ScriptsTrace}
 use Rattle.cc_traces.specs.Replaying.{Replays, ReplaysAll, ReplaysTrace, Samples, SamplesAll, StopsInSummary, StopsSampling, SumsUp, SumsUpAll, WithReplay, WritesReplay, WritesTrace}
 use Rattle.cc_explain.specs.Refused.{WritesRefusal}
-use Rattle.cc_devices.specs.declared.fault.Fault.{Fault}
-use Rattle.cc_devices.specs.declared.input.InputName.{InputName}
-use Rattle.cc_devices.proofs.DeviceLemmas.{on_devices-map}
+use Rattle.cc_console.specs.declared.fault.Fault.{Fault}
+use Rattle.cc_console.specs.declared.input.InputName.{InputName}
+use Rattle.cc_console.proofs.DeviceLemmas.{on_devices-map}
 
 -- The whole trace was taken, for bytes that are the same.
 replays_all : (old new : ReplayState) (unread unread_too left left_too output output_now : Option (List ℕ)) (summary : Summary) → unread_too ≡ unread → left_too ≡ left

@@ -6,7 +6,7 @@ use Rattle.cc_io.specs.declared.summary.IoError.{IoError}
 use Rattle.cc_io.specs.declared.summary.Summary.{Summary}
 use Rattle.cc_formats.specs.declared.reading.Progress.TheVariants.{OutOfMemory}
 use Rattle.cc_changes.specs.Script.{ScriptState, ScriptsLine, ScriptsRest}
-use Rattle.cc_devices.specs.Devices.{Traffic}
+use Rattle.cc_console.specs.Devices.{Traffic}
 use Rattle.cc_traces.specs.Scripting.{ScriptsAll, StopsScript, WritesLines}
 
 -- The lines were written, for bytes that are the same.

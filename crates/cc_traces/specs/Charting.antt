@@ -18,7 +18,7 @@ use Rattle.cc_replay.specs.Replay.{ReplayState, TakesLine, TakesRest, begun, fig
 use Rattle.cc_formats.specs.declared.reading.Progress.TheVariants.{OutOfMemory}
 use Rattle.cc_formats.specs.declared.reading.Reading.{Reading}
 use Rattle.cc_replay.specs.declared.summary.Figures.{Figures}
-use Rattle.cc_devices.specs.Devices.{Traffic}
+use Rattle.cc_console.specs.Devices.{Traffic}
 
 -- A replay, and the chart of its heap.
 pub record Charted : Type 0 where

@@ -20,7 +20,7 @@ use Rattle.cc_formats.specs.declared.reading.Reading.{Reading}
 use Rattle.cc_heap.specs.declared.reallocation.Reallocation.{Reallocation}
 use Rattle.cc_heap.specs.declared.reallocation.Reallocation.TheVariants.{Move, Keep}
 use Rattle.cc_heap.specs.declared.settings.Settings.{Settings}
-use Rattle.cc_arguments.specs.declared.invocation.ReplayTexts.{ReplayTexts}
+use Rattle.cc_console.specs.declared.invocation.ReplayTexts.{ReplayTexts}
 use Rattle.cc_explain.specs.Refused.{changed}
 
 -- The policy that `--sweep` names: 25 percent of the held bytes if the option is not given.

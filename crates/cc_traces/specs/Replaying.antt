@@ -18,10 +18,10 @@ use Rattle.cc_formats.specs.declared.reading.Reading.{Reading}
 use Rattle.cc_heap.specs.declared.settings.Settings.{Settings}
 use Rattle.cc_replay.specs.declared.table.Format.{Format}
 use Rattle.cc_replay.specs.declared.table.Format.TheVariants.{Text, Csv, Json}
-use Rattle.cc_arguments.specs.declared.invocation.ReplayTexts.{ReplayTexts}
-use Rattle.cc_arguments.specs.declared.invocation.SummaryFormat.{SummaryFormat}
-use Rattle.cc_arguments.specs.declared.invocation.SummaryFormat.TheVariants as summary
-use Rattle.cc_devices.specs.Devices.{Console, Traffic}
+use Rattle.cc_console.specs.declared.invocation.ReplayTexts.{ReplayTexts}
+use Rattle.cc_console.specs.declared.invocation.SummaryFormat.{SummaryFormat}
+use Rattle.cc_console.specs.declared.invocation.SummaryFormat.TheVariants as summary
+use Rattle.cc_console.specs.Devices.{Console, Traffic}
 use Rattle.cc_traces.specs.Charting.{ChartsTrace}
 use Rattle.cc_traces.specs.Scripting.{ScriptsTrace}
 use Rattle.cc_traces.specs.ReplayTexts.{replay_in}

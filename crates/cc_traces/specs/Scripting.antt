@@ -8,7 +8,7 @@ use Rattle.cc_heap.specs.declared.settings.Settings.{Settings}
 use Rattle.cc_formats.specs.declared.reading.Progress.TheVariants.{OutOfMemory}
 use Rattle.cc_formats.specs.declared.reading.Reading.{Reading}
 use Rattle.cc_changes.specs.Script.{ScriptState, ScriptsLine, ScriptsRest, script_begun}
-use Rattle.cc_devices.specs.Devices.{Traffic}
+use Rattle.cc_console.specs.Devices.{Traffic}
 
 -- WritesLines holds if the lines that the source gave were taken, and the bytes after the last of them, until the script had the
 -- state `new`. The lines of its operations were written. With a result that is `Ok` the source was read to its end.

@@ -4,17 +4,16 @@ ghost use Rattle.cc_bounds.specs.Span.{IsSpan};
 ghost use Rattle.cc_io.specs.Answers.{AnswersInto};
 ghost use Rattle.cc_io.specs.Correct.{Pumps};
 ghost use Rattle.cc_io.specs.Frames.{lines};
-ghost use Rattle.cc_devices.specs.Devices.{FromInput, OnDevices, OnOutput, Traffic};
-ghost use Rattle.cc_devices.specs.Input.{IsFile};
+ghost use Rattle.cc_console.specs.Devices.{FromInput, OnDevices, OnOutput, Traffic};
+ghost use Rattle.cc_console.specs.Input.{IsFile};
 ghost use Rattle.cc_traces.specs.Charting.{Charts, ChartsLine, ChartsRest, begun_chart, charted, levels_of};
 
 use crate::MOST_REPLAYED;
 use cc_chart::{Chart, Levels, write_chart};
-use cc_devices::{Discard, Fault, InputName, Inputs};
-use cc_io::{Answerer, FromReader, IoError, Lines, Sink, Source, Summary, pump};
+use cc_console::{Discard, Fault, InputName, Inputs};
+use cc_io::{Answerer, FromReader, IoError, Lines, Page, Sink, Source, Summary, Waiting, pump};
 use cc_placer::Placer;
 use cc_replay::{Figures, Progress, Reading, Replay, Settings};
-use cc_text::{Page, Waiting};
 use std::alloc::{AllocError, Global};
 use std::marker::Model;
 

@@ -1,12 +1,12 @@
 //! A trace whose script is written.
 ghost use Rattle.std.specs.Prelude.{◌≡◌, ◌≢◌, ◌↔◌, false, true, Err, OnOk};
-ghost use Rattle.cc_devices.specs.Devices.{FromInput, OnDevices, OnOutput, Traffic};
-ghost use Rattle.cc_devices.specs.Input.{IsFile};
+ghost use Rattle.cc_console.specs.Devices.{FromInput, OnDevices, OnOutput, Traffic};
+ghost use Rattle.cc_console.specs.Input.{IsFile};
 ghost use Rattle.cc_traces.specs.Scripting.{Scripts};
 
 use crate::MOST_REPLAYED;
 use cc_changes::{Script, script_trace};
-use cc_devices::{Fault, InputName, Inputs};
+use cc_console::{Fault, InputName, Inputs};
 use cc_io::{FromReader, Sink, Source, Summary};
 use cc_placer::Placer;
 use cc_replay::Progress;

@@ -2,3 +2,4 @@
 pub mod Numbers
 pub mod Digits
 pub mod Values
+pub mod RoundedLength

@@ -4,11 +4,17 @@
 mod digits;
 mod laws;
 mod numbers;
+mod op;
+mod reply;
+mod usage;
 mod values;
 mod words;
 
 pub use digits::{Spelled, value_of_decimal};
 pub use laws::printed_values_are_read_back;
 pub use numbers::{read_address, read_index, read_number};
+pub use op::Op;
+pub use reply::Reply;
+pub use usage::Usage;
 pub use values::{both, read_permissions};
 pub use words::split_at_first;

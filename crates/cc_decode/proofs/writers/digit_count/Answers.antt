@@ -1,4 +1,4 @@
-use Rattle.cc_text.proofs.DigitLemmas.{counted}
+use Rattle.cc_io.proofs.DigitLemmas.{counted}
 use Rattle.cc_decode.proofs.writers.digit_count.Goals as goal
 
 pub returns : goal.returns

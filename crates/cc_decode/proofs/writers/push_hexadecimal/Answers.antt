@@ -1,7 +1,7 @@
 use Rattle.std.proofs.Common.{◌∙◌, ap, ℕ, List, [], ◌∷◌, ◌++◌, ◌/◌, ◌%◌, ◌^◌, append_assoc, false}
 use Rattle.std.specs.Fmt.{digits}
 use Rattle.cc_word.specs.WordText.{digits_of}
-use Rattle.cc_text.proofs.DigitLemmas.{digits-long}
+use Rattle.cc_io.proofs.DigitLemmas.{digits-long}
 use Rattle.cc_decode.proofs.writers.push_hexadecimal.Goals as goal
 
 pub returns-else-number-clause-value : goal.returns-else-number-clause-value

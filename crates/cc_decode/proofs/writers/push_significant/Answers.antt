@@ -1,6 +1,6 @@
 use Rattle.std.proofs.Common.{◌≡◌, ◌∙◌, ◌-◌, ◌+◌, ap, arith, ℕ, List, ◌++◌, length, length-append, take}
 use Rattle.std.proofs.Math.Seq.{take-append-add}
-use Rattle.cc_text.proofs.DigitLemmas.{digits-moved}
+use Rattle.cc_io.proofs.DigitLemmas.{digits-moved}
 use Rattle.cc_word.proofs.DigitLemmas.{length-digits_of}
 use Rattle.cc_decode.proofs.writers.push_significant.Goals as goal
 

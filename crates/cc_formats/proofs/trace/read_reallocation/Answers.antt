@@ -1,7 +1,7 @@
 use Rattle.std.proofs.Common.{◌≡◌, ◌∙◌, ℕ, List, ◌∷◌, Result, Err, ap, sym}
 use Rattle.cc_word.specs.declared.refusal.Refusal.{Refusal}
 use Rattle.cc_values.specs.Values.{address_in, both, words_of}
-use Rattle.cc_events.specs.declared.event.Event.TheVariants as event
+use Rattle.cc_placer.specs.declared.event.Event.TheVariants as event
 use Rattle.cc_formats.specs.Trace.{pair_in, reallocation_in, with_values}
 use Rattle.cc_formats.proofs.TraceLemmas.{reallocation_then}
 use Rattle.cc_formats.proofs.trace.read_reallocation.Goals as goal

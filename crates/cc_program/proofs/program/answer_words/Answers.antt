@@ -5,7 +5,7 @@ use Rattle.clap.specs.Words.{kind_of}
 use Rattle.clap.specs.declared.error.kind.ErrorKind.{ErrorKind}
 use Rattle.cc_program.specs.Ending.{ExecutesCommand}
 use Rattle.cc_program.specs.Outcome.{EndsBy}
-use Rattle.cc_arguments.specs.Invocation.{faults_of, is_taken}
+use Rattle.cc_console.specs.Invocation.{faults_of, is_taken}
 use Rattle.cc_program.proofs.OutcomeLemmas.{ends_by_error, refused_not_for_memory}
 use Rattle.cc_program.proofs.program.answer_words.Goals as goal
 

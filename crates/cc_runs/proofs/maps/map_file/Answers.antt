@@ -1,6 +1,6 @@
 use Rattle.std.proofs.Common.{◌≡◌, ◌∙◌, rules}
 use Rattle.cc_syntax.specs.Planning.{plan_opening, pool_of}
-use Rattle.cc_devices.specs.Devices.{Console}
+use Rattle.cc_console.specs.Devices.{Console}
 use Rattle.cc_runs.proofs.RunLemmas.{maps_file}
 use Rattle.cc_runs.proofs.maps.map_file.Goals as goal
 

@@ -1,7 +1,7 @@
 use Rattle.std.proofs.Common.{Err, ◌∙◌, ap}
 use Rattle.std.proofs.lemmas.Result.{err_from_is_err_and}
 use Rattle.cc_runs.specs.Runs.{ReportsRun}
-use Rattle.cc_devices.proofs.DeviceLemmas.{on_devices}
+use Rattle.cc_console.proofs.DeviceLemmas.{on_devices}
 use Rattle.cc_runs.proofs.runs.run_and_report.Goals as goal
 
 pub returns-in_err-summary-clause-runs : goal.returns-in_err-summary-clause-runs

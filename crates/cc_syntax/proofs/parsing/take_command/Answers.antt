@@ -1,5 +1,5 @@
 use Rattle.std.proofs.Common.{◌≡◌, ◌∙◌, ap, refl, rules, sym}
-use Rattle.cc_ops.specs.declared.op.Op.TheVariants as op
+use Rattle.cc_values.specs.declared.op.Op.TheVariants as op
 use Rattle.cc_syntax.specs.Commands.{one}
 use Rattle.cc_syntax.proofs.CommandLemmas.{named, misses_name, misses_alone, no_command}
 use Rattle.cc_syntax.proofs.parsing.take_command.Goals as goal

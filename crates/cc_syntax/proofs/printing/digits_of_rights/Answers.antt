@@ -1,4 +1,4 @@
-use Rattle.cc_text.proofs.DigitLemmas.{first_of_two, second_of_two}
+use Rattle.cc_io.proofs.DigitLemmas.{first_of_two, second_of_two}
 use Rattle.cc_syntax.proofs.printing.digits_of_rights.Goals as goal
 
 pub returns-clause-perms : goal.returns-clause-perms

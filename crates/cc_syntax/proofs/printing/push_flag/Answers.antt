@@ -1,5 +1,5 @@
 use Rattle.std.proofs.Common.{List, [], ◌∷◌, ℕ, ◌+◌, ◌++◌, ◌∙◌, ap, sym}
-use Rattle.cc_text.proofs.DecimalLemmas.{flag_digit}
+use Rattle.cc_io.proofs.DecimalLemmas.{flag_digit}
 use Rattle.cc_syntax.proofs.printing.push_flag.Goals as goal
 
 pub returns-clause-value : goal.returns-clause-value

@@ -6,7 +6,7 @@ use Rattle.cc_io.specs.declared.summary.Summary.{Summary}
 use Rattle.cc_explain.specs.Answer.{IsTypedWord, WritesAnswer}
 use Rattle.cc_explain.specs.Explanation.{IsExplanation}
 use Rattle.cc_explain.specs.WindowDrawing.{IsWindowDrawing}
-use Rattle.cc_arguments.specs.declared.question.Question.{Question}
+use Rattle.cc_console.specs.declared.question.Question.{Question}
 use Rattle.cc_tasks.specs.Questions.{IsAnswerTo, IsUnanswerable}
 use Rattle.cc_tasks.proofs.questions.answer_question.Goals as goal
 

@@ -1,5 +1,5 @@
 use Rattle.std.proofs.Common.{◌∙◌, sym}
-use Rattle.cc_devices.specs.Devices.{Console}
+use Rattle.cc_console.specs.Devices.{Console}
 use Rattle.cc_tasks.proofs.TaskLemmas.{decodes}
 use Rattle.cc_tasks.proofs.words.decode_file.Goals as goal
 

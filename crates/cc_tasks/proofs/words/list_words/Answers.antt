@@ -1,8 +1,8 @@
 use Rattle.std.proofs.Common.{Err, ◌∙◌, ap, refl}
 use Rattle.std.proofs.lemmas.Result.{err_from_is_err_and}
-use Rattle.cc_devices.specs.Devices.{Console, FromInput}
+use Rattle.cc_console.specs.Devices.{Console, FromInput}
 use Rattle.cc_tasks.specs.Tasks.{ListsWords}
-use Rattle.cc_devices.proofs.DeviceLemmas.{from_input, on_devices}
+use Rattle.cc_console.proofs.DeviceLemmas.{from_input, on_devices}
 use Rattle.cc_tasks.proofs.words.list_words.Goals as goal
 
 pub returns-in_err-decode_words_after-clause-lists :

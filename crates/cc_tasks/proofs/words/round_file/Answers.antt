@@ -1,7 +1,7 @@
 use Rattle.std.proofs.Common.{◌∙◌, subst, sym}
-use Rattle.cc_devices.specs.Devices.{Console, FromInput, OnDevices}
-use Rattle.cc_devices.specs.Input.{file_input}
-use Rattle.cc_devices.specs.declared.input.InputName.{InputName}
+use Rattle.cc_console.specs.Devices.{Console, FromInput, OnDevices}
+use Rattle.cc_console.specs.Input.{file_input}
+use Rattle.cc_console.specs.declared.input.InputName.{InputName}
 use Rattle.cc_tasks.specs.Tasks.{RoundsLengths}
 use Rattle.cc_tasks.proofs.TaskLemmas.{with_base}
 use Rattle.cc_tasks.proofs.words.round_file.Goals as goal

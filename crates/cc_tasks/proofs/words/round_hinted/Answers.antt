@@ -1,5 +1,5 @@
 use Rattle.std.proofs.Common.{rules}
-use Rattle.cc_devices.specs.Devices.{Console}
+use Rattle.cc_console.specs.Devices.{Console}
 use Rattle.cc_tasks.proofs.TaskLemmas.{hinted_too, no_hint}
 use Rattle.cc_tasks.proofs.words.round_hinted.Goals as goal
 

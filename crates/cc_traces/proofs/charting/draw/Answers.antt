@@ -5,8 +5,8 @@ use Rattle.cc_chart.specs.Chart.{Chart}
 use Rattle.cc_chart.specs.Drawing.{chart_text}
 use Rattle.cc_io.specs.Devices.{TakesBeginning}
 use Rattle.cc_io.specs.declared.summary.IoError.TheVariants.{Write}
-use Rattle.cc_devices.specs.Devices.{fault_of}
-use Rattle.cc_devices.proofs.DeviceLemmas.{on_devices}
+use Rattle.cc_console.specs.Devices.{fault_of}
+use Rattle.cc_console.proofs.DeviceLemmas.{on_devices}
 use Rattle.cc_traces.specs.Charting.{Charts}
 use Rattle.cc_traces.proofs.ChartingLemmas.{charts_all, stops_in_chart}
 use Rattle.cc_traces.proofs.charting.draw.Goals as goal

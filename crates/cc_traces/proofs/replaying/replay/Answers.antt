@@ -1,5 +1,5 @@
 use Rattle.std.proofs.Common.{subst}
-use Rattle.cc_devices.specs.Devices.{FromInput, OnOutput}
+use Rattle.cc_console.specs.Devices.{FromInput, OnOutput}
 use Rattle.cc_replay.specs.Replay.{ReplayState}
 use Rattle.cc_traces.specs.Replaying.{WritesReplay, end_text}
 use Rattle.cc_traces.proofs.replaying.replay.Goals as goal

@@ -1,5 +1,5 @@
 use Rattle.std.proofs.Common.{◌≡◌, ◌∙◌, true, false, sym, rules}
-use Rattle.cc_devices.specs.Devices.{Console}
+use Rattle.cc_console.specs.Devices.{Console}
 use Rattle.cc_traces.proofs.ReplayTextsLemmas.{no_series}
 use Rattle.cc_traces.proofs.ReplayingLemmas.{as_chart, as_script, as_text, with_replay}
 use Rattle.cc_traces.proofs.replaying.replay_file.Goals as goal

@@ -1,9 +1,9 @@
 use Rattle.std.proofs.Common.{◌≡◌, ◌∙◌, Err, ap}
 use Rattle.std.proofs.lemmas.Result.{err_from_is_err_and}
 use Rattle.cc_io.specs.declared.summary.IoError.TheVariants.{Write}
-use Rattle.cc_devices.specs.Devices.{fault_of}
+use Rattle.cc_console.specs.Devices.{fault_of}
 use Rattle.cc_traces.specs.Replaying.{SumsUp, end_text}
-use Rattle.cc_devices.proofs.DeviceLemmas.{on_devices}
+use Rattle.cc_console.proofs.DeviceLemmas.{on_devices}
 use Rattle.cc_traces.proofs.ReplayingLemmas.{stops_in_summary, sums_up_all}
 use Rattle.cc_traces.proofs.replaying.sum_up.Goals as goal
 

@@ -1,5 +1,5 @@
 use Rattle.std.proofs.Common.{subst}
-use Rattle.cc_devices.specs.Devices.{FromInput, OnOutput}
+use Rattle.cc_console.specs.Devices.{FromInput, OnOutput}
 use Rattle.cc_changes.specs.Script.{ScriptState}
 use Rattle.cc_traces.specs.Scripting.{Scripts}
 use Rattle.cc_traces.proofs.replaying.to_script.Goals as goal

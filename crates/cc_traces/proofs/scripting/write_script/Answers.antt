@@ -1,6 +1,6 @@
 use Rattle.std.proofs.Common.{◌∙◌, Err, ap}
 use Rattle.std.proofs.lemmas.Result.{err_from_is_err_and}
-use Rattle.cc_devices.proofs.DeviceLemmas.{on_devices}
+use Rattle.cc_console.proofs.DeviceLemmas.{on_devices}
 use Rattle.cc_traces.specs.Scripting.{Scripts}
 use Rattle.cc_traces.proofs.ScriptingLemmas.{scripts_all, stops_script}
 use Rattle.cc_traces.proofs.scripting.write_script.Goals as goal

@@ -8,8 +8,8 @@ use Rattle.cc_word.specs.declared.refusal.Refusal.{Refusal}
 use Rattle.cc_word.specs.declared.refusal.Refusal.TheVariants.{Full}
 use Rattle.cc_cap.specs.Capability.{Capability}
 use Rattle.cc_machine.specs.declared.slot.Slot.{Slot}
-use Rattle.cc_ops.specs.declared.reply.Reply.{Reply}
-use Rattle.cc_ops.specs.declared.reply.Reply.TheVariants.{Made, Refused}
+use Rattle.cc_values.specs.declared.reply.Reply.{Reply}
+use Rattle.cc_values.specs.declared.reply.Reply.TheVariants.{Made, Refused}
 use Rattle.cc_machine.specs.State.{State}
 use Rattle.cc_machine.specs.Step.{Adds}
 use Rattle.cc_machine.specs.Making.{IsMade}

@@ -6,10 +6,10 @@ use Rattle.cc_plan.specs.declared.object.ObjectId.{ObjectId}
 use Rattle.cc_plan.specs.declared.object.ObjectState.{ObjectState}
 use Rattle.cc_plan.specs.declared.object.PlannedObject.{PlannedObject}
 use Rattle.cc_plan.specs.Plan.{Plan, PlanAllocates, is_held}
-use Rattle.cc_ops.specs.declared.op.Op.TheVariants.{Alloc}
+use Rattle.cc_values.specs.declared.op.Op.TheVariants.{Alloc}
 use Rattle.cc_machine.specs.declared.slot.Slot.{Slot}
-use Rattle.cc_ops.specs.declared.reply.Reply.{Reply}
-use Rattle.cc_ops.specs.declared.reply.Reply.TheVariants.{Allocated, Refused}
+use Rattle.cc_values.specs.declared.reply.Reply.{Reply}
+use Rattle.cc_values.specs.declared.reply.Reply.TheVariants.{Allocated, Refused}
 use Rattle.cc_machine.specs.State.{State, SlotState, tagged_slot}
 use Rattle.cc_machine.specs.Step.{Allocates}
 use Rattle.cc_machine.specs.declared.machine.Machine.TheInside.{Inside}

@@ -5,10 +5,10 @@ use Rattle.cc_word.specs.declared.refusal.Refusal.{Refusal}
 use Rattle.cc_plan.specs.declared.object.ObjectState.TheVariants.{Freed}
 use Rattle.cc_plan.specs.declared.object.PlannedObject.{PlannedObject}
 use Rattle.cc_plan.specs.Plan.{Plan, PlanFrees}
-use Rattle.cc_ops.specs.declared.op.Op.TheVariants.{Free}
+use Rattle.cc_values.specs.declared.op.Op.TheVariants.{Free}
 use Rattle.cc_machine.specs.declared.slot.Slot.{Slot}
-use Rattle.cc_ops.specs.declared.reply.Reply.{Reply}
-use Rattle.cc_ops.specs.declared.reply.Reply.TheVariants.{Refused, Freed as ToldFreed}
+use Rattle.cc_values.specs.declared.reply.Reply.{Reply}
+use Rattle.cc_values.specs.declared.reply.Reply.TheVariants.{Refused, Freed as ToldFreed}
 use Rattle.cc_machine.specs.State.{State, SlotState}
 use Rattle.cc_machine.specs.Objects.{IsLiveObject}
 use Rattle.cc_machine.specs.Step.{Frees}

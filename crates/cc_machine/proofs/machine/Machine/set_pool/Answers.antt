@@ -2,10 +2,10 @@ use Rattle.std.proofs.Common.{ℕ, ◌≡◌, ◌∙◌, List, Some, Result, map
 use Rattle.cc_word.specs.declared.refusal.Refusal.{Refusal}
 use Rattle.cc_plan.specs.declared.object.PlannedObject.{PlannedObject}
 use Rattle.cc_plan.specs.Plan.{Plan, GivesPool}
-use Rattle.cc_ops.specs.declared.op.Op.TheVariants.{Pool}
+use Rattle.cc_values.specs.declared.op.Op.TheVariants.{Pool}
 use Rattle.cc_machine.specs.declared.slot.Slot.{Slot}
-use Rattle.cc_ops.specs.declared.reply.Reply.{Reply}
-use Rattle.cc_ops.specs.declared.reply.Reply.TheVariants.{PoolSet}
+use Rattle.cc_values.specs.declared.reply.Reply.{Reply}
+use Rattle.cc_values.specs.declared.reply.Reply.TheVariants.{PoolSet}
 use Rattle.cc_machine.specs.State.{State, tagged_slot}
 use Rattle.cc_machine.specs.Step.{usable_slot, SetsPool}
 use Rattle.cc_machine.specs.Run.{IsReached}

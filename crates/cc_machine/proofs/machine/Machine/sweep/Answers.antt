@@ -1,8 +1,8 @@
 use Rattle.std.proofs.Common.{List, map, sym, ap, subst}
 use Rattle.cc_plan.specs.declared.object.PlannedObject.{PlannedObject}
 use Rattle.cc_plan.specs.Plan.{Plan}
-use Rattle.cc_ops.specs.declared.op.Op.TheVariants.{Sweep}
-use Rattle.cc_ops.specs.declared.reply.Reply.TheVariants.{Swept as ToldSwept}
+use Rattle.cc_values.specs.declared.op.Op.TheVariants.{Sweep}
+use Rattle.cc_values.specs.declared.reply.Reply.TheVariants.{Swept as ToldSwept}
 use Rattle.cc_machine.specs.State.{State}
 use Rattle.cc_machine.specs.Step.{Sweeps}
 use Rattle.cc_machine.specs.Owners.{slot_state, CountsSlots}

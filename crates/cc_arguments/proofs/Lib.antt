@@ -1,3 +1,0 @@
-mod GivenLemmas
-mod InvocationLemmas
-mod ChoiceLemmas

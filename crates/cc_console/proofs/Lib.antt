@@ -1,0 +1,4 @@
+mod GivenLemmas
+mod InvocationLemmas
+mod ChoiceLemmas
+pub mod DeviceLemmas

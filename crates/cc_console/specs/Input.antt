@@ -1,0 +1,17 @@
+-- The input that FILE names.
+use Rattle.std.specs.Prelude.{Option, Some, None, codes, if◌then◌else◌, ⊤}
+use Rattle.std.specs.Borrow.{Bor}
+use Rattle.std.specs.Str.{bytes_eq}
+use Rattle.clap.specs.Words.{Text}
+use Rattle.cc_console.specs.declared.input.InputName.{InputName}
+use Rattle.cc_console.specs.declared.input.InputName.TheVariants.{Standard, File}
+
+-- The input that FILE names: standard input for `-`, and if FILE is not given.
+abbrev pub file_input : Option (Bor Text) → InputName
+file_input None = Standard
+file_input (Some path) = if bytes_eq path.now (codes "-") then Standard else File path
+
+-- IsFile holds if the input is a file.
+abbrev pub IsFile : InputName → Type 0
+IsFile Standard = ⊥
+IsFile (File path) = ⊤

@@ -1,0 +1,30 @@
+//! The command line of the process, parsed as a command and its values, and the devices of a command: its inputs and its output,
+//! those of the process, and the reason that it stopped before its end.
+#![tactic(auto)]
+
+mod arguments;
+mod commands;
+mod discard;
+mod error_writer;
+mod fault;
+mod help;
+mod input;
+mod invocation;
+mod notices;
+mod process_inputs;
+mod question;
+mod reading;
+mod table;
+mod values;
+mod watched;
+
+pub use commands::{bare_round_command, explain_command, program};
+pub use discard::Discard;
+pub use error_writer::ErrorWriter;
+pub use fault::Fault;
+pub use help::{EXPLAIN_CHOICE, ROUND_CHOICE};
+pub use input::{InputName, Inputs, file_input};
+pub use invocation::{DecodeTexts, Invocation, PoolTexts, ReplayTexts, SummaryFormat};
+pub use process_inputs::ProcessInputs;
+pub use question::Question;
+pub use reading::{invocation_of, read_words};

@@ -1,4 +1,0 @@
--- In reading order.
-pub mod Input
-pub mod Devices
-pub mod Notices

@@ -1,3 +1,0 @@
-mod WaitingLemmas
-pub mod DigitLemmas
-pub mod DecimalLemmas
