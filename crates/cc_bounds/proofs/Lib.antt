@@ -17,5 +17,4 @@ pub mod LawLemmas
 pub mod StoredLemmas
 pub mod FieldsLemmas
 pub mod DecisionLemmas
-pub mod PaddedLemmas
 pub mod KeptBoundsLemmas

@@ -9,7 +9,7 @@
 //!
 //! Each word that a rule returns is canonical, and a subset of the word that it is made of, as
 //! [`is_subset`] compares words. This is the law
-//! [`rules_on_words_are_monotonic`](crate::rules_on_words_are_monotonic).
+//! `rules_on_words_are_monotonic` of `cc_laws`.
 ghost use Rattle.std.specs.Prelude.{◌≡◌, ◌↔◌, ◌<◌, ◌^◌, IsTrue, IfOk};
 ghost use Rattle.cc_word.specs.Word.{word_of};
 ghost use Rattle.cc_word.specs.declared.fields.Fields.{Fields as FieldsSpec};

@@ -3,8 +3,8 @@ ghost use Rattle.std.specs.Prelude.{◌≡◌};
 ghost use Rattle.cc_changes.specs.Deeds.{as_number, asked_entry, deeds_of, was_made};
 
 use crate::deeds::{Deeds, Entry};
-use cc_placer::Event;
 use cc_heap::{Making, Outcome};
+use cc_placer::Event;
 
 /// Returns the deeds of an event with this outcome, in which there was this number of sweeps, and after which the
 /// quarantine is empty or is not.

@@ -15,10 +15,10 @@ use crate::doing::{asked_entry, deeds_of};
 use crate::lines::push_deeds;
 use crate::numbering::Numbering;
 use crate::rules::asks_for_unit;
-use cc_placer::{Event, Placer};
 use cc_formats::{Entry, Progress, Reading, read_entry};
 use cc_heap::{Heap, Outcome, Settings};
 use cc_io::{Answerer, IoError, Lines, Page, Sink, Source, Summary, Waiting, pump};
+use cc_placer::{Event, Placer};
 use std::alloc::{AllocError, Global};
 use std::marker::Model;
 

@@ -1,5 +1,3 @@
 pub mod LevelLemmas
-pub mod ChartLemmas
 pub mod LabelLemmas
 pub mod AxisLemmas
-pub mod ScaleLemmas

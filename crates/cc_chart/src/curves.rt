@@ -11,7 +11,7 @@ use cc_io::Page;
 
 /// A curve of a chart.
 #[derive(Clone, Copy)]
-pub(crate) enum Curve {
+pub enum Curve {
     /// The bytes of live objects.
     Live,
     /// The quarantined bytes.

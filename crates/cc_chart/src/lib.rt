@@ -6,12 +6,11 @@ mod axes;
 mod chart;
 mod curves;
 mod drawing;
-mod laws;
 mod levels;
 mod numbered;
 mod scale;
 
 pub use chart::Chart;
+pub use curves::Curve;
 pub use drawing::write_chart;
-pub use laws::{axes_reach_all_bytes, columns_are_of_all_events};
 pub use levels::Levels;

@@ -13,8 +13,8 @@ use crate::request::request_from;
 use crate::typed_lines::TypedLines;
 use cc_bounds::{Len, Span, set_bounds};
 use cc_io::{Answerer, IoError, Lines, Page, Sink, Source, Summary, pump, refusal_bytes};
-use cc_values::Reply;
 use cc_syntax::{read_length, reply_line};
+use cc_values::Reply;
 use cc_word::Refusal;
 
 /// The length of the page of output in bytes.

@@ -7,8 +7,8 @@ ghost use Rattle.cc_command.specs.Statistics.{bytes_text, count_lines, counts_te
 
 use cc_explain::write_answer;
 use cc_io::{IoError, Line, ROOM, Sink, Text, end_with_decimal, end_with_hexadecimal};
-use cc_values::Usage;
 use cc_syntax::{Count, Tally};
+use cc_values::Usage;
 
 /// Writes the summary of a run, a line for each number, and flushes the sink once after the last.
 ///

@@ -4,3 +4,4 @@ pub mod Invocation
 pub mod Input
 pub mod Devices
 pub mod Notices
+pub mod Outcome

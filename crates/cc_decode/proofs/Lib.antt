@@ -2,9 +2,7 @@ mod DigitLemmas
 mod EntryLemmas
 mod AnswerLemmas
 mod ListLemmas
-mod SkipLemmas
-mod ListingLemmas
-mod PartLemmas
+pub mod SkipLemmas
 mod RunLemmas
 mod AnnotateLemmas
 mod AnnotatorLemmas

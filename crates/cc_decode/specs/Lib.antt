@@ -4,7 +4,6 @@ pub mod Row
 pub mod Place
 pub mod Search
 pub mod Output
-pub mod Parts
 pub mod Correct
 pub mod Skip
 pub mod Decoder

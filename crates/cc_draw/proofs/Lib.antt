@@ -1,6 +1,4 @@
 mod UsageLemmas
 mod MapLemmas
 mod WritingLemmas
-mod DrawingLemmas
-pub mod HoleLemmas
-pub mod PlanLemmas
+pub mod DrawingLemmas

@@ -2,4 +2,3 @@
 pub mod Usage
 pub mod Map
 pub mod Drawing
-pub mod Laws

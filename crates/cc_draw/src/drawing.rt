@@ -9,7 +9,10 @@ ghost use Rattle.cc_draw.specs.Drawing.{IsDrawing, bounds_line, drawing_text, cl
 use crate::layout::{Layout, ROW, cells_of};
 use crate::usage::pool_span;
 use cc_bounds::Span;
-use cc_io::{Failed, IoError, Line, ROOM, Sink, Summary, Text, end_with_decimal, end_with_hexadecimal, push_hexadecimal, write_all};
+use cc_io::{
+    Failed, IoError, Line, ROOM, Sink, Summary, Text, end_with_decimal, end_with_hexadecimal,
+    push_hexadecimal, write_all,
+};
 use cc_placer::Placer;
 use cc_plan::{ObjectState, PlannedObject, Planner};
 

@@ -15,15 +15,15 @@ pub(crate) const ROW: u32 = 1024;
 
 /// The layout of a pool on a page: rows of 1,024 cells of the same size.
 #[derive(Clone, Copy)]
-pub(crate) struct Layout {
+pub struct Layout {
     /// The pool's first address.
-    pub(crate) start: u128,
+    pub start: u128,
     /// The number of bytes that a cell represents.
-    pub(crate) size: u128,
+    pub size: u128,
     /// The number of cells that cover the pool.
-    pub(crate) cells: u32,
+    pub cells: u32,
     /// The width of a cell in units of the drawing, from 1 to 1,024.
-    pub(crate) width: u32,
+    pub width: u32,
 }
 
 impl Layout {

@@ -7,9 +7,9 @@ ghost use Rattle.cc_draw.specs.Usage.{IsUsage, asked_bytes_of, greatest, highest
 
 use cc_bounds::Span;
 use cc_cap::Cap;
-use cc_values::Usage;
 use cc_placer::Placer;
 use cc_plan::{ObjectState, PlannedObject, Planner};
+use cc_values::Usage;
 use std::alloc::{AllocError, Global};
 
 /// The number of holes, and the number of bytes of the largest.

@@ -6,7 +6,10 @@ ghost use Rattle.cc_explain.specs.WindowDrawing.{IsWindowDrawing, IsWordDrawing,
 use crate::answers::{push_refusal, read_typed_word, write_answer};
 use crate::steps::{LAPS, Steps, decoding_steps, section, unit};
 use cc_bounds::{Span, decode};
-use cc_io::{IoError, ROOM, Sink, Summary, Text, end_with_decimal, end_with_hexadecimal, push_decimal, push_digits, push_hexadecimal};
+use cc_io::{
+    IoError, ROOM, Sink, Summary, Text, end_with_decimal, end_with_hexadecimal, push_decimal,
+    push_digits, push_hexadecimal,
+};
 use cc_word::{Fields, Refusal, unpack};
 
 /// Writes a drawing of the window of a word, and flushes the sink once after it.

@@ -5,7 +5,6 @@
 mod cutting;
 mod formats;
 mod heaptrack;
-mod laws;
 mod ltrace;
 mod mtrace;
 mod reading;
@@ -15,7 +14,6 @@ mod trace;
 pub use cc_placer::Event;
 pub use formats::{Entry, TraceFormat, read_entry};
 pub use heaptrack::read_heaptrack;
-pub use laws::mtrace_lines_are_read_back;
 pub use ltrace::read_ltrace;
 pub use mtrace::read_mtrace;
 pub use reading::{Progress, Reading};

@@ -6,7 +6,6 @@ mod devices;
 mod format;
 mod framing;
 mod input_form;
-mod laws;
 mod line_start;
 mod numbered;
 mod page;
@@ -22,7 +21,6 @@ pub use devices::{Failed, Sink, Source, write_all};
 pub use format::Format;
 pub use framing::{Blocks, Framing, Lines};
 pub use input_form::{ByteOrder, InputForm};
-pub use laws::{one_cut, one_on_page, one_split, parts, stops_begins};
 pub use line_start::{LineStart, split_at_line_feed};
 pub use numbered::{
     end_with_decimal, end_with_hexadecimal, push_decimal, push_digits, push_hexadecimal,

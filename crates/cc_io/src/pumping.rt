@@ -6,12 +6,12 @@ ghost use Rattle.cc_io.specs.Answers.{AnswersInto, seen};
 ghost use Rattle.cc_io.specs.Correct.{Pumps, StopsOnPage};
 ghost use Rattle.cc_io.specs.Engine.{Answers, PassesPage, EndsPage};
 
+use crate::Page;
 use crate::answerer::Answerer;
 use crate::devices::{Failed, Sink, Source, write_all};
 use crate::framing::Framing;
 use crate::line_start::LineStart;
 use crate::summary::{IoError, Summary};
-use crate::Page;
 
 /// The maximum number of bytes in one read.
 const PIECE: usize = 16384;

@@ -1,6 +1,5 @@
 pub mod PlacementLemmas
 pub mod SameSpansLemmas
 pub mod SortedLemmas
-pub mod SearchLemmas
 pub mod AlignLemmas
 pub mod UnitLemmas

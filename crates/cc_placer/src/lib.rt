@@ -5,14 +5,9 @@
 mod event;
 mod hint;
 mod placer;
-mod position;
 mod rounding;
-mod scan;
-mod sorted;
 
 pub use event::Event;
 pub use hint::Hint;
 pub use placer::Placer;
 pub use rounding::round_up;
-pub use scan::ScanPlacer;
-pub use sorted::SortedPlacer;

@@ -1,3 +1,2 @@
-mod PlacedLemmas
 mod ReportLemmas
 mod RunLemmas

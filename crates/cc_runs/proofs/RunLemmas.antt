@@ -11,7 +11,7 @@ use Rattle.cc_bounds.specs.declared.align.Align.{Align}
 use Rattle.cc_values.specs.declared.op.Op.{Op}
 use Rattle.cc_machine.specs.State.{State, initial_state}
 use Rattle.cc_syntax.specs.Planning.{plan_opening, pool_of}
-use Rattle.cc_script.specs.Session.{AnswersSession, SessionState}
+use Rattle.cc_session.specs.Session.{AnswersSession, SessionState}
 use Rattle.cc_console.specs.declared.invocation.PoolTexts.{PoolTexts}
 use Rattle.cc_console.specs.Devices.{Console, FromInput, OnDevices, Traffic, traffic_of}
 use Rattle.cc_console.specs.Input.{file_input}

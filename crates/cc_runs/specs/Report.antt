@@ -5,7 +5,7 @@ use Rattle.cc_values.specs.declared.reply.Reply.{Reply}
 use Rattle.cc_command.specs.Hints.{hints_of, hints_text}
 use Rattle.cc_machine.specs.Planned.{plan_of}
 use Rattle.cc_machine.specs.State.{State}
-use Rattle.cc_script.specs.Session.{SessionState}
+use Rattle.cc_session.specs.Session.{SessionState}
 use Rattle.cc_command.specs.Statistics.{statistics_text}
 use Rattle.cc_syntax.specs.Tally.{Exchange}
 use Rattle.cc_draw.specs.Usage.{IsUsage}

@@ -14,7 +14,7 @@ use Rattle.cc_machine.specs.Planned.{plan_of}
 use Rattle.cc_draw.specs.Drawing.{IsDrawing}
 use Rattle.cc_draw.specs.Map.{IsMap}
 use Rattle.cc_syntax.specs.Planning.{plan_opening, pool_of}
-use Rattle.cc_script.specs.Session.{AnswersSession, SessionState}
+use Rattle.cc_session.specs.Session.{AnswersSession, SessionState}
 use Rattle.cc_command.specs.Statistics.{statistics_text}
 use Rattle.cc_syntax.specs.Tally.{Exchange, IsTally}
 use Rattle.cc_values.specs.declared.usage.Usage.{Usage}

@@ -1,13 +1,11 @@
 //! The commands of the program that run a script: `run`, `plan` and `map`, each as a function over inputs and outputs.
 #![tactic(auto)]
 
-mod laws;
 mod maps;
 mod report;
 mod runs;
 mod session;
 
-pub use laws::{holes_are_the_free_bytes, objects_are_drawn_exactly};
 pub use maps::map_file;
 pub use report::{Report, Terminals};
 pub use runs::{plan_file, run_file};

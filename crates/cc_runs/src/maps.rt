@@ -9,13 +9,13 @@ ghost use Rattle.cc_runs.specs.Runs.{DrawsRun, MapsFile};
 
 use crate::report::machine_usage;
 use crate::session::new_session;
-use cc_console::{Discard, Fault, InputName, Inputs, PoolTexts, file_input};
 use cc_bounds::Align;
 use cc_command::{show_statistics, write_refusal};
+use cc_console::{Discard, Fault, InputName, Inputs, PoolTexts, file_input};
 use cc_draw::{show_drawing, show_map};
 use cc_io::{FromReader, Sink, Source, Summary, Waiting};
 use cc_machine::Op;
-use cc_script::{Session, run_session};
+use cc_session::{Session, run_session};
 use cc_syntax::{plan_numbers, plan_opening};
 
 /// Runs the script that FILE names on a new machine with a pool, without writing the replies, and draws the pool: as an SVG

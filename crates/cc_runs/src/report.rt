@@ -9,8 +9,8 @@ use cc_command::{Hints, show_hints, show_statistics};
 use cc_draw::usage_of;
 use cc_io::Sink;
 use cc_machine::{Len, Machine};
+use cc_session::Session;
 use cc_values::Usage;
-use cc_script::Session;
 use std::alloc::{AllocError, Global};
 
 /// Which standard streams are terminals.

@@ -9,12 +9,12 @@ ghost use Rattle.cc_runs.specs.Runs.{PlansFile, ReportsRun};
 
 use crate::report::{Report, write_report};
 use crate::session::new_session;
-use cc_console::{Fault, InputName, Inputs, PoolTexts, file_input};
 use cc_bounds::Align;
 use cc_command::write_refusal;
+use cc_console::{Fault, InputName, Inputs, PoolTexts, file_input};
 use cc_io::{FromReader, Sink, Source, Summary, Waiting};
 use cc_machine::{Len, Op};
-use cc_script::{Session, run_session};
+use cc_session::{Session, run_session};
 use cc_syntax::{plan_numbers, plan_opening};
 
 /// Runs the script that FILE names on a new machine with at most `limit` slots and objects: writes the replies to `sink`, and the

@@ -11,10 +11,10 @@ use Rattle.cc_machine.specs.Step.{Step}
 use Rattle.cc_io.specs.Devices.{TakesBeginning}
 use Rattle.cc_io.proofs.DeviceLemmas.{appends_none, appends_twice}
 use Rattle.cc_syntax.specs.Replies.{reply_text, is_error}
-use Rattle.cc_script.specs.Output.{with_line_feed, replies_text}
-use Rattle.cc_script.specs.Correct.{StopsInReply}
-use Rattle.cc_script.specs.Answering.{AnswersOpening}
-use Rattle.cc_script.proofs.ReplyLemmas.{takes_further, replies_text-append}
+use Rattle.cc_session.specs.Output.{with_line_feed, replies_text}
+use Rattle.cc_session.specs.Correct.{StopsInReply}
+use Rattle.cc_session.specs.Answering.{AnswersOpening}
+use Rattle.cc_session.proofs.ReplyLemmas.{takes_further, replies_text-append}
 
 or_false : (b : Bool) → b ≡ (b || false)
 or_false true = refl

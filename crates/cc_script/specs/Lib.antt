@@ -1,9 +1,3 @@
 -- In reading order.
-pub mod Output
-pub mod Parts
-pub mod Laws
-pub mod Correct
-pub mod Answering
-pub mod Lent
-pub mod Session
 pub mod Operations
+pub mod LentLines

@@ -9,9 +9,9 @@ ghost use Rattle.cc_script.specs.Operations.{IsInRange, flag_text, op_text, pool
 use cc_bounds::{Align, Len};
 use cc_cap::Perms;
 use cc_explain::push_permissions;
-use cc_values::Op;
-use cc_syntax::MOST_BYTES;
 use cc_io::Line;
+use cc_syntax::MOST_BYTES;
+use cc_values::Op;
 
 /// Returns the line of an operation, without its line feed, or `None` if and only if it has more
 /// than 128 bytes.

@@ -1,7 +1,7 @@
 //! The run of a script that allocates from a pool.
 ghost use Rattle.std.specs.Prelude.{◌≡◌, false};
-ghost use Rattle.cc_script.specs.Correct.{RunsScript, StopsInReply};
-ghost use Rattle.cc_script.specs.Laws.{KeepsLaws};
+ghost use Rattle.cc_session.specs.Correct.{RunsScript, StopsInReply};
+ghost use Rattle.cc_session.specs.Laws.{KeepsLaws};
 ghost use Rattle.cc_syntax.specs.Planning.{plan_opening};
 
 use crate::running::run_script_after;

@@ -4,14 +4,15 @@ ghost use Rattle.std.specs.Io.KnownBytes.{Appends};
 ghost use Rattle.cc_io.specs.Devices.{TakesBeginning};
 ghost use Rattle.cc_machine.specs.Run.{IsReached};
 ghost use Rattle.cc_syntax.specs.Replies.{reply_text, is_error};
-ghost use Rattle.cc_script.specs.Output.{with_line_feed};
-ghost use Rattle.cc_script.specs.Correct.{AnswersScript, RunsScript, StopsInReply};
-ghost use Rattle.cc_script.specs.Laws.{KeepsLaws};
-ghost use Rattle.cc_script.specs.Answering.{AnswersOpening};
+ghost use Rattle.cc_session.specs.Output.{with_line_feed};
+ghost use Rattle.cc_session.specs.Correct.{AnswersScript, RunsScript, StopsInReply};
+ghost use Rattle.cc_session.specs.Laws.{KeepsLaws};
+ghost use Rattle.cc_session.specs.Answering.{AnswersOpening};
 
-use crate::answering::{Script, step};
+use crate::lending::{Script, step};
 use cc_io::{Failed, IoError, Lines, Sink, Source, Summary, WholeLine, pump, write_all};
 use cc_machine::{Machine, Op, Reply};
+use cc_session::is_refusal;
 use cc_syntax::push_any_reply;
 
 /// Runs the script that the source gives: steps the machine by each line, and writes its reply
@@ -184,11 +185,4 @@ fn write_reply<W: Sink>(reply: &Reply, sink: &mut W) -> Result<bool, Failed>
         Ok(()) => Ok(is_refusal(reply)),
         Err(Failed) => Err(Failed),
     }
-}
-
-/// Returns whether a reply is an error.
-pub fn is_refusal(reply: &Reply) -> bool
-    ensures { result ≡ is_error reply.now }
-{
-    matches!(reply, Reply::Refused(_))
 }

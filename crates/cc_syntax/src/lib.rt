@@ -10,7 +10,7 @@ mod tally;
 mod values;
 mod words;
 
-pub use cc_values::{both, printed_values_are_read_back, read_address, read_permissions};
+pub use cc_values::{both, read_address, read_permissions};
 pub use numbers::read_length;
 pub use parsing::{MOST_BYTES, Taker, parse_line, take_command};
 pub use planning::{plan_numbers, plan_opening};

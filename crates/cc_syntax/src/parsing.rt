@@ -8,8 +8,8 @@ ghost use Rattle.cc_syntax.specs.Commands.{command_in, operation_of};
 use crate::values::{Value, slot_and, slot_and_perhaps};
 use crate::words::{after, is};
 use cc_bounds::{Align, Len};
-use cc_values::Op;
 use cc_io::{Page, WholeLine};
+use cc_values::Op;
 use cc_word::Refusal;
 
 /// The maximum number of bytes of a line.

@@ -6,8 +6,8 @@ ghost use Rattle.cc_word.specs.Permissions.{bits_of};
 ghost use Rattle.cc_syntax.specs.Replies.{align_text, bounds_text, hexadecimal, made_text, parent_text, refusal_text, reply_text, revoked_text};
 
 use cc_bounds::{Align, Span};
-use cc_values::Reply;
 use cc_io::{Line, Page};
+use cc_values::Reply;
 use cc_word::{ObjType, Perms, Refusal, write_half};
 
 /// Returns the line of a reply, without its line feed: at most 192 bytes.

@@ -3,3 +3,4 @@ pub mod Listing
 pub mod NumberHint
 pub mod Questions
 pub mod Tasks
+pub mod ElfHint

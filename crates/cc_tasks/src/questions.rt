@@ -8,8 +8,8 @@ ghost use Rattle.cc_tasks.specs.Questions.{IsAnswerTo, IsUnanswerable, numbers_o
 ghost use Rattle.cc_tasks.specs.Tasks.{AnswersQuestion};
 
 use crate::number_hint::hint_numbers;
-use cc_console::{Fault, Question};
 use cc_command::{draw_window, explain_length, explain_word, show_line, show_word};
+use cc_console::{Fault, Question};
 use cc_io::{IoError, Sink, Summary};
 
 /// Writes the listing, line, explanation or drawing that a question asks for. Then writes the hint on numbers to `errors`, if

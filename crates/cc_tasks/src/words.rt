@@ -11,8 +11,8 @@ ghost use Rattle.cc_tasks.specs.Tasks.{AnnotatesWords, ListsWords, RoundsLengths
 
 use crate::listing::{listing_of, place_of};
 use crate::number_hint::{hint_list, hint_numbers};
-use cc_console::{DecodeTexts, Fault, InputName, Inputs, file_input};
 use cc_command::{round_list, round_typed, write_refusal};
+use cc_console::{DecodeTexts, Fault, InputName, Inputs, file_input};
 use cc_decode::{Format, InputForm, Options, annotate, decode_words_after};
 use cc_io::{FromReader, Sink, Summary};
 

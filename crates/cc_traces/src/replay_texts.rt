@@ -4,9 +4,9 @@ ghost use Rattle.cc_bounds.specs.Span.{IsSpan};
 ghost use Rattle.cc_heap.specs.declared.reallocation.Reallocation.TheVariants.{Move};
 ghost use Rattle.cc_traces.specs.ReplayTexts.{are_two, each_in, format_in, format_named, in_script, least_in, realloc_in, realloc_named, replay_in, span_given, span_in, sweep_in};
 
-use cc_console::ReplayTexts;
 use cc_bounds::{Align, Span};
 use cc_command::read_request;
+use cc_console::ReplayTexts;
 use cc_replay::{Policy, Reading, Reallocation, Settings, Share, TraceFormat, read_policy};
 use cc_syntax::{both, read_address};
 use cc_word::Refusal;

@@ -2,7 +2,6 @@
 #![tactic(auto)]
 
 mod digits;
-mod laws;
 mod numbers;
 mod op;
 mod reply;
@@ -11,7 +10,6 @@ mod values;
 mod words;
 
 pub use digits::{Spelled, value_of_decimal};
-pub use laws::printed_values_are_read_back;
 pub use numbers::{read_address, read_index, read_number};
 pub use op::Op;
 pub use reply::Reply;

@@ -4,7 +4,6 @@
 
 mod fields;
 mod kernels;
-mod laws;
 mod layout;
 mod obj_type;
 mod perms;
@@ -14,7 +13,6 @@ mod text;
 pub use bitflags::Flags;
 pub use fields::Fields;
 pub use kernels::{read_quarter, read_word_fast, write_half, write_word_fast, write_word_fast_to};
-pub use laws::{digits_are_read_back, words_are_read_back};
 pub use layout::{pack, unpack};
 pub use obj_type::{ObjType, SENTRY_TYPE, UNSEALED_TYPE};
 pub use perms::Perms;

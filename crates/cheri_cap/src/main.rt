@@ -2,7 +2,12 @@
 //! and runs scripts on a machine of capabilities.
 #![tactic(auto)]
 
-use cc_program::{Terminals, answer_arguments, finish};
+mod execution;
+mod program;
+
+use crate::program::answer_arguments;
+use cc_console::finish;
+use cc_runs::Terminals;
 use std::io::IsTerminal;
 use std::process::ExitCode;
 

@@ -2,7 +2,8 @@
 //! an ordinary run none fails; `tests/opening` lets each allocation of these tests fail in turn.
 use cc_cap::Cap;
 use cc_gaps::GapPlacer;
-use cc_plan::{ObjectId, Placer, Planner, ScanPlacer, SortedPlacer};
+use cc_placers::{ScanPlacer, SortedPlacer};
+use cc_plan::{ObjectId, Placer, Planner};
 use std::alloc::{AllocError, Global};
 use std::process::Abort;
 

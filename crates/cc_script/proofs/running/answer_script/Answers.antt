@@ -1,4 +1,5 @@
-use Rattle.cc_script.proofs.RunningLemmas.{all_written, answers_script, of_lent, still_lent, stops_in_opening}
+use Rattle.cc_session.proofs.RunningLemmas.{all_written, answers_script, stops_in_opening}
+use Rattle.cc_script.proofs.LentLemmas.{of_lent, still_lent}
 use Rattle.cc_script.proofs.running.answer_script.Goals as goal
 
 pub returns-in-Err-clause-answers : goal.returns-in-Err-clause-answers

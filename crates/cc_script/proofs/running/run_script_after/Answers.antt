@@ -1,4 +1,4 @@
-use Rattle.cc_script.proofs.RunLemmas.{laws_kept}
+use Rattle.cc_session.proofs.RunLemmas.{laws_kept}
 use Rattle.cc_script.proofs.running.run_script_after.Goals as goal
 
 pub returns-clause-runs : goal.returns-clause-runs

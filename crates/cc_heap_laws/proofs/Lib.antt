@@ -1,4 +1,0 @@
-pub mod HistoryLemmas
-pub mod PeakLemmas
-pub mod MadeLemmas
-pub mod PeaklessLemmas

@@ -1,5 +1,0 @@
-use Rattle.cc_heap_laws.proofs.PeakLemmas.{has_peaks}
-use Rattle.cc_heap_laws.proofs.laws.peaks_are_of_an_event.Goals as goal
-
-pub returns : goal.returns
-returns c = has_peaks

@@ -1,0 +1,8 @@
+-- In reading order.
+pub mod ListingParts
+pub mod Counterexamples
+pub mod DrawnObjects
+pub mod ScriptParts
+pub mod IgnoresPeaks
+pub mod Translation
+pub mod ChartedRun

@@ -1,0 +1,24 @@
+//! Laws: what the contracts of all other crates mean together. Each function here is a law: it does
+//! nothing, and its contract is the claim. No other crate depends on this one.
+#![tactic(auto)]
+
+pub mod bounds;
+pub mod capabilities;
+mod capabilities_counterexamples;
+pub mod charting;
+pub mod charts;
+pub mod decoding;
+pub mod drawings;
+pub mod formats;
+pub mod frames;
+pub mod heaps;
+pub mod machine;
+mod machine_counterexamples;
+pub mod placing;
+pub mod planner;
+pub mod replaying;
+pub mod runs;
+pub mod scripting;
+pub mod scripts;
+pub mod values;
+pub mod words;

@@ -1,5 +1,0 @@
-use Rattle.cc_machine.proofs.CounterexampleLemmas.{past_end-breaks}
-use Rattle.cc_machine.proofs.counterexamples.a_step_that_has_no_outcome.Goals as goal
-
-pub returns : goal.returns
-returns c = past_end-breaks

@@ -1,0 +1,2 @@
+-- In reading order.
+pub mod Replay

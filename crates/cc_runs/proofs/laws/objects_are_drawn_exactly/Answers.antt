@@ -1,7 +1,0 @@
-use Rattle.cc_machine.specs.Planned.{plan_of}
-use Rattle.cc_draw.proofs.PlanLemmas.{drawn_exactly}
-use Rattle.cc_runs.proofs.PlacedLemmas.{are_placed}
-use Rattle.cc_runs.proofs.laws.objects_are_drawn_exactly.Goals as goal
-
-pub returns : goal.returns
-returns c state reached = drawn_exactly (plan_of state) (are_placed state reached)

@@ -1,0 +1,5 @@
+pub mod ReplyLemmas
+pub mod OutputLemmas
+pub mod RunningLemmas
+pub mod RunLemmas
+mod SessionLemmas

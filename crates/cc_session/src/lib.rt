@@ -1,0 +1,9 @@
+//! A machine that replies to the lines of a script, and counts its replies.
+#![tactic(auto)]
+
+mod answering;
+mod session;
+
+pub use answering::{answer_line, is_refusal};
+pub use cc_io::Summary;
+pub use session::{Session, run_session};

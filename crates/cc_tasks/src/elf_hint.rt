@@ -1,0 +1,92 @@
+//! The hint on a core file: in an ELF file, words need not be at multiples of 16.
+ghost use Rattle.std.specs.Prelude.{◌≡◌, IsTrue, false};
+ghost use Rattle.std.specs.Io.KnownBytes.{Appends};
+ghost use Rattle.cc_tasks.specs.ElfHint.{elf_hint, is_elf, raw_file};
+
+use crate::listing::listing_of;
+use cc_console::{ErrorWriter, Fault, InputName, Invocation, file_input};
+use cc_io::{FromWriter, InputForm, Sink, Summary, write_all};
+use std::fs;
+use std::io::Read;
+use std::rt::Files;
+
+/// Returns whether a file that begins with these bytes is an ELF file.
+pub fn is_elf(start: &[u8]) -> bool
+    ensures { result ≡ is_elf start.now }
+{
+    start.starts_with(b"\x7fELF")
+}
+
+/// Returns the file whose first bytes a command decodes as a raw word, or `None`.
+pub fn raw_file<'a>(invocation: Invocation<'a>) -> Option<&'a str>
+    ensures { result ≡ raw_file invocation.entry }
+{
+    match invocation {
+        Invocation::Decode {
+            input: InputForm::Bytes(order),
+            format,
+            texts,
+            file,
+        } => {
+            if texts.skip.is_none() && listing_of(InputForm::Bytes(order), format, texts).is_ok() {
+                match file_input(file) {
+                    InputName::File(path) => Some(path),
+                    InputName::Standard => None,
+                }
+            } else {
+                None
+            }
+        }
+        _ => None,
+    }
+}
+
+/// Writes the hint if a file that begins with these bytes is an ELF file. Errors of the sink are ignored.
+pub fn hint_elf<E: Sink>(start: &[u8], errors: &mut E)
+    requires { E.has_failed errors.old ≡ false }
+    ensures hinted { E.has_failed errors.new ≡ false → Appends (E.taken_bytes errors.old) (E.taken_bytes errors.new) (elf_hint start.now) }
+    ensures silent { ¬ IsTrue (is_elf start.now) → errors.new ≡ errors.old }
+{
+    if is_elf(start) {
+        let _ = write_all(
+            errors,
+            b"hint: this is an ELF file, and its segments need not begin at multiples of 16: readelf -lW prints the Offset of each, for --skip\n",
+        );
+    }
+}
+
+/// Writes the hint after the output of a command, if hints are shown and the command came to its end.
+pub fn hint_on_file<R: Files + Eprint>(
+    rt: &R,
+    is_shown: bool,
+    invocation: Invocation<'_>,
+    ended: &Result<Summary, Fault>,
+) {
+    if !is_shown || ended.is_err() {
+        return;
+    }
+    let Some(path) = raw_file(invocation) else {
+        return;
+    };
+    if let Some(start) = start_of(rt, path) {
+        hint_elf(&start, &mut FromWriter::new(ErrorWriter { to: rt }));
+    }
+}
+
+/// Returns the first four bytes of a regular file, or `None` if they cannot be read.
+///
+/// Other files are not opened: a pipe has been read to its end, and waits for another writer.
+fn start_of<R: Files>(rt: &R, path: &str) -> Option<[u8; 4]> {
+    match fs::metadata(rt, path) {
+        Ok(metadata) if metadata.is_file() => {}
+        _ => return None,
+    }
+    let Ok(mut file) = fs::open(rt, path) else {
+        return None;
+    };
+    let mut start = [0; 4];
+    match file.read_exact(&mut start) {
+        Ok(()) => Some(start),
+        Err(_) => None,
+    }
+}

@@ -1,3 +1,0 @@
--- In reading order.
-pub mod Translation
-pub mod ChartedRun
