@@ -5,6 +5,7 @@ use Rattle.std.specs.Borrow.{Bor}
 use Rattle.std.specs.Cmp.Lexicographic.{pointwise}
 use Rattle.std.proofs.lemmas.Bool.Decides.{Decides-eqb}
 use Rattle.std.proofs.lemmas.Slice.Eq.{strip_prefix_is}
+use Rattle.std.specs.Str.Parse.{digits_value}
 use Rattle.cc_word.specs.WordText.{IsWordText}
 use Rattle.cc_decode.specs.Annotate.{IsPrefix, IsRun, is_word_byte}
 use Rattle.cc_decode.specs.Annotator.{AreHalves, IsAlone, IsJoined, AnswersRun, Follows, Marks, PushesRun, RunIs}
@@ -60,6 +61,18 @@ halves_long : (text : List ℕ) (word : ℕ) → AreHalves text word → length 
 halves_long text word h =
     omega (arith, ap length h.text_is, length-append (h.high ++ 95 ∷ []) h.low, length-append h.high (95 ∷ []), length-append h.high h.low, h.joined.0, h.joined.1.0)
 
+pub some_digits : (run digits : List ℕ) (r : Option ℕ) → ((prefix : List ℕ) × IsPrefix prefix × (run ≡ prefix ++ digits)) → IsSome r ↔ IsWordText digits
+    → IfSome r (λ word. word ≡ digits_value 16 digits) → IfSome r (λ word. IsAlone run word)
+some_digits run digits None parts found value = tt
+some_digits run digits (Some word) parts found value =
+    record { prefix = parts.0; digits = digits; run_is = parts.2; is_prefix = parts.1; is_word = inl (found.0 refl, value) }
+
+pub some_halves : (run digits : List ℕ) (r : Option ℕ) → ((prefix : List ℕ) × IsPrefix prefix × (run ≡ prefix ++ digits))
+    → IfSome r (λ word. AreHalves digits word) → IfSome r (λ word. IsAlone run word)
+some_halves run digits None parts halves = tt
+some_halves run digits (Some word) parts halves =
+    record { prefix = parts.0; digits = digits; run_is = parts.2; is_prefix = parts.1; is_word = inr halves }
+
 pub none_digits : (run digits : List ℕ) (r : Option ℕ) → (length run ≤ 33 → digits ≡ run) → (33 < length run → (rest : List ℕ) → run ≡ codes "0x" ++ rest → digits ≡ rest)
     → length digits ≡ 32 → IsSome r ↔ IsWordText digits → IfNone r ((word : ℕ) → ¬ IsAlone run word)
 none_digits run digits (Some x) short long full found = tt
@@ -109,6 +122,16 @@ halves_apart text front back low None is_front is_back full found none = λ word
     let both : codes "_" ++ h.low ≡ codes "_" ++ low = sym parts.1 ∙ found in
     let same : h.low ≡ low = cc both in
     none word (subst (λ (l : List ℕ). IsJoined l low word) (sym parts.0) (subst (λ (l : List ℕ). IsJoined h.high l word) same h.joined))
+
+pub halves_joined : (text front back low : List ℕ) (r : Option ℕ) → front ≡ take 16 text → back ≡ drop 16 text → back ≡ codes "_" ++ low
+    → IfSome r (λ word. IsJoined front low word) → IfSome r (λ word. AreHalves text word)
+halves_joined text front back low None is_front is_back found joined = tt
+halves_joined text front back low (Some word) is_front is_back found joined = record {
+  high = front;
+  low = low;
+  text_is = sym (take-append-drop 16 text) ∙ ap₂ (λ (a b : List ℕ). a ++ b) (sym is_front) (sym is_back ∙ found) ∙ sym (append_assoc front (codes "_") low);
+  joined = joined;
+}
 
 pub no_joint : (text front back : List ℕ) → front ≡ take 16 text → back ≡ drop 16 text → length text ≡ 33 → ((rest : List ℕ) → back ≢ codes "_" ++ rest)
     → (word : ℕ) → ¬ AreHalves text word

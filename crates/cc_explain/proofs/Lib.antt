@@ -2,3 +2,4 @@ mod PermissionLemmas
 pub mod StepLemmas
 mod StandingLemmas
 mod RequestLemmas
+mod TextLemmas

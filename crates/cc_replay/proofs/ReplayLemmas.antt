@@ -1,17 +1,18 @@
 -- An event that was taken.
-use Rattle.std.proofs.Common.{◌≡◌, ℕ, Bool, List, ◌++◌, Option, refl, ◌∙◌, ap, inl, subst}
+use Rattle.std.proofs.Common.{◌≡◌, ℕ, Bool, false, List, [], ◌++◌, Option, Some, None, Result, Ok, refl, sym, ◌∙◌, ap, append-nil, inl, subst}
 use Rattle.cc_replay.specs.declared.counts.Counts.{Counts}
 use Rattle.cc_placer.specs.declared.event.Event.{Event}
 use Rattle.cc_io.specs.Answers.{AnswersInto}
+use Rattle.cc_word.specs.declared.refusal.Refusal.{Refusal}
 use Rattle.cc_formats.specs.declared.formats.Entry.{Entry}
 use Rattle.cc_heap.specs.declared.outcome.Outcome.{Outcome}
 use Rattle.cc_formats.specs.declared.reading.Progress.{Progress}
 use Rattle.cc_formats.specs.declared.reading.Reading.{Reading}
-use Rattle.cc_replay.specs.Counts.{with_event, with_outcome}
+use Rattle.cc_replay.specs.Counts.{with_event, with_failure, with_line, with_outcome}
 use Rattle.cc_heap.specs.Lost.{IsRunEvent, RunState}
 use Rattle.cc_formats.specs.Reading.{is_due, progress_after}
 use Rattle.cc_heap.specs.Outcomes.{is_refused}
-use Rattle.cc_replay.specs.Replay.{AppendsEntry, AppendsEvent, ReplayState, TakesNext, next_entry, sample_text, time_after}
+use Rattle.cc_replay.specs.Replay.{AppendsEntry, AppendsEvent, ReplayState, TakesEntry, TakesNext, at_entry, next_entry, sample_text, time_after}
 
 -- the state after an event, by its parts
 abbrev pub state_of : RunState → Reading → Counts → (pending : Option ℕ) → ℕ → Progress → Bool → ReplayState
@@ -64,3 +65,33 @@ entry_answers old entry line out out_now is_error new is taken =
     let next : AppendsEntry old (next_entry old line) out out_now is_error new =
     subst (λ (e : Entry). AppendsEntry old e out out_now is_error new) is taken in
     record { text = next.text; out_is = next.out_is; answered = next.takes }
+
+-- the entry of a line is an event, which was taken
+pub event_entry : (old : ReplayState) (entry : Entry) (event : Event) (counts : Counts) (out out_now : List ℕ) (is_error : Bool) (new : ReplayState)
+    → entry.event ≡ Ok (Some event)
+    → counts ≡ with_failure entry.is_failure (with_line old.counts)
+    → AppendsEvent (state_of old.run old.reading counts entry.pending old.time old.progress old.is_sampled) event out out_now is_error new
+    → AppendsEntry old entry out out_now is_error new
+event_entry old entry event counts out out_now is_error new is counts_is taken =
+    let here : AppendsEvent (at_entry entry old) event out out_now is_error new =
+    subst (λ (n : Counts). AppendsEvent (state_of old.run old.reading n entry.pending old.time old.progress old.is_sampled) event out out_now is_error new) counts_is taken in
+    record {
+      text = here.text;
+      out_is = here.out_is;
+      takes = subst (λ (e : Result (Option Event) Refusal). TakesEntry (at_entry entry old) e here.text is_error new) (sym is) here.takes;
+    }
+
+-- the entry of a line is nothing
+pub passed_entry : (old : ReplayState) (entry : Entry) (counts : Counts) (out : List ℕ)
+    → entry.event ≡ Ok None
+    → counts ≡ with_failure entry.is_failure (with_line old.counts)
+    → AppendsEntry old entry out out false (state_of old.run old.reading counts entry.pending old.time old.progress old.is_sampled)
+passed_entry old entry counts out is counts_is =
+    let new : ReplayState = state_of old.run old.reading counts entry.pending old.time old.progress old.is_sampled in
+    let new_is : new ≡ at_entry entry old =
+    ap (λ (n : Counts). state_of old.run old.reading n entry.pending old.time old.progress old.is_sampled) counts_is in
+    record {
+      text = [];
+      out_is = sym (append-nil out);
+      takes = subst (λ (e : Result (Option Event) Refusal). TakesEntry (at_entry entry old) e [] false new) (sym is) (refl, refl, new_is);
+    }

@@ -1,5 +1,5 @@
--- The digits of a percentage, and rows after others.
-use Rattle.std.proofs.Common.{◌≡◌, ℕ, ◌%◌, ◌+◌, List, [], ◌∷◌, ◌++◌, ◌∙◌, ap, arith, refl}
+-- The digits of a percentage, rows after others, and pieces after a page.
+use Rattle.std.proofs.Common.{◌≡◌, ℕ, ◌%◌, ◌+◌, List, [], ◌∷◌, ◌++◌, ◌∙◌, ap, append_assoc, arith, refl}
 use Rattle.std.specs.Prelude.{decimal}
 use Rattle.cc_io.proofs.DecimalLemmas.{one_digit}
 use Rattle.cc_replay.specs.declared.table.Row.{Row as RowValue}
@@ -13,3 +13,12 @@ last_digit n =
 pub rows_after : (rows more : List RowValue) → rows_of (rows ++ more) ≡ rows_of rows ++ rows_of more
 rows_after [] more = refl
 rows_after (row ∷ rows) more = ap (λ (others : List Row). record { name = row.name.now; value = row.value } ∷ others) (rows_after rows more)
+
+pub bracketed : (page first inner last : List ℕ) → page ++ first ++ inner ++ last ≡ page ++ (first ++ (inner ++ last))
+bracketed page first inner last = append_assoc (page ++ first) inner last ∙ append_assoc page first (inner ++ last)
+
+pub headed : (page heading feed rows : List ℕ) → page ++ heading ++ feed ++ rows ≡ page ++ (heading ++ feed ++ rows)
+headed page heading feed rows = ap (λ (l : List ℕ). l ++ rows) (append_assoc page heading feed) ∙ append_assoc page (heading ++ feed) rows
+
+pub joined : (page a b c d : List ℕ) → page ++ a ++ b ++ c ++ d ≡ page ++ (a ++ b ++ c ++ d)
+joined page a b c d = ap (λ (l : List ℕ). l ++ d) (headed page a b c) ∙ append_assoc page (a ++ b ++ c) d

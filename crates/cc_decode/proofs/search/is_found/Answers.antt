@@ -1,4 +1,4 @@
-use Rattle.std.proofs.Common.{rules, ◌≡◌, subst}
+use Rattle.std.proofs.Common.{◌≡◌, subst}
 use Rattle.cc_word.specs.declared.fields.Fields.{Fields}
 use Rattle.cc_bounds.specs.declared.span.Span.{Span}
 use Rattle.cc_bounds.specs.Decoding.{DecodesTo}
@@ -11,8 +11,8 @@ returns-then-is_canonical c = (
     canonical = c.is_canonical.ensures.0 c.if-is_canonical.true;
     fields = c.unpack-fields.result;
     bounds = c.decode-bounds.result;
-    of_word = search rules;
-    decoded = search rules;
+    of_word = c.unpack-fields.ensures.word;
+    decoded = c.decode-bounds.ensures.decodes;
     grants = c.grants.ensures.0 granted;
   },
   λ found.

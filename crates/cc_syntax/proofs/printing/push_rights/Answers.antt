@@ -31,7 +31,7 @@ few n l = omega (arith, length-take n l)
 within : (now start used left : ℕ) → now ≤ start + used → used + left ≡ 60 → now ≤ start + 60
 within now start used left is whole = omega arith
 
--- ---- the room for each piece, and the text. `search` finds these too, and takes most of the time of this proof
+-- ---- each piece fits, and the text. `search` finds these too, and takes most of the time of this proof
 
 pub push_known-requires-2 : goal.push_known-requires-2
 push_known-requires-2 g c =

@@ -1,4 +1,4 @@
-use Rattle.std.proofs.Common.{◌∙◌, ◌++◌, ℕ, List, [], ◌∷◌, ap, append_assoc, subst}
+use Rattle.std.proofs.Common.{◌∙◌, ◌++◌, ℕ, List, [], ◌∷◌, ap, append_assoc, arith, length, length-append, subst}
 use Rattle.cc_session.specs.Session.{SessionState, TakesOperation}
 use Rattle.cc_session.proofs.session.Session.take_operation.Goals as goal
 
@@ -13,3 +13,21 @@ returns-clause-takes g c =
       error_is = c.is_refusal.ensures;
       counted = c.take_opening.ensures;
     })
+
+pub push-requires : goal.push-requires
+push-requires g c = omega (arith, c.bytes.ensures.fits, c.requires)
+
+pub push-requires-2 : goal.push-requires-2
+push-requires-2 g c =
+    omega (arith, ap length c.push.ensures, length-append c.args.page.now c.bytes.result.now, c.bytes.ensures.fits, c.requires)
+
+pub returns-clause-fits : goal.returns-clause-fits
+returns-clause-fits g c =
+    omega (
+      arith,
+      ap length c.push-2.ensures,
+      length-append c.push.new.self (10 ∷ []),
+      ap length c.push.ensures,
+      length-append c.args.page.now c.bytes.result.now,
+      c.bytes.ensures.fits,
+    )

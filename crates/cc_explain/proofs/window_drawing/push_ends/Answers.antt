@@ -1,0 +1,17 @@
+use Rattle.std.proofs.Common.{◌≤◌, ◌+◌, arith, length}
+use Rattle.cc_explain.proofs.TextLemmas.{longer}
+use Rattle.cc_explain.proofs.window_drawing.push_ends.Goals as goal
+
+pub overflow_mul-last : goal.overflow_mul-last
+overflow_mul-last c = omega (arith, c.section.ensures.fits)
+
+pub overflow_add-last : goal.overflow_add-last
+overflow_add-last c = omega (arith, c.section.ensures.fits, c.requires.start)
+
+pub returns-then-steps-ge50-clause-fits : goal.returns-then-steps-ge50-clause-fits
+returns-then-steps-ge50-clause-fits c =
+    let with_line : length c.push.new.self ≤ length c.args.text.now + 44 = longer _ _ _ 44 c.push.ensures (omega arith) in
+    omega (arith, with_line)
+
+pub returns-else-steps-ge50-clause-fits : goal.returns-else-steps-ge50-clause-fits
+returns-else-steps-ge50-clause-fits c = omega (arith, c.push_addresses.ensures.fits)
