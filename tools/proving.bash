@@ -214,7 +214,8 @@ is_ready() {
 }
 
 # Begins the proofs for which there are slots, first of the crates with the longest chain above. If fewer crates are ready than there
-# are slots, they have several jobs each.
+# are slots, they have several jobs each. The crate that begins last has two jobs even if one slot is free, since the proofs next to
+# it end before it, and then only the program is left.
 begin_ready() {
   local name ready=() later=() free=$slots jobs
   for name in "${!running[@]}"; do free=$((free - jobs_of[$name])); done
@@ -228,6 +229,7 @@ begin_ready() {
     name=${ready[0]} jobs=$((free / ${#ready[@]}))
     ((jobs > 0)) || jobs=1
     ((jobs <= MOST_JOBS)) || jobs=$MOST_JOBS
+    ((${#left[@]} > 1 || jobs > 1 || slots <= 2)) || jobs=2
     begin prove_crate "$name" "$jobs"
     running[$name]=$! jobs_of[$name]=$jobs free=$((free - jobs)) ready=("${ready[@]:1}")
   done
