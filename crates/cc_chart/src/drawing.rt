@@ -12,7 +12,7 @@ use crate::curves::{Curve, push_curves, stroke};
 use crate::levels::{Levels, greatest};
 use crate::numbered::{end_number, push_number};
 use crate::scale::Scale;
-use cc_io::{IoError, Page, Sink, write_all};
+use cc_io::{IoError, Page, Sink, write_and_flush};
 
 /// The maximum number of bytes of a drawing.
 const MOST_DRAWING: usize = 98304;
@@ -37,20 +37,7 @@ pub fn write_chart<W: Sink>(chart: &Chart, sink: &mut W) -> Result<(), IoError>
         chart.width(),
         columns.as_slice(),
     );
-    write_page(&page, sink)
-}
-
-/// Writes a page, and flushes the sink.
-fn write_page<W: Sink, const N: usize>(page: &Page<N>, sink: &mut W) -> Result<(), IoError>
-    requires { W.has_failed sink.old ≡ false }
-    ensures ok { OnOk result (Appends (W.taken_bytes sink.old) (W.taken_bytes sink.new) page.now) }
-    ensures err { OnErr result (TakesBeginning (W.taken_bytes sink.old) (W.taken_bytes sink.new) page.now) }
-    ensures flushed { OnOk result (W.is_flushed sink.new ≡ true) }
-    ensures fails { IsErr result ↔ (W.has_failed sink.new ≡ true) }
-    ensures write { OnErr result (result ≡ Err IoError.Write) }
-{
-    write_all(sink, page.bytes()).map_err(|_| IoError::Write)?;
-    sink.flush().map_err(|_| IoError::Write)
+    write_and_flush(&page, sink)
 }
 
 /// Appends the drawing of columns of `width` events each.

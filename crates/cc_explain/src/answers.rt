@@ -6,7 +6,7 @@ ghost use Rattle.std.specs.Str.Parse.{digits_value};
 ghost use Rattle.cc_io.specs.Devices.{TakesBeginning};
 ghost use Rattle.cc_explain.specs.Answer.{IsRefusalLine, IsTypedWord, WritesAnswer, digits_in};
 
-use cc_io::{IoError, Sink, Summary, Text, refusal_bytes, write_all};
+use cc_io::{Failed, IoError, Sink, Summary, Text, refusal_bytes, write_all};
 use cc_word::{Refusal, read_word};
 
 /// Writes the line of a refusal, `error CODE NAME`, and flushes the sink once after it. The summary
@@ -64,6 +64,11 @@ pub fn write_answer<W: Sink>(answer: &Text, sink: &mut W) -> Result<(), IoError>
     ensures fails { IsErr result ↔ (W.has_failed sink.new ≡ true) }
     ensures write { OnErr result (result ≡ Err IoError.Write) }
 {
-    write_all(sink, answer.bytes()).map_err(|_| IoError::Write)?;
-    sink.flush().map_err(|_| IoError::Write)
+    match write_all(sink, answer.bytes()) {
+        Ok(()) => match sink.flush() {
+            Ok(()) => Ok(()),
+            Err(Failed) => Err(IoError::Write),
+        },
+        Err(Failed) => Err(IoError::Write),
+    }
 }

@@ -225,6 +225,27 @@ fn write_page<W: Sink, const N: usize>(page: &mut Page<N>, sink: &mut W) -> Resu
     }
 }
 
+/// Writes a page, then flushes the sink.
+///
+/// Requires: the sink has not failed.
+/// Errors: `Write` if and only if the sink fails. A prefix of the page is then written.
+pub fn write_and_flush<W: Sink, const N: usize>(page: &Page<N>, sink: &mut W) -> Result<(), IoError>
+    requires { W.has_failed sink.old ≡ false }
+    ensures ok { OnOk result (Appends (W.taken_bytes sink.old) (W.taken_bytes sink.new) page.now) }
+    ensures err { OnErr result (TakesBeginning (W.taken_bytes sink.old) (W.taken_bytes sink.new) page.now) }
+    ensures flushed { OnOk result (W.is_flushed sink.new ≡ true) }
+    ensures fails { IsErr result ↔ (W.has_failed sink.new ≡ true) }
+    ensures write { OnErr result (result ≡ Err IoError.Write) }
+{
+    match write_all(sink, page.bytes()) {
+        Ok(()) => match sink.flush() {
+            Ok(()) => Ok(()),
+            Err(Failed) => Err(IoError::Write),
+        },
+        Err(Failed) => Err(IoError::Write),
+    }
+}
+
 /// Writes the last page and flushes the sink.
 fn write_last<W: Sink, const N: usize>(page: &mut Page<N>, sink: &mut W) -> Result<(), Failed>
     requires { W.has_failed sink.old ≡ false }

@@ -13,10 +13,12 @@ ghost use Rattle.cc_replay.specs.Replay.{AppendsEntry, AppendsEvent, Refuses, Ta
 
 use crate::counts::{Count, Counts};
 use crate::series::{MOST_SAMPLE, push_sample, push_series_header};
-use crate::summary::{Figures, write_page};
+use crate::summary::Figures;
 use cc_formats::{Entry, Progress, Reading, read_entry};
 use cc_heap::{Event, Heap, Run, Settings, SizeTotals};
-use cc_io::{Answerer, IoError, Lines, Page, Sink, Source, Summary, Waiting, pump};
+use cc_io::{
+    Answerer, IoError, Lines, Page, Sink, Source, Summary, Waiting, pump, write_and_flush,
+};
 use cc_placer::Placer;
 use cc_word::Refusal;
 use std::alloc::{AllocError, Global};
@@ -141,7 +143,7 @@ impl<P: Placer> Replay<P> {
     {
         let mut page: Page<MOST_SAMPLE> = Page::new();
         self.push_last(&mut page);
-        write_page(&page, series)
+        write_and_flush(&page, series)
     }
 
     /// Appends the sample of the end, if there is a series, there was an event, and the last has no

@@ -7,10 +7,9 @@ ghost use Rattle.cc_replay.specs.SizeTable.{all_sizes, between_sizes, size_rows,
 
 use crate::row;
 use crate::rows::{push_items, push_names, push_values};
-use crate::summary::write_page;
 use crate::table::{Format, Part, Row, Value};
 use cc_heap::{NO_OBJECTS, SizeTotals};
-use cc_io::{IoError, Page, Sink};
+use cc_io::{IoError, Page, Sink, write_and_flush};
 
 /// The maximum number of bytes of a table.
 const MOST_SIZES: usize = 40960;
@@ -34,7 +33,7 @@ pub fn write_sizes<W: Sink>(
 {
     let mut page: Page<MOST_SIZES> = Page::new();
     push_sizes(&mut page, format, sizes);
-    write_page(&page, sink)
+    write_and_flush(&page, sink)
 }
 
 /// Appends the table in a format.

@@ -12,7 +12,7 @@ use crate::rows::{parts_of, push_table};
 use crate::table::{Format, Row, Value};
 use arrayvec::ArrayVec;
 use cc_heap::{Totals, Usage};
-use cc_io::{IoError, Page, Sink, write_all};
+use cc_io::{IoError, Page, Sink, write_and_flush};
 
 /// The maximum number of bytes of a summary.
 const MOST_SUMMARY: usize = 16384;
@@ -52,7 +52,7 @@ pub fn write_summary<W: Sink>(
     let rows = summary_rows(figures);
     let mut page: Page<MOST_SUMMARY> = Page::new();
     push_table(&mut page, format, rows.as_slice());
-    write_page(&page, sink)
+    write_and_flush(&page, sink)
 }
 
 /// Returns the rows of a summary.
@@ -175,20 +175,4 @@ fn end_rows(usage: &Usage) -> [Row; 4]
         row!(b"end.live", usage.live),
         row!(b"end.quarantine", usage.quarantine),
     ]
-}
-
-/// Writes a page, and flushes the sink.
-pub(crate) fn write_page<W: Sink, const N: usize>(
-    page: &Page<N>,
-    sink: &mut W,
-) -> Result<(), IoError>
-    requires { W.has_failed sink.old ≡ false }
-    ensures ok { OnOk result (Appends (W.taken_bytes sink.old) (W.taken_bytes sink.new) page.now) }
-    ensures err { OnErr result (TakesBeginning (W.taken_bytes sink.old) (W.taken_bytes sink.new) page.now) }
-    ensures flushed { OnOk result (W.is_flushed sink.new ≡ true) }
-    ensures fails { IsErr result ↔ (W.has_failed sink.new ≡ true) }
-    ensures write { OnErr result (result ≡ Err IoError.Write) }
-{
-    write_all(sink, page.bytes()).map_err(|_| IoError::Write)?;
-    sink.flush().map_err(|_| IoError::Write)
 }
