@@ -13,6 +13,7 @@ use Rattle.cc_decode.specs.Decoder.{AppendsRow}
 use Rattle.cc_io.specs.Answers.{AnswersInto}
 use Rattle.cc_decode.specs.declared.annotator.Annotator.{Annotator}
 use Rattle.cc_decode.specs.declared.annotator.Before.{Before}
+use Rattle.cc_decode.specs.declared.annotator.Before.TheVariants.{Inside}
 use Rattle.cc_io.specs.declared.format.Format.TheVariants.{Text}
 use Rattle.std.proofs.lemmas.List.{get_or_at, take-append-drop, take_at}
 
@@ -170,6 +171,21 @@ run_byte : (text : List ℕ) (k : ℕ) → IsRun text → k < length text → is
 run_byte [] k r h = absurd (omega (arith, h))
 run_byte (x ∷ text) zero r h = r.0
 run_byte (x ∷ text) (suc k) r h = run_byte text k r.1 (omega (arith, h))
+
+pub answers_whole : (old : Annotator) (entry out two : List ℕ) → 1 ≤ length entry → length entry ≤ 64 → is_word_byte (get_or entry (length entry - 1) 0) ≡ true
+    → two ≡ out ++ entry → AnswersInto AnswersRun old entry out two false (record { before = Inside })
+answers_whole old entry out two some few word pushed = record {
+  text = entry;
+  out_is = pushed;
+  answered = record {
+    short = λ r b is short not_word.
+        let parts = last_parts entry r b is in
+        absurd (true≢false (sym word ∙ ap is_word_byte parts.byte_is ∙ not_word));
+    long = λ full run_all. (refl, refl);
+    is_correct = refl;
+    fits = omega (arith, few);
+  };
+}
 
 pub answers_run : (old : Annotator) (entry out one two : List ℕ) (byte : ℕ) (next : Before) → 1 ≤ length entry → byte ≡ get_or entry (length entry - 1) 0
     → is_word_byte byte ≡ false → PushesRun old.before (take (length entry - 1) entry) out one → two ≡ one ++ byte ∷ [] → length one ≤ length out + 599

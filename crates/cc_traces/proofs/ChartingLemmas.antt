@@ -1,14 +1,18 @@
 -- The output of `replay --svg`, from that of its parts.
-use Rattle.std.proofs.Common.{◌≡◌, ◌≢◌, ℕ, List, [], Option, None, Ok, subst, sym}
+use Rattle.std.proofs.Common.{◌≡◌, ◌≢◌, ℕ, Bool, ◌∙◌, ap₂, List, [], Option, None, Ok, subst, sym}
 use Rattle.std.specs.Io.KnownBytes.{Appends}
+use Rattle.cc_io.specs.Answers.{AnswersInto}
 use Rattle.cc_io.specs.Correct.{Pumps}
 use Rattle.cc_io.specs.Devices.{TakesBeginning}
 use Rattle.cc_io.specs.Frames.{lines}
 use Rattle.cc_io.specs.declared.summary.Summary.{Summary}
+use Rattle.cc_chart.specs.Chart.{Chart}
 use Rattle.cc_chart.specs.Drawing.{chart_text}
 use Rattle.cc_formats.specs.declared.reading.Progress.TheVariants.{OutOfMemory}
+use Rattle.cc_replay.specs.Replay.{ReplayState, TakesLine, figures_of}
+use Rattle.cc_replay.specs.declared.summary.Figures.{Figures}
 use Rattle.cc_console.specs.Devices.{Traffic}
-use Rattle.cc_traces.specs.Charting.{Charted, ChartsAll, ChartsLine, ChartsRest, StopsInChart, TakesAll}
+use Rattle.cc_traces.specs.Charting.{Charted, ChartsAll, ChartsLine, ChartsRest, StopsInChart, TakesAll, charted, peakless}
 
 -- The whole trace was taken, for bytes that are the same.
 takes_all : (old new : Charted) (unread unread_too left left_too : Option (List ℕ)) (summary : Summary) → unread_too ≡ unread → left_too ≡ left
@@ -43,4 +47,18 @@ stops_in_chart old new traffic unread left output output_now summary u l o n tak
   all = takes_all old new unread traffic.unread left traffic.left summary u l takes has_memory;
   written = subst (λ (b : Option (List ℕ)). TakesBeginning b traffic.output_now (chart_text new.chart)) (sym o)
       (subst (λ (b : Option (List ℕ)). TakesBeginning output b (chart_text new.chart)) (sym n) written);
+}
+
+-- A line that a replay without peaks took, and the chart with the levels of its event.
+pub charts_line : (old quiet next : ReplayState) (chart chart_now : Chart) (before after : Figures) (line out out_now : List ℕ) (is_error : Bool)
+    → before ≡ figures_of old → quiet ≡ peakless old → AnswersInto TakesLine quiet line out out_now is_error next → after ≡ figures_of next
+    → chart_now ≡ charted before.counts.events after chart
+    → AnswersInto ChartsLine (record { replay = old; chart = chart }) line out out_now is_error (record { replay = next; chart = chart_now })
+charts_line old quiet next chart chart_now before after line out out_now is_error b q takes a charts = record {
+  text = takes.text;
+  out_is = takes.out_is;
+  answered = record {
+    takes = subst (λ (state : ReplayState). TakesLine state line takes.text is_error next) q takes.answered;
+    chart = charts ∙ ap₂ (λ (x y : Figures). charted x.counts.events y chart) b a;
+  };
 }

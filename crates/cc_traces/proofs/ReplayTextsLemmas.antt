@@ -1,11 +1,15 @@
 -- The values of the texts of `replay`, and their refusals.
-use Rattle.std.proofs.Common.{◌≡◌, ◌∙◌, Bool, true, false, None, Result, Ok, Err, ap, refl, subst, sym}
-use Rattle.std.specs.Prelude.{ℕ, ◌^◌, IfOk, if◌then◌else◌}
+use Rattle.std.proofs.Common.{◌≡◌, ◌∙◌, ◌<◌, Bool, List, length, nat_lt, true, false, Option, Some, None, Result, Ok, Err, ap, ap₂, arith, inl, inr, suc, zero, refl, subst, sym}
+use Rattle.std.specs.Prelude.{ℕ, ◌==◌, ◌⊎◌, ◌||◌, ◌^◌, IfOk, if◌then◌else◌}
+use Rattle.std.specs.Borrow.{Bor}
+use Rattle.std.specs.List.{after_first, before_first, position_or_len}
+use Rattle.clap.specs.Words.{Text}
 use Rattle.cc_word.specs.declared.refusal.Refusal.{Refusal}
 use Rattle.cc_word.specs.declared.refusal.Refusal.TheVariants.{Syntax}
 use Rattle.cc_bounds.specs.declared.align.Align.{Align}
 use Rattle.cc_bounds.specs.declared.span.Span.{Span}
-use Rattle.cc_values.specs.Values.{both}
+use Rattle.cc_command.specs.Request.{request_in}
+use Rattle.cc_values.specs.Values.{address_in, both}
 use Rattle.cc_heap.specs.declared.policy.Policy.{Policy}
 use Rattle.cc_formats.specs.declared.formats.TraceFormat.{TraceFormat}
 use Rattle.cc_formats.specs.declared.reading.Reading.{Reading}
@@ -15,7 +19,7 @@ use Rattle.cc_heap.specs.declared.reallocation.Reallocation.TheVariants.{Move}
 use Rattle.cc_heap.specs.declared.settings.Settings.{Settings}
 use Rattle.cc_console.specs.declared.invocation.ReplayTexts.{ReplayTexts}
 use Rattle.cc_explain.specs.Refused.{changed}
-use Rattle.cc_traces.specs.ReplayTexts.{are_two, each_in, format_in, least_in, realloc_in, replay_in, span_given, sweep_in}
+use Rattle.cc_traces.specs.ReplayTexts.{are_two, each_in, format_in, least_in, not_zero, realloc_in, replay_in, span_given, span_in, sweep_in}
 
 -- Both values are those of the two results.
 pub parts_of_both : {A B : Type 0} (first : Result A Refusal) (second : Result B Refusal) (found : A × B) → both first second ≡ Ok found
@@ -87,3 +91,45 @@ pub replay_found : (align : Align) (strict : Bool) (texts : ReplayTexts) (policy
       record { format = format; is_strict = strict; each = each },
     ) ≡ replay_in align strict texts
 replay_found align strict texts policy least each pool format realloc told = ap (changed _) (sym told)
+
+-- The span of a text with a colon, and the refusal of one without.
+pub span_split : (text base size : List ℕ) (result : Result Span Refusal) → base ≡ before_first (λ byte. byte == 58) text → size ≡ after_first (λ byte. byte == 58) text
+    → position_or_len (λ byte. byte == 58) text < length text → result ≡ request_in base size → result ≡ span_in text
+span_split text base size result b s within is =
+    let test : nat_lt (position_or_len (λ byte. byte == 58) text) (length text) ≡ true = grind arith in
+    is ∙ ap₂ request_in b s ∙ rw test refl
+
+pub span_unsplit : (text : List ℕ) → position_or_len (λ byte. byte == 58) text ≡ length text → Err Syntax ≡ span_in text
+span_unsplit text none =
+    let test : nat_lt (position_or_len (λ byte. byte == 58) text) (length text) ≡ false = grind arith in
+    rw test refl
+
+-- ---- the number of `--each`
+
+any_given : (sizes svg script : Bool)
+    → (sizes ≡ true) ⊎ (((sizes ≡ false) × (svg ≡ true)) ⊎ ((sizes ≡ false) × (svg ≡ false) × (script ≡ true))) → sizes || (svg || script) ≡ true
+any_given true svg script any = refl
+any_given false true script any = refl
+any_given false false true any = refl
+any_given false false false any = elim any [ inl e ↦ cc e | inr rest ↦ elim rest [ inl e ↦ cc e.1 | inr e ↦ cc e.2 ] ]
+
+-- A series beside another output.
+pub each_excluded : (sizes svg script : Bool) (text : Option (Bor Text)) (found : Bor Text) → text ≡ Some found
+    → (sizes ≡ true) ⊎ (((sizes ≡ false) × (svg ≡ true)) ⊎ ((sizes ≡ false) × (svg ≡ false) × (script ≡ true)))
+    → Err Syntax ≡ each_in sizes svg script text
+each_excluded sizes svg script text found is any = rw (is, any_given sizes svg script any) refl
+
+-- The number of a series.
+pub each_read : (sizes svg script : Bool) (text : Option (Bor Text)) (found : Bor Text) (read : Result ℕ Refusal) → text ≡ Some found
+    → (sizes ≡ false) × (svg ≡ false) × (script ≡ false) → read ≡ address_in found.now → not_zero read ≡ each_in sizes svg script text
+each_read sizes svg script text found read is none reads = rw (reads, is, none.0, none.1, none.2) refl
+
+-- No series.
+pub none_asked : (sizes svg script two : Bool) (text : Option (Bor Text)) → text ≡ None → two ≡ are_two sizes svg script
+    → (if two then Err Syntax else Ok 0) ≡ each_in sizes svg script text
+none_asked sizes svg script two text is two_is = rw (two_is, is) refl
+
+-- A number of a series that is not 0.
+pub not_zero_some : (number : ℕ) → (number ≡ 0 → ⊥) → Ok number ≡ not_zero (Ok number)
+not_zero_some zero some = absurd (some refl)
+not_zero_some (suc less) some = refl

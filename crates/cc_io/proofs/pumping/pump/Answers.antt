@@ -1,4 +1,4 @@
-use Rattle.std.proofs.Common.{rules, ◌≡◌, ◌||◌, Bool, Ok, ℕ, List, take, subst, sym}
+use Rattle.std.proofs.Common.{rules, ◌≡◌, ◌||◌, ◌↔◌, ◌∙◌, Bool, true, false, Ok, ℕ, List, take, subst, sym, refl}
 use Rattle.std.specs.Io.KnownBytes.{Consumes, Appends}
 use Rattle.cc_io.specs.Devices.{TakesBeginning}
 use Rattle.cc_io.specs.Answers.{EndsWith}
@@ -6,6 +6,14 @@ use Rattle.cc_io.specs.Correct.{Pumps}
 use Rattle.cc_io.proofs.DeviceLemmas.{keeps_consumes}
 use Rattle.cc_io.proofs.EngineLemmas.{reads_begins, stops_pending, reads_more, fails_reading, stops_reading, ends, stops_ending}
 use Rattle.cc_io.proofs.pumping.pump.Goals as goal
+
+-- a result is this failure if and only if the device has failed: neither is so, or both are
+neither_failed : {R : Type 0} (result failure : R) (failed : Bool) → (failed ≡ true → false ≡ true) → (result ≡ failure → ⊥)
+    → (result ≡ failure) ↔ (failed ≡ true)
+neither_failed result failure failed works other = (λ is. absurd (other is), λ h. let no = works h in absurd (cc (no)))
+
+both_failed : {R : Type 0} (failure : R) (failed : Bool) → failed ≡ true → (failure ≡ failure) ↔ (failed ≡ true)
+both_failed failure failed fails = (λ _. fails, λ _. refl)
 
 pub pieces-init : goal.pieces-init
 pieces-init g c = record {
@@ -61,3 +69,36 @@ returns-in-Err-write_last-clause-pumps g c =
     stops_ending _ _ _ _ _ _ _ _ _ _ _ _ _ _ _ _ _ ended.ending c.pieces.invariant.reads nothing (given.1 none (search rules))
     (subst (λ (start : List ℕ). EndsWith g.A.Answerer.Ended c.pieces.answerer start ended.ending c.end_rest-end_error.new.answerer) c.as_slice.ensures ended.ends)
     (subst (λ (l : List ℕ). TakesBeginning (g.W.Sink.taken_bytes c.pieces.sink) (g.W.Sink.taken_bytes c.write_last.new.sink) l) ended.text_is c.in-Err-write_last.ensures.err)
+
+pub returns-in-Err-clause-read : goal.returns-in-Err-clause-read
+returns-in-Err-clause-read g c = neither_failed _ _ _ (λ h. sym c.requires.source ∙ h) (λ is. cc (is))
+
+pub returns-in-Err-clause-write : goal.returns-in-Err-clause-write
+returns-in-Err-clause-write g c = both_failed _ _ (c.in-Err.ensures.fails.0 refl)
+
+pub returns-in-Err-read-clause-read : goal.returns-in-Err-read-clause-read
+returns-in-Err-read-clause-read g c = both_failed _ _ (c.in-Err-read.ensures.fails.0 refl)
+
+pub returns-in-Err-read-clause-write : goal.returns-in-Err-read-clause-write
+returns-in-Err-read-clause-write g c = neither_failed _ _ _ (λ h. sym c.pieces.invariant.takes ∙ h) (λ is. cc (is))
+
+pub returns-in-Err-take_piece-clause-read : goal.returns-in-Err-take_piece-clause-read
+returns-in-Err-take_piece-clause-read g c = neither_failed _ _ _ c.in-Ok-read.ensures.fails.1 (λ is. cc (is))
+
+pub returns-in-Err-take_piece-clause-write : goal.returns-in-Err-take_piece-clause-write
+returns-in-Err-take_piece-clause-write g c = both_failed _ _ (c.in-Err-take_piece.ensures.fails.0 refl)
+
+pub returns-in-Ok-write_last-clause-read : goal.returns-in-Ok-write_last-clause-read
+returns-in-Ok-write_last-clause-read g c = neither_failed _ _ _ c.in-Ok-read.ensures.fails.1 (λ is. cc (is))
+
+pub returns-in-Ok-write_last-clause-write : goal.returns-in-Ok-write_last-clause-write
+returns-in-Ok-write_last-clause-write g c = neither_failed _ _ _ c.in-Ok-write_last.ensures.fails.1 (λ is. cc (is))
+
+pub returns-in-Ok-write_last-clause-flushed : goal.returns-in-Ok-write_last-clause-flushed
+returns-in-Ok-write_last-clause-flushed g c = c.in-Ok-write_last.ensures.flushed
+
+pub returns-in-Err-write_last-clause-read : goal.returns-in-Err-write_last-clause-read
+returns-in-Err-write_last-clause-read g c = neither_failed _ _ _ c.in-Ok-read.ensures.fails.1 (λ is. cc (is))
+
+pub returns-in-Err-write_last-clause-write : goal.returns-in-Err-write_last-clause-write
+returns-in-Err-write_last-clause-write g c = both_failed _ _ (c.in-Err-write_last.ensures.fails.0 refl)

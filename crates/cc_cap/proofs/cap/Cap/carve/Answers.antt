@@ -33,3 +33,8 @@ returns-clause-derived c =
           (carved-made cap c.args.span c.of_sound.result c.of_sound.ensures)
           derived.1,
     )
+
+pub returns-clause-made : goal.returns-clause-made
+returns-clause-made c =
+    let granted = ap (λ (set : Encoding). set.granted) c.of_sound.ensures in
+    λ i. record (c.self.view_is i) { span = granted i; address = c.args.span.base }

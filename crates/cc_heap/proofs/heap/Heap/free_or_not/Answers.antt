@@ -1,0 +1,18 @@
+use Rattle.std.proofs.Common.{◌≡◌, Bool, true, false, not, if◌then◌else◌, None, refl}
+use Rattle.cc_heap.specs.Events.{outcome_of}
+use Rattle.cc_heap.proofs.heap.Heap.free_or_not.Goals as goal
+
+-- what is told of the id
+told : (is_live : Bool) → outcome_of false (not is_live) None ≡ outcome_of false (if is_live then false else true) None
+told true = refl
+told false = refl
+
+pub returns-clause-frees : goal.returns-clause-frees
+returns-clause-frees g c = record {
+  is_live = c.free-is_live.result;
+  frees = c.free-is_live.ensures.frees;
+  is_told = told c.free-is_live.result;
+}
+
+pub returns-clause-sound : goal.returns-clause-sound
+returns-clause-sound g c = c.free-is_live.ensures.sound
