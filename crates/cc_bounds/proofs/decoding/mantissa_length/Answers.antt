@@ -27,7 +27,7 @@ bit_small false = omega arith
 top_mantissa : (fields : Fields) (top base bit : ℕ) → top ≡ without_exponent fields.ie fields.t → base ≡ base_mantissa fields
     → bit ≡ bool_byte fields.ie
     → IsTopMantissa fields
-      ((base_mantissa fields + bit_or (bit * 4096 % 65536) (bit_and ((top + (65536 - base)) % 65536) 4095)) % 2 ^ 14)
+    ((base_mantissa fields + bit_or (bit * 4096 % 65536) (bit_and ((top + (65536 - base)) % 65536) 4095)) % 2 ^ 14)
 top_mantissa fields top base bit is_top is_base is_bit =
     let sum : ℕ = (top + (65536 - base)) % 65536 in
     let is = joined fields.ie bit sum is_bit in
