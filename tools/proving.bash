@@ -214,8 +214,8 @@ is_ready() {
 }
 
 # Begins the proofs for which there are slots, first of the crates with the longest chain above. If fewer crates are ready than there
-# are slots, they have several jobs each. The crate that begins last has two jobs even if one slot is free, since the proofs next to
-# it end before it, and then only the program is left.
+# are slots, they have several jobs each. Of more than two slots, the crate that begins last takes two even if one is free: the proofs
+# next to it end before it, and then only the program is left.
 begin_ready() {
   local name ready=() later=() free=$slots jobs
   for name in "${!running[@]}"; do free=$((free - jobs_of[$name])); done
