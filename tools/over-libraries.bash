@@ -49,3 +49,10 @@ build_over() {
 prove_over() {
   compile "$1" "$2" "$3" src/lib.rt --statements --jobs "$4" -o "$1/$3.rlib"
 }
+
+# Sets `flags` to those by which a crate of a copy is built over what tools/build-apart proved of it in this run of CI, for another
+# processor. There are none if that is not in the directory:  reuse DIRECTORY COPY CRATE
+reuse() {
+  flags=()
+  [[ ! -d $1/$3.kept ]] || { cp -a -- "$1/$3.kept" "$2/$3.kept" && flags=(--incremental "$2/$3.kept"); }
+}
