@@ -11,10 +11,11 @@ use Rattle.cc_machine.specs.State.IsAncestor.{parent_of, above_parent}
 use Rattle.cc_machine.specs.Objects.{IsObject, BelongsTo}
 use Rattle.cc_machine.specs.ObjectLaws.{HangsFromPool, HasDisjointObjects, KeepsObjectLaws}
 use Rattle.cc_machine.specs.Run.{Run, IsReached}
+use Rattle.cc_machine.specs.Safety.{IsSafe}
 use Rattle.cc_machine.proofs.SlotLemmas.{IsSlot-same, IsSlot-within, slot_at, ancestor-before, IsParent-one}
 use Rattle.cc_machine.proofs.GrowthLemmas.{Effect, Step-effect}
 use Rattle.cc_machine.proofs.GrowthLemmas.Effect.{stays, grows, gives, makes, frees, sweeps}
-use Rattle.cc_machine.proofs.TreeLemmas.{Keeps, Keeps-initial, Keeps-effect, Keeps-run, Keeps-reached, less-above}
+use Rattle.cc_machine.proofs.TreeLemmas.{IsMonotonicTree-reached, Keeps, Keeps-initial, Keeps-effect, Keeps-run, Keeps-reached, less-above}
 use Rattle.cc_machine.proofs.ObjectTreeLemmas.{KeepsObjects, KeepsObjects-none, KeepsObjects-with_slot, no-objects}
 use Rattle.cc_machine.proofs.ObjectMadeLemmas.{KeepsObjects-with_object, KeepsObjects-given}
 use Rattle.cc_machine.proofs.ObjectFreedLemmas.{KeepsObjects-freed}
@@ -172,3 +173,8 @@ KeepsObjectLaws-run old new ops replies reached run =
     let keeps = Keeps-reached old reached in
     KeepsObjectLaws-kept new (Keeps-run old new ops replies keeps run)
     (KeepsObjects-run old new ops replies keeps (KeepsObjects-reached old reached) run)
+
+pub IsSafe-reached : (state : State) → IsReached state → IsSafe state
+IsSafe-reached state reached =
+    let objects = KeepsObjectLaws-reached state reached in
+    record { tree = IsMonotonicTree-reached state reached; disjoint = objects.disjoint; exact = objects.exact }

@@ -67,6 +67,7 @@ impl Machine {
     ghost use Rattle.cc_machine.specs.Run.{Run, IsReached};
     ghost use Rattle.cc_machine.specs.Laws.{IsMonotonicTree, HasSealingAuthority};
     ghost use Rattle.cc_machine.specs.ObjectLaws.{KeepsObjectLaws};
+    ghost use Rattle.cc_machine.specs.Safety.{IsSafe};
     ghost use Rattle.cc_machine.specs.Confinement.{IsRefused, RunsWithin, IsConfined};
     ghost use Rattle.cc_machine.specs.Reach.{ReachesAll};
 
@@ -111,6 +112,7 @@ impl Machine {
     pub fn slots(&self) -> u32
         ensures count { result ≡ length self.now.slots }
         ensures reached { IsReached self.now }
+        ensures safe { IsSafe self.now }
     {
         self.slots.len() as u32
     }
