@@ -15,7 +15,7 @@ ghost use Rattle.cc_values.specs.Values.{OneJoin};
 ghost use Rattle.cc_session.specs.Output.{commands_of, TakesAll, ScriptOutput, operations_of, operation_replies};
 ghost use Rattle.cc_session.specs.Laws.{TakesAllWithin};
 ghost use Rattle.cc_laws.specs.ScriptParts.{EndsLine, OutputInParts};
-ghost use Rattle.cc_session.specs.Correct.{StopsInReply, StopsAfterLines, BeginsOutput};
+ghost use Rattle.cc_session.specs.Failures.{StopsInReplies, StopsAfterLines, BeginsOutput};
 
 /// Proves that the tokens of a line, with one space between each two, are the line, and that no
 /// other tokens are.
@@ -77,7 +77,7 @@ pub fn output_in_parts()
 
 /// Proves that, if a sink failed, the bytes that it took are a prefix of the script's output.
 pub fn stopped_output_begins()
-    ensures { (old new : State) (opening : List Op) (text : List ℕ) (taken taken_now : Option (List ℕ))
-        → StopsInReply old (commands_of opening text) (Appends taken taken_now) new ⊎ StopsAfterLines old opening text (Appends taken taken_now) new
+    ensures { (room : ℕ) (old new : State) (opening : List Op) (text : List ℕ) (taken taken_now : Option (List ℕ))
+        → StopsInReplies room old (commands_of opening text) (Appends taken taken_now) new ⊎ StopsAfterLines old opening text (Appends taken taken_now) new
         → BeginsOutput old opening text (Appends taken taken_now) }
 {}

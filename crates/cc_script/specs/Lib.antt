@@ -1,3 +1,2 @@
 -- In reading order.
 pub mod Operations
-pub mod LentLines

@@ -1,5 +1,5 @@
 -- A script has one output. If the sink failed, the bytes taken are a prefix of it.
-use Rattle.std.proofs.Common.{◌≡◌, ℕ, Bool, ◌+◌, List, [], ◌∷◌, ◌++◌, length, take, refl, sym, ◌∙◌, ap, subst, append_assoc, append-nil, Option, Result, Ok, Err, inl, inr, not, ◌||◌, ◌==◌, ◌⊎◌}
+use Rattle.std.proofs.Common.{◌≡◌, ℕ, Bool, ◌+◌, List, [], ◌∷◌, ◌++◌, length, take, refl, sym, ◌∙◌, ap, subst, append_assoc, Option, Result, Ok, Err, inl, inr, not, ◌||◌, ◌==◌, ◌⊎◌}
 use Rattle.std.proofs.lemmas.List.{take-append-le}
 use Rattle.std.proofs.Math.Seq.{take-append-add}
 use Rattle.std.specs.Io.KnownBytes.{Appends}
@@ -10,9 +10,9 @@ use Rattle.cc_values.specs.declared.reply.Reply.{Reply}
 use Rattle.cc_machine.specs.State.{State}
 use Rattle.cc_machine.proofs.OutcomeLemmas.{Step-one, IsSameOutcome, IsSameRun}
 use Rattle.cc_io.specs.Lines.{rest_of}
-use Rattle.cc_syntax.specs.Replies.{reply_text, is_error}
-use Rattle.cc_session.specs.Output.{commands_of, Takes, TakesAll, ScriptOutput, with_line_feed, replies_text, rest_text}
-use Rattle.cc_session.specs.Correct.{StopsInReply, StopsInReplies, StopsAfterLines, BeginsOutput}
+use Rattle.cc_syntax.specs.Replies.{is_error}
+use Rattle.cc_session.specs.Output.{commands_of, Takes, TakesAll, ScriptOutput, replies_text, rest_text}
+use Rattle.cc_session.specs.Failures.{StopsInReplies, StopsAfterLines, BeginsOutput}
 use Rattle.cc_session.proofs.ReplyLemmas.{takes_further, replies_text-append}
 
 -- ---- one output
@@ -97,26 +97,8 @@ output_from old new end opening text output any_error earlier later replies comm
           ∙ append_assoc (replies_text replies) (replies_text parts.second) (rest_text (rest_of text)),
     )
 
-begins_in_reply : (old new end : State) (t u : Option (List ℕ)) (opening : List Op) (text output : List ℕ) (any_error : Bool)
-    → StopsInReply old (commands_of opening text) (Appends t u) new → ScriptOutput old opening text output any_error end
-    → (count : ℕ) × Appends t u (take count output)
-begins_in_reply old new end t u opening text output any_error s whole =
-    let reply : List ℕ = with_line_feed (reply_text s.reply) in
-    let front : List ℕ = replies_text s.replies in
-    let earlier : List (Result Op Refusal) = s.earlier ++ s.command ∷ [] in
-    let commands_are = s.commands_are ∙ sym (append_assoc s.earlier (s.command ∷ []) s.later) in
-    let before = takes_further old s.mid new s.earlier (s.command ∷ []) s.replies (s.reply ∷ []) s.before (new, s.last, refl) in
-    let is = output_from old new end opening text output any_error earlier s.later (s.replies ++ s.reply ∷ []) commands_are before whole in
-    let split : output ≡ front ++ (reply ++ is.0) =
-    is.1 ∙ ap (λ (l : List ℕ). l ++ is.0) (replies_text-append s.replies (s.reply ∷ []) ∙ ap (λ (l : List ℕ). front ++ l) (append-nil reply))
-    ∙ append_assoc front reply is.0 in
-    let part : take (length front + s.count) output ≡ front ++ take s.count reply =
-    ap (take (length front + s.count)) split ∙ take-append-add front (reply ++ is.0) s.count
-    ∙ ap (λ (l : List ℕ). front ++ l) (take-append-le s.count reply is.0 s.within) in
-    (length front + s.count, subst (λ (l : List ℕ). Appends t u l) (sym part) s.written)
-
 -- The bytes taken are a prefix of the output if replies were collected on a page.
-pub begins_in_replies : (room : ℕ) (old new end : State) (t u : Option (List ℕ)) (opening : List Op) (text output : List ℕ) (any_error : Bool)
+begins_in_replies : (room : ℕ) (old new end : State) (t u : Option (List ℕ)) (opening : List Op) (text output : List ℕ) (any_error : Bool)
     → StopsInReplies room old (commands_of opening text) (Appends t u) new → ScriptOutput old opening text output any_error end
     → (count : ℕ) × Appends t u (take count output)
 begins_in_replies room old new end t u opening text output any_error s whole =
@@ -144,9 +126,9 @@ begins_after_lines old new end t u opening text output any_error s whole =
     ap (take (length (replies_text s.replies) + s.count)) is ∙ take-append-add (replies_text s.replies) rest s.count in
     (length (replies_text s.replies) + s.count, subst (λ (l : List ℕ). Appends t u l) (sym part) s.written)
 
-pub stopped_begins : (old new : State) (opening : List Op) (text : List ℕ) (t u : Option (List ℕ))
-    → StopsInReply old (commands_of opening text) (Appends t u) new ⊎ StopsAfterLines old opening text (Appends t u) new → BeginsOutput old opening text (Appends t u)
-stopped_begins old new opening text t u (inl s) output any_error end whole =
-    begins_in_reply old new end t u opening text output any_error s whole
-stopped_begins old new opening text t u (inr s) output any_error end whole =
+pub stopped_begins : (room : ℕ) (old new : State) (opening : List Op) (text : List ℕ) (t u : Option (List ℕ))
+    → StopsInReplies room old (commands_of opening text) (Appends t u) new ⊎ StopsAfterLines old opening text (Appends t u) new → BeginsOutput old opening text (Appends t u)
+stopped_begins room old new opening text t u (inl s) output any_error end whole =
+    begins_in_replies room old new end t u opening text output any_error s whole
+stopped_begins room old new opening text t u (inr s) output any_error end whole =
     begins_after_lines old new end t u opening text output any_error s whole

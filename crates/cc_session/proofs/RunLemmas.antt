@@ -5,10 +5,11 @@ use Rattle.cc_word.specs.declared.refusal.Refusal.{Refusal}
 use Rattle.cc_values.specs.declared.op.Op.{Op}
 use Rattle.cc_machine.specs.State.{State}
 use Rattle.cc_machine.specs.Run.{Run, IsReached}
+use Rattle.cc_machine.specs.Safety.{IsSafe}
 use Rattle.cc_machine.specs.Confinement.{RunsWithin, IsConfined}
 use Rattle.cc_machine.proofs.RunLemmas.{IsReached-run}
 use Rattle.cc_machine.proofs.TreeLemmas.{Keeps-reached, IsMonotonicTree-reached, HasSealingAuthority-reached}
-use Rattle.cc_machine.proofs.ObjectLawLemmas.{KeepsObjectLaws-reached}
+use Rattle.cc_machine.proofs.ObjectLawLemmas.{IsSafe-reached, KeepsObjectLaws-reached}
 use Rattle.cc_machine.proofs.ReachLemmas.{ReachesAll-run}
 use Rattle.cc_machine.proofs.ConfinementLemmas.{IsConfined-run}
 use Rattle.cc_machine.proofs.ObjectConfinementLemmas.{confined-to-object}
@@ -16,6 +17,7 @@ use Rattle.cc_machine.specs.declared.object.Object.{Object}
 use Rattle.cc_machine.specs.Objects.{IsHeldObject}
 use Rattle.cc_machine.specs.ObjectConfinement.{AreOfObject, IsConfinedToObject}
 use Rattle.cc_session.specs.Output.{Takes, TakesAll, with_operation, with_reply, operations_of, operation_replies}
+use Rattle.cc_session.specs.Main.{IsBetween}
 use Rattle.cc_session.specs.Laws.{TakesWithin, TakesAllWithin, KeepsLaws}
 
 -- ---- the operations among commands
@@ -73,6 +75,11 @@ commands_confined_to_object given a b commands replies number object reached hel
     let r = commands_within given a a b commands replies t in
     confined-to-object given a b (operations_of commands) r.0 number object reached held own r.1
 
+-- Each state between commands is safe, if the first of all is a reached one.
+pub between_safe : (old : State) (commands : List (Result Op Refusal)) (state : State) → IsReached old → IsBetween old commands state → IsSafe state
+between_safe old commands state reached between =
+    IsSafe-reached state (commands_reach old state between.taken between.replies reached between.takes)
+
 -- Machines are in reached states, and these keep the laws.
 pub laws_kept : (a b : State) → IsReached a → IsReached b → KeepsLaws a b
 laws_kept a b before after = record {
@@ -82,3 +89,7 @@ laws_kept a b before after = record {
   confined = λ given commands replies within. commands_confined given a b commands replies before within;
   reaches = λ commands replies run. ReachesAll-run a b (operations_of commands) replies (Keeps-reached a before) run;
 }
+
+-- A machine that is between two commands keeps the laws.
+pub laws_after : (old new : State) (commands : List (Result Op Refusal)) → IsReached old → IsBetween old commands new → KeepsLaws old new
+laws_after old new commands reached between = laws_kept old new reached (commands_reach old new between.taken between.replies reached between.takes)

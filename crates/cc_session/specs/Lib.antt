@@ -1,7 +1,9 @@
 -- In reading order.
 pub mod Output
+pub mod Main
+pub mod Failures
 pub mod Laws
-pub mod Correct
 pub mod Answering
 pub mod Lent
 pub mod Session
+pub mod Lending

@@ -1,5 +1,6 @@
 -- A machine that replies to the lines of a script, and the counts of its replies.
-use Rattle.std.specs.Prelude.{◌≡◌, ℕ, Bool, List, [], ◌∷◌, ◌++◌, map, take, Option, Result, Ok, OnOk}
+use Rattle.std.specs.Prelude.{◌≡◌, ◌≤◌, ◌<◌, ℕ, Bool, List, [], ◌∷◌, ◌++◌, length, map, Option, Result, Ok, OnOk}
+use Rattle.std.specs.Io.KnownBytes.{Appends}
 use Rattle.std.specs.List.{list_any}
 use Rattle.cc_word.specs.declared.refusal.Refusal.TheVariants.{Unfinished}
 use Rattle.cc_io.specs.Lines.{lines_of, rest_of}
@@ -10,52 +11,40 @@ use Rattle.cc_values.specs.declared.reply.Reply.{Reply}
 use Rattle.cc_values.specs.declared.reply.Reply.TheVariants.{Refused}
 use Rattle.cc_machine.specs.State.{State}
 use Rattle.cc_machine.specs.Step.{Step}
-use Rattle.cc_session.specs.Answering.{AnswersLine, RefusesRest}
 use Rattle.cc_syntax.specs.Commands.{operation_of}
-use Rattle.cc_session.specs.Correct.{AnswersScript, RunsScript, IoState, StopsInReplies}
+use Rattle.cc_session.specs.Main.{IoState, Main}
+use Rattle.cc_session.specs.Failures.{Fails, LastFits, StopsInReplies}
 use Rattle.cc_session.specs.Output.{TakesAll, with_line_feed, replies_text}
 use Rattle.cc_syntax.specs.Replies.{reply_text, is_error}
 use Rattle.cc_syntax.specs.Tally.{Exchange, IsTally}
 use Rattle.cc_syntax.specs.declared.tally.Tally.{Tally}
 
--- The state of a session.
-pub record SessionState : Type 0 where
-  pub machine : State
-  pub tally : Tally
-
--- SessionAnswers holds if the machine replies to the line, and the tally counts the reply. `line`
--- is the first 129 bytes of the line.
-pub record SessionAnswers (old : SessionState) (line text : List ℕ) (error : Bool) (new : SessionState) : Type 0 where
-  pub answered : AnswersLine old.machine line text error new.machine
-  pub counted :
-      (opening : List Reply) (exchanges : List Exchange) (whole : List ℕ) → line ≡ take 129 whole → IsTally opening exchanges old.tally
-      → IsTally opening (exchanges ++ record { line = whole; reply = answered.reply } ∷ []) new.tally
-
--- SessionRefuses holds if trailing bytes are refused as an unfinished line, and the tally counts
--- the refusal.
-pub record SessionRefuses (old : SessionState) (rest text : List ℕ) (error : Bool) (new : SessionState) : Type 0 where
-  pub answered : RefusesRest old.machine rest text error new.machine
-  pub counted :
-      (opening : List Reply) (exchanges : List Exchange) → IsTally opening exchanges old.tally
-      → IsTally opening (exchanges ++ record { line = []; reply = Refused Unfinished } ∷ []) new.tally
-
 -- TakesOperation holds if the machine takes the operation, its reply is appended to the page, and
 -- the tally counts it.
-pub record TakesOperation (old : SessionState) (op : Op) (page page_now : List ℕ) (error : Bool) (new : SessionState) : Type 0 where
+pub record TakesOperation (old : State) (tally : Tally) (op : Op) (page page_now : List ℕ) (error : Bool) (new : State) (tally_now : Tally) : Type 0 where
   pub reply : Reply
-  pub step : Step old.machine op reply new.machine
+  pub step : Step old op reply new
   pub page_is : page_now ≡ page ++ with_line_feed (reply_text reply)
   pub error_is : error ≡ is_error reply
-  pub counted : (opening : List Reply) → IsTally opening [] old.tally → IsTally (opening ++ reply ∷ []) [] new.tally
+  pub counted : (opening : List Reply) → IsTally opening [] tally → IsTally (opening ++ reply ∷ []) [] tally_now
 
--- OpensSession holds if the machine took the setup operations, the page has their replies, and the
--- tally counts them.
-pub record OpensSession (old : SessionState) (ops : List Op) (page : List ℕ) (any_error : Bool) (new : SessionState) : Type 0 where
+-- Opens holds if the machine took the setup operations, the replies to the first of them were
+-- written, the page has the others, and the tally counts all.
+pub record Opens (room : ℕ) (old : State) (tally : Tally) (ops : List Op) (page : List ℕ) (taken taken_now : Option (List ℕ)) (any_error : Bool) (new : State) (tally_now : Tally) : Type 0 where
+  pub earlier : List Op
+  pub on_page : List Op
+  pub ops_are : ops ≡ earlier ++ on_page
   pub replies : List Reply
-  pub takes : TakesAll old.machine (map Ok ops) replies new.machine
-  pub page_is : page ≡ replies_text replies
-  pub error_is : any_error ≡ list_any is_error replies
-  pub counted : IsTally [] [] old.tally → IsTally replies [] new.tally
+  pub mid : State
+  pub before : TakesAll old (map Ok earlier) replies mid
+  pub written : Appends taken taken_now (replies_text replies)
+  pub waiting : List Reply
+  pub takes : TakesAll mid (map Ok on_page) waiting new
+  pub page_is : page ≡ replies_text waiting
+  pub fits : length page ≤ room
+  pub last : 0 < length page → LastFits room waiting
+  pub error_is : any_error ≡ list_any is_error (replies ++ waiting)
+  pub counted : IsTally [] [] tally → IsTally (replies ++ waiting) [] tally_now
 
 -- The lines of a script, each with its reply.
 abbrev pub exchanges_of : (lines : List (List ℕ)) → (replies : List Reply) → List Exchange
@@ -80,14 +69,9 @@ pub record CountsRun (old : State) (opening : List Op) (text : List ℕ) (tally 
   pub exchanges_are : exchanges ≡ exchanges_of (lines_of text) replies ++ rest_exchange (rest_of text)
   pub is_tally : IsTally first exchanges tally
 
--- AnswersSession holds if the bytes written are the machine's output, up to a failure. If the run
--- succeeds, the tally at the end has counted the replies of this run.
-pub record AnswersSession (room : ℕ) (old : State) (opening : List Op) (to_come left : Option (List ℕ)) (Wrote : List ℕ → Type 0) (result : Result Summary IoError) (tally : Tally) (new : State) : Type 0 where
-  pub answers : AnswersScript (StopsInReplies room) old opening to_come left Wrote result new
-  pub counts : OnOk result (CountsRun old opening answers.given tally new)
-
 -- RunsSession holds if a run is that of the script, on a page of `room` bytes. If the run succeeds,
 -- the tally at the end has counted the replies of this run.
 pub record RunsSession (room : ℕ) (opening : List Op) (before : IoState) (result : Result Summary IoError) (tally : Tally) (after : IoState) : Type 0 where
-  pub runs : RunsScript (StopsInReplies room) opening before result after
-  pub counts : OnOk result (CountsRun before.machine opening runs.answers.given tally after.machine)
+  pub main : Main opening before result after
+  pub fails : Fails (StopsInReplies room) opening main.text before result after
+  pub counts : OnOk result (CountsRun before.machine opening main.text tally after.machine)

@@ -2,8 +2,11 @@
 #![tactic(auto)]
 
 mod answering;
+mod lent;
+mod running;
 mod session;
 
 pub use answering::{answer_line, is_refusal};
 pub use cc_io::Summary;
-pub use session::{Session, run_session};
+pub use running::run_session;
+pub use session::Session;

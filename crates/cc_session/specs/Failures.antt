@@ -1,25 +1,19 @@
--- The theorem of a script's run: the state before it, its output and result, and the state after
--- it.
-use Rattle.std.specs.Prelude.{◌≡◌, ℕ, ◌≤◌, ◌<◌, ◌↔◌, Bool, true, List, [], ◌∷◌, ◌++◌, length, take, Option, IfSome, Result, Ok, Err, OnOk, ◌⊎◌}
-use Rattle.std.specs.Io.KnownBytes.{Appends, Consumes}
+-- The bytes that a run wrote if the source or the sink failed.
+use Rattle.std.specs.Prelude.{◌≡◌, ℕ, ◌+◌, ◌≤◌, Bool, List, [], ◌∷◌, ◌++◌, length, take, IfErr, IfSome, Result, ◌⊎◌}
+use Rattle.std.specs.Io.KnownBytes.{Appends}
 use Rattle.cc_word.specs.declared.refusal.Refusal.{Refusal}
-use Rattle.cc_values.specs.declared.op.Op.{Op}
-use Rattle.cc_values.specs.declared.reply.Reply.{Reply}
-use Rattle.cc_machine.specs.State.{State}
 use Rattle.cc_io.specs.Lines.{rest_of}
-use Rattle.cc_syntax.specs.Replies.{reply_text}
-use Rattle.cc_session.specs.Output.{commands_of, Takes, TakesAll, with_line_feed, replies_text, rest_text, ScriptOutput}
 use Rattle.cc_io.specs.declared.summary.IoError.{IoError}
 use Rattle.cc_io.specs.declared.summary.IoError.TheVariants.{Read, Write}
 use Rattle.cc_io.specs.declared.summary.Summary.{Summary}
+use Rattle.cc_values.specs.declared.op.Op.{Op}
+use Rattle.cc_values.specs.declared.reply.Reply.{Reply}
+use Rattle.cc_machine.specs.State.{State}
+use Rattle.cc_syntax.specs.Replies.{reply_text}
+use Rattle.cc_session.specs.Output.{commands_of, Takes, TakesAll, with_line_feed, replies_text, rest_text, ScriptOutput}
+use Rattle.cc_session.specs.Main.{IoState, Main}
 
 -- ---- The bytes written for a script. `Wrote bytes` says that the sink took these bytes.
-
--- WritesWholeOutput holds if the whole output was written.
-pub record WritesWholeOutput (old : State) (opening : List Op) (text : List ℕ) (Wrote : List ℕ → Type 0) (any_error : Bool) (new : State) : Type 0 where
-  pub output : List ℕ
-  pub of_text : ScriptOutput old opening text output any_error new
-  pub written : Wrote output
 
 -- WritesReplies holds if the replies to the setup operations and to the lines of the text were
 -- written, and nothing for trailing bytes.
@@ -44,20 +38,29 @@ pub record StopsInReply (old : State) (commands : List (Result Op Refusal)) (Wro
   pub within : count ≤ length (with_line_feed (reply_text reply))
   pub written : Wrote (replies_text replies ++ take count (with_line_feed (reply_text reply)))
 
+-- LastFits holds if a reply of 193 bytes fits in `room` bytes after all the replies except the
+-- last.
+pub record LastFits (room : ℕ) (replies : List Reply) : Type 0 where
+  pub first : List Reply
+  pub last : Reply
+  pub replies_are : replies ≡ first ++ last ∷ []
+  pub fits : length (replies_text first) + 193 ≤ room
+
 -- StopsInReplies holds if the replies to the commands before some of them were written, and a
--- prefix of the replies to these. These replies are on a page of `room` bytes together. The machine
--- has taken all the commands on the page, and none after them.
+-- prefix of the replies to these. These replies are on a page of `room` bytes together, which had
+-- space for any reply before the last of them. The machine has taken all the commands on the page,
+-- and none after them.
 pub record StopsInReplies (room : ℕ) (old : State) (commands : List (Result Op Refusal)) (Wrote : List ℕ → Type 0) (new : State) : Type 0 where
   pub earlier : List (Result Op Refusal)
   pub on_page : List (Result Op Refusal)
   pub later : List (Result Op Refusal)
   pub commands_are : commands ≡ earlier ++ (on_page ++ later)
-  pub some : 0 < length on_page
   pub replies : List Reply
   pub mid : State
   pub before : TakesAll old earlier replies mid
   pub page : List Reply
   pub takes : TakesAll mid on_page page new
+  pub last : LastFits room page
   pub fits : length (replies_text page) ≤ room
   pub count : ℕ
   pub within : count ≤ length (replies_text page)
@@ -84,47 +87,23 @@ BeginsOutput old opening text Wrote =
 abbrev pub StopsAt : Type 1
 StopsAt = (old : State) → (commands : List (Result Op Refusal)) → (Wrote : List ℕ → Type 0) → (new : State) → Type 0
 
--- WritesScript holds if the bytes written for a script are those that the result says: the whole
--- output, or the part before the source or the sink failed. The source gave the bytes `given`, and
--- has `rest` unread.
-abbrev pub WritesScript : (Stops : StopsAt) → (old : State) (opening : List Op) (given rest : List ℕ) (Wrote : List ℕ → Type 0) → Result Summary IoError → (new : State) → Type 0
-WritesScript Stops old opening given rest Wrote (Ok summary) new =
-    (rest ≡ []) × WritesWholeOutput old opening given Wrote summary.any_error new
-WritesScript Stops old opening given rest Wrote (Err Read) new = WritesReplies old opening given Wrote new
-WritesScript Stops old opening given rest Wrote (Err Write) new =
-    (Stops old (commands_of opening given) Wrote new ⊎ ((rest ≡ []) × StopsAfterLines old opening given Wrote new))
-    × BeginsOutput old opening (given ++ rest) Wrote
+-- WritesPart holds if a part of the output was written. If the source failed, it is the replies to
+-- all commands. If the sink failed, it ends in replies to commands or, at the end of the source, in
+-- the refusal of trailing bytes, and is a prefix of the output for the bytes given and `rest`.
+abbrev pub WritesPart : (Stops : StopsAt) → (old : State) (opening : List Op) (text rest : List ℕ) (Wrote : List ℕ → Type 0) → IoError → (new : State) → Type 0
+WritesPart Stops old opening text rest Wrote Read new = WritesReplies old opening text Wrote new
+WritesPart Stops old opening text rest Wrote Write new =
+    (Stops old (commands_of opening text) Wrote new ⊎ ((rest ≡ []) × StopsAfterLines old opening text Wrote new))
+    × BeginsOutput old opening (text ++ rest) Wrote
 
--- AnswersScript holds if the bytes written belong to the script of the setup operations and then
--- the bytes that the source gave. If the source says its bytes, `given` and `rest` are those that
--- were unread. Otherwise nothing ties them to the bytes that were read.
-pub record AnswersScript (Stops : StopsAt) (old : State) (opening : List Op) (to_come left : Option (List ℕ)) (Wrote : List ℕ → Type 0) (result : Result Summary IoError) (new : State) : Type 0 where
-  pub given : List ℕ
+-- Fails holds if a run that failed wrote a part of the output for the bytes `text`, which the source
+-- gave, and `rest`. These are the bytes that it has left, if it says which they are.
+pub record Fails (Stops : StopsAt) (opening : List Op) (text : List ℕ) (before : IoState) (result : Result Summary IoError) (after : IoState) : Type 0 where
   pub rest : List ℕ
-  pub gave : Consumes to_come left given
-  pub stays : IfSome left (λ bytes. bytes ≡ rest)
-  pub writes : WritesScript Stops old opening given rest Wrote result new
+  pub stays : IfSome after.unread (λ bytes. bytes ≡ rest)
+  pub part : IfErr result (λ error. WritesPart Stops before.machine opening text rest (Appends before.taken after.taken) error after.machine)
 
--- ---- The theorem.
-
--- The state of the machine, of the source and of the sink in a run. `unread` has the bytes that the
--- source has left, and `taken` those that the sink has taken, if source and sink say which they
--- are. The other fields say whether the sink is flushed, and whether a call of each has failed.
-pub record IoState : Type 0 where
-  pub machine : State
-  pub unread : Option (List ℕ)
-  pub source_failed : Bool
-  pub taken : Option (List ℕ)
-  pub flushed : Bool
-  pub sink_failed : Bool
-
--- RunsScript holds if the machine took the setup operations and then the script that the source
--- gave. The bytes written are its replies, up to a failure of the source or the sink. The result is
--- `Read` if and only if the source failed, and `Write` if and only if the sink failed. If the run
--- succeeds, the sink is flushed at the end.
+-- RunsScript holds if the main theorem does, and a run that failed wrote a part of the output.
 pub record RunsScript (Stops : StopsAt) (opening : List Op) (before : IoState) (result : Result Summary IoError) (after : IoState) : Type 0 where
-  pub answers :
-      AnswersScript Stops before.machine opening before.unread after.unread (Appends before.taken after.taken) result after.machine
-  pub read : (result ≡ Err Read) ↔ (after.source_failed ≡ true)
-  pub write : (result ≡ Err Write) ↔ (after.sink_failed ≡ true)
-  pub flushed : OnOk result (after.flushed ≡ true)
+  pub main : Main opening before result after
+  pub fails : Fails Stops opening main.text before result after

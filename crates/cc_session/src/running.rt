@@ -1,0 +1,214 @@
+//! The run of a script from a source to a sink.
+ghost use Rattle.std.specs.Prelude.{◌≡◌, ◌+◌, ◌≤◌, ◌<◌, ◌↔◌, [], Err, IfOk, IsErr, OnErr, OnOk, false, length, map, Ok, true};
+ghost use Rattle.std.specs.Io.KnownBytes.{Appends};
+ghost use Rattle.cc_io.specs.Answers.{AnswersInto};
+ghost use Rattle.cc_io.specs.Devices.{TakesBeginning};
+ghost use Rattle.cc_io.specs.Engine.{PassesPage};
+ghost use Rattle.cc_machine.specs.Run.{IsReached};
+ghost use Rattle.cc_session.specs.Failures.{StopsInReplies};
+ghost use Rattle.cc_session.specs.Laws.{KeepsLaws};
+ghost use Rattle.cc_session.specs.Session.{Opens, RunsSession, TakesOperation};
+ghost use Rattle.cc_session.specs.Lending.{AnswersLine, RefusesRest};
+ghost use Rattle.cc_syntax.specs.Tally.{IsTally};
+
+use crate::answering::{answer_line, is_refusal};
+use crate::lent::Lent;
+use cc_io::{
+    Answerer, Failed, IoError, Lines, Page, Sink, Source, Summary, pump, refusal_bytes, write_all,
+};
+use cc_machine::{Machine, Op};
+use cc_syntax::{Tally, reply_line};
+use cc_word::Refusal;
+
+impl<const N: usize> Answerer<N> for Lent<'_> {
+    ghost Answered = { AnswersLine };
+
+    ghost Ended = { RefusesRest };
+
+    ghost MOST = { 193 };
+
+    #[inline(always)]
+    fn most() -> usize
+        ensures { result ≡ 193 }
+    {
+        193
+    }
+
+    #[inline(always)]
+    fn answer(&mut self, entry: &[u8], out: &mut Page<N>) -> bool
+        requires { length out.old + 193 ≤ N }
+        ensures { AnswersInto AnswersLine self.old entry.now out.old out.new result self.new }
+    {
+        match answer_line(self.machine, out, entry) {
+            Ok(()) => {
+                self.tally.take_line();
+                false
+            }
+            Err(refusal) => {
+                out.push(refusal_bytes(refusal));
+                self.tally.take_refused(entry, refusal);
+                true
+            }
+        }
+    }
+
+    fn end(&mut self, _rest: &[u8], out: &mut Page<N>) -> bool
+        requires { length out.old + 193 ≤ N }
+        ensures { AnswersInto RefusesRest self.old _rest.now out.old out.new result self.new }
+    {
+        out.push(refusal_bytes(Refusal::Unfinished));
+        self.tally.take_refused(b"", Refusal::Unfinished);
+        true
+    }
+}
+
+/// Runs the script that begins with these setup operations and continues with the bytes that the
+/// source gives.
+///
+/// The replies are collected on the page. It is written when one more reply might not fit, and
+/// before each read of the source. So each reply is written before the next line is taken if the
+/// page holds one reply, 193 bytes. The sink is flushed once, at the end. Allocates nothing.
+/// Whatever the result, the machine then keeps the laws of every run.
+///
+/// Requires: neither the source nor the sink has failed; no reply is counted yet; the page holds at
+/// least one reply.
+/// Errors: `Read` if and only if the source failed. The replies to all complete lines that it gave
+/// are then written, and the machine has taken these lines alone. `Write` if and only if the sink
+/// failed. A prefix of the output is then written. The machine has taken the line whose reply was
+/// cut, and at most the lines after it whose replies were on the same page.
+pub fn run_session<R: Source, W: Sink, const N: usize>(
+    opening: &[Op],
+    machine: &mut Machine,
+    tally: &mut Tally,
+    source: &mut R,
+    sink: &mut W,
+    page: &mut Page<N>,
+) -> Result<Summary, IoError>
+    requires source { R.has_failed source.old ≡ false }
+    requires sink { W.has_failed sink.old ≡ false }
+    requires fresh { IsTally [] [] tally.old }
+    requires room { 193 ≤ N }
+    ensures runs { RunsSession N opening.now
+        (record { machine = machine.old; unread = R.to_come source.old; taken = W.taken_bytes sink.old }) result tally.new
+        (record { machine = machine.new; unread = R.to_come source.new; taken = W.taken_bytes sink.new }) }
+    ensures read { (result ≡ Err IoError.Read) ↔ (R.has_failed source.new ≡ true) }
+    ensures write { (result ≡ Err IoError.Write) ↔ (W.has_failed sink.new ≡ true) }
+    ensures flushed { OnOk result (W.is_flushed sink.new ≡ true) }
+    ensures laws { KeepsLaws machine.old machine.new }
+{
+    tell_reached(machine);
+    let mut lent = Lent { machine, tally };
+    answer_script(opening, &mut lent, source, sink, page)
+}
+
+/// Proves the claim that holds for every machine: its state is one that a run leads to.
+fn tell_reached(machine: &Machine)
+    ensures { IsReached machine.now }
+{
+    let _ = machine.slots();
+}
+
+/// Replies to the setup operations, and then to the script.
+fn answer_script<R: Source, W: Sink, const N: usize>(
+    opening: &[Op],
+    lent: &mut Lent<'_>,
+    source: &mut R,
+    sink: &mut W,
+    page: &mut Page<N>,
+) -> Result<Summary, IoError>
+    requires source { R.has_failed source.old ≡ false }
+    requires sink { W.has_failed sink.old ≡ false }
+    requires reached { IsReached lent.old.machine.now }
+    requires fresh { IsTally [] [] lent.old.tally.now }
+    requires room { 193 ≤ N }
+    ensures same_machine { lent.new.machine.ghost_name ≡ lent.old.machine.ghost_name }
+    ensures same_tally { lent.new.tally.ghost_name ≡ lent.old.tally.ghost_name }
+    ensures runs { RunsSession N opening.now
+        (record { machine = lent.old.machine.now; unread = R.to_come source.old; taken = W.taken_bytes sink.old }) result lent.new.tally.now
+        (record { machine = lent.new.machine.now; unread = R.to_come source.new; taken = W.taken_bytes sink.new }) }
+    ensures laws { KeepsLaws lent.old.machine.now lent.new.machine.now }
+    ensures read { (result ≡ Err IoError.Read) ↔ (R.has_failed source.new ≡ true) }
+    ensures write { (result ≡ Err IoError.Write) ↔ (W.has_failed sink.new ≡ true) }
+    ensures flushed { OnOk result (W.is_flushed sink.new ≡ true) }
+{
+    page.clear();
+    let opening_error = match take_opening(opening, lent.machine, lent.tally, sink, page) {
+        Ok(is_error) => is_error,
+        Err(Failed) => return Err(IoError::Write),
+    };
+    match pump(&Lines, lent, source, sink, page) {
+        Ok(summary) => Ok(Summary {
+            any_error: opening_error | summary.any_error,
+        }),
+        Err(error) => Err(error),
+    }
+}
+
+/// Steps the machine by the setup operations. Their replies are on the empty page, which is written
+/// when one more might not fit. Returns whether a reply is an error.
+fn take_opening<W: Sink, const N: usize>(
+    opening: &[Op],
+    machine: &mut Machine,
+    tally: &mut Tally,
+    sink: &mut W,
+    page: &mut Page<N>,
+) -> Result<bool, Failed>
+    requires sink { W.has_failed sink.old ≡ false }
+    requires room { 193 ≤ N }
+    requires empty { page.old ≡ [] }
+    ensures ok { IfOk result (λ error.
+        Opens N machine.old tally.old opening.now page.new (W.taken_bytes sink.old) (W.taken_bytes sink.new) error machine.new tally.new) }
+    ensures err { OnErr result (
+        StopsInReplies N machine.old (map Ok opening.now) (Appends (W.taken_bytes sink.old) (W.taken_bytes sink.new)) machine.new) }
+    ensures fails { IsErr result ↔ (W.has_failed sink.new ≡ true) }
+{
+    let mut any_error = false;
+    for op in opening {
+        match make_room(page, sink) {
+            Ok(()) => {}
+            Err(Failed) => return Err(Failed),
+        }
+        any_error |= take_operation(op, machine, tally, page);
+    }
+    Ok(any_error)
+}
+
+/// Writes the page and clears it, if one more reply might not fit.
+fn make_room<W: Sink, const N: usize>(page: &mut Page<N>, sink: &mut W) -> Result<(), Failed>
+    requires sink { W.has_failed sink.old ≡ false }
+    requires room { 193 ≤ N }
+    ensures ok { OnOk result (PassesPage (W.taken_bytes sink.old) (W.taken_bytes sink.new) page.old page.new) }
+    ensures room { OnOk result (length page.new + 193 ≤ N) }
+    ensures err { OnErr result (TakesBeginning (W.taken_bytes sink.old) (W.taken_bytes sink.new) page.old) }
+    ensures some { OnErr result (0 < length page.old) }
+    ensures fails { IsErr result ↔ (W.has_failed sink.new ≡ true) }
+{
+    if 193 <= N - page.len() {
+        return Ok(());
+    }
+    match write_all(sink, page.bytes()) {
+        Ok(()) => page.clear(),
+        Err(Failed) => return Err(Failed),
+    }
+    Ok(())
+}
+
+/// Steps the machine by an operation, and appends the reply and a line feed to the page. Returns
+/// whether the reply is an error.
+fn take_operation<const N: usize>(
+    op: &Op,
+    machine: &mut Machine,
+    tally: &mut Tally,
+    page: &mut Page<N>,
+) -> bool
+    requires { length page.old + 193 ≤ N }
+    ensures takes { TakesOperation machine.old tally.old op.now page.old page.new result machine.new tally.new }
+    ensures fits { length page.new ≤ length page.old + 193 }
+{
+    let reply = machine.step(op);
+    let line = reply_line(&reply);
+    page.push(line.bytes());
+    page.push(b"\n");
+    tally.take_opening(&reply);
+    is_refusal(&reply)
+}
