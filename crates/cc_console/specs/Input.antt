@@ -1,8 +1,10 @@
 -- The input that FILE names.
-use Rattle.std.specs.Prelude.{Option, Some, None, codes, if◌then◌else◌, ⊤}
+use Rattle.std.specs.Prelude.{Bool, Option, Some, None, codes, if◌then◌else◌, ⊤}
 use Rattle.std.specs.Borrow.{Bor}
 use Rattle.std.specs.Str.{bytes_eq}
 use Rattle.clap.specs.Words.{Text}
+use Rattle.cc_console.specs.declared.input.Content.{Content}
+use Rattle.cc_console.specs.declared.input.Content.TheVariants.{Trace, Changes}
 use Rattle.cc_console.specs.declared.input.InputName.{InputName}
 use Rattle.cc_console.specs.declared.input.InputName.TheVariants.{Standard, File}
 
@@ -15,3 +17,7 @@ file_input (Some path) = if bytes_eq path.now (codes "-") then Standard else Fil
 abbrev pub IsFile : InputName → Type 0
 IsFile Standard = ⊥
 IsFile (File path) = ⊤
+
+-- The content of the trace of `replay`: with `--script`, a trace whose script is written.
+abbrev pub trace_content : (to_script : Bool) → Content
+trace_content to_script = if to_script then Changes else Trace

@@ -5,7 +5,7 @@ use Rattle.std.specs.Io.KnownBytes.{Appends}
 use Rattle.std.proofs.lemmas.Bool.{false≢true}
 use Rattle.cc_values.specs.declared.reply.Reply.{Reply}
 use Rattle.cc_command.specs.Hints.{hints_of, hints_text}
-use Rattle.cc_session.specs.Session.{SessionState}
+use Rattle.cc_session.specs.declared.session.Session.{Session}
 use Rattle.cc_command.specs.Statistics.{statistics_text}
 use Rattle.cc_syntax.specs.Tally.{Exchange}
 use Rattle.cc_values.specs.declared.usage.Usage.{Usage}
@@ -23,13 +23,13 @@ of_answered (Ok value) P answered holds = holds
 of_answered (Err error) P answered holds = absurd (false≢true (sym answered))
 
 -- A summary that is requested.
-pub asked_summary : (asked : Bool) (session : SessionState) (usage : Usage) → asked ≡ true → IsMachineUsage session.machine usage
+pub asked_summary : (asked : Bool) (session : Session) (usage : Usage) → asked ≡ true → IsMachineUsage session.machine usage
     → IsSummary asked session (statistics_text usage session.tally)
 asked_summary false session usage is_asked is_usage = absurd (false≢true is_asked)
 asked_summary true session usage is_asked is_usage = (usage, is_usage, refl)
 
 -- No summary if none is requested.
-pub no_summary : (asked : Bool) (session : SessionState) → asked ≡ false → IsSummary asked session []
+pub no_summary : (asked : Bool) (session : Session) → asked ≡ false → IsSummary asked session []
 no_summary false session not_asked = refl
 no_summary true session not_asked = absurd (false≢true (sym not_asked))
 
@@ -45,7 +45,7 @@ no_hints false opening exchanges pool not_given = refl
 no_hints true opening exchanges pool not_given = absurd (false≢true (sym not_given))
 
 -- The summary is written, and then the hints.
-pub tells : (report : Report) (session : SessionState) (opening : List Reply) (exchanges : List Exchange) (pool : Option ℕ) (t m u : Option (List ℕ)) (summary hints : List ℕ)
+pub tells : (report : Report) (session : Session) (opening : List Reply) (exchanges : List Exchange) (pool : Option ℕ) (t m u : Option (List ℕ)) (summary hints : List ℕ)
     → IsSummary report.stats session summary → hints ≡ hints_given report.hints opening exchanges pool → Appends t m summary → Appends m u hints
     → WritesReport report session opening exchanges pool t u
 tells report session opening exchanges pool t m u summary hints is_summary are_hints first second = record {

@@ -2,7 +2,6 @@
 use Rattle.std.proofs.Common.{◌≡◌, ℕ, Bool, true, false, List, Option, Some, None, Result, Ok, MatchResult, refl, subst, sym}
 use Rattle.std.specs.Prelude.{IfSome}
 use Rattle.std.specs.Borrow.{Bor}
-use Rattle.std.specs.Io.KnownBytes.{Appends}
 use Rattle.std.proofs.lemmas.Bool.{false≢true}
 use Rattle.clap.specs.Words.{Text}
 use Rattle.cc_word.specs.declared.refusal.Refusal.{Refusal}
@@ -11,7 +10,8 @@ use Rattle.cc_bounds.specs.declared.align.Align.{Align}
 use Rattle.cc_values.specs.declared.op.Op.{Op}
 use Rattle.cc_machine.specs.State.{State, initial_state}
 use Rattle.cc_syntax.specs.Planning.{plan_opening, pool_of}
-use Rattle.cc_session.specs.Session.{AnswersSession, SessionState}
+use Rattle.cc_session.specs.Session.{RunsSession}
+use Rattle.cc_session.specs.declared.session.Session.{Session}
 use Rattle.cc_console.specs.declared.invocation.PoolTexts.{PoolTexts}
 use Rattle.cc_console.specs.Devices.{Console, FromInput, OnDevices, Traffic, traffic_of}
 use Rattle.cc_console.specs.Input.{file_input}
@@ -19,30 +19,31 @@ use Rattle.cc_explain.specs.Refused.{WritesRefusal}
 use Rattle.cc_console.specs.declared.fault.Fault.{Fault}
 use Rattle.cc_console.specs.declared.input.InputName.{InputName}
 use Rattle.cc_console.proofs.DeviceLemmas.{from_input, on_devices-map}
-use Rattle.cc_runs.specs.Runs.{DrawsEnd, DrawsMap, DrawsPage, DrawsPool, DrawsRun, MapsFile, ReportsRun}
+use Rattle.cc_runs.specs.Runs.{DrawsEnd, DrawsMap, DrawsPage, DrawsPool, DrawsRun, MapsFile, MeetsFrom, MeetsMain, ReportsRun, StarvesPlan, StarvesRun}
 use Rattle.cc_runs.specs.declared.report.Report.{Report}
 
 -- ---- drawings
 
-pub draws_page : (svg : Bool) (session : SessionState) (output output_now : Option (List ℕ)) → svg ≡ true → DrawsPage session output output_now
+pub draws_page : (svg : Bool) (session : Session) (output output_now : Option (List ℕ)) → svg ≡ true → DrawsPage session output output_now
     → DrawsPool svg session output output_now
 draws_page true session output output_now is drawn = drawn
 draws_page false session output output_now is drawn = absurd (false≢true is)
 
-pub draws_map : (svg : Bool) (session : SessionState) (output output_now : Option (List ℕ)) → svg ≡ false → DrawsMap session output output_now
+pub draws_map : (svg : Bool) (session : Session) (output output_now : Option (List ℕ)) → svg ≡ false → DrawsMap session output output_now
     → DrawsPool svg session output output_now
 draws_map true session output output_now is drawn = absurd (false≢true (sym is))
 draws_map false session output output_now is drawn = drawn
 
 -- The end of a drawing, for the traffic of the devices.
 pub draws_end : (svg : Bool) (opening : List Op) (start : State) (traffic : Traffic) (unread left output output_now : Option (List ℕ)) (summary : Summary)
-    (session : SessionState) → traffic.unread ≡ unread → traffic.left ≡ left → traffic.output ≡ output → traffic.output_now ≡ output_now
-    → AnswersSession 65536 start opening unread left (Appends None None) (Ok summary) session.tally session.machine → DrawsPool svg session output output_now
+    (session : Session) → traffic.unread ≡ unread → traffic.left ≡ left → traffic.output ≡ output → traffic.output_now ≡ output_now
+    → RunsSession 65536 opening (record { machine = start; unread = unread; taken = None }) (Ok summary) session.tally
+    (record { machine = session.machine; unread = left; taken = None }) → DrawsPool svg session output output_now
     → DrawsEnd svg opening start traffic summary
-draws_end svg opening start traffic unread left output output_now summary session u l o n answers drawn = record {
+draws_end svg opening start traffic unread left output output_now summary session u l o n runs drawn = record {
   session = session;
-  answers = subst (λ (b : Option (List ℕ)). AnswersSession 65536 start opening b traffic.left (Appends None None) (Ok summary) session.tally session.machine) (sym u)
-      (subst (λ (b : Option (List ℕ)). AnswersSession 65536 start opening unread b (Appends None None) (Ok summary) session.tally session.machine) (sym l) answers);
+  runs = subst (λ (b : Option (List ℕ)). RunsSession 65536 opening (record { machine = start; unread = b; taken = None }) (Ok summary) session.tally (record { machine = session.machine; unread = traffic.left; taken = None })) (sym u)
+      (subst (λ (b : Option (List ℕ)). RunsSession 65536 opening (record { machine = start; unread = unread; taken = None }) (Ok summary) session.tally (record { machine = session.machine; unread = b; taken = None })) (sym l) runs);
   drawn = subst (λ (b : Option (List ℕ)). DrawsPool svg session b traffic.output_now) (sym o)
       (subst (λ (b : Option (List ℕ)). DrawsPool svg session output b) (sym n) drawn);
 }
@@ -78,6 +79,16 @@ maps_file limit pool align svg file console numbers opening input result is_pool
     (subst (λ (ops : List Op). FromInput input console (DrawsRun svg ops (initial_state limit)) io) is_opening holds)))
     result draws
 
+-- The end of a plan for lack of memory, from that of its run.
+pub plan_starves : (report : Report) (limit : ℕ) (pool : PoolTexts) (align : Align) (file : Option (Bor Text)) (console : Console) (numbers : ℕ × ℕ)
+    (opening : List Op) (input : InputName) → pool_of pool.base.now pool.length.now ≡ Ok numbers → opening ≡ plan_opening numbers.0 numbers.1 align
+    → input ≡ file_input file → StarvesRun report opening (initial_state limit) input console → StarvesPlan report limit pool align file console
+plan_starves report limit pool align file console numbers opening input is_pool is_opening is_input starves =
+    subst (λ (found : Result (ℕ × ℕ) Refusal). MatchResult found
+    (λ pair. StarvesRun report (plan_opening pair.0 pair.1 align) (initial_state limit) (file_input file) console) (λ refusal. ⊥)) (sym is_pool)
+    (subst (λ (name : InputName). StarvesRun report (plan_opening numbers.0 numbers.1 align) (initial_state limit) name console) is_input
+    (subst (λ (ops : List Op). StarvesRun report ops (initial_state limit) input console) is_opening starves))
+
 -- A run that read an input.
 pub runs_input : (report : Report) (opening : List Op) (pool : Option ℕ) (start new : State) (input : InputName) (console : Console)
     (bytes_of : InputName → Option (List ℕ)) (unread remaining left : Option (List ℕ)) (result : Result Summary Fault) → start ≡ new → console.input ≡ bytes_of
@@ -89,3 +100,23 @@ runs_input report opening pool start new input console bytes_of unread remaining
     (λ io holds. from_input input console (ReportsRun report opening pool new) bytes_of unread remaining left io same has told
     (subst (λ (state : State). ReportsRun report opening pool state (traffic_of console unread left) io) is holds))
     result runs
+
+-- A run meets the main theorem.
+pub meets : (report : Report) (opening : List Op) (pool : Option ℕ) (start : State) (traffic : Traffic) (result : Result Summary Fault)
+    → OnDevices (ReportsRun report opening pool start traffic) result
+    → OnDevices (MeetsFrom opening start traffic.unread traffic.left traffic.output traffic.output_now) result
+meets report opening pool start traffic result runs =
+    on_devices-map (ReportsRun report opening pool start traffic) (MeetsFrom opening start traffic.unread traffic.left traffic.output traffic.output_now)
+    (λ io does. (does.session.machine, does.runs.main)) result runs
+
+-- So does a run that read an input.
+pub meets_input : (opening : List Op) (start : State) (limit : ℕ) (bytes unread left output output_now : Option (List ℕ)) (result : Result Summary Fault)
+    → start ≡ initial_state limit → IfSome bytes (λ b. unread ≡ Some b) → OnDevices (MeetsFrom opening start unread left output output_now) result
+    → OnDevices (MeetsMain limit opening bytes left output output_now) result
+meets_input opening start limit bytes unread left output output_now result is told runs =
+    on_devices-map (MeetsFrom opening start unread left output output_now) (MeetsMain limit opening bytes left output output_now)
+    (λ io m. record {
+      unread = unread;
+      known = told;
+      meets = subst (λ (state : State). MeetsFrom opening state unread left output output_now io) is m;
+    }) result runs

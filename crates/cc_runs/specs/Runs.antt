@@ -1,5 +1,5 @@
 -- The output of `run`, `plan` and `map`, by their input.
-use Rattle.std.specs.Prelude.{◌≡◌, ⊤, ℕ, Bool, true, false, List, ◌++◌, Option, Some, None, Result, Ok, Err, OnOk, MatchResult}
+use Rattle.std.specs.Prelude.{◌≡◌, ◌⊎◌, ⊤, ℕ, Bool, true, false, IfSome, List, ◌++◌, Option, Some, None, Result, Ok, Err, OnOk, MatchResult}
 use Rattle.std.specs.Borrow.{Bor}
 use Rattle.std.specs.Io.KnownBytes.{Appends}
 use Rattle.clap.specs.Words.{Text}
@@ -14,28 +14,58 @@ use Rattle.cc_machine.specs.Planned.{plan_of}
 use Rattle.cc_draw.specs.Drawing.{IsDrawing}
 use Rattle.cc_draw.specs.Map.{IsMap}
 use Rattle.cc_syntax.specs.Planning.{plan_opening, pool_of}
-use Rattle.cc_session.specs.Session.{AnswersSession, SessionState}
+use Rattle.cc_session.specs.Main.{Main}
+use Rattle.cc_session.specs.Session.{RunsSession}
+use Rattle.cc_session.specs.declared.session.Session.{Session}
 use Rattle.cc_command.specs.Statistics.{statistics_text}
 use Rattle.cc_syntax.specs.Tally.{Exchange, IsTally}
 use Rattle.cc_values.specs.declared.usage.Usage.{Usage}
 use Rattle.cc_console.specs.declared.invocation.PoolTexts.{PoolTexts}
-use Rattle.cc_console.specs.Devices.{Console, FromInput, Traffic}
+use Rattle.cc_console.specs.Devices.{Console, FromInput, Traffic, traffic_of}
+use Rattle.cc_console.specs.declared.input.InputName.{InputName}
 use Rattle.cc_console.specs.Input.{file_input}
 use Rattle.cc_explain.specs.Refused.{WritesRefusal}
 use Rattle.cc_runs.specs.Report.{IsMachineUsage, WritesReport}
 use Rattle.cc_runs.specs.declared.report.Report.{Report}
 
+-- MeetsFrom holds if the main theorem does of a run from the state `start` that wrote to this output.
+abbrev pub MeetsFrom : (opening : List Op) (start : State) (unread left output output_now : Option (List ℕ)) → Result Summary IoError → Type 0
+MeetsFrom opening start unread left output output_now result =
+    (end : State)
+    × Main opening (record { machine = start; unread = unread; taken = output }) result (record { machine = end; unread = left; taken = output_now })
+
+-- AnswersAll holds if the main theorem does of a run that came to its end: the whole output of the script was written.
+abbrev pub AnswersAll : (opening : List Op) (start : State) → Traffic → Type 0
+AnswersAll opening start traffic =
+    (summary : Summary) × MeetsFrom opening start traffic.unread traffic.left traffic.output traffic.output_now (Ok summary)
+
+-- StarvesRun holds if memory ran out in a run before anything was written, or, if a summary is requested, after all was.
+abbrev pub StarvesRun : Report → (opening : List Op) (start : State) → InputName → Console → Type 0
+StarvesRun report opening start input console =
+    (console.output_now ≡ console.output)
+    ⊎ ((report.stats ≡ true) × (unread : Option (List ℕ)) × (left : Option (List ℕ)) × IfSome (console.input input) (λ bytes. unread ≡ Some bytes)
+    × AnswersAll opening start (traffic_of console unread left))
+
 -- ReportsRun holds if a machine in the state `start` took the operations of `opening` and then the script, the bytes written are
 -- its replies, up to a failure, and a run that came to its end was reported.
 pub record ReportsRun (report : Report) (opening : List Op) (pool : Option ℕ) (start : State) (traffic : Traffic) (result : Result Summary IoError) : Type 0 where
-  pub session : SessionState
-  pub answers : AnswersSession 65536 start opening traffic.unread traffic.left (Appends traffic.output traffic.output_now) result session.tally session.machine
+  pub session : Session
+  pub runs :
+      RunsSession 65536 opening (record { machine = start; unread = traffic.unread; taken = traffic.output }) result session.tally
+      (record { machine = session.machine; unread = traffic.left; taken = traffic.output_now })
   pub reported : OnOk result (traffic.errors_failed ≡ false → (first : List Reply) (exchanges : List Exchange)
       → IsTally first exchanges session.tally → WritesReport report session first exchanges pool traffic.errors traffic.errors_now)
 
+-- MeetsMain holds if the main theorem does of a run on a new machine that read this input, if its bytes are known, up to the bytes
+-- `left`, and wrote to this output.
+pub record MeetsMain (limit : ℕ) (opening : List Op) (input left output output_now : Option (List ℕ)) (result : Result Summary IoError) : Type 0 where
+  pub unread : Option (List ℕ)
+  pub known : IfSome input (λ bytes. unread ≡ Some bytes)
+  pub meets : MeetsFrom opening (initial_state limit) unread left output output_now result
+
 -- DrawsMap holds if the map of the machine's pool was written, and then the summary of the run: what the machine uses, and the
 -- tally of the replies.
-pub record DrawsMap (session : SessionState) (output output_now : Option (List ℕ)) : Type 0 where
+pub record DrawsMap (session : Session) (output output_now : Option (List ℕ)) : Type 0 where
   pub map : List ℕ
   pub usage : Usage
   pub is_map : IsMap (plan_of session.machine) map
@@ -43,21 +73,23 @@ pub record DrawsMap (session : SessionState) (output output_now : Option (List �
   pub written : Appends output output_now (map ++ statistics_text usage session.tally)
 
 -- DrawsPage holds if the drawing of the machine's pool was written.
-pub record DrawsPage (session : SessionState) (output output_now : Option (List ℕ)) : Type 0 where
+pub record DrawsPage (session : Session) (output output_now : Option (List ℕ)) : Type 0 where
   pub page : List ℕ
   pub is_drawing : IsDrawing (plan_of session.machine) page
   pub written : Appends output output_now page
 
 -- DrawsPool holds if the pool was drawn: as an SVG document, or as a map.
-abbrev pub DrawsPool : (svg : Bool) → SessionState → (output output_now : Option (List ℕ)) → Type 0
+abbrev pub DrawsPool : (svg : Bool) → Session → (output output_now : Option (List ℕ)) → Type 0
 DrawsPool true session output output_now = DrawsPage session output output_now
 DrawsPool false session output output_now = DrawsMap session output output_now
 
 -- DrawsEnd holds if a machine in the state `start` took the operations of `opening` and then the script to its end, and its pool was
 -- drawn as it is then. The summary says whether a reply is an error.
 pub record DrawsEnd (svg : Bool) (opening : List Op) (start : State) (traffic : Traffic) (summary : Summary) : Type 0 where
-  pub session : SessionState
-  pub answers : AnswersSession 65536 start opening traffic.unread traffic.left (Appends None None) (Ok summary) session.tally session.machine
+  pub session : Session
+  pub runs :
+      RunsSession 65536 opening (record { machine = start; unread = traffic.unread; taken = None }) (Ok summary) session.tally
+      (record { machine = session.machine; unread = traffic.left; taken = None })
   pub drawn : DrawsPool svg session traffic.output traffic.output_now
 
 -- DrawsRun holds if the pool was drawn at the end of the run. Nothing was written if a read failed.
@@ -82,3 +114,9 @@ PlansFile report limit pool align file console result =
 abbrev pub MapsFile : (limit : ℕ) → PoolTexts → Align → (svg : Bool) → (file : Option (Bor Text)) → Console → Result Summary IoError → Type 0
 MapsFile limit pool align svg file console result =
     WithPool pool console (λ base size. FromInput (file_input file) console (DrawsRun svg (plan_opening base size align) (initial_state limit))) result
+
+-- StarvesPlan holds if BASE and LENGTH are those of a pool, and memory ran out in the run on it as `StarvesRun` says.
+abbrev pub StarvesPlan : Report → (limit : ℕ) → PoolTexts → Align → (file : Option (Bor Text)) → Console → Type 0
+StarvesPlan report limit pool align file console =
+    MatchResult (pool_of pool.base.now pool.length.now)
+    (λ numbers. StarvesRun report (plan_opening numbers.0 numbers.1 align) (initial_state limit) (file_input file) console) (λ refusal. ⊥)

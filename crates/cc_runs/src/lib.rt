@@ -2,10 +2,12 @@
 #![tactic(auto)]
 
 mod maps;
+mod memory;
 mod report;
 mod runs;
 mod session;
 
 pub use maps::map_file;
+pub use memory::RunMemory;
 pub use report::{Report, Terminals};
 pub use runs::{plan_file, run_file};

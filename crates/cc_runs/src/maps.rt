@@ -1,5 +1,5 @@
 //! `map`: the drawing of a pool at the end of a script.
-ghost use Rattle.std.specs.Prelude.{◌≡◌, ◌≢◌, ◌≤◌, ◌*◌, ◌↔◌, [], false, length, true, Err, IsOk, OnOk};
+ghost use Rattle.std.specs.Prelude.{◌≡◌, ◌≢◌, ◌≤◌, ◌↔◌, [], false, true, Err, IsOk, OnOk};
 ghost use Rattle.cc_machine.specs.State.{initial_state};
 ghost use Rattle.cc_syntax.specs.Planning.{pool_of};
 ghost use Rattle.cc_syntax.specs.Tally.{IsTally};
@@ -7,13 +7,12 @@ ghost use Rattle.cc_console.specs.Devices.{FromInput, OnDevices, OnOutput, Traff
 ghost use Rattle.cc_console.specs.Input.{IsFile, file_input};
 ghost use Rattle.cc_runs.specs.Runs.{DrawsRun, MapsFile};
 
-use crate::report::machine_usage;
-use crate::session::new_session;
+use crate::memory::RunMemory;
 use cc_bounds::Align;
 use cc_command::{show_statistics, write_refusal};
-use cc_console::{Discard, Fault, InputName, Inputs, PoolTexts, file_input};
+use cc_console::{Content, Discard, Fault, InputName, Inputs, PoolTexts, file_input};
 use cc_draw::{show_drawing, show_map};
-use cc_io::{FromReader, Sink, Source, Summary, Waiting};
+use cc_io::{Sink, Source, Summary, Waiting};
 use cc_machine::Op;
 use cc_session::{Session, run_session};
 use cc_syntax::{plan_numbers, plan_opening};
@@ -25,32 +24,49 @@ use cc_syntax::{plan_numbers, plan_opening};
 /// Requires: `limit` is from 1 to 65,536, and the sink has not failed.
 /// Errors: `Memory` if an allocation fails; `Open` if the input cannot be opened; `Read` if a read fails; `Write` if and only if the
 /// sink failed. Nothing was written if the error is `Memory` or `Open`.
-pub fn map_file<R: AllocGlobal, I: Inputs, W: Sink>(
-    rt: &R,
+pub fn map_file<M: RunMemory, I: Inputs, W: Sink>(
+    memory: &mut M,
     limit: u32,
     pool: PoolTexts<'_>,
     align: Align,
     svg: bool,
-    inputs: &I,
+    inputs: &mut I,
+    source: &mut I::Opened,
     file: Option<&str>,
     sink: &mut W,
 ) -> Result<Summary, Fault>
     requires from_one { 1 ≤ limit }
     requires at_most { limit ≤ 65536 }
+    requires memory { M.has_failed memory.old ≡ false }
+    requires source { I.Opened.has_failed source.old ≡ false }
+    requires inputs { I.has_refused inputs.old ≡ false }
     requires sink { W.has_failed sink.old ≡ false }
-    ensures executes { OnOutput (I.bytes_of inputs.now) (W.taken_bytes sink.old) (W.taken_bytes sink.new)
+    ensures executes { OnOutput (I.bytes_of inputs.old) (W.taken_bytes sink.old) (W.taken_bytes sink.new)
         (MapsFile limit pool.entry align svg file.entry) result }
     ensures memory { result ≡ Err Fault.Memory → IsOk (pool_of pool.entry.base.now pool.entry.length.now) }
     ensures open { result ≡ Err Fault.Open → IsOk (pool_of pool.entry.base.now pool.entry.length.now) × IsFile (file_input file.entry) }
     ensures untouched { result ≡ Err Fault.Open → W.taken_bytes sink.new ≡ W.taken_bytes sink.old }
     ensures starved { result ≡ Err Fault.Memory → W.taken_bytes sink.new ≡ W.taken_bytes sink.old }
+    ensures asked { I.last_asked inputs.new (file_input file.entry) Content.Pool ≡ false → (inputs.new ≡ inputs.old) × (source.new ≡ source.old) }
+    ensures refused { (result ≡ Err Fault.Open) ↔ (I.has_refused inputs.new ≡ true) }
+    ensures read { (result ≡ Err Fault.Read) ↔ (I.Opened.has_failed source.new ≡ true) }
+    ensures allocates { (result ≡ Err Fault.Memory) ↔ (M.has_failed memory.new ≡ true) }
     ensures write { (result ≡ Err Fault.Write) ↔ (W.has_failed sink.new ≡ true) }
     ensures flushed { OnOk result (W.is_flushed sink.new ≡ true) }
 {
     match plan_numbers(pool.base.as_bytes(), pool.length.as_bytes()) {
         Ok((base, length)) => {
             let opening = plan_opening(base, length, align);
-            draw(rt, limit, &opening, svg, inputs, file_input(file), sink)
+            draw(
+                memory,
+                limit,
+                &opening,
+                svg,
+                inputs,
+                source,
+                file_input(file),
+                sink,
+            )
         }
         Err(refusal) => Ok(write_refusal(refusal, sink)?),
     }
@@ -59,36 +75,43 @@ pub fn map_file<R: AllocGlobal, I: Inputs, W: Sink>(
 /// Runs a script on a new machine without writing the replies, and draws the pool if the script came to its end.
 // not inlined, so that other commands do not touch the pages of its buffers on the stack
 #[inline(never)]
-fn draw<R: AllocGlobal, I: Inputs, W: Sink>(
-    rt: &R,
+fn draw<M: RunMemory, I: Inputs, W: Sink>(
+    memory: &mut M,
     limit: u32,
     opening: &[Op],
     svg: bool,
-    inputs: &I,
+    inputs: &mut I,
+    source: &mut I::Opened,
     input: InputName<'_>,
     sink: &mut W,
 ) -> Result<Summary, Fault>
     requires from_one { 1 ≤ limit }
     requires at_most { limit ≤ 65536 }
-    requires few { 193 * length opening.now ≤ 65536 }
+    requires memory { M.has_failed memory.old ≡ false }
+    requires source { I.Opened.has_failed source.old ≡ false }
+    requires inputs { I.has_refused inputs.old ≡ false }
     requires sink { W.has_failed sink.old ≡ false }
-    ensures draws { OnOutput (I.bytes_of inputs.now) (W.taken_bytes sink.old) (W.taken_bytes sink.new)
+    ensures draws { OnOutput (I.bytes_of inputs.old) (W.taken_bytes sink.old) (W.taken_bytes sink.new)
         (λ console. FromInput input.entry console (DrawsRun svg opening.now (initial_state limit))) result }
     ensures open { result ≡ Err Fault.Open → IsFile input.entry }
     ensures untouched { result ≡ Err Fault.Open → W.taken_bytes sink.new ≡ W.taken_bytes sink.old }
     ensures starved { result ≡ Err Fault.Memory → W.taken_bytes sink.new ≡ W.taken_bytes sink.old }
+    ensures asked { I.last_asked inputs.new input.entry Content.Pool ≡ false → (inputs.new ≡ inputs.old) × (source.new ≡ source.old) }
+    ensures refused { (result ≡ Err Fault.Open) ↔ (I.has_refused inputs.new ≡ true) }
+    ensures read { (result ≡ Err Fault.Read) ↔ (I.Opened.has_failed source.new ≡ true) }
+    ensures allocates { (result ≡ Err Fault.Memory) ↔ (M.has_failed memory.new ≡ true) }
     ensures write { (result ≡ Err Fault.Write) ↔ (W.has_failed sink.new ≡ true) }
     ensures flushed { OnOk result (W.is_flushed sink.new ≡ true) }
 {
-    let mut session = new_session(rt.alloc(), limit)?;
-    let mut source = FromReader::new(inputs.open(input)?);
-    draw_end(rt, opening, svg, &mut session, &mut source, sink)
+    let mut session = memory.session(limit)?;
+    inputs.open(input, Content::Pool, source)?;
+    draw_end(memory, opening, svg, &mut session, source, sink)
 }
 
 /// Runs a script without writing the replies, and draws the pool if the script came to its end: an SVG document, or a map
 /// and the summary of the run.
-fn draw_end<R: AllocGlobal, S: Source, W: Sink>(
-    rt: &R,
+fn draw_end<M: RunMemory, S: Source, W: Sink>(
+    memory: &mut M,
     opening: &[Op],
     svg: bool,
     session: &mut Session,
@@ -96,7 +119,7 @@ fn draw_end<R: AllocGlobal, S: Source, W: Sink>(
     sink: &mut W,
 ) -> Result<Summary, Fault>
     requires fresh { IsTally [] [] session.old.tally }
-    requires few { 193 * length opening.now ≤ 65536 }
+    requires memory { M.has_failed memory.old ≡ false }
     requires source { S.has_failed source.old ≡ false }
     requires sink { W.has_failed sink.old ≡ false }
     ensures draws { (traffic : Traffic) → traffic.unread ≡ S.to_come source.old → traffic.left ≡ S.to_come source.new
@@ -105,17 +128,25 @@ fn draw_end<R: AllocGlobal, S: Source, W: Sink>(
     ensures open { result ≢ Err Fault.Open }
     ensures starved { result ≡ Err Fault.Memory → W.taken_bytes sink.new ≡ W.taken_bytes sink.old }
     ensures read { (result ≡ Err Fault.Read) ↔ (S.has_failed source.new ≡ true) }
+    ensures allocates { (result ≡ Err Fault.Memory) ↔ (M.has_failed memory.new ≡ true) }
     ensures write { (result ≡ Err Fault.Write) ↔ (W.has_failed sink.new ≡ true) }
     ensures flushed { OnOk result (W.is_flushed sink.new ≡ true) }
 {
     let mut page = Waiting::new();
-    let summary = run_session(opening, session, source, &mut Discard, &mut page)?;
+    let summary = run_session(
+        opening,
+        &mut session.machine,
+        &mut session.tally,
+        source,
+        &mut Discard,
+        &mut page,
+    )?;
     if svg {
-        show_drawing(session.machine().planner(), sink)?;
+        show_drawing(session.machine.planner(), sink)?;
     } else {
-        let usage = machine_usage(rt.alloc(), session.machine())?;
-        show_map(session.machine().planner(), sink)?;
-        show_statistics(&usage, session.tally(), sink)?;
+        let usage = memory.usage(&session.machine)?;
+        show_map(session.machine.planner(), sink)?;
+        show_statistics(&usage, &session.tally, sink)?;
     }
     Ok(summary)
 }

@@ -1,10 +1,11 @@
 //! Reports on standard error: the summary of a run, and hints.
-ghost use Rattle.std.specs.Prelude.{◌≡◌, ◌≤◌, ◌^◌, List, ℕ, IfOk, OnErr, OnOk, false};
+ghost use Rattle.std.specs.Prelude.{◌≡◌, ◌≤◌, ◌^◌, List, ℕ, ◌↔◌, IfOk, IsErr, OnErr, OnOk, false, true};
 ghost use Rattle.std.specs.Io.KnownBytes.{Appends};
 ghost use Rattle.cc_values.specs.declared.reply.Reply.{Reply};
 ghost use Rattle.cc_syntax.specs.Tally.{Exchange, IsTally};
 ghost use Rattle.cc_runs.specs.Report.{IsMachineUsage, WritesReport, report_of};
 
+use crate::memory::RunMemory;
 use cc_command::{Hints, show_hints, show_statistics};
 use cc_draw::usage_of;
 use cc_io::Sink;
@@ -46,26 +47,29 @@ impl Report {
 /// Writes the summary of a run and hints, if the report has them. `pool` is the length of the pool that the opening
 /// requests, if any. Errors of the sink are ignored, and nothing is written after one.
 ///
-/// Errors: `AllocError` if an allocation fails; nothing is written then.
-pub fn write_report<R: AllocGlobal, E: Sink>(
-    rt: &R,
+/// Errors: `AllocError` if the summary is requested and an allocation fails; nothing is written then.
+pub fn write_report<M: RunMemory, E: Sink>(
+    memory: &mut M,
     session: &Session,
     pool: Option<Len>,
     report: Report,
     errors: &mut E,
 ) -> Result<(), AllocError>
-    requires { E.has_failed errors.old ≡ false }
+    requires memory { M.has_failed memory.old ≡ false }
+    requires errors { E.has_failed errors.old ≡ false }
     ensures written { OnOk result (E.has_failed errors.new ≡ false → (opening : List Reply) (exchanges : List Exchange) → IsTally opening exchanges session.now.tally → WritesReport report session.now opening exchanges pool (E.taken_bytes errors.old) (E.taken_bytes errors.new)) }
     ensures unwritten { OnErr result (E.taken_bytes errors.new ≡ E.taken_bytes errors.old) }
+    ensures allocates { IsErr result ↔ (M.has_failed memory.new ≡ true) }
+    ensures wanted { OnErr result (report.stats ≡ true) }
 {
     if report.stats {
-        let usage = machine_usage(rt.alloc(), session.machine())?;
-        if show_statistics(&usage, session.tally(), errors).is_err() {
+        let usage = memory.usage(&session.machine)?;
+        if show_statistics(&usage, &session.tally, errors).is_err() {
             return Ok(());
         }
     }
     if report.hints {
-        let _ = show_hints(&Hints::of(session.tally(), pool), errors);
+        let _ = show_hints(&Hints::of(&session.tally, pool), errors);
     }
     Ok(())
 }

@@ -1,18 +1,18 @@
 //! `run` and `plan`: the run of a script on a new machine, and its report.
-ghost use Rattle.std.specs.Prelude.{◌≡◌, ◌≢◌, ◌≤◌, ◌*◌, ◌↔◌, [], false, length, true, Err, IsOk, None, OnErr, OnOk};
+ghost use Rattle.std.specs.Prelude.{◌≡◌, ◌≢◌, ◌≤◌, ◌↔◌, [], false, true, Err, IfOk, IsOk, None, OnErr, OnOk};
 ghost use Rattle.cc_machine.specs.State.{initial_state};
-ghost use Rattle.cc_syntax.specs.Planning.{pool_of};
+ghost use Rattle.cc_syntax.specs.Planning.{plan_opening, pool_of};
 ghost use Rattle.cc_syntax.specs.Tally.{IsTally};
 ghost use Rattle.cc_console.specs.Devices.{FromInput, OnDevices};
 ghost use Rattle.cc_console.specs.Input.{IsFile, file_input};
-ghost use Rattle.cc_runs.specs.Runs.{PlansFile, ReportsRun};
+ghost use Rattle.cc_runs.specs.Runs.{AnswersAll, MeetsFrom, MeetsMain, PlansFile, ReportsRun, StarvesPlan, StarvesRun};
 
+use crate::memory::RunMemory;
 use crate::report::{Report, write_report};
-use crate::session::new_session;
 use cc_bounds::Align;
 use cc_command::write_refusal;
-use cc_console::{Fault, InputName, Inputs, PoolTexts, file_input};
-use cc_io::{FromReader, Sink, Source, Summary, Waiting};
+use cc_console::{Content, Fault, InputName, Inputs, PoolTexts, file_input};
+use cc_io::{Sink, Source, Summary, Waiting};
 use cc_machine::{Len, Op};
 use cc_session::{Session, run_session};
 use cc_syntax::{plan_numbers, plan_opening};
@@ -23,21 +23,25 @@ use cc_syntax::{plan_numbers, plan_opening};
 /// Requires: `limit` is from 1 to 65,536, and no device has failed.
 /// Errors: `Memory` if an allocation fails; `Open` if the input cannot be opened, and nothing was written then; `Read` if a read
 /// fails; `Write` if and only if the sink failed. Nothing is reported then.
-pub fn run_file<R: AllocGlobal, I: Inputs, W: Sink, E: Sink>(
-    rt: &R,
+pub fn run_file<M: RunMemory, I: Inputs, W: Sink, E: Sink>(
+    memory: &mut M,
     limit: u32,
     report: Report,
-    inputs: &I,
+    inputs: &mut I,
+    source: &mut I::Opened,
     file: Option<&str>,
     sink: &mut W,
     errors: &mut E,
 ) -> Result<Summary, Fault>
     requires from_one { 1 ≤ limit }
     requires at_most { limit ≤ 65536 }
+    requires memory { M.has_failed memory.old ≡ false }
+    requires source { I.Opened.has_failed source.old ≡ false }
+    requires inputs { I.has_refused inputs.old ≡ false }
     requires sink { W.has_failed sink.old ≡ false }
     requires errors { E.has_failed errors.old ≡ false }
     ensures executes { OnDevices (FromInput (file_input file.entry) (record {
-      input = I.bytes_of inputs.now;
+      input = I.bytes_of inputs.old;
       output = W.taken_bytes sink.old;
       output_now = W.taken_bytes sink.new;
       errors = E.taken_bytes errors.old;
@@ -46,12 +50,36 @@ pub fn run_file<R: AllocGlobal, I: Inputs, W: Sink, E: Sink>(
     }) (ReportsRun report [] None (initial_state limit))) result }
     ensures open { result ≡ Err Fault.Open → IsFile (file_input file.entry) }
     ensures untouched { result ≡ Err Fault.Open → W.taken_bytes sink.new ≡ W.taken_bytes sink.old }
+    ensures asked { I.last_asked inputs.new (file_input file.entry) Content.Script ≡ false → (inputs.new ≡ inputs.old) × (source.new ≡ source.old) }
+    ensures refused { (result ≡ Err Fault.Open) ↔ (I.has_refused inputs.new ≡ true) }
+    ensures read { (result ≡ Err Fault.Read) ↔ (I.Opened.has_failed source.new ≡ true) }
+    ensures allocates { (result ≡ Err Fault.Memory) ↔ (M.has_failed memory.new ≡ true) }
     ensures write { (result ≡ Err Fault.Write) ↔ (W.has_failed sink.new ≡ true) }
+    ensures starved { result ≡ Err Fault.Memory → StarvesRun report [] (initial_state limit) (file_input file.entry) (record {
+      input = I.bytes_of inputs.old;
+      output = W.taken_bytes sink.old;
+      output_now = W.taken_bytes sink.new;
+      errors = E.taken_bytes errors.old;
+      errors_now = E.taken_bytes errors.new;
+      errors_failed = E.has_failed errors.new;
+    }) }
+    ensures main { OnDevices (MeetsMain limit [] (I.bytes_of inputs.old (file_input file.entry)) (I.Opened.to_come source.new) (W.taken_bytes sink.old) (W.taken_bytes sink.new)) result }
     ensures flushed { OnOk result (W.is_flushed sink.new ≡ true) }
     ensures unreported { OnErr result (E.taken_bytes errors.new ≡ E.taken_bytes errors.old) }
 {
     let input = file_input(file);
-    run(rt, limit, &[], None, inputs, input, report, sink, errors)
+    run(
+        memory,
+        limit,
+        &[],
+        None,
+        inputs,
+        source,
+        input,
+        report,
+        sink,
+        errors,
+    )
 }
 
 /// Runs the script that FILE names as [`run_file`] does, on a new machine with a pool. BASE and LENGTH are read first. If one is
@@ -59,23 +87,27 @@ pub fn run_file<R: AllocGlobal, I: Inputs, W: Sink, E: Sink>(
 ///
 /// Requires: `limit` is from 1 to 65,536, and no device has failed.
 /// Errors: those of [`run_file`].
-pub fn plan_file<R: AllocGlobal, I: Inputs, W: Sink, E: Sink>(
-    rt: &R,
+pub fn plan_file<M: RunMemory, I: Inputs, W: Sink, E: Sink>(
+    memory: &mut M,
     limit: u32,
     pool: PoolTexts<'_>,
     align: Align,
     report: Report,
-    inputs: &I,
+    inputs: &mut I,
+    source: &mut I::Opened,
     file: Option<&str>,
     sink: &mut W,
     errors: &mut E,
 ) -> Result<Summary, Fault>
     requires from_one { 1 ≤ limit }
     requires at_most { limit ≤ 65536 }
+    requires memory { M.has_failed memory.old ≡ false }
+    requires source { I.Opened.has_failed source.old ≡ false }
+    requires inputs { I.has_refused inputs.old ≡ false }
     requires sink { W.has_failed sink.old ≡ false }
     requires errors { E.has_failed errors.old ≡ false }
     ensures executes { OnDevices (PlansFile report limit pool.entry align file.entry (record {
-      input = I.bytes_of inputs.now;
+      input = I.bytes_of inputs.old;
       output = W.taken_bytes sink.old;
       output_now = W.taken_bytes sink.new;
       errors = E.taken_bytes errors.old;
@@ -85,7 +117,20 @@ pub fn plan_file<R: AllocGlobal, I: Inputs, W: Sink, E: Sink>(
     ensures memory { result ≡ Err Fault.Memory → IsOk (pool_of pool.entry.base.now pool.entry.length.now) }
     ensures open { result ≡ Err Fault.Open → IsOk (pool_of pool.entry.base.now pool.entry.length.now) × IsFile (file_input file.entry) }
     ensures untouched { result ≡ Err Fault.Open → W.taken_bytes sink.new ≡ W.taken_bytes sink.old }
+    ensures asked { I.last_asked inputs.new (file_input file.entry) Content.Script ≡ false → (inputs.new ≡ inputs.old) × (source.new ≡ source.old) }
+    ensures refused { (result ≡ Err Fault.Open) ↔ (I.has_refused inputs.new ≡ true) }
+    ensures read { (result ≡ Err Fault.Read) ↔ (I.Opened.has_failed source.new ≡ true) }
+    ensures allocates { (result ≡ Err Fault.Memory) ↔ (M.has_failed memory.new ≡ true) }
     ensures write { (result ≡ Err Fault.Write) ↔ (W.has_failed sink.new ≡ true) }
+    ensures starved { result ≡ Err Fault.Memory → StarvesPlan report limit pool.entry align file.entry (record {
+      input = I.bytes_of inputs.old;
+      output = W.taken_bytes sink.old;
+      output_now = W.taken_bytes sink.new;
+      errors = E.taken_bytes errors.old;
+      errors_now = E.taken_bytes errors.new;
+      errors_failed = E.has_failed errors.new;
+    }) }
+    ensures main { IfOk (pool_of pool.entry.base.now pool.entry.length.now) (λ numbers. OnDevices (MeetsMain limit (plan_opening numbers.0 numbers.1 align) (I.bytes_of inputs.old (file_input file.entry)) (I.Opened.to_come source.new) (W.taken_bytes sink.old) (W.taken_bytes sink.new)) result) }
     ensures flushed { OnOk result (W.is_flushed sink.new ≡ true) }
     ensures unreported { OnErr result (E.taken_bytes errors.new ≡ E.taken_bytes errors.old) }
     ensures silent { ¬ IsOk (pool_of pool.entry.base.now pool.entry.length.now) → errors.new ≡ errors.old }
@@ -94,11 +139,12 @@ pub fn plan_file<R: AllocGlobal, I: Inputs, W: Sink, E: Sink>(
         Ok((base, length)) => {
             let opening = plan_opening(base, length, align);
             run(
-                rt,
+                memory,
                 limit,
                 &opening,
                 Some(length),
                 inputs,
+                source,
                 file_input(file),
                 report,
                 sink,
@@ -112,12 +158,13 @@ pub fn plan_file<R: AllocGlobal, I: Inputs, W: Sink, E: Sink>(
 /// Runs a script on a new machine, and reports the run if it came to its end.
 // not inlined, so that other commands do not touch the pages of its buffers on the stack
 #[inline(never)]
-fn run<R: AllocGlobal, I: Inputs, W: Sink, E: Sink>(
-    rt: &R,
+fn run<M: RunMemory, I: Inputs, W: Sink, E: Sink>(
+    memory: &mut M,
     limit: u32,
     opening: &[Op],
     pool: Option<Len>,
-    inputs: &I,
+    inputs: &mut I,
+    source: &mut I::Opened,
     input: InputName<'_>,
     report: Report,
     sink: &mut W,
@@ -125,11 +172,13 @@ fn run<R: AllocGlobal, I: Inputs, W: Sink, E: Sink>(
 ) -> Result<Summary, Fault>
     requires from_one { 1 ≤ limit }
     requires at_most { limit ≤ 65536 }
-    requires few { 193 * length opening.now ≤ 65536 }
+    requires memory { M.has_failed memory.old ≡ false }
+    requires source { I.Opened.has_failed source.old ≡ false }
+    requires inputs { I.has_refused inputs.old ≡ false }
     requires sink { W.has_failed sink.old ≡ false }
     requires errors { E.has_failed errors.old ≡ false }
     ensures runs { OnDevices (FromInput input.entry (record {
-      input = I.bytes_of inputs.now;
+      input = I.bytes_of inputs.old;
       output = W.taken_bytes sink.old;
       output_now = W.taken_bytes sink.new;
       errors = E.taken_bytes errors.old;
@@ -138,27 +187,40 @@ fn run<R: AllocGlobal, I: Inputs, W: Sink, E: Sink>(
     }) (ReportsRun report opening.now pool (initial_state limit))) result }
     ensures open { result ≡ Err Fault.Open → IsFile input.entry }
     ensures untouched { result ≡ Err Fault.Open → W.taken_bytes sink.new ≡ W.taken_bytes sink.old }
+    ensures asked { I.last_asked inputs.new input.entry Content.Script ≡ false → (inputs.new ≡ inputs.old) × (source.new ≡ source.old) }
+    ensures refused { (result ≡ Err Fault.Open) ↔ (I.has_refused inputs.new ≡ true) }
+    ensures read { (result ≡ Err Fault.Read) ↔ (I.Opened.has_failed source.new ≡ true) }
+    ensures allocates { (result ≡ Err Fault.Memory) ↔ (M.has_failed memory.new ≡ true) }
     ensures write { (result ≡ Err Fault.Write) ↔ (W.has_failed sink.new ≡ true) }
+    ensures starved { result ≡ Err Fault.Memory → StarvesRun report opening.now (initial_state limit) input.entry (record {
+      input = I.bytes_of inputs.old;
+      output = W.taken_bytes sink.old;
+      output_now = W.taken_bytes sink.new;
+      errors = E.taken_bytes errors.old;
+      errors_now = E.taken_bytes errors.new;
+      errors_failed = E.has_failed errors.new;
+    }) }
+    ensures main { OnDevices (MeetsMain limit opening.now (I.bytes_of inputs.old input.entry) (I.Opened.to_come source.new) (W.taken_bytes sink.old) (W.taken_bytes sink.new)) result }
     ensures flushed { OnOk result (W.is_flushed sink.new ≡ true) }
     ensures unreported { OnErr result (E.taken_bytes errors.new ≡ E.taken_bytes errors.old) }
 {
-    let mut session = new_session(rt.alloc(), limit)?;
-    let mut source = FromReader::new(inputs.open(input)?);
+    let mut session = memory.session(limit)?;
+    inputs.open(input, Content::Script, source)?;
     run_and_report(
-        rt,
+        memory,
         opening,
         pool,
         report,
         &mut session,
-        &mut source,
+        source,
         sink,
         errors,
     )
 }
 
 /// Runs a script, and reports the run if it came to its end.
-fn run_and_report<R: AllocGlobal, S: Source, W: Sink, E: Sink>(
-    rt: &R,
+fn run_and_report<M: RunMemory, S: Source, W: Sink, E: Sink>(
+    memory: &mut M,
     opening: &[Op],
     pool: Option<Len>,
     report: Report,
@@ -168,7 +230,7 @@ fn run_and_report<R: AllocGlobal, S: Source, W: Sink, E: Sink>(
     errors: &mut E,
 ) -> Result<Summary, Fault>
     requires fresh { IsTally [] [] session.old.tally }
-    requires few { 193 * length opening.now ≤ 65536 }
+    requires memory { M.has_failed memory.old ≡ false }
     requires source { S.has_failed source.old ≡ false }
     requires sink { W.has_failed sink.old ≡ false }
     requires errors { E.has_failed errors.old ≡ false }
@@ -183,12 +245,30 @@ fn run_and_report<R: AllocGlobal, S: Source, W: Sink, E: Sink>(
     })) result }
     ensures open { result ≢ Err Fault.Open }
     ensures read { (result ≡ Err Fault.Read) ↔ (S.has_failed source.new ≡ true) }
+    ensures allocates { (result ≡ Err Fault.Memory) ↔ (M.has_failed memory.new ≡ true) }
     ensures write { (result ≡ Err Fault.Write) ↔ (W.has_failed sink.new ≡ true) }
+    ensures starved { result ≡ Err Fault.Memory → (report.stats ≡ true) × AnswersAll opening.now session.old.machine (record {
+      unread = S.to_come source.old;
+      left = S.to_come source.new;
+      output = W.taken_bytes sink.old;
+      output_now = W.taken_bytes sink.new;
+      errors = E.taken_bytes errors.old;
+      errors_now = E.taken_bytes errors.new;
+      errors_failed = E.has_failed errors.new;
+    }) }
+    ensures main { OnDevices (MeetsFrom opening.now session.old.machine (S.to_come source.old) (S.to_come source.new) (W.taken_bytes sink.old) (W.taken_bytes sink.new)) result }
     ensures flushed { OnOk result (W.is_flushed sink.new ≡ true) }
     ensures unreported { OnErr result (E.taken_bytes errors.new ≡ E.taken_bytes errors.old) }
 {
     let mut page = Waiting::new();
-    let summary = run_session(opening, session, source, sink, &mut page)?;
-    write_report(rt, session, pool, report, errors)?;
+    let summary = run_session(
+        opening,
+        &mut session.machine,
+        &mut session.tally,
+        source,
+        sink,
+        &mut page,
+    )?;
+    write_report(memory, session, pool, report, errors)?;
     Ok(summary)
 }

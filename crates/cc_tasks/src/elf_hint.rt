@@ -4,11 +4,8 @@ ghost use Rattle.std.specs.Io.KnownBytes.{Appends};
 ghost use Rattle.cc_tasks.specs.ElfHint.{elf_hint, is_elf, raw_file};
 
 use crate::listing::listing_of;
-use cc_console::{ErrorWriter, Fault, InputName, Invocation, file_input};
-use cc_io::{FromWriter, InputForm, Sink, Summary, write_all};
-use std::fs;
-use std::io::Read;
-use std::rt::Files;
+use cc_console::{InputName, Inputs, Invocation, file_input};
+use cc_io::{InputForm, Sink, write_all};
 
 /// Returns whether a file that begins with these bytes is an ELF file.
 pub fn is_elf(start: &[u8]) -> bool
@@ -55,38 +52,14 @@ pub fn hint_elf<E: Sink>(start: &[u8], errors: &mut E)
     }
 }
 
-/// Writes the hint after the output of a command, if hints are shown and the command came to its end.
-pub fn hint_on_file<R: Files + Eprint>(
-    rt: &R,
-    is_shown: bool,
-    invocation: Invocation<'_>,
-    ended: &Result<Summary, Fault>,
-) {
-    if !is_shown || ended.is_err() {
-        return;
-    }
+/// Writes the hint on the file whose first bytes a command decoded as a raw word. Errors of the sink are ignored.
+pub fn hint_on_file<I: Inputs, E: Sink>(inputs: &I, invocation: Invocation<'_>, errors: &mut E)
+    requires { E.has_failed errors.old ≡ false }
+{
     let Some(path) = raw_file(invocation) else {
         return;
     };
-    if let Some(start) = start_of(rt, path) {
-        hint_elf(&start, &mut FromWriter::new(ErrorWriter { to: rt }));
-    }
-}
-
-/// Returns the first four bytes of a regular file, or `None` if they cannot be read.
-///
-/// Other files are not opened: a pipe has been read to its end, and waits for another writer.
-fn start_of<R: Files>(rt: &R, path: &str) -> Option<[u8; 4]> {
-    match fs::metadata(rt, path) {
-        Ok(metadata) if metadata.is_file() => {}
-        _ => return None,
-    }
-    let Ok(mut file) = fs::open(rt, path) else {
-        return None;
-    };
-    let mut start = [0; 4];
-    match file.read_exact(&mut start) {
-        Ok(()) => Some(start),
-        Err(_) => None,
+    if let Some(start) = inputs.start_of(path) {
+        hint_elf(&start, errors);
     }
 }

@@ -34,6 +34,7 @@ pub fn ask<W: Sink, E: Sink>(
     ensures unreported { OnErr result (errors.new ≡ errors.old) }
     ensures open { result ≢ Err Fault.Open }
     ensures memory { result ≢ Err Fault.Memory }
+    ensures read { result ≢ Err Fault.Read }
     ensures write { (result ≡ Err Fault.Write) ↔ (W.has_failed sink.new ≡ true) }
     ensures flushed { OnOk result (W.is_flushed sink.new ≡ true) }
 {
@@ -51,6 +52,7 @@ fn answer<W: Sink>(question: Question<'_>, sink: &mut W) -> Result<Summary, Faul
     ensures answers { OnDevices (AnswersQuestion question.entry (W.taken_bytes sink.old) (W.taken_bytes sink.new)) result }
     ensures open { result ≢ Err Fault.Open }
     ensures memory { result ≢ Err Fault.Memory }
+    ensures read { result ≢ Err Fault.Read }
     ensures write { (result ≡ Err Fault.Write) ↔ (W.has_failed sink.new ≡ true) }
     ensures flushed { OnOk result (W.is_flushed sink.new ≡ true) }
 {

@@ -12,12 +12,9 @@ ghost use Rattle.cc_tasks.specs.Tasks.{AnnotatesWords, ListsWords, RoundsLengths
 use crate::listing::{listing_of, place_of};
 use crate::number_hint::{hint_list, hint_numbers};
 use cc_command::{round_list, round_typed, write_refusal};
-use cc_console::{DecodeTexts, Fault, InputName, Inputs, file_input};
+use cc_console::{Content, DecodeTexts, Fault, InputName, Inputs, file_input};
 use cc_decode::{Format, InputForm, Options, annotate, decode_words_after};
-use cc_io::{FromReader, Sink, Summary};
-
-/// The maximum number of bytes of the input of `decode`, of `annotate` and of `round`, more than any file or pipe gives.
-const MOST_DECODED: usize = 1 << 62;
+use cc_io::{Sink, Summary};
 
 /// Writes a row for each listed word of the input that FILE names. The numbers and names of `texts` are read first. If one
 /// is refused, the output is that refusal, and nothing is read.
@@ -29,21 +26,34 @@ pub fn decode_file<I: Inputs, W: Sink>(
     input: InputForm,
     format: Format,
     texts: DecodeTexts<'_>,
-    inputs: &I,
+    inputs: &mut I,
+    source: &mut I::Opened,
     file: Option<&str>,
     sink: &mut W,
 ) -> Result<Summary, Fault>
-    requires { W.has_failed sink.old ≡ false }
-    ensures decodes { OnOutput (I.bytes_of inputs.now) (W.taken_bytes sink.old) (W.taken_bytes sink.new)
+    requires source { I.Opened.has_failed source.old ≡ false }
+    requires inputs { I.has_refused inputs.old ≡ false }
+    requires sink { W.has_failed sink.old ≡ false }
+    ensures decodes { OnOutput (I.bytes_of inputs.old) (W.taken_bytes sink.old) (W.taken_bytes sink.new)
         (λ console. WithListing input format texts.entry console (λ skipped options. FromInput (file_input file.entry) console (ListsWords skipped options))) result }
     ensures open { result ≡ Err Fault.Open → IsOk (listing_in input format texts.entry) × IsFile (file_input file.entry) }
     ensures untouched { result ≡ Err Fault.Open → W.taken_bytes sink.new ≡ W.taken_bytes sink.old }
     ensures memory { result ≢ Err Fault.Memory }
+    ensures asked { I.last_asked inputs.new (file_input file.entry) Content.Words ≡ false → (inputs.new ≡ inputs.old) × (source.new ≡ source.old) }
+    ensures refused { (result ≡ Err Fault.Open) ↔ (I.has_refused inputs.new ≡ true) }
+    ensures read { (result ≡ Err Fault.Read) ↔ (I.Opened.has_failed source.new ≡ true) }
     ensures write { (result ≡ Err Fault.Write) ↔ (W.has_failed sink.new ≡ true) }
     ensures flushed { OnOk result (W.is_flushed sink.new ≡ true) }
 {
     match listing_of(input, format, texts) {
-        Ok((skipped, options)) => list_words(skipped, options, inputs, file_input(file), sink),
+        Ok((skipped, options)) => list_words(
+            skipped,
+            options,
+            inputs,
+            source,
+            file_input(file),
+            sink,
+        ),
         Err(refusal) => Ok(write_refusal(refusal, sink)?),
     }
 }
@@ -54,21 +64,27 @@ pub fn decode_file<I: Inputs, W: Sink>(
 fn list_words<I: Inputs, W: Sink>(
     skipped: u64,
     options: Options,
-    inputs: &I,
+    inputs: &mut I,
+    source: &mut I::Opened,
     input: InputName<'_>,
     sink: &mut W,
 ) -> Result<Summary, Fault>
-    requires { W.has_failed sink.old ≡ false }
-    ensures lists { OnOutput (I.bytes_of inputs.now) (W.taken_bytes sink.old) (W.taken_bytes sink.new)
+    requires source { I.Opened.has_failed source.old ≡ false }
+    requires inputs { I.has_refused inputs.old ≡ false }
+    requires sink { W.has_failed sink.old ≡ false }
+    ensures lists { OnOutput (I.bytes_of inputs.old) (W.taken_bytes sink.old) (W.taken_bytes sink.new)
         (λ console. FromInput input.entry console (ListsWords skipped options)) result }
     ensures open { result ≡ Err Fault.Open → IsFile input.entry }
     ensures untouched { result ≡ Err Fault.Open → W.taken_bytes sink.new ≡ W.taken_bytes sink.old }
     ensures memory { result ≢ Err Fault.Memory }
+    ensures asked { I.last_asked inputs.new input.entry Content.Words ≡ false → (inputs.new ≡ inputs.old) × (source.new ≡ source.old) }
+    ensures refused { (result ≡ Err Fault.Open) ↔ (I.has_refused inputs.new ≡ true) }
+    ensures read { (result ≡ Err Fault.Read) ↔ (I.Opened.has_failed source.new ≡ true) }
     ensures write { (result ≡ Err Fault.Write) ↔ (W.has_failed sink.new ≡ true) }
     ensures flushed { OnOk result (W.is_flushed sink.new ≡ true) }
 {
-    let mut source = FromReader::with_limit(inputs.open(input)?, MOST_DECODED);
-    Ok(decode_words_after(skipped, options, &mut source, sink)?)
+    inputs.open(input, Content::Words, source)?;
+    Ok(decode_words_after(skipped, options, source, sink)?)
 }
 
 /// Copies the input that FILE names, with the line of each word after the word.
@@ -77,21 +93,27 @@ fn list_words<I: Inputs, W: Sink>(
 /// Errors: `Open` if the input cannot be opened, and nothing was written then; `Read` if a read fails; `Write` if and only if
 /// the sink failed.
 pub fn annotate_file<I: Inputs, W: Sink>(
-    inputs: &I,
+    inputs: &mut I,
+    source: &mut I::Opened,
     file: Option<&str>,
     sink: &mut W,
 ) -> Result<Summary, Fault>
-    requires { W.has_failed sink.old ≡ false }
-    ensures annotates { OnOutput (I.bytes_of inputs.now) (W.taken_bytes sink.old) (W.taken_bytes sink.new)
+    requires source { I.Opened.has_failed source.old ≡ false }
+    requires inputs { I.has_refused inputs.old ≡ false }
+    requires sink { W.has_failed sink.old ≡ false }
+    ensures annotates { OnOutput (I.bytes_of inputs.old) (W.taken_bytes sink.old) (W.taken_bytes sink.new)
         (λ console. FromInput (file_input file.entry) console AnnotatesWords) result }
     ensures open { result ≡ Err Fault.Open → IsFile (file_input file.entry) }
     ensures untouched { result ≡ Err Fault.Open → W.taken_bytes sink.new ≡ W.taken_bytes sink.old }
     ensures memory { result ≢ Err Fault.Memory }
+    ensures asked { I.last_asked inputs.new (file_input file.entry) Content.Words ≡ false → (inputs.new ≡ inputs.old) × (source.new ≡ source.old) }
+    ensures refused { (result ≡ Err Fault.Open) ↔ (I.has_refused inputs.new ≡ true) }
+    ensures read { (result ≡ Err Fault.Read) ↔ (I.Opened.has_failed source.new ≡ true) }
     ensures write { (result ≡ Err Fault.Write) ↔ (W.has_failed sink.new ≡ true) }
     ensures flushed { OnOk result (W.is_flushed sink.new ≡ true) }
 {
-    let mut source = FromReader::with_limit(inputs.open(file_input(file))?, MOST_DECODED);
-    Ok(annotate(&mut source, sink)?)
+    inputs.open(file_input(file), Content::Words, source)?;
+    Ok(annotate(source, sink)?)
 }
 
 /// Writes the output of `round` for each length of the list that FILE names, with the bounds granted from a base on if one is
@@ -104,15 +126,18 @@ pub fn annotate_file<I: Inputs, W: Sink>(
 pub fn round_file<I: Inputs, W: Sink, E: Sink>(
     base: Option<&str>,
     hints: bool,
-    inputs: &I,
+    inputs: &mut I,
+    source: &mut I::Opened,
     file: Option<&str>,
     sink: &mut W,
     errors: &mut E,
 ) -> Result<Summary, Fault>
+    requires source { I.Opened.has_failed source.old ≡ false }
+    requires inputs { I.has_refused inputs.old ≡ false }
     requires sink { W.has_failed sink.old ≡ false }
     requires errors { E.has_failed errors.old ≡ false }
     ensures rounds { OnDevices (WithBase base.entry (W.taken_bytes sink.old) (W.taken_bytes sink.new) (λ place. FromInput (file_input file.entry) (record {
-      input = I.bytes_of inputs.now;
+      input = I.bytes_of inputs.old;
       output = W.taken_bytes sink.old;
       output_now = W.taken_bytes sink.new;
       errors = E.taken_bytes errors.old;
@@ -124,11 +149,23 @@ pub fn round_file<I: Inputs, W: Sink, E: Sink>(
     ensures open { result ≡ Err Fault.Open → IsOk (place_in base.entry) × IsFile (file_input file.entry) }
     ensures untouched { result ≡ Err Fault.Open → W.taken_bytes sink.new ≡ W.taken_bytes sink.old }
     ensures memory { result ≢ Err Fault.Memory }
+    ensures asked { I.last_asked inputs.new (file_input file.entry) Content.Words ≡ false → (inputs.new ≡ inputs.old) × (source.new ≡ source.old) }
+    ensures refused { (result ≡ Err Fault.Open) ↔ (I.has_refused inputs.new ≡ true) }
+    ensures read { (result ≡ Err Fault.Read) ↔ (I.Opened.has_failed source.new ≡ true) }
     ensures write { (result ≡ Err Fault.Write) ↔ (W.has_failed sink.new ≡ true) }
     ensures flushed { OnOk result (W.is_flushed sink.new ≡ true) }
 {
     match place_of(base) {
-        Ok(place) => round_hinted(place, base, hints, inputs, file_input(file), sink, errors),
+        Ok(place) => round_hinted(
+            place,
+            base,
+            hints,
+            inputs,
+            source,
+            file_input(file),
+            sink,
+            errors,
+        ),
         Err(refusal) => Ok(write_refusal(refusal, sink)?),
     }
 }
@@ -138,15 +175,18 @@ fn round_hinted<I: Inputs, W: Sink, E: Sink>(
     place: Option<u64>,
     base: Option<&str>,
     hints: bool,
-    inputs: &I,
+    inputs: &mut I,
+    source: &mut I::Opened,
     input: InputName<'_>,
     sink: &mut W,
     errors: &mut E,
 ) -> Result<Summary, Fault>
+    requires source { I.Opened.has_failed source.old ≡ false }
+    requires inputs { I.has_refused inputs.old ≡ false }
     requires sink { W.has_failed sink.old ≡ false }
     requires errors { E.has_failed errors.old ≡ false }
     ensures rounds { OnDevices (FromInput input.entry (record {
-      input = I.bytes_of inputs.now;
+      input = I.bytes_of inputs.old;
       output = W.taken_bytes sink.old;
       output_now = W.taken_bytes sink.new;
       errors = E.taken_bytes errors.old;
@@ -158,11 +198,14 @@ fn round_hinted<I: Inputs, W: Sink, E: Sink>(
     ensures open { result ≡ Err Fault.Open → IsFile input.entry }
     ensures untouched { result ≡ Err Fault.Open → W.taken_bytes sink.new ≡ W.taken_bytes sink.old }
     ensures memory { result ≢ Err Fault.Memory }
+    ensures asked { I.last_asked inputs.new input.entry Content.Words ≡ false → (inputs.new ≡ inputs.old) × (source.new ≡ source.old) }
+    ensures refused { (result ≡ Err Fault.Open) ↔ (I.has_refused inputs.new ≡ true) }
+    ensures read { (result ≡ Err Fault.Read) ↔ (I.Opened.has_failed source.new ≡ true) }
     ensures write { (result ≡ Err Fault.Write) ↔ (W.has_failed sink.new ≡ true) }
     ensures flushed { OnOk result (W.is_flushed sink.new ≡ true) }
 {
     let mut bare = false;
-    let result = round_input(place, inputs, input, sink, &mut bare);
+    let result = round_input(place, inputs, source, input, sink, &mut bare);
     if result.is_err() {
         return result;
     }
@@ -174,22 +217,28 @@ fn round_hinted<I: Inputs, W: Sink, E: Sink>(
 /// hexadecimal digits.
 fn round_input<I: Inputs, W: Sink>(
     base: Option<u64>,
-    inputs: &I,
+    inputs: &mut I,
+    source: &mut I::Opened,
     input: InputName<'_>,
     sink: &mut W,
     bare: &mut bool,
 ) -> Result<Summary, Fault>
-    requires { W.has_failed sink.old ≡ false }
-    ensures rounds { OnOutput (I.bytes_of inputs.now) (W.taken_bytes sink.old) (W.taken_bytes sink.new)
+    requires source { I.Opened.has_failed source.old ≡ false }
+    requires inputs { I.has_refused inputs.old ≡ false }
+    requires sink { W.has_failed sink.old ≡ false }
+    ensures rounds { OnOutput (I.bytes_of inputs.old) (W.taken_bytes sink.old) (W.taken_bytes sink.new)
         (λ console. FromInput input.entry console (SeesLengths base bare.new)) result }
     ensures open { result ≡ Err Fault.Open → IsFile input.entry }
     ensures untouched { result ≡ Err Fault.Open → W.taken_bytes sink.new ≡ W.taken_bytes sink.old }
     ensures memory { result ≢ Err Fault.Memory }
+    ensures asked { I.last_asked inputs.new input.entry Content.Words ≡ false → (inputs.new ≡ inputs.old) × (source.new ≡ source.old) }
+    ensures refused { (result ≡ Err Fault.Open) ↔ (I.has_refused inputs.new ≡ true) }
+    ensures read { (result ≡ Err Fault.Read) ↔ (I.Opened.has_failed source.new ≡ true) }
     ensures write { (result ≡ Err Fault.Write) ↔ (W.has_failed sink.new ≡ true) }
     ensures flushed { OnOk result (W.is_flushed sink.new ≡ true) }
 {
-    let mut source = FromReader::with_limit(inputs.open(input)?, MOST_DECODED);
-    Ok(round_list(base, &mut source, sink, bare)?)
+    inputs.open(input, Content::Words, source)?;
+    Ok(round_list(base, source, sink, bare)?)
 }
 
 /// Writes the output of `round` for each of these lengths, with the bounds granted from a base on if one is given. If the base is

@@ -1,10 +1,8 @@
 -- The output of `replay --svg`, from that of its parts.
-use Rattle.std.proofs.Common.{◌≡◌, ◌≢◌, ℕ, Bool, ◌∙◌, ap₂, List, [], Option, None, Ok, subst, sym}
+use Rattle.std.proofs.Common.{◌≡◌, ◌≢◌, ℕ, Bool, ◌∙◌, ap₂, List, Option, None, Ok, subst, sym}
 use Rattle.std.specs.Io.KnownBytes.{Appends}
 use Rattle.cc_io.specs.Answers.{AnswersInto}
-use Rattle.cc_io.specs.Correct.{Pumps}
 use Rattle.cc_io.specs.Devices.{TakesBeginning}
-use Rattle.cc_io.specs.Frames.{lines}
 use Rattle.cc_io.specs.declared.summary.Summary.{Summary}
 use Rattle.cc_chart.specs.Chart.{Chart}
 use Rattle.cc_chart.specs.Drawing.{chart_text}
@@ -12,22 +10,22 @@ use Rattle.cc_formats.specs.declared.reading.Progress.TheVariants.{OutOfMemory}
 use Rattle.cc_replay.specs.Replay.{ReplayState, TakesLine, figures_of}
 use Rattle.cc_replay.specs.declared.summary.Figures.{Figures}
 use Rattle.cc_console.specs.Devices.{Traffic}
-use Rattle.cc_traces.specs.Charting.{Charted, ChartsAll, ChartsLine, ChartsRest, StopsInChart, TakesAll, charted, peakless}
+use Rattle.cc_traces.specs.Charting.{Charted, ChartsAll, ChartsLine, StopsInChart, TakesAll, TakesLines, charted, peakless}
 
 -- The whole trace was taken, for bytes that are the same.
 takes_all : (old new : Charted) (unread unread_too left left_too : Option (List ℕ)) (summary : Summary) → unread_too ≡ unread → left_too ≡ left
-    → Pumps ChartsLine ChartsRest lines 65536 1301 old [] unread left None None (Ok summary) new → new.replay.progress ≢ OutOfMemory
+    → TakesLines old unread left None None (Ok summary) new → new.replay.progress ≢ OutOfMemory
     → TakesAll old unread_too left_too summary new
 takes_all old new unread unread_too left left_too summary u l takes has_memory = record {
-  takes = subst (λ (b : Option (List ℕ)). Pumps ChartsLine ChartsRest lines 65536 1301 old [] b left_too None None (Ok summary) new) (sym u)
-      (subst (λ (b : Option (List ℕ)). Pumps ChartsLine ChartsRest lines 65536 1301 old [] unread b None None (Ok summary) new) (sym l) takes);
+  takes = subst (λ (b : Option (List ℕ)). TakesLines old b left_too None None (Ok summary) new) (sym u)
+      (subst (λ (b : Option (List ℕ)). TakesLines old unread b None None (Ok summary) new) (sym l) takes);
   has_memory = has_memory;
 }
 
 -- A chart that was written, for the traffic of the devices.
 pub charts_all : (old new : Charted) (traffic : Traffic) (unread left output output_now : Option (List ℕ)) (summary : Summary)
     → traffic.unread ≡ unread → traffic.left ≡ left → traffic.output ≡ output → traffic.output_now ≡ output_now
-    → Pumps ChartsLine ChartsRest lines 65536 1301 old [] unread left None None (Ok summary) new → new.replay.progress ≢ OutOfMemory
+    → TakesLines old unread left None None (Ok summary) new → new.replay.progress ≢ OutOfMemory
     → Appends output output_now (chart_text new.chart) → ChartsAll old traffic summary
 charts_all old new traffic unread left output output_now summary u l o n takes has_memory written = record {
   new = new;
@@ -39,7 +37,7 @@ charts_all old new traffic unread left output output_now summary u l o n takes h
 -- A chart of which a prefix was written, for the traffic of the devices.
 pub stops_in_chart : (old new : Charted) (traffic : Traffic) (unread left output output_now : Option (List ℕ)) (summary : Summary)
     → traffic.unread ≡ unread → traffic.left ≡ left → traffic.output ≡ output → traffic.output_now ≡ output_now
-    → Pumps ChartsLine ChartsRest lines 65536 1301 old [] unread left None None (Ok summary) new → new.replay.progress ≢ OutOfMemory
+    → TakesLines old unread left None None (Ok summary) new → new.replay.progress ≢ OutOfMemory
     → TakesBeginning output output_now (chart_text new.chart) → StopsInChart old traffic
 stops_in_chart old new traffic unread left output output_now summary u l o n takes has_memory written = record {
   summary = summary;

@@ -1,28 +1,26 @@
 -- The output of `replay --script`, from that of its parts.
-use Rattle.std.proofs.Common.{◌≡◌, ◌≢◌, ℕ, List, [], Option, Result, Ok, Err, subst, sym}
-use Rattle.cc_io.specs.Correct.{Pumps}
-use Rattle.cc_io.specs.Frames.{lines}
+use Rattle.std.proofs.Common.{◌≡◌, ◌≢◌, ℕ, List, Option, Result, Ok, Err, subst, sym}
 use Rattle.cc_io.specs.declared.summary.IoError.{IoError}
 use Rattle.cc_io.specs.declared.summary.Summary.{Summary}
 use Rattle.cc_formats.specs.declared.reading.Progress.TheVariants.{OutOfMemory}
-use Rattle.cc_changes.specs.Script.{ScriptState, ScriptsLine, ScriptsRest}
+use Rattle.cc_changes.specs.Script.{ScriptState}
 use Rattle.cc_console.specs.Devices.{Traffic}
-use Rattle.cc_traces.specs.Scripting.{ScriptsAll, StopsScript, WritesLines}
+use Rattle.cc_traces.specs.Scripting.{ScriptsAll, StopsScript, Writes}
 
 -- The lines were written, for bytes that are the same.
 writes_lines : (old new : ScriptState) (traffic : Traffic) (unread left output output_now : Option (List ℕ)) (result : Result Summary IoError)
     → traffic.unread ≡ unread → traffic.left ≡ left → traffic.output ≡ output → traffic.output_now ≡ output_now
-    → Pumps ScriptsLine ScriptsRest lines 65536 128 old [] unread left output output_now result new → WritesLines old traffic result new
+    → Writes old unread left output output_now result new → Writes old traffic.unread traffic.left traffic.output traffic.output_now result new
 writes_lines old new traffic unread left output output_now result u l o n writes =
-    subst (λ (b : Option (List ℕ)). Pumps ScriptsLine ScriptsRest lines 65536 128 old [] b traffic.left traffic.output traffic.output_now result new) (sym u)
-    (subst (λ (b : Option (List ℕ)). Pumps ScriptsLine ScriptsRest lines 65536 128 old [] unread b traffic.output traffic.output_now result new) (sym l)
-    (subst (λ (b : Option (List ℕ)). Pumps ScriptsLine ScriptsRest lines 65536 128 old [] unread left b traffic.output_now result new) (sym o)
-    (subst (λ (b : Option (List ℕ)). Pumps ScriptsLine ScriptsRest lines 65536 128 old [] unread left output b result new) (sym n) writes)))
+    subst (λ (b : Option (List ℕ)). Writes old b traffic.left traffic.output traffic.output_now result new) (sym u)
+    (subst (λ (b : Option (List ℕ)). Writes old unread b traffic.output traffic.output_now result new) (sym l)
+    (subst (λ (b : Option (List ℕ)). Writes old unread left b traffic.output_now result new) (sym o)
+    (subst (λ (b : Option (List ℕ)). Writes old unread left output b result new) (sym n) writes)))
 
 -- A script that was written, for the traffic of the devices.
 pub scripts_all : (old new : ScriptState) (traffic : Traffic) (unread left output output_now : Option (List ℕ)) (summary : Summary)
     → traffic.unread ≡ unread → traffic.left ≡ left → traffic.output ≡ output → traffic.output_now ≡ output_now
-    → Pumps ScriptsLine ScriptsRest lines 65536 128 old [] unread left output output_now (Ok summary) new → new.progress ≢ OutOfMemory
+    → Writes old unread left output output_now (Ok summary) new → new.progress ≢ OutOfMemory
     → ScriptsAll old traffic summary
 scripts_all old new traffic unread left output output_now summary u l o n writes has_memory = record {
   new = new;
@@ -33,7 +31,7 @@ scripts_all old new traffic unread left output output_now summary u l o n writes
 -- A script that stops with an error, for the traffic of the devices.
 pub stops_script : (old new : ScriptState) (traffic : Traffic) (unread left output output_now : Option (List ℕ)) (error : IoError)
     → traffic.unread ≡ unread → traffic.left ≡ left → traffic.output ≡ output → traffic.output_now ≡ output_now
-    → Pumps ScriptsLine ScriptsRest lines 65536 128 old [] unread left output output_now (Err error) new → StopsScript old traffic error
+    → Writes old unread left output output_now (Err error) new → StopsScript old traffic error
 stops_script old new traffic unread left output output_now error u l o n writes = record {
   new = new;
   writes = writes_lines old new traffic unread left output output_now (Err error) u l o n writes;

@@ -1,5 +1,6 @@
 -- In reading order.
 pub mod ReplayTexts
+pub mod Settings
 pub mod Charting
 pub mod Scripting
 pub mod Replaying

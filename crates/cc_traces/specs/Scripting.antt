@@ -1,5 +1,5 @@
 -- The output of `replay --script`: the script of a trace.
-use Rattle.std.specs.Prelude.{◌≢◌, [], Result, Ok, Err}
+use Rattle.std.specs.Prelude.{◌≢◌, ℕ, List, [], Option, Result, Ok, Err}
 use Rattle.cc_io.specs.Correct.{Pumps}
 use Rattle.cc_io.specs.Frames.{lines}
 use Rattle.cc_io.specs.declared.summary.IoError.{IoError}
@@ -10,22 +10,22 @@ use Rattle.cc_formats.specs.declared.reading.Reading.{Reading}
 use Rattle.cc_changes.specs.Script.{ScriptState, ScriptsLine, ScriptsRest, script_begun}
 use Rattle.cc_console.specs.Devices.{Traffic}
 
--- WritesLines holds if the lines that the source gave were taken, and the bytes after the last of them, until the script had the
--- state `new`. The lines of its operations were written. With a result that is `Ok` the source was read to its end.
-abbrev pub WritesLines : (old : ScriptState) → Traffic → Result Summary IoError → (new : ScriptState) → Type 0
-WritesLines old traffic result new =
-    Pumps ScriptsLine ScriptsRest lines 65536 128 old [] traffic.unread traffic.left traffic.output traffic.output_now result new
+-- Writes holds if the lines that the source gave were taken, and the bytes after the last of them, until the script had the state
+-- `new`. The lines of its operations were written. With a result that is `Ok` the source was read to its end.
+abbrev pub Writes : (old : ScriptState) (unread left output output_now : Option (List ℕ)) → Result Summary IoError → (new : ScriptState) → Type 0
+Writes old unread left output output_now result new =
+    Pumps ScriptsLine ScriptsRest lines 65536 128 old [] unread left output output_now result new
 
 -- ScriptsAll holds if the whole trace was taken, its script was written, and no allocation failed.
 pub record ScriptsAll (old : ScriptState) (traffic : Traffic) (summary : Summary) : Type 0 where
   pub new : ScriptState
-  pub writes : WritesLines old traffic (Ok summary) new
+  pub writes : Writes old traffic.unread traffic.left traffic.output traffic.output_now (Ok summary) new
   pub has_memory : new.progress ≢ OutOfMemory
 
 -- StopsScript holds if the script stopped with an error of a device, and the lines before it were written.
 pub record StopsScript (old : ScriptState) (traffic : Traffic) (error : IoError) : Type 0 where
   pub new : ScriptState
-  pub writes : WritesLines old traffic (Err error) new
+  pub writes : Writes old traffic.unread traffic.left traffic.output traffic.output_now (Err error) new
 
 -- Scripts holds if the script of the trace was written, up to a failure.
 abbrev pub Scripts : (old : ScriptState) → Traffic → Result Summary IoError → Type 0

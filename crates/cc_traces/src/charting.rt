@@ -1,17 +1,15 @@
 //! A replay whose heap is drawn as a chart.
-ghost use Rattle.std.specs.Prelude.{◌≡◌, ◌≢◌, ◌≤◌, ◌+◌, ◌^◌, ◌↔◌, [], None, false, true, length, Err, IfOk, OnOk};
-ghost use Rattle.cc_bounds.specs.Span.{IsSpan};
+ghost use Rattle.std.specs.Prelude.{◌≡◌, ◌≢◌, ◌≤◌, ◌+◌, ◌↔◌, false, true, length, Err, OnOk};
 ghost use Rattle.cc_io.specs.Answers.{AnswersInto};
-ghost use Rattle.cc_io.specs.Correct.{Pumps};
-ghost use Rattle.cc_io.specs.Frames.{lines};
 ghost use Rattle.cc_console.specs.Devices.{FromInput, OnDevices, OnOutput, Traffic};
 ghost use Rattle.cc_console.specs.Input.{IsFile};
-ghost use Rattle.cc_traces.specs.Charting.{Charts, ChartsLine, ChartsRest, begun_chart, charted, levels_of};
+ghost use Rattle.cc_traces.specs.Charting.{Charts, ChartsLine, ChartsRest, TakesLines, begun_chart, charted, levels_of};
+ghost use Rattle.cc_traces.specs.Settings.{IsForHeap};
 
-use crate::MOST_REPLAYED;
+use crate::memory::{TakesTrace, TraceMemory};
 use cc_chart::{Chart, Levels, write_chart};
-use cc_console::{Discard, Fault, InputName, Inputs};
-use cc_io::{Answerer, FromReader, IoError, Lines, Page, Sink, Source, Summary, Waiting, pump};
+use cc_console::{Content, Discard, Fault, InputName, Inputs};
+use cc_io::{Answerer, IoError, Lines, Page, Sink, Source, Summary, Waiting, pump};
 use cc_placer::Placer;
 use cc_replay::{Figures, Progress, Reading, Replay, Settings};
 use std::alloc::{AllocError, Global};
@@ -33,32 +31,6 @@ impl<P: Placer> Model for Charting<P> {
 }
 
 impl<P: Placer> Charting<P> {
-    /// Creates a replay with a heap that holds nothing, and a chart of no events.
-    ///
-    /// Errors: `AllocError` if an allocation fails.
-    pub(crate) fn with_settings(
-        alloc: Global,
-        settings: Settings,
-        reading: Reading,
-    ) -> Result<Self, AllocError>
-        requires some { 1 ≤ settings.limit }
-        requires few { settings.limit ≤ 2 ^ 24 }
-        requires pool { IsSpan settings.pool }
-        ensures { IfOk result (λ charting. charting ≡ begun_chart settings reading) }
-    {
-        Ok(Charting {
-            replay: Replay::with_settings(alloc, settings, reading)?,
-            chart: Chart::new(),
-        })
-    }
-
-    /// Returns whether lines are taken.
-    fn progress(&self) -> Progress
-        ensures { result ≡ self.now.replay.progress }
-    {
-        self.replay.progress()
-    }
-
     /// Returns the chart.
     fn chart(&self) -> &Chart
         ensures { result.now ≡ self.now.chart }
@@ -131,46 +103,73 @@ impl<P: Placer, const N: usize> Answerer<N> for Charting<P> {
     }
 }
 
-/// Replays a trace, and adds its events to the chart.
-fn take_trace<P: Placer, S: Source>(
-    charting: &mut Charting<P>,
-    source: &mut S,
-) -> Result<Summary, IoError>
-    requires { S.has_failed source.old ≡ false }
-    ensures takes { Pumps ChartsLine ChartsRest lines 65536 1301 charting.old [] (S.to_come source.old) (S.to_come source.new) None None result charting.new }
-    ensures read { (result ≡ Err IoError.Read) ↔ (S.has_failed source.new ≡ true) }
-    ensures written { result ≢ Err IoError.Write }
-{
-    let mut page = Waiting::new();
-    pump(&Lines, charting, source, &mut Discard, &mut page)
+impl<P: Placer> TakesTrace for Charting<P> {
+    ghost Accepts = { IsForHeap };
+
+    ghost Begins = { λ settings reading charting. charting ≡ begun_chart settings reading };
+
+    ghost Takes = { TakesLines };
+
+    ghost progress_of = { λ charting. charting.replay.progress };
+
+    fn begin(alloc: Global, settings: Settings, reading: Reading) -> Result<Self, AllocError> {
+        Ok(Charting {
+            replay: Replay::with_settings(alloc, settings, reading)?,
+            chart: Chart::new(),
+        })
+    }
+
+    fn take<S: Source, W: Sink>(
+        &mut self,
+        source: &mut S,
+        sink: &mut W,
+    ) -> Result<Summary, IoError> {
+        let mut page = Waiting::new();
+        pump(&Lines, self, source, sink, &mut page)
+    }
+
+    fn progress(&self) -> Progress {
+        self.replay.progress()
+    }
 }
 
 /// Replays the trace of an input, and writes the chart of its heap.
-pub(crate) fn draw_input<P: Placer, I: Inputs, W: Sink>(
+pub(crate) fn draw_input<P: Placer, M: TraceMemory, I: Inputs, W: Sink>(
+    memory: &mut M,
     charting: &mut Charting<P>,
-    inputs: &I,
+    inputs: &mut I,
+    source: &mut I::Opened,
     input: InputName<'_>,
     sink: &mut W,
 ) -> Result<Summary, Fault>
-    requires { W.has_failed sink.old ≡ false }
-    ensures charts { OnOutput (I.bytes_of inputs.now) (W.taken_bytes sink.old) (W.taken_bytes sink.new)
+    requires memory { M.has_failed memory.old ≡ false }
+    requires source { I.Opened.has_failed source.old ≡ false }
+    requires inputs { I.has_refused inputs.old ≡ false }
+    requires sink { W.has_failed sink.old ≡ false }
+    ensures charts { OnOutput (I.bytes_of inputs.old) (W.taken_bytes sink.old) (W.taken_bytes sink.new)
         (λ console. FromInput input.entry console (Charts charting.old)) result }
     ensures open { result ≡ Err Fault.Open → IsFile input.entry }
     ensures untouched { result ≡ Err Fault.Open → W.taken_bytes sink.new ≡ W.taken_bytes sink.old }
     ensures starved { result ≡ Err Fault.Memory → W.taken_bytes sink.new ≡ W.taken_bytes sink.old }
+    ensures asked { I.last_asked inputs.new input.entry Content.Trace ≡ false → (inputs.new ≡ inputs.old) × (source.new ≡ source.old) }
+    ensures refused { (result ≡ Err Fault.Open) ↔ (I.has_refused inputs.new ≡ true) }
+    ensures read { (result ≡ Err Fault.Read) ↔ (I.Opened.has_failed source.new ≡ true) }
+    ensures allocates { (result ≡ Err Fault.Memory) ↔ (M.has_failed memory.new ≡ true) }
     ensures write { (result ≡ Err Fault.Write) ↔ (W.has_failed sink.new ≡ true) }
     ensures flushed { OnOk result (W.is_flushed sink.new ≡ true) }
 {
-    let mut source = FromReader::with_limit(inputs.open(input)?, MOST_REPLAYED);
-    draw(charting, &mut source, sink)
+    inputs.open(input, Content::Trace, source)?;
+    draw(memory, charting, source, sink)
 }
 
 /// Replays a trace, and writes the chart of its heap.
-fn draw<P: Placer, S: Source, W: Sink>(
+fn draw<P: Placer, M: TraceMemory, S: Source, W: Sink>(
+    memory: &mut M,
     charting: &mut Charting<P>,
     source: &mut S,
     sink: &mut W,
 ) -> Result<Summary, Fault>
+    requires memory { M.has_failed memory.old ≡ false }
     requires source { S.has_failed source.old ≡ false }
     requires sink { W.has_failed sink.old ≡ false }
     ensures charts { (traffic : Traffic) → traffic.unread ≡ S.to_come source.old → traffic.left ≡ S.to_come source.new
@@ -179,10 +178,11 @@ fn draw<P: Placer, S: Source, W: Sink>(
     ensures open { result ≢ Err Fault.Open }
     ensures starved { result ≡ Err Fault.Memory → W.taken_bytes sink.new ≡ W.taken_bytes sink.old }
     ensures read { (result ≡ Err Fault.Read) ↔ (S.has_failed source.new ≡ true) }
+    ensures allocates { (result ≡ Err Fault.Memory) ↔ (M.has_failed memory.new ≡ true) }
     ensures write { (result ≡ Err Fault.Write) ↔ (W.has_failed sink.new ≡ true) }
     ensures flushed { OnOk result (W.is_flushed sink.new ≡ true) }
 {
-    let summary = take_trace(charting, source)?;
+    let summary = memory.take(charting, source, &mut Discard)?;
     if let Progress::OutOfMemory = charting.progress() {
         return Err(Fault::Memory);
     }

@@ -2,11 +2,10 @@
 #![tactic(auto)]
 
 mod charting;
+mod memory;
 mod replay_texts;
 mod replaying;
 mod scripting;
 
+pub use memory::{TakesTrace, TraceMemory};
 pub use replaying::replay_file;
-
-/// The maximum number of bytes of a trace, more than any file or pipe gives.
-const MOST_REPLAYED: usize = 1 << 62;

@@ -1,33 +1,29 @@
 //! `replay`: the call for the trace of an allocator.
-ghost use Rattle.std.specs.Prelude.{◌≡◌, ◌≢◌, ◌≤◌, ◌^◌, ◌↔◌, false, true, Err, IsErr, IsOk, None, OnErr, OnOk};
+ghost use Rattle.std.specs.Prelude.{◌≡◌, ◌≢◌, ◌↔◌, false, true, Err, IsErr, IsOk, None, OnErr, OnOk};
 ghost use Rattle.std.specs.Io.KnownBytes.{Appends};
-ghost use Rattle.cc_bounds.specs.Span.{IsSpan};
-ghost use Rattle.cc_heap.specs.Lost.{empty_run};
-ghost use Rattle.cc_heap.specs.declared.reallocation.Reallocation.TheVariants.{Move};
 ghost use Rattle.cc_io.specs.Devices.{TakesBeginning};
-ghost use Rattle.cc_replay.specs.Replay.{begun};
-ghost use Rattle.cc_changes.specs.Script.{script_begun};
 ghost use Rattle.cc_console.specs.Devices.{FromInput, OnDevices, OnOutput, Traffic};
-ghost use Rattle.cc_console.specs.Input.{IsFile, file_input};
+ghost use Rattle.cc_console.specs.Input.{IsFile, file_input, trace_content};
 ghost use Rattle.cc_traces.specs.Charting.{ChartsTrace};
 ghost use Rattle.cc_traces.specs.ReplayTexts.{replay_in};
 ghost use Rattle.cc_traces.specs.Replaying.{ReplaysTrace, Samples, SumsUp, WithReplay, WritesReplay, WritesTrace, end_text, summary_text, table_format};
 ghost use Rattle.cc_traces.specs.Scripting.{ScriptsTrace};
+ghost use Rattle.cc_traces.specs.Settings.{IsForHeap, IsForScript};
 
-use crate::MOST_REPLAYED;
 use crate::charting::{Charting, draw_input};
+use crate::memory::TraceMemory;
 use crate::replay_texts::replay_of;
 use crate::scripting::script_input;
 use cc_bounds::Align;
 use cc_changes::Script;
 use cc_command::write_refusal;
-use cc_console::{Discard, Fault, InputName, Inputs, ReplayTexts, SummaryFormat, file_input};
-use cc_gaps::GapPlacer;
-use cc_io::{FromReader, IoError, Sink, Source, Summary};
-use cc_placer::Placer;
-use cc_replay::{
-    Format, Progress, Reading, Replay, Settings, replay_trace, write_sizes, write_summary,
+use cc_console::{
+    Content, Discard, Fault, InputName, Inputs, ReplayTexts, SummaryFormat, file_input,
 };
+use cc_gaps::GapPlacer;
+use cc_io::{IoError, Sink, Source, Summary};
+use cc_placer::Placer;
+use cc_replay::{Format, Progress, Reading, Replay, Settings, write_sizes, write_summary};
 
 /// Replays the trace that FILE names on a heap with exact bounds, and writes the summary, or in place of it
 /// the table of sizes (`--sizes`), the chart (`--svg`), the script (`--script`) or the series (`--each`). Two
@@ -41,23 +37,31 @@ use cc_replay::{
 /// Errors: `Memory` if an allocation fails, and without `--each` and `--script` nothing was written then;
 /// `Open` if the input cannot be opened, and nothing was written then; `Read` if a read fails; `Write` if and
 /// only if the sink failed.
-pub fn replay_file<R: AllocGlobal, I: Inputs, W: Sink>(
-    rt: &R,
+pub fn replay_file<M: TraceMemory, I: Inputs, W: Sink>(
+    memory: &mut M,
     align: Align,
     strict: bool,
     format: SummaryFormat,
     texts: ReplayTexts<'_>,
-    inputs: &I,
+    inputs: &mut I,
+    source: &mut I::Opened,
     file: Option<&str>,
     sink: &mut W,
 ) -> Result<Summary, Fault>
-    requires { W.has_failed sink.old ≡ false }
-    ensures replays { OnOutput (I.bytes_of inputs.now) (W.taken_bytes sink.old) (W.taken_bytes sink.new)
+    requires memory { M.has_failed memory.old ≡ false }
+    requires source { I.Opened.has_failed source.old ≡ false }
+    requires inputs { I.has_refused inputs.old ≡ false }
+    requires sink { W.has_failed sink.old ≡ false }
+    ensures replays { OnOutput (I.bytes_of inputs.old) (W.taken_bytes sink.old) (W.taken_bytes sink.new)
         (λ console. WithReplay align strict texts.entry console (λ settings reading. FromInput (file_input file.entry) console (ReplaysTrace texts.entry.sizes texts.entry.svg texts.entry.script format settings reading))) result }
     ensures memory { result ≡ Err Fault.Memory → IsOk (replay_in align strict texts.entry) }
     ensures open { result ≡ Err Fault.Open → IsOk (replay_in align strict texts.entry) × IsFile (file_input file.entry) }
     ensures untouched { result ≡ Err Fault.Open → W.taken_bytes sink.new ≡ W.taken_bytes sink.old }
     ensures starved { texts.entry.each ≡ None → texts.entry.script ≡ false → result ≡ Err Fault.Memory → W.taken_bytes sink.new ≡ W.taken_bytes sink.old }
+    ensures asked { I.last_asked inputs.new (file_input file.entry) (trace_content texts.entry.script) ≡ false → (inputs.new ≡ inputs.old) × (source.new ≡ source.old) }
+    ensures refused { (result ≡ Err Fault.Open) ↔ (I.has_refused inputs.new ≡ true) }
+    ensures read { (result ≡ Err Fault.Read) ↔ (I.Opened.has_failed source.new ≡ true) }
+    ensures allocates { (result ≡ Err Fault.Memory) ↔ (M.has_failed memory.new ≡ true) }
     ensures write { (result ≡ Err Fault.Write) ↔ (W.has_failed sink.new ≡ true) }
     ensures flushed { OnOk result (W.is_flushed sink.new ≡ true) }
 {
@@ -65,18 +69,23 @@ pub fn replay_file<R: AllocGlobal, I: Inputs, W: Sink>(
         Ok((settings, reading)) => {
             let input = file_input(file);
             if texts.script {
-                return to_script::<GapPlacer, _, _, _>(rt, settings, reading, inputs, input, sink);
+                return to_script::<GapPlacer, _, _, _>(
+                    memory, settings, reading, inputs, source, input, sink,
+                );
             }
             if texts.svg {
-                return chart::<GapPlacer, _, _, _>(rt, settings, reading, inputs, input, sink);
+                return chart::<GapPlacer, _, _, _>(
+                    memory, settings, reading, inputs, source, input, sink,
+                );
             }
             replay::<GapPlacer, _, _, _>(
-                rt,
+                memory,
                 settings,
                 reading,
                 texts.sizes,
                 format,
                 inputs,
+                source,
                 input,
                 sink,
             )
@@ -89,122 +98,160 @@ pub fn replay_file<R: AllocGlobal, I: Inputs, W: Sink>(
 /// samples are asked for.
 // not inlined, so that other commands do not touch the pages of its buffers on the stack
 #[inline(never)]
-fn replay<P: Placer, R: AllocGlobal, I: Inputs, W: Sink>(
-    rt: &R,
+fn replay<P: Placer, M: TraceMemory, I: Inputs, W: Sink>(
+    memory: &mut M,
     settings: Settings,
     reading: Reading,
     sizes: bool,
     format: SummaryFormat,
-    inputs: &I,
+    inputs: &mut I,
+    source: &mut I::Opened,
     input: InputName<'_>,
     sink: &mut W,
 ) -> Result<Summary, Fault>
-    requires some { 1 ≤ settings.limit }
-    requires few { settings.limit ≤ 2 ^ 24 }
-    requires pool { IsSpan settings.pool }
+    requires settings { IsForHeap settings }
+    requires memory { M.has_failed memory.old ≡ false }
+    requires source { I.Opened.has_failed source.old ≡ false }
+    requires inputs { I.has_refused inputs.old ≡ false }
     requires sink { W.has_failed sink.old ≡ false }
-    ensures replays { OnOutput (I.bytes_of inputs.now) (W.taken_bytes sink.old) (W.taken_bytes sink.new)
+    ensures replays { OnOutput (I.bytes_of inputs.old) (W.taken_bytes sink.old) (W.taken_bytes sink.new)
         (λ console. FromInput input.entry console (WritesTrace sizes format settings reading)) result }
     ensures open { result ≡ Err Fault.Open → IsFile input.entry }
     ensures untouched { result ≡ Err Fault.Open → W.taken_bytes sink.new ≡ W.taken_bytes sink.old }
     ensures starved { reading.each ≡ 0 → result ≡ Err Fault.Memory → W.taken_bytes sink.new ≡ W.taken_bytes sink.old }
+    ensures asked { I.last_asked inputs.new input.entry Content.Trace ≡ false → (inputs.new ≡ inputs.old) × (source.new ≡ source.old) }
+    ensures refused { (result ≡ Err Fault.Open) ↔ (I.has_refused inputs.new ≡ true) }
+    ensures read { (result ≡ Err Fault.Read) ↔ (I.Opened.has_failed source.new ≡ true) }
+    ensures allocates { (result ≡ Err Fault.Memory) ↔ (M.has_failed memory.new ≡ true) }
     ensures write { (result ≡ Err Fault.Write) ↔ (W.has_failed sink.new ≡ true) }
     ensures flushed { OnOk result (W.is_flushed sink.new ≡ true) }
 {
     let each = reading.each;
-    let mut replay: Replay<P> = Replay::with_settings(rt.alloc(), settings, reading)?;
-    replay_input(each, sizes, format, &mut replay, inputs, input, sink)
+    let mut replay: Replay<P> = memory.begin(settings, reading)?;
+    replay_input(
+        memory,
+        each,
+        sizes,
+        format,
+        &mut replay,
+        inputs,
+        source,
+        input,
+        sink,
+    )
 }
 
 /// Replays the trace of an input, and writes the summary or the table of sizes, or the series if samples are asked for.
-fn replay_input<P: Placer, I: Inputs, W: Sink>(
+fn replay_input<P: Placer, M: TraceMemory, I: Inputs, W: Sink>(
+    memory: &mut M,
     each: u64,
     sizes: bool,
     format: SummaryFormat,
     replay: &mut Replay<P>,
-    inputs: &I,
+    inputs: &mut I,
+    source: &mut I::Opened,
     input: InputName<'_>,
     sink: &mut W,
 ) -> Result<Summary, Fault>
-    requires { W.has_failed sink.old ≡ false }
-    ensures replays { OnOutput (I.bytes_of inputs.now) (W.taken_bytes sink.old) (W.taken_bytes sink.new)
+    requires memory { M.has_failed memory.old ≡ false }
+    requires source { I.Opened.has_failed source.old ≡ false }
+    requires inputs { I.has_refused inputs.old ≡ false }
+    requires sink { W.has_failed sink.old ≡ false }
+    ensures replays { OnOutput (I.bytes_of inputs.old) (W.taken_bytes sink.old) (W.taken_bytes sink.new)
         (λ console. FromInput input.entry console (WritesReplay each (end_text sizes format) replay.old)) result }
     ensures open { result ≡ Err Fault.Open → IsFile input.entry }
     ensures untouched { result ≡ Err Fault.Open → W.taken_bytes sink.new ≡ W.taken_bytes sink.old }
     ensures starved { each ≡ 0 → result ≡ Err Fault.Memory → W.taken_bytes sink.new ≡ W.taken_bytes sink.old }
+    ensures asked { I.last_asked inputs.new input.entry Content.Trace ≡ false → (inputs.new ≡ inputs.old) × (source.new ≡ source.old) }
+    ensures refused { (result ≡ Err Fault.Open) ↔ (I.has_refused inputs.new ≡ true) }
+    ensures read { (result ≡ Err Fault.Read) ↔ (I.Opened.has_failed source.new ≡ true) }
+    ensures allocates { (result ≡ Err Fault.Memory) ↔ (M.has_failed memory.new ≡ true) }
     ensures write { (result ≡ Err Fault.Write) ↔ (W.has_failed sink.new ≡ true) }
     ensures flushed { OnOk result (W.is_flushed sink.new ≡ true) }
 {
-    let mut source = FromReader::with_limit(inputs.open(input)?, MOST_REPLAYED);
+    inputs.open(input, Content::Trace, source)?;
     if each == 0 {
-        sum_up(sizes, format, replay, &mut source, sink)
+        sum_up(memory, sizes, format, replay, source, sink)
     } else {
-        sample(replay, &mut source, sink)
+        sample(memory, replay, source, sink)
     }
 }
 
 /// Replays a trace on a heap of these settings, and writes the chart of the heap.
 // not inlined, so that other commands do not touch the pages of its buffers on the stack
 #[inline(never)]
-fn chart<P: Placer, R: AllocGlobal, I: Inputs, W: Sink>(
-    rt: &R,
+fn chart<P: Placer, M: TraceMemory, I: Inputs, W: Sink>(
+    memory: &mut M,
     settings: Settings,
     reading: Reading,
-    inputs: &I,
+    inputs: &mut I,
+    source: &mut I::Opened,
     input: InputName<'_>,
     sink: &mut W,
 ) -> Result<Summary, Fault>
-    requires some { 1 ≤ settings.limit }
-    requires few { settings.limit ≤ 2 ^ 24 }
-    requires pool { IsSpan settings.pool }
+    requires settings { IsForHeap settings }
+    requires memory { M.has_failed memory.old ≡ false }
+    requires source { I.Opened.has_failed source.old ≡ false }
+    requires inputs { I.has_refused inputs.old ≡ false }
     requires sink { W.has_failed sink.old ≡ false }
-    ensures charts { OnOutput (I.bytes_of inputs.now) (W.taken_bytes sink.old) (W.taken_bytes sink.new)
+    ensures charts { OnOutput (I.bytes_of inputs.old) (W.taken_bytes sink.old) (W.taken_bytes sink.new)
         (λ console. FromInput input.entry console (ChartsTrace settings reading)) result }
     ensures open { result ≡ Err Fault.Open → IsFile input.entry }
     ensures untouched { result ≡ Err Fault.Open → W.taken_bytes sink.new ≡ W.taken_bytes sink.old }
     ensures starved { result ≡ Err Fault.Memory → W.taken_bytes sink.new ≡ W.taken_bytes sink.old }
+    ensures asked { I.last_asked inputs.new input.entry Content.Trace ≡ false → (inputs.new ≡ inputs.old) × (source.new ≡ source.old) }
+    ensures refused { (result ≡ Err Fault.Open) ↔ (I.has_refused inputs.new ≡ true) }
+    ensures read { (result ≡ Err Fault.Read) ↔ (I.Opened.has_failed source.new ≡ true) }
+    ensures allocates { (result ≡ Err Fault.Memory) ↔ (M.has_failed memory.new ≡ true) }
     ensures write { (result ≡ Err Fault.Write) ↔ (W.has_failed sink.new ≡ true) }
     ensures flushed { OnOk result (W.is_flushed sink.new ≡ true) }
 {
-    let mut charting: Charting<P> = Charting::with_settings(rt.alloc(), settings, reading)?;
-    draw_input(&mut charting, inputs, input, sink)
+    let mut charting: Charting<P> = memory.begin(settings, reading)?;
+    draw_input(memory, &mut charting, inputs, source, input, sink)
 }
 
 /// Replays a trace on a heap of these settings, and writes the script of its changes.
 // not inlined, so that other commands do not touch the pages of its buffers on the stack
 #[inline(never)]
-fn to_script<P: Placer, R: AllocGlobal, I: Inputs, W: Sink>(
-    rt: &R,
+fn to_script<P: Placer, M: TraceMemory, I: Inputs, W: Sink>(
+    memory: &mut M,
     settings: Settings,
     reading: Reading,
-    inputs: &I,
+    inputs: &mut I,
+    source: &mut I::Opened,
     input: InputName<'_>,
     sink: &mut W,
 ) -> Result<Summary, Fault>
-    requires some { 1 ≤ settings.limit }
-    requires few { settings.limit ≤ 2 ^ 24 }
-    requires pool { IsSpan settings.pool }
-    requires moves { settings.realloc ≡ Move }
+    requires settings { IsForScript settings }
+    requires memory { M.has_failed memory.old ≡ false }
+    requires source { I.Opened.has_failed source.old ≡ false }
+    requires inputs { I.has_refused inputs.old ≡ false }
     requires sink { W.has_failed sink.old ≡ false }
-    ensures scripts { OnOutput (I.bytes_of inputs.now) (W.taken_bytes sink.old) (W.taken_bytes sink.new)
+    ensures scripts { OnOutput (I.bytes_of inputs.old) (W.taken_bytes sink.old) (W.taken_bytes sink.new)
         (λ console. FromInput input.entry console (ScriptsTrace settings reading)) result }
     ensures open { result ≡ Err Fault.Open → IsFile input.entry }
     ensures untouched { result ≡ Err Fault.Open → W.taken_bytes sink.new ≡ W.taken_bytes sink.old }
+    ensures asked { I.last_asked inputs.new input.entry Content.Changes ≡ false → (inputs.new ≡ inputs.old) × (source.new ≡ source.old) }
+    ensures refused { (result ≡ Err Fault.Open) ↔ (I.has_refused inputs.new ≡ true) }
+    ensures read { (result ≡ Err Fault.Read) ↔ (I.Opened.has_failed source.new ≡ true) }
+    ensures allocates { (result ≡ Err Fault.Memory) ↔ (M.has_failed memory.new ≡ true) }
     ensures write { (result ≡ Err Fault.Write) ↔ (W.has_failed sink.new ≡ true) }
     ensures flushed { OnOk result (W.is_flushed sink.new ≡ true) }
 {
-    let mut script: Script<P> = Script::with_settings(rt.alloc(), settings, reading)?;
-    script_input(&mut script, inputs, input, sink)
+    let mut script: Script<P> = memory.begin(settings, reading)?;
+    script_input(memory, &mut script, inputs, source, input, sink)
 }
 
 /// Replays a trace, and writes the text of its end.
-fn sum_up<P: Placer, S: Source, W: Sink>(
+fn sum_up<P: Placer, M: TraceMemory, S: Source, W: Sink>(
+    memory: &mut M,
     sizes: bool,
     format: SummaryFormat,
     replay: &mut Replay<P>,
     source: &mut S,
     sink: &mut W,
 ) -> Result<Summary, Fault>
+    requires memory { M.has_failed memory.old ≡ false }
     requires source { S.has_failed source.old ≡ false }
     requires sink { W.has_failed sink.old ≡ false }
     ensures sums_up { (traffic : Traffic) → traffic.unread ≡ S.to_come source.old → traffic.left ≡ S.to_come source.new
@@ -213,10 +260,11 @@ fn sum_up<P: Placer, S: Source, W: Sink>(
     ensures open { result ≢ Err Fault.Open }
     ensures starved { result ≡ Err Fault.Memory → W.taken_bytes sink.new ≡ W.taken_bytes sink.old }
     ensures read { (result ≡ Err Fault.Read) ↔ (S.has_failed source.new ≡ true) }
+    ensures allocates { (result ≡ Err Fault.Memory) ↔ (M.has_failed memory.new ≡ true) }
     ensures write { (result ≡ Err Fault.Write) ↔ (W.has_failed sink.new ≡ true) }
     ensures flushed { OnOk result (W.is_flushed sink.new ≡ true) }
 {
-    let summary = replay_trace(replay, source, &mut Discard)?;
+    let summary = memory.take(replay, source, &mut Discard)?;
     if let Progress::OutOfMemory = replay.progress() {
         return Err(Fault::Memory);
     }
@@ -263,11 +311,13 @@ fn write_figures<P: Placer, W: Sink>(
 }
 
 /// Replays a trace, and writes its series.
-fn sample<P: Placer, S: Source, W: Sink>(
+fn sample<P: Placer, M: TraceMemory, S: Source, W: Sink>(
+    memory: &mut M,
     replay: &mut Replay<P>,
     source: &mut S,
     sink: &mut W,
 ) -> Result<Summary, Fault>
+    requires memory { M.has_failed memory.old ≡ false }
     requires source { S.has_failed source.old ≡ false }
     requires sink { W.has_failed sink.old ≡ false }
     ensures samples { (traffic : Traffic) → traffic.unread ≡ S.to_come source.old → traffic.left ≡ S.to_come source.new
@@ -275,10 +325,11 @@ fn sample<P: Placer, S: Source, W: Sink>(
         → OnDevices (Samples replay.old traffic) result }
     ensures open { result ≢ Err Fault.Open }
     ensures read { (result ≡ Err Fault.Read) ↔ (S.has_failed source.new ≡ true) }
+    ensures allocates { (result ≡ Err Fault.Memory) ↔ (M.has_failed memory.new ≡ true) }
     ensures write { (result ≡ Err Fault.Write) ↔ (W.has_failed sink.new ≡ true) }
     ensures flushed { OnOk result (W.is_flushed sink.new ≡ true) }
 {
-    let summary = replay_trace(replay, source, sink)?;
+    let summary = memory.take(replay, source, sink)?;
     if let Progress::OutOfMemory = replay.progress() {
         return Err(Fault::Memory);
     }

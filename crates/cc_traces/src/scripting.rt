@@ -4,38 +4,49 @@ ghost use Rattle.cc_console.specs.Devices.{FromInput, OnDevices, OnOutput, Traff
 ghost use Rattle.cc_console.specs.Input.{IsFile};
 ghost use Rattle.cc_traces.specs.Scripting.{Scripts};
 
-use crate::MOST_REPLAYED;
-use cc_changes::{Script, script_trace};
-use cc_console::{Fault, InputName, Inputs};
-use cc_io::{FromReader, Sink, Source, Summary};
+use crate::memory::TraceMemory;
+use cc_changes::Script;
+use cc_console::{Content, Fault, InputName, Inputs};
+use cc_io::{Sink, Source, Summary};
 use cc_placer::Placer;
 use cc_replay::Progress;
 
 /// Takes the trace of an input, and writes its script.
-pub(crate) fn script_input<P: Placer, I: Inputs, W: Sink>(
+pub(crate) fn script_input<P: Placer, M: TraceMemory, I: Inputs, W: Sink>(
+    memory: &mut M,
     script: &mut Script<P>,
-    inputs: &I,
+    inputs: &mut I,
+    source: &mut I::Opened,
     input: InputName<'_>,
     sink: &mut W,
 ) -> Result<Summary, Fault>
-    requires { W.has_failed sink.old ≡ false }
-    ensures scripts { OnOutput (I.bytes_of inputs.now) (W.taken_bytes sink.old) (W.taken_bytes sink.new)
+    requires memory { M.has_failed memory.old ≡ false }
+    requires source { I.Opened.has_failed source.old ≡ false }
+    requires inputs { I.has_refused inputs.old ≡ false }
+    requires sink { W.has_failed sink.old ≡ false }
+    ensures scripts { OnOutput (I.bytes_of inputs.old) (W.taken_bytes sink.old) (W.taken_bytes sink.new)
         (λ console. FromInput input.entry console (Scripts script.old)) result }
     ensures open { result ≡ Err Fault.Open → IsFile input.entry }
     ensures untouched { result ≡ Err Fault.Open → W.taken_bytes sink.new ≡ W.taken_bytes sink.old }
+    ensures asked { I.last_asked inputs.new input.entry Content.Changes ≡ false → (inputs.new ≡ inputs.old) × (source.new ≡ source.old) }
+    ensures refused { (result ≡ Err Fault.Open) ↔ (I.has_refused inputs.new ≡ true) }
+    ensures read { (result ≡ Err Fault.Read) ↔ (I.Opened.has_failed source.new ≡ true) }
+    ensures allocates { (result ≡ Err Fault.Memory) ↔ (M.has_failed memory.new ≡ true) }
     ensures write { (result ≡ Err Fault.Write) ↔ (W.has_failed sink.new ≡ true) }
     ensures flushed { OnOk result (W.is_flushed sink.new ≡ true) }
 {
-    let mut source = FromReader::with_limit(inputs.open(input)?, MOST_REPLAYED);
-    write_script(script, &mut source, sink)
+    inputs.open(input, Content::Changes, source)?;
+    write_script(memory, script, source, sink)
 }
 
 /// Takes a trace, and writes its script.
-fn write_script<P: Placer, S: Source, W: Sink>(
+fn write_script<P: Placer, M: TraceMemory, S: Source, W: Sink>(
+    memory: &mut M,
     script: &mut Script<P>,
     source: &mut S,
     sink: &mut W,
 ) -> Result<Summary, Fault>
+    requires memory { M.has_failed memory.old ≡ false }
     requires source { S.has_failed source.old ≡ false }
     requires sink { W.has_failed sink.old ≡ false }
     ensures scripts { (traffic : Traffic) → traffic.unread ≡ S.to_come source.old → traffic.left ≡ S.to_come source.new
@@ -43,10 +54,11 @@ fn write_script<P: Placer, S: Source, W: Sink>(
         → OnDevices (Scripts script.old traffic) result }
     ensures open { result ≢ Err Fault.Open }
     ensures read { (result ≡ Err Fault.Read) ↔ (S.has_failed source.new ≡ true) }
+    ensures allocates { (result ≡ Err Fault.Memory) ↔ (M.has_failed memory.new ≡ true) }
     ensures write { (result ≡ Err Fault.Write) ↔ (W.has_failed sink.new ≡ true) }
     ensures flushed { OnOk result (W.is_flushed sink.new ≡ true) }
 {
-    let summary = script_trace(script, source, sink)?;
+    let summary = memory.take(script, source, sink)?;
     if let Progress::OutOfMemory = script.progress() {
         return Err(Fault::Memory);
     }

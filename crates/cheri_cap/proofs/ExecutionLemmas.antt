@@ -1,6 +1,11 @@
 -- The result of a command, from that of an equal one.
-use Rattle.std.proofs.Common.{◌≡◌, Bool, true, false, Option, Some, None, Result, refl, subst, sym}
-use Rattle.std.specs.Prelude.{IsSome, IsTrue}
+use Rattle.std.proofs.Common.{◌≡◌, ℕ, Bool, true, false, Option, Some, None, Result, Ok, Err, refl, subst, sym}
+use Rattle.std.specs.Prelude.{IfOk, IfSome, IsSome, IsTrue}
+use Rattle.cc_word.specs.declared.refusal.Refusal.{Refusal}
+use Rattle.cc_bounds.specs.declared.align.Align.{Align}
+use Rattle.cc_console.specs.declared.input.InputName.{InputName}
+use Rattle.cheri_cap.specs.Input.{Script, pool_script}
+use Rattle.cc_syntax.specs.Planning.{plan_opening}
 use Rattle.cc_io.specs.declared.summary.Summary.{Summary}
 use Rattle.cc_console.specs.declared.invocation.Invocation.{Invocation}
 use Rattle.cc_console.specs.Devices.{Console, OnDevices}
@@ -22,3 +27,10 @@ not_given (Some value) absent = absurd (absent refl)
 pub not_on : (flag : Bool) → (IsTrue flag → ⊥) → flag ≡ false
 not_on true off = absurd (off refl)
 not_on false off = refl
+
+-- A claim on the script of a pool, from one on its numbers.
+pub on_pool : (found : Result (ℕ × ℕ) Refusal) (limit : ℕ) (align : Align) (input : InputName) (P : Script → Type 0)
+    → IfOk found (λ numbers. P (record { limit = limit; opening = plan_opening numbers.0 numbers.1 align; input = input }))
+    → IfSome (pool_script found limit align input) P
+on_pool (Ok numbers) limit align input P holds = holds
+on_pool (Err refusal) limit align input P holds = tt

@@ -1,2 +1,4 @@
 mod OutcomeLemmas
 mod ExecutionLemmas
+mod HeadlineLemmas
+mod RefusedLemmas

@@ -1,30 +1,100 @@
--- The end of the program for a command line that is accepted.
-use Rattle.std.specs.Prelude.{◌≡◌, ◌⊎◌, Err, List, Option, Result}
+-- The bytes and the end of the program for a command line that is accepted.
+use Rattle.std.specs.Prelude.{ℕ, ◌≡◌, ◌⊎◌, ◌↔◌, true, false, List, [], Bool, Option, Some, Ok, Err, Result, IfSome}
 use Rattle.clap.specs.Words.{Row, Text}
 use Rattle.cc_io.specs.declared.summary.Summary.{Summary}
+use Rattle.cc_machine.specs.State.{initial_state}
 use Rattle.cc_console.specs.Devices.{Console, OnDevices}
-use Rattle.cheri_cap.specs.Execution.{Executes}
+use Rattle.cheri_cap.specs.Execution.{Executes, StarvesCommand}
 use Rattle.cc_console.specs.Invocation.{IsInvocation}
-use Rattle.cheri_cap.specs.Input.{ReadsFile}
+use Rattle.cheri_cap.specs.Input.{Asked, IsUnasked, ReadsFile, RunsMachine, Script, input_of, script_of}
 use Rattle.cc_console.specs.Outcome.{ending_of}
+use Rattle.cc_console.specs.declared.input.Content.{Content}
+use Rattle.cc_console.specs.declared.input.Content.TheVariants as content
+use Rattle.cc_console.specs.declared.input.InputName.{InputName}
+use Rattle.cc_runs.specs.Runs.{MeetsFrom, MeetsMain}
 use Rattle.cc_console.specs.declared.invocation.Invocation.{Invocation}
 use Rattle.cc_console.specs.declared.outcome.Ending.{Ending}
-use Rattle.cc_console.specs.declared.outcome.Ending.TheVariants.{Stopped}
+use Rattle.cc_console.specs.declared.outcome.Ending.TheVariants.{Answered}
 use Rattle.cc_console.specs.declared.fault.Fault.{Fault}
 use Rattle.cc_console.specs.declared.fault.Fault.TheVariants as fault
 use Rattle.cc_runs.specs.declared.report.Terminals.{Terminals}
 
--- ExecutesCommand holds if the command that clap found was executed, and its result ends the program. Only a command that reads
--- a file can end because its input was not opened.
-pub record ExecutesCommand (found : Option (Text × List Row)) (terminals : Terminals) (ending : Ending) : Type 0 where
-  pub invocation : Invocation
-  pub is_invocation : IsInvocation found invocation
-  pub console : Console
+-- The devices after the program: whether an input was not opened, a read failed, a write failed, and an allocation failed; whether the
+-- last input that was asked for is this one; and the bytes that the source has left, if it says which they are.
+pub record Failures : Type 0 where
+  pub open_failed : Bool
+  pub read_failed : Bool
+  pub write_failed : Bool
+  pub memory_failed : Bool
+  pub last_asked : InputName → Content → Bool
+  pub left : Option (List ℕ)
+
+-- TellsFailures holds if the result is an error of a device if and only if that device failed.
+pub record TellsFailures (failures : Failures) (result : Result Summary Fault) : Type 0 where
+  pub opens : (result ≡ Err fault.Open) ↔ (failures.open_failed ≡ true)
+  pub reads : (result ≡ Err fault.Read) ↔ (failures.read_failed ≡ true)
+  pub writes : (result ≡ Err fault.Write) ↔ (failures.write_failed ≡ true)
+  pub allocates : (result ≡ Err fault.Memory) ↔ (failures.memory_failed ≡ true)
+
+-- ReadsAsked holds if no other input than the last one that was asked for could not be opened, or failed to be read.
+abbrev pub ReadsAsked : Option Asked → Failures → Type 0
+ReadsAsked asked failures = IsUnasked asked failures.last_asked → (failures.open_failed ≡ false) × (failures.read_failed ≡ false)
+
+-- EndsInvocation holds if the command was executed on devices in these states before and after it, and its result ends the program.
+-- The result is an error of a device if and only if that device failed.
+pub record EndsInvocation (invocation : Invocation) (terminals : Terminals) (console : Console) (failures : Failures) (ending : Ending) : Type 0 where
   pub result : Result Summary Fault
   pub executes : OnDevices (Executes invocation terminals console) result
+  pub fails : TellsFailures failures result
   pub opens : result ≡ Err fault.Open → ReadsFile invocation
+  pub untouched : result ≡ Err fault.Open → console.output_now ≡ console.output
+  pub asks : ReadsAsked (input_of invocation) failures
+  pub main :
+      IfSome (script_of invocation)
+      (λ script. OnDevices (MeetsMain script.limit script.opening (console.input script.input) failures.left console.output console.output_now) result)
+  pub starves : result ≡ Err fault.Memory → RunsMachine invocation × StarvesCommand invocation terminals console
   pub ends : ending ≡ ending_of result
 
--- EndsCommand holds if the command that clap found was executed, or memory ran out before it began.
-abbrev pub EndsCommand : (found : Option (Text × List Row)) → Terminals → Ending → Type 0
-EndsCommand found terminals ending = ExecutesCommand found terminals ending ⊎ (ending ≡ Stopped fault.Memory)
+-- ExecutesCommand holds if `EndsInvocation` does for the command that clap found.
+pub record ExecutesCommand (found : Option (Text × List Row)) (terminals : Terminals) (console : Console) (failures : Failures) (ending : Ending) : Type 0 where
+  pub invocation : Invocation
+  pub is_invocation : IsInvocation found invocation
+  pub executed : EndsInvocation invocation terminals console failures ending
+
+-- ---- `run` and `plan`
+
+-- AnswersScript holds if the main theorem does of a run on a new machine that read these bytes and wrote after the bytes `taken`. The
+-- result is an error of a device if and only if that device failed, and ends the program: with 0, or with 1 if a reply is an error, or
+-- with 3 if a device failed. No other input was opened or read. Nothing
+-- was written if it was not opened; if memory ran out, nothing was, or the whole output.
+pub record AnswersScript (script : Script) (bytes taken : List ℕ) (taken_now : Option (List ℕ)) (failures : Failures) (ending : Ending) : Type 0 where
+  pub result : Result Summary Fault
+  pub main : OnDevices (MeetsFrom script.opening (initial_state script.limit) (Some bytes) failures.left (Some taken) taken_now) result
+  pub untouched : result ≡ Err fault.Open → taken_now ≡ Some taken
+  pub starved : result ≡ Err fault.Memory
+      → (taken_now ≡ Some taken)
+      ⊎ ((summary : Summary) × (left : Option (List ℕ)) × MeetsFrom script.opening (initial_state script.limit) (Some bytes) left (Some taken) taken_now (Ok summary))
+  pub fails : TellsFailures failures result
+  pub asks : failures.last_asked script.input content.Script ≡ false → (failures.open_failed ≡ false) × (failures.read_failed ≡ false)
+  pub ends : ending ≡ ending_of result
+
+-- RunsToEnd holds if the main theorem does of a run on a new machine that read these bytes to their end, and succeeded. So the whole
+-- output was written after the bytes `taken`, and each state between two commands is safe. The program ends by the summary: with 0, or
+-- with 1 if a reply is an error.
+pub record RunsToEnd (script : Script) (bytes taken : List ℕ) (taken_now : Option (List ℕ)) (ending : Ending) : Type 0 where
+  pub summary : Summary
+  pub main : MeetsFrom script.opening (initial_state script.limit) (Some bytes) (Some []) (Some taken) taken_now (Ok summary)
+  pub ends : ending ≡ Answered summary
+
+-- No device failed.
+pub record NoneFailed (failures : Failures) : Type 0 where
+  pub opened : failures.open_failed ≡ false
+  pub read : failures.read_failed ≡ false
+  pub written : failures.write_failed ≡ false
+  pub allocated : failures.memory_failed ≡ false
+
+-- AnswersEveryScript holds if `AnswersScript` does for `run` and `plan`, whatever bytes their input has, and the sink took before.
+abbrev pub AnswersEveryScript : Invocation → Console → Failures → Ending → Type 0
+AnswersEveryScript invocation console failures ending =
+    (script : Script) (bytes taken : List ℕ) → script_of invocation ≡ Some script → console.input script.input ≡ Some bytes
+    → console.output ≡ Some taken → AnswersScript script bytes taken console.output_now failures ending

@@ -1,5 +1,5 @@
 -- The output of a command, by its input: the program's own theorem.
-use Rattle.std.specs.Prelude.{[], None, Result}
+use Rattle.std.specs.Prelude.{[], ⊤, None, Result}
 use Rattle.cc_io.specs.declared.summary.IoError.{IoError}
 use Rattle.cc_io.specs.declared.summary.Summary.{Summary}
 use Rattle.clap.specs.Walk.{texts}
@@ -12,7 +12,7 @@ use Rattle.cc_console.specs.Input.{file_input}
 use Rattle.cc_traces.specs.Replaying.{ReplaysTrace, WithReplay}
 use Rattle.cc_tasks.specs.Tasks.{AnnotatesWords, AnswersQuestion, ListsWords, RoundsLengths, WithBase, WithListing}
 use Rattle.cc_runs.specs.Report.{report_of}
-use Rattle.cc_runs.specs.Runs.{MapsFile, PlansFile, ReportsRun}
+use Rattle.cc_runs.specs.Runs.{MapsFile, PlansFile, ReportsRun, StarvesPlan, StarvesRun}
 use Rattle.cc_runs.specs.declared.report.Terminals.{Terminals}
 
 -- Executes holds if the bytes written and the summary are those of the command for its input, up to a failure.
@@ -31,3 +31,9 @@ Executes (Round base sizes) terminals console result =
     WithBase base console.output console.output_now (λ base. RoundsTyped base (texts sizes.now) console.output console.output_now) result
 Executes (RoundList text file) terminals console result =
     WithBase text console.output console.output_now (λ base. FromInput (file_input file) console (RoundsLengths text terminals.errors base)) result
+
+-- StarvesCommand holds if `run` or `plan` has written nothing, or, with `--stats`, the whole output, when memory runs out.
+abbrev pub StarvesCommand : Invocation → Terminals → Console → Type 0
+StarvesCommand (Run limit stats file) terminals console = StarvesRun (report_of stats terminals) [] (initial_state limit) (file_input file) console
+StarvesCommand (Plan limit pool align stats file) terminals console = StarvesPlan (report_of stats terminals) limit pool align file console
+StarvesCommand _ terminals console = ⊤

@@ -1,10 +1,16 @@
 -- The files that a command reads, the machine that it creates, and whether it writes to standard error.
-use Rattle.std.specs.Prelude.{ℕ, ◌≡◌, ◌⊎◌, false, IsOk, IsSome, IsTrue, List, [], ⊤}
+use Rattle.std.specs.Prelude.{ℕ, ◌≡◌, ◌⊎◌, false, IsOk, IsSome, IsTrue, Bool, List, [], ⊤, Option, Some, None, Result, Ok, Err}
 use Rattle.clap.specs.Walk.{texts}
-use Rattle.cc_syntax.specs.Planning.{pool_of}
+use Rattle.cc_word.specs.declared.refusal.Refusal.{Refusal}
+use Rattle.cc_bounds.specs.declared.align.Align.{Align}
+use Rattle.cc_values.specs.declared.op.Op.{Op}
+use Rattle.cc_syntax.specs.Planning.{plan_opening, pool_of}
+use Rattle.cc_console.specs.declared.input.Content.{Content}
+use Rattle.cc_console.specs.declared.input.Content.TheVariants as content
+use Rattle.cc_console.specs.declared.input.InputName.{InputName}
 use Rattle.cc_console.specs.declared.invocation.Invocation.{Invocation}
 use Rattle.cc_console.specs.declared.invocation.Invocation.TheVariants.{Annotate, Ask, Decode, Map, Plan, Replay, Round, RoundList, Run}
-use Rattle.cc_console.specs.Input.{IsFile, file_input}
+use Rattle.cc_console.specs.Input.{IsFile, file_input, trace_content}
 use Rattle.cc_tasks.specs.Listing.{listing_in, place_in}
 use Rattle.cc_tasks.specs.NumberHint.{after_base, is_hinted}
 use Rattle.cc_tasks.specs.Questions.{numbers_of}
@@ -37,18 +43,6 @@ RunsMachine (Annotate file) = ⊥
 RunsMachine (Round base sizes) = ⊥
 RunsMachine (RoundList base file) = ⊥
 
--- IsRunOrPlan holds of `run` and `plan`, which write the replies to a script.
-abbrev pub IsRunOrPlan : Invocation → Type 0
-IsRunOrPlan (Run limit stats file) = ⊤
-IsRunOrPlan (Plan limit pool align stats file) = ⊤
-IsRunOrPlan _ = ⊥
-
--- IsWatched holds of the commands whose progress is shown: `replay` without `--script`, whose lines may be shorter than
--- the text of the progress.
-abbrev pub IsWatched : Invocation → Type 0
-IsWatched (Replay align strict format texts file) = texts.script ≡ false
-IsWatched _ = ⊥
-
 -- IsStreamed holds if the command writes a series or a script, while it reads a trace: `replay` with `--each` or `--script`.
 abbrev pub IsStreamed : Invocation → Type 0
 IsStreamed (Replay align strict format texts file) = IsSome texts.each ⊎ IsTrue texts.script
@@ -67,11 +61,51 @@ IsHinted (Round base sizes) = ⊤
 IsHinted _ = ⊥
 
 -- IsReported holds if the command can write to standard error: `run`, and `plan` if BASE and LENGTH are those of a pool, and
--- a command with a hint on its typed numbers, and `round` of a list if standard error is a terminal and the base is a number.
+-- a command with a hint on its typed numbers, and `round` of a list if standard error is a terminal
+-- and the base is a number, and `decode` if standard error is a terminal.
 abbrev pub IsReported : Terminals → Invocation → Type 0
 IsReported terminals (Run limit stats file) = ⊤
 IsReported terminals (Plan limit pool align stats file) = IsOk (pool_of pool.base.now pool.length.now)
 IsReported terminals (Ask question) = IsTrue (is_hinted terminals.errors (numbers_of question))
 IsReported terminals (Round base sizes) = IsTrue (is_hinted terminals.errors (after_base base (texts sizes.now)))
 IsReported terminals (RoundList base file) = IsTrue terminals.errors × IsOk (place_in base)
+IsReported terminals (Decode input format texts file) = IsTrue terminals.errors
 IsReported terminals _ = ⊥
+
+-- An input that is asked for, and its content.
+pub record Asked : Type 0 where
+  pub input : InputName
+  pub content : Content
+
+-- The input that the command reads, if it reads one.
+abbrev pub input_of : Invocation → Option Asked
+input_of (Run limit stats file) = Some (record { input = file_input file; content = content.Script })
+input_of (Plan limit pool align stats file) = Some (record { input = file_input file; content = content.Script })
+input_of (Map limit pool align svg file) = Some (record { input = file_input file; content = content.Pool })
+input_of (Replay align strict format texts file) = Some (record { input = file_input file; content = trace_content texts.script })
+input_of (Decode input format texts file) = Some (record { input = file_input file; content = content.Words })
+input_of (Annotate file) = Some (record { input = file_input file; content = content.Words })
+input_of (RoundList base file) = Some (record { input = file_input file; content = content.Words })
+input_of _ = None
+
+-- IsUnasked holds if the last input that was asked for is not this one.
+abbrev pub IsUnasked : Option Asked → (last_asked : InputName → Content → Bool) → Type 0
+IsUnasked (Some asked) last_asked = last_asked asked.input asked.content ≡ false
+IsUnasked None last_asked = ⊤
+
+-- The run of a script: the maximum number of slots, the operations of the opening, and the input that has the script.
+pub record Script : Type 0 where
+  pub limit : ℕ
+  pub opening : List Op
+  pub input : InputName
+
+-- The script on a pool, if BASE and LENGTH are those of one.
+abbrev pub pool_script : (found : Result (ℕ × ℕ) Refusal) (limit : ℕ) → Align → InputName → Option Script
+pool_script (Ok numbers) limit align input = Some (record { limit = limit; opening = plan_opening numbers.0 numbers.1 align; input = input })
+pool_script (Err refusal) limit align input = None
+
+-- The script of `run`, and of `plan` if BASE and LENGTH are those of a pool; other commands have none here.
+abbrev pub script_of : Invocation → Option Script
+script_of (Run limit stats file) = Some (record { limit = limit; opening = []; input = file_input file })
+script_of (Plan limit pool align stats file) = pool_script (pool_of pool.base.now pool.length.now) limit align (file_input file)
+script_of _ = None

@@ -3,6 +3,7 @@
 #![tactic(auto)]
 
 mod execution;
+mod laws;
 mod program;
 
 use crate::program::answer_arguments;

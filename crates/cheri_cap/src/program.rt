@@ -1,27 +1,29 @@
-//! The execution of the program's command line.
-ghost use Rattle.std.specs.Prelude.{◌≡◌, ◌≢◌, ◌↔◌, false, true, Err, IsTrue, List, Option};
+//! The execution of the program's command line: on given devices, and on those of the process.
+ghost use Rattle.std.specs.Prelude.{◌≡◌, ◌≢◌, ◌↔◌, IfErr, IfOk, OnErr, false, true, List, Option};
 ghost use Rattle.clap.specs.Walk.{texts};
-ghost use Rattle.clap.specs.Words.{App, Row, Text, subcommand_of, subcommand_rows_of};
+ghost use Rattle.clap.specs.Words.{App, FailsBy, Row, Text, kind_of, subcommand_of, subcommand_rows_of};
 ghost use Rattle.cc_console.specs.declared.outcome.Ending.TheVariants as ending;
-ghost use Rattle.cheri_cap.specs.Ending.{EndsCommand, ExecutesCommand};
-ghost use Rattle.cc_console.specs.Devices.{Console, OnDevices};
-ghost use Rattle.cheri_cap.specs.Execution.{Executes};
-ghost use Rattle.cheri_cap.specs.Input.{IsRunOrPlan, IsWatched, ReadsFile};
+ghost use Rattle.cc_console.specs.declared.outcome.Ending.{Ending as EndingSpec};
+ghost use Rattle.cc_console.specs.declared.invocation.Invocation.{Invocation as InvocationSpec};
+ghost use Rattle.cheri_cap.specs.Ending.{AnswersEveryScript, ExecutesCommand, Failures};
+ghost use Rattle.cc_console.specs.Devices.{Console};
 ghost use Rattle.cc_console.specs.Invocation.{HasItsTexts, IsInvocation, IsProgram, faults_of, is_taken};
 ghost use Rattle.cc_console.specs.Outcome.{EndsOn};
 
 use crate::execution::execute;
 use cc_console::{
-    Ending, ErrorWriter, Fault, Invocation, ProcessInputs, ending_of, invocation_of, read_words,
-    tell,
+    Ending, ErrorWriter, Fault, GlobalMemory, Inputs, Memory, ProcessInputs, ending_of,
+    invocation_of, no_input, tell,
 };
-use cc_io::{FromWriter, Summary};
-use cc_runs::{Terminals, map_file};
-use cc_tasks::hint_on_file;
-use clap::ArgMatches;
+use cc_io::{FromWriter, Sink};
+use cc_runs::{RunMemory, Terminals};
+use cc_traces::TraceMemory;
+use clap::error::ErrorKind;
+use clap::{ArgMatches, Error};
+use either::{Either, Left, Right};
 use std::alloc::AllocError;
 use std::env::{self, Env};
-use std::io::{self, BufWriter};
+use std::io::{self, BufWriter, Printer};
 use std::rt::Files;
 
 /// Executes the command line of the process, and returns the program's end. The arguments have to be UTF-8.
@@ -54,96 +56,154 @@ fn answer_strings<R: AllocGlobal + Files + Input + Print + Eprint>(
         .map(|argument| argument.as_str())
         .collect(rt.alloc());
     match words {
-        Ok(words) => answer_words(rt, terminals, words.as_slice()),
+        Ok(words) => answer_on_process(rt, terminals, words.as_slice()),
         Err(_) => Ending::Stopped(Fault::Memory),
     }
 }
 
-/// Executes the arguments of a command line, and returns the program's end. The first is the program's name.
-fn answer_words<R: AllocGlobal + Files + Input + Print + Eprint>(
+/// Executes the arguments of a command line on the files and the standard streams of the process, and returns the program's end.
+fn answer_on_process<R: AllocGlobal + Files + Input + Print + Eprint>(
     rt: &R,
     terminals: Terminals,
     words: &[&str],
 ) -> Ending
     ensures refused { result ≡ ending.Refused → (app : App) × IsProgram app × (is_taken app (texts words.now) ≡ false) }
     ensures ends { (app : App) × IsProgram app × EndsOn (faults_of app (texts words.now)) result }
-    ensures executes { (app : App) × IsProgram app × (is_taken app (texts words.now) ≡ true → EndsCommand (subcommand_of app (texts words.now)) terminals result) }
 {
-    match read_words(rt.alloc(), words) {
-        Ok(matches) => answer_matches(rt, terminals, &matches),
+    let mut inputs = ProcessInputs::new(rt, terminals.input && terminals.errors, terminals.errors);
+    let mut source = no_input();
+    let mut sink = FromWriter::new(output_of(rt, words));
+    let mut errors = FromWriter::new(ErrorWriter { to: rt });
+    let mut memory = GlobalMemory::new(rt.alloc());
+    match answer_words(
+        &mut memory,
+        terminals,
+        words,
+        &mut inputs,
+        &mut source,
+        &mut sink,
+        &mut errors,
+    ) {
+        Ok(ending) => ending,
         Err(error) => tell(rt, &error),
     }
 }
 
-/// Executes the command that clap found, and returns the program's end.
-fn answer_matches<R: AllocGlobal + Files + Input + Print + Eprint>(
-    rt: &R,
-    terminals: Terminals,
-    matches: &ArgMatches<'_>,
-) -> Ending
-    requires { HasItsTexts (subcommand_rows_of matches.now) }
-    ensures accepted { result ≢ ending.Refused }
-    ensures executes { ExecutesCommand (subcommand_rows_of matches.now) terminals result }
-{
-    let invocation = invocation_of(matches);
-    let result = execute_in_process(rt, terminals, invocation);
-    hint_on_file(rt, terminals.errors, invocation, &result);
-    ending_of(result)
-}
-
-/// Returns whether the progress of a command is shown at a terminal: that of `replay`, except with
-/// `--script`, whose lines may be shorter than the text of the progress.
-fn is_watched(invocation: Invocation<'_>) -> bool
-    ensures { IsTrue result ↔ IsWatched invocation.entry }
-{
-    matches!(invocation, Invocation::Replay { texts, .. } if !texts.script)
-}
-
-/// Returns whether a command writes the replies to a script: `run` and `plan` do.
-fn writes_replies(invocation: Invocation<'_>) -> bool
-    ensures { IsTrue result ↔ IsRunOrPlan invocation.entry }
-{
-    matches!(invocation, Invocation::Run { .. } | Invocation::Plan { .. })
-}
-
-/// Executes a command on the files and the standard streams of the process.
-///
-/// Errors: those of [`execute`], and `Memory` if the buffer of an SVG document cannot be allocated.
-fn execute_in_process<R: AllocGlobal + Files + Input + Print + Eprint>(
-    rt: &R,
-    terminals: Terminals,
-    invocation: Invocation<'_>,
-) -> Result<Summary, Fault>
-    requires invocation { (found : Option (Text × List Row)) × IsInvocation found invocation }
-    ensures executes { (console : Console) × OnDevices (Executes invocation.entry terminals console) result }
-    ensures open { result ≡ Err Fault.Open → ReadsFile invocation.entry }
-{
-    let is_typed = writes_replies(invocation) && terminals.input && terminals.errors;
-    let is_watched = is_watched(invocation) && terminals.errors;
-    let inputs = ProcessInputs {
-        rt,
-        is_typed,
-        is_watched,
-    };
-    match invocation {
-        // not by `execute`, so that no other command is compiled for this sink too
-        Invocation::Map {
-            limit,
-            pool,
-            align,
-            svg,
-            file,
-        } if svg => {
-            let Ok(output) = BufWriter::new(rt.alloc(), io::writer(rt)) else {
-                return Err(Fault::Memory);
-            };
-            let mut sink = FromWriter::new(output);
-            map_file(rt, limit, pool, align, svg, &inputs, file, &mut sink)
-        }
-        _ => {
-            let mut sink = FromWriter::new(io::writer(rt));
-            let mut errors = FromWriter::new(ErrorWriter { to: rt });
-            execute(rt, invocation, terminals, &inputs, &mut sink, &mut errors)
+/// Returns a writer of standard output. It has a buffer if the words name `--svg`, since a drawing is written in many small pieces.
+fn output_of<'a, R: AllocGlobal + Print>(
+    rt: &'a R,
+    words: &[&str],
+) -> Either<BufWriter<Printer<'a, R>>, Printer<'a, R>> {
+    if words.iter().any(|word| *word == "--svg") {
+        if let Ok(output) = BufWriter::new(rt.alloc(), io::writer(rt)) {
+            return Left(output);
         }
     }
+    Right(io::writer(rt))
+}
+
+/// Executes the arguments of a command line on these devices, and returns the program's end. The first argument is the program's name.
+///
+/// Nothing but the devices is used.
+///
+/// Requires: no device has failed.
+/// Errors: clap does not accept the arguments, help or the version is requested, or memory ran out before the command was known.
+/// Nothing is read or written then.
+pub fn answer_words<M: RunMemory + TraceMemory, I: Inputs, W: Sink, E: Sink>(
+    memory: &mut M,
+    terminals: Terminals,
+    words: &[&str],
+    inputs: &mut I,
+    source: &mut I::Opened,
+    sink: &mut W,
+    errors: &mut E,
+) -> Result<Ending, Error>
+    requires memory { M.has_failed memory.old ≡ false }
+    requires source { I.Opened.has_failed source.old ≡ false }
+    requires inputs { I.has_refused inputs.old ≡ false }
+    requires sink { W.has_failed sink.old ≡ false }
+    requires errors { E.has_failed errors.old ≡ false }
+    ensures executes { IfOk result (λ end. (app : App) × IsProgram app × ExecutesCommand (subcommand_of app (texts words.now)) terminals (record {
+      input = I.bytes_of inputs.old;
+      output = W.taken_bytes sink.old;
+      output_now = W.taken_bytes sink.new;
+      errors = E.taken_bytes errors.old;
+      errors_now = E.taken_bytes errors.new;
+      errors_failed = E.has_failed errors.new;
+    }) (record {
+      open_failed = I.has_refused inputs.new;
+      read_failed = I.Opened.has_failed source.new;
+      write_failed = W.has_failed sink.new;
+      memory_failed = M.has_failed memory.new;
+      last_asked = I.last_asked inputs.new;
+      left = I.Opened.to_come source.new;
+    }) end) }
+    ensures runs_script { IfOk result (λ end. (app : App) × IsProgram app × (invocation : InvocationSpec) × IsInvocation (subcommand_of app (texts words.now)) invocation × AnswersEveryScript invocation (record {
+      input = I.bytes_of inputs.old;
+      output = W.taken_bytes sink.old;
+      output_now = W.taken_bytes sink.new;
+      errors = E.taken_bytes errors.old;
+      errors_now = E.taken_bytes errors.new;
+      errors_failed = E.has_failed errors.new;
+    }) (record {
+      open_failed = I.has_refused inputs.new;
+      read_failed = I.Opened.has_failed source.new;
+      write_failed = W.has_failed sink.new;
+      memory_failed = M.has_failed memory.new;
+      last_asked = I.last_asked inputs.new;
+      left = I.Opened.to_come source.new;
+    }) end) }
+    ensures accepted { IfOk result (λ end. end ≢ ending.Refused) }
+    ensures kinds { (app : App) × IsProgram app × FailsBy (faults_of app (texts words.now)) result }
+    ensures refused { IfErr result (λ error. (app : App) × IsProgram app × (is_taken app (texts words.now) ≡ true → kind_of error ≡ ErrorKind.OutOfMemory)) }
+    ensures no_output { OnErr result (sink.new ≡ sink.old) }
+    ensures no_report { OnErr result (errors.new ≡ errors.old) }
+    ensures no_input { OnErr result (inputs.new ≡ inputs.old) }
+    ensures allocates { IfErr result (λ error. (kind_of error ≡ ErrorKind.OutOfMemory) ↔ (M.has_failed memory.new ≡ true)) }
+    ensures unread { OnErr result (source.new ≡ source.old) }
+{
+    match memory.read_words(words) {
+        Ok(matches) => Ok(answer_matches(
+            memory, terminals, &matches, inputs, source, sink, errors,
+        )),
+        Err(error) => Err(error),
+    }
+}
+
+/// Executes the command that clap found on these devices, and returns the program's end.
+fn answer_matches<M: RunMemory + TraceMemory, I: Inputs, W: Sink, E: Sink>(
+    memory: &mut M,
+    terminals: Terminals,
+    matches: &ArgMatches<'_>,
+    inputs: &mut I,
+    source: &mut I::Opened,
+    sink: &mut W,
+    errors: &mut E,
+) -> Ending
+    requires texts { HasItsTexts (subcommand_rows_of matches.now) }
+    requires memory { M.has_failed memory.old ≡ false }
+    requires source { I.Opened.has_failed source.old ≡ false }
+    requires inputs { I.has_refused inputs.old ≡ false }
+    requires sink { W.has_failed sink.old ≡ false }
+    requires errors { E.has_failed errors.old ≡ false }
+    ensures accepted { result ≢ ending.Refused }
+    ensures executes { ExecutesCommand (subcommand_rows_of matches.now) terminals (record {
+      input = I.bytes_of inputs.old;
+      output = W.taken_bytes sink.old;
+      output_now = W.taken_bytes sink.new;
+      errors = E.taken_bytes errors.old;
+      errors_now = E.taken_bytes errors.new;
+      errors_failed = E.has_failed errors.new;
+    }) (record {
+      open_failed = I.has_refused inputs.new;
+      read_failed = I.Opened.has_failed source.new;
+      write_failed = W.has_failed sink.new;
+      memory_failed = M.has_failed memory.new;
+      last_asked = I.last_asked inputs.new;
+      left = I.Opened.to_come source.new;
+    }) result }
+{
+    let invocation = invocation_of(matches);
+    let result = execute(memory, invocation, terminals, inputs, source, sink, errors);
+    ending_of(result)
 }

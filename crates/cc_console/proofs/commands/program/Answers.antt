@@ -3,7 +3,7 @@ use Rattle.std.proofs.lemmas.List.{take_all}
 use Rattle.std.proofs.lemmas.List.Sums.{fold_more}
 use Rattle.std.proofs.lemmas.Result.{IfOk-weaker}
 use Rattle.clap.specs.Words.{App, app_of, with_subcommand}
-use Rattle.cc_console.specs.Usage.{bare_program, explain_command, listed_commands, with_commands}
+use Rattle.cc_console.specs.Usage.{bare_program, listed_commands, with_commands}
 use Rattle.cc_console.specs.declared.table.Choices.{Choices}
 use Rattle.cc_console.proofs.commands.program.Goals as goal
 

@@ -1,7 +1,6 @@
-use Rattle.std.proofs.Common.{◌≡◌, ◌||◌, ◌∙◌, ap₂, sym, arith}
+use Rattle.std.proofs.Common.{◌||◌, ◌∙◌, ap₂, sym, arith}
 use Rattle.std.proofs.lemmas.List.Sums.{fold_more}
-use Rattle.clap.specs.Words.{app_of, with_rule}
-use Rattle.cc_console.specs.Usage.{with_arguments}
+use Rattle.clap.specs.Words.{with_rule}
 use Rattle.cc_console.proofs.commands.with_arguments.Goals as goal
 
 pub loop-row-preserved : goal.loop-row-preserved

@@ -14,5 +14,5 @@ returns-clause-draws g c = λ errors errors_now errors_failed.
       errors_now = errors_now;
       errors_failed = errors_failed;
     })
-    (g.I.Inputs.bytes_of c.args.inputs.now) _ _ _ _ _ c.draw_end.result c.in_ok-session.ensures.machine refl c.new-source.ensures.to_come
+    (g.I.Inputs.bytes_of c.args.inputs.now) _ _ _ _ _ c.draw_end.result c.in_ok-session.ensures.machine refl refl
     c.in_ok-open.ensures.opened refl refl c.draw_end.ensures.draws

@@ -1,27 +1,22 @@
 use Rattle.std.proofs.Common.{[], ◌∙◌, ap, subst, sym}
 use Rattle.std.proofs.KnownBytes.{Appends-nil}
 use Rattle.std.specs.Io.KnownBytes.{Appends}
-use Rattle.cc_machine.specs.State.{State}
 use Rattle.cc_command.specs.Hints.{hints_text}
 use Rattle.cc_command.specs.Statistics.{statistics_text}
-use Rattle.cc_syntax.specs.Tally.{IsTally}
-use Rattle.cc_runs.specs.Report.{IsMachineUsage}
-use Rattle.cc_syntax.specs.declared.tally.Tally.{Tally}
 use Rattle.cc_runs.proofs.ReportLemmas.{asked_summary, given_hints, no_hints, no_summary, of_answer, of_answered, tells}
 use Rattle.cc_runs.proofs.report.write_report.Goals as goal
 use Rattle.cc_runs.proofs.report.write_report.Goals.{then-report+in_ok-usage+else-is_err, else-report}
 
 pub returns-then-report-2-clause-written : goal.returns-then-report-2-clause-written
 returns-then-report-2-clause-written g c not_failed opening exchanges counts =
-    let hints = ap hints_text (c.of.ensures opening exchanges (subst (λ (tally : Tally). IsTally opening exchanges tally) (sym c.tally-then-report-2.ensures) counts)) ∙ given_hints c.args.report.hints opening exchanges c.args.pool c.if-report-2.true in
+    let hints = ap hints_text (c.of.ensures opening exchanges counts) ∙ given_hints c.args.report.hints opening exchanges c.args.pool c.if-report-2.true in
     let written = of_answer _ _ _ c.show_hints.ensures.fails not_failed c.show_hints.ensures.ok in
     elim c.if-report.branch [
       | then-report+in_ok-usage+else-is_err w ↦
           tells _ _ _ _ _ _ _ _ _ _
-          (asked_summary _ _ _ w.if-report.true (subst (λ (state : State). IsMachineUsage state w.in_ok-usage.usage) w.machine.ensures w.in_ok-usage.ensures.usage)) hints
+          (asked_summary _ _ _ w.if-report.true w.in_ok-usage.ensures.usage) hints
           (subst (λ errors. Appends (g.E.Sink.taken_bytes c.args.errors.now) (g.E.Sink.taken_bytes errors) (statistics_text w.in_ok-usage.usage c.args.session.now.tally)) (sym w.errors-is)
-          (subst (λ (tally : Tally). Appends (g.E.Sink.taken_bytes c.args.errors.now) (g.E.Sink.taken_bytes w.show_statistics.new.sink) (statistics_text w.in_ok-usage.usage tally)) w.tally.ensures
-          (of_answered _ _ (sym w.is_err.ensures.value ∙ w.if-is_err.false) w.show_statistics.ensures.ok))) written
+          (of_answered _ _ (sym w.is_err.ensures.value ∙ w.if-is_err.false) w.show_statistics.ensures.ok)) written
       | else-report w ↦
           tells _ _ _ _ _ _ _ _ _ _ (no_summary _ _ w.if-report.false) hints
           (subst (λ errors. Appends (g.E.Sink.taken_bytes c.args.errors.now) (g.E.Sink.taken_bytes errors) []) (sym w.errors-is) (Appends-nil _)) written
@@ -33,10 +28,9 @@ returns-else-report-2-clause-written g c not_failed opening exchanges counts =
     elim c.if-report.branch [
       | then-report+in_ok-usage+else-is_err w ↦
           tells _ _ _ _ _ _ _ _ _ _
-          (asked_summary _ _ _ w.if-report.true (subst (λ (state : State). IsMachineUsage state w.in_ok-usage.usage) w.machine.ensures w.in_ok-usage.ensures.usage)) hints
+          (asked_summary _ _ _ w.if-report.true w.in_ok-usage.ensures.usage) hints
           (subst (λ errors. Appends (g.E.Sink.taken_bytes c.args.errors.now) (g.E.Sink.taken_bytes errors) (statistics_text w.in_ok-usage.usage c.args.session.now.tally)) (sym w.errors-is)
-          (subst (λ (tally : Tally). Appends (g.E.Sink.taken_bytes c.args.errors.now) (g.E.Sink.taken_bytes w.show_statistics.new.sink) (statistics_text w.in_ok-usage.usage tally)) w.tally.ensures
-          (of_answered _ _ (sym w.is_err.ensures.value ∙ w.if-is_err.false) w.show_statistics.ensures.ok))) (Appends-nil _)
+          (of_answered _ _ (sym w.is_err.ensures.value ∙ w.if-is_err.false) w.show_statistics.ensures.ok)) (Appends-nil _)
       | else-report w ↦
           tells _ _ _ _ _ _ _ _ _ _ (no_summary _ _ w.if-report.false) hints
           (subst (λ errors. Appends (g.E.Sink.taken_bytes c.args.errors.now) (g.E.Sink.taken_bytes errors) []) (sym w.errors-is) (Appends-nil _)) (Appends-nil _)

@@ -1,6 +1,8 @@
-use Rattle.std.proofs.Common.{refl}
-use Rattle.cc_machine.specs.State.{initial_state}
-use Rattle.cc_runs.proofs.RunLemmas.{runs_input}
+use Rattle.std.proofs.Common.{inr, refl, subst}
+use Rattle.cc_machine.specs.State.{State, initial_state}
+use Rattle.cc_console.specs.Devices.{Console, traffic_of}
+use Rattle.cc_runs.specs.Runs.{AnswersAll}
+use Rattle.cc_runs.proofs.RunLemmas.{meets_input, runs_input}
 use Rattle.cc_runs.proofs.runs.run.Goals as goal
 
 pub returns-clause-runs : goal.returns-clause-runs
@@ -14,5 +16,33 @@ returns-clause-runs g c =
       errors_now = g.E.Sink.taken_bytes c.run_and_report.new.errors;
       errors_failed = g.E.Sink.has_failed c.run_and_report.new.errors;
     })
-    (g.I.Inputs.bytes_of c.args.inputs.now) _ _ _ c.run_and_report.result c.in_ok-session.ensures.machine refl c.new-source.ensures.to_come
+    (g.I.Inputs.bytes_of c.args.inputs.now) _ _ _ c.run_and_report.result c.in_ok-session.ensures.machine refl refl
     c.in_ok-open.ensures.opened c.run_and_report.ensures.runs
+
+pub returns-clause-starved : goal.returns-clause-starved
+returns-clause-starved g c = λ is.
+    let told = c.run_and_report.ensures.starved is in
+    let console : Console = record {
+      input = g.I.Inputs.bytes_of c.args.inputs.now;
+      output = g.W.Sink.taken_bytes c.args.sink.now;
+      output_now = g.W.Sink.taken_bytes c.run_and_report.new.sink;
+      errors = g.E.Sink.taken_bytes c.args.errors.now;
+      errors_now = g.E.Sink.taken_bytes c.run_and_report.new.errors;
+      errors_failed = g.E.Sink.has_failed c.run_and_report.new.errors;
+    } in
+    let unread = g.I.Opened.Source.to_come c.open.new.source in
+    let left = g.I.Opened.Source.to_come c.run_and_report.new.source in
+    inr (
+      told.0,
+      unread,
+      left,
+      c.in_ok-open.ensures.opened,
+      subst (λ (start : State). AnswersAll c.args.opening.now start (traffic_of console unread left)) c.in_ok-session.ensures.machine told.1,
+    )
+
+pub returns-clause-main : goal.returns-clause-main
+returns-clause-main g c =
+    meets_input c.args.opening.now c.in_ok-session.session.machine c.args.limit (g.I.Inputs.bytes_of c.args.inputs.now c.args.input)
+    (g.I.Opened.Source.to_come c.open.new.source) (g.I.Opened.Source.to_come c.run_and_report.new.source)
+    (g.W.Sink.taken_bytes c.args.sink.now) (g.W.Sink.taken_bytes c.run_and_report.new.sink)
+    c.run_and_report.result c.in_ok-session.ensures.machine c.in_ok-open.ensures.opened c.run_and_report.ensures.main

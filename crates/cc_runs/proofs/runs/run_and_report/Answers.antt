@@ -2,6 +2,7 @@ use Rattle.std.proofs.Common.{Err, ◌∙◌, ap}
 use Rattle.std.proofs.lemmas.Result.{err_from_is_err_and}
 use Rattle.cc_runs.specs.Runs.{ReportsRun}
 use Rattle.cc_console.proofs.DeviceLemmas.{on_devices}
+use Rattle.cc_runs.proofs.RunLemmas.{meets}
 use Rattle.cc_runs.proofs.runs.run_and_report.Goals as goal
 
 pub returns-in_err-summary-clause-runs : goal.returns-in_err-summary-clause-runs
@@ -19,14 +20,37 @@ returns-in_err-summary-clause-runs g c =
     }))
     c.from_residual.result (Err c.in_err-summary.field-0.0) (told.1 ∙ ap Err told.2)
     (record {
-      session = c.run_session.new.session;
-      answers = record { answers = c.in_err-summary.ensures.runs.runs.answers; counts = c.in_err-summary.ensures.runs.counts };
+      session = record { machine = c.run_session.new.machine; tally = c.run_session.new.tally };
+      runs = c.in_err-summary.ensures.runs;
       reported = tt;
     })
 
 pub returns-clause-runs : goal.returns-clause-runs
 returns-clause-runs g c = record {
-  session = c.run_session.new.session;
-  answers = record { answers = c.in_ok-summary.ensures.runs.runs.answers; counts = c.in_ok-summary.ensures.runs.counts };
+  session = record { machine = c.run_session.new.machine; tally = c.run_session.new.tally };
+  runs = c.in_ok-summary.ensures.runs;
   reported = c.in_ok-write_report.ensures.written;
 }
+
+pub returns-in_err-write_report-clause-starved : goal.returns-in_err-write_report-clause-starved
+returns-in_err-write_report-clause-starved g c = λ is. (
+  c.in_err-write_report.ensures.wanted,
+  (c.in_ok-summary.summary, (c.run_session.new.machine, c.in_ok-summary.ensures.runs.main)),
+)
+
+pub returns-in_err-summary-clause-main : goal.returns-in_err-summary-clause-main
+returns-in_err-summary-clause-main g c =
+    meets c.args.report c.args.opening.now c.args.pool c.args.session.now.machine
+    (record {
+      unread = g.S.Source.to_come c.args.source.now;
+      left = g.S.Source.to_come c.run_session.new.source;
+      output = g.W.Sink.taken_bytes c.args.sink.now;
+      output_now = g.W.Sink.taken_bytes c.run_session.new.sink;
+      errors = g.E.Sink.taken_bytes c.args.errors.now;
+      errors_now = g.E.Sink.taken_bytes c.args.errors.now;
+      errors_failed = g.E.Sink.has_failed c.args.errors.now;
+    })
+    c.from_residual.result (returns-in_err-summary-clause-runs g c)
+
+pub returns-clause-main : goal.returns-clause-main
+returns-clause-main g c = (c.run_session.new.machine, c.in_ok-summary.ensures.runs.main)

@@ -20,5 +20,5 @@ returns-in_err-decode_words_after-clause-lists g c = λ errors errors_now errors
     on_devices (FromInput c.args.input console (ListsWords c.args.skipped c.args.options)) c.from_residual-in_err-decode_words_after.result
     (Err c.in_err-decode_words_after.field-0.0) (told.1 ∙ ap Err told.2)
     (from_input c.args.input console (ListsWords c.args.skipped c.args.options) (g.I.Inputs.bytes_of c.args.inputs.now) _ _ _
-    (Err c.in_err-decode_words_after.field-0.0) refl c.with_limit-source.ensures.to_come c.in_ok-open.ensures.opened
+    (Err c.in_err-decode_words_after.field-0.0) refl refl c.in_ok-open.ensures.opened
     (record { lists = c.in_err-decode_words_after.ensures.lists; whole = c.in_err-decode_words_after.ensures.whole }))

@@ -14,5 +14,5 @@ returns-clause-charts g c = λ errors errors_now errors_failed.
       errors_now = errors_now;
       errors_failed = errors_failed;
     })
-    (g.I.Inputs.bytes_of c.args.inputs.now) _ _ _ _ _ c.draw.result refl c.with_limit-source.ensures.to_come
+    (g.I.Inputs.bytes_of c.args.inputs.now) _ _ _ _ _ c.draw.result refl refl
     c.in_ok-open.ensures.opened refl refl c.draw.ensures.charts

@@ -17,12 +17,12 @@ returns-then-each-eq0-clause-replays g c = λ errors errors_now errors_failed.
       errors_now = errors_now;
       errors_failed = errors_failed;
     })
-    (g.I.Inputs.bytes_of c.args.inputs.now) _ _ _ _ _ c.sum_up.result refl c.with_limit-source.ensures.to_come
+    (g.I.Inputs.bytes_of c.args.inputs.now) _ _ _ _ _ c.sum_up.result refl refl
     c.in_ok-open.ensures.opened refl refl
     (λ traffic u l o n. sums_up c.args.each text_of c.args.replay.now traffic c.sum_up.result none (c.sum_up.ensures.sums_up traffic u l o n))
 
-pub returns-clause-replays : goal.returns-clause-replays
-returns-clause-replays g c = λ errors errors_now errors_failed.
+pub returns-else-each-eq0-clause-replays : goal.returns-else-each-eq0-clause-replays
+returns-else-each-eq0-clause-replays g c = λ errors errors_now errors_failed.
     let some : c.args.each ≢ 0 = search rules in
     let text_of = end_text c.args.sizes c.args.format in
     reads_input (WritesReplay c.args.each text_of c.args.replay.now) c.args.input
@@ -34,6 +34,6 @@ returns-clause-replays g c = λ errors errors_now errors_failed.
       errors_now = errors_now;
       errors_failed = errors_failed;
     })
-    (g.I.Inputs.bytes_of c.args.inputs.now) _ _ _ _ _ c.sample.result refl c.with_limit-source.ensures.to_come
+    (g.I.Inputs.bytes_of c.args.inputs.now) _ _ _ _ _ c.sample.result refl refl
     c.in_ok-open.ensures.opened refl refl
     (λ traffic u l o n. samples c.args.each text_of c.args.replay.now traffic c.sample.result some (c.sample.ensures.samples traffic u l o n))

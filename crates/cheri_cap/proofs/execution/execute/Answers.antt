@@ -1,6 +1,12 @@
 use Rattle.std.proofs.Common.{subst, sym, inl, inr}
-use Rattle.cheri_cap.specs.Input.{IsReported, IsStreamed}
-use Rattle.cheri_cap.proofs.ExecutionLemmas.{by_invocation, not_given, not_on}
+use Rattle.std.specs.Prelude.{IfSome}
+use Rattle.cc_console.specs.Devices.{OnDevices}
+use Rattle.cc_console.specs.Input.{file_input}
+use Rattle.cc_console.specs.declared.invocation.Invocation.{Invocation}
+use Rattle.cc_runs.specs.Runs.{MeetsMain}
+use Rattle.cc_syntax.specs.Planning.{pool_of}
+use Rattle.cheri_cap.specs.Input.{IsReported, IsStreamed, Script, script_of}
+use Rattle.cheri_cap.proofs.ExecutionLemmas.{by_invocation, not_given, not_on, on_pool}
 use Rattle.cheri_cap.proofs.execution.execute.Goals as goal
 
 pub returns-in-Plan-clause-silent : goal.returns-in-Plan-clause-silent
@@ -22,11 +28,6 @@ returns-in-Replay-clause-starved g c = λ unreported unstreamed.
     (not_given c.in-Replay.texts.each (λ some. unstreamed (subst IsStreamed (sym c.in-Replay.is) (inl some))))
     (not_on c.in-Replay.texts.script (λ on. unstreamed (subst IsStreamed (sym c.in-Replay.is) (inr on))))
 
-pub returns-in-Decode-clause-executes : goal.returns-in-Decode-clause-executes
-returns-in-Decode-clause-executes g c =
-    by_invocation _ _ c.in-Decode.is c.args.terminals _ c.decode_file.result
-    (c.decode_file.ensures.decodes (g.E.Sink.taken_bytes c.args.errors.now) (g.E.Sink.taken_bytes c.args.errors.now) (g.E.Sink.has_failed c.args.errors.now))
-
 pub returns-in-Annotate-clause-executes : goal.returns-in-Annotate-clause-executes
 returns-in-Annotate-clause-executes g c =
     by_invocation _ _ c.in-Annotate.is c.args.terminals _ c.annotate_file.result
@@ -44,3 +45,20 @@ returns-in-Round-clause-silent g c = λ unreported. c.round_lengths.ensures.sile
 pub returns-in-RoundList-clause-executes : goal.returns-in-RoundList-clause-executes
 returns-in-RoundList-clause-executes g c =
     by_invocation _ _ c.in-RoundList.is c.args.terminals _ c.round_file.result c.round_file.ensures.rounds
+
+pub returns-then-is_ok-clause-executes : goal.returns-then-is_ok-clause-executes
+returns-then-is_ok-clause-executes g c =
+    by_invocation _ _ c.in-Decode.is c.args.terminals _ c.decode_file-result.result
+    (c.decode_file-result.ensures.decodes (g.E.Sink.taken_bytes c.args.errors.now) (g.E.Sink.taken_bytes c.hint_on_file.new.errors) (g.E.Sink.has_failed c.hint_on_file.new.errors))
+
+pub returns-else-terminals-clause-executes : goal.returns-else-terminals-clause-executes
+returns-else-terminals-clause-executes g c =
+    by_invocation _ _ c.in-Decode.is c.args.terminals _ c.decode_file-result.result
+    (c.decode_file-result.ensures.decodes (g.E.Sink.taken_bytes c.args.errors.now) (g.E.Sink.taken_bytes c.args.errors.now) (g.E.Sink.has_failed c.args.errors.now))
+
+pub returns-in-Plan-clause-main : goal.returns-in-Plan-clause-main
+returns-in-Plan-clause-main g c =
+    let meets : Script → Type 0 = λ script. OnDevices (MeetsMain script.limit script.opening (g.I.Inputs.bytes_of c.args.inputs.now script.input)
+    (g.I.Opened.Source.to_come c.plan_file.new.source) (g.W.Sink.taken_bytes c.args.sink.now) (g.W.Sink.taken_bytes c.plan_file.new.sink)) c.plan_file.result in
+    subst (λ (invocation : Invocation). IfSome (script_of invocation) meets) (sym c.in-Plan.is)
+    (on_pool (pool_of c.in-Plan.pool.base.now c.in-Plan.pool.length.now) c.in-Plan.limit c.in-Plan.align (file_input c.in-Plan.file) meets c.plan_file.ensures.main)

@@ -1,23 +1,33 @@
-use Rattle.std.proofs.Common.{subst, sym}
+use Rattle.std.proofs.Common.{◌∙◌, ap, subst, sym}
 use Rattle.std.specs.Prelude.{◌≢◌}
 use Rattle.cc_console.specs.declared.outcome.Ending.{Ending}
 use Rattle.cc_console.specs.declared.outcome.Ending.TheVariants.{Refused}
 use Rattle.cheri_cap.proofs.OutcomeLemmas.{answer_not_refused}
 use Rattle.cheri_cap.proofs.program.answer_matches.Goals as goal
 
-pub execute_in_process-result-requires : goal.execute_in_process-result-requires
-execute_in_process-result-requires g c = record { invocation = (_, c.invocation_of-invocation.ensures) }
-
 pub returns-clause-accepted : goal.returns-clause-accepted
-returns-clause-accepted g c = subst (λ (ending : Ending). ending ≢ Refused) (sym c.ending_of.ensures) (answer_not_refused c.execute_in_process-result.result)
+returns-clause-accepted g c = subst (λ (ending : Ending). ending ≢ Refused) (sym c.ending_of.ensures) (answer_not_refused c.execute-result.result)
 
 pub returns-clause-executes : goal.returns-clause-executes
 returns-clause-executes g c = record {
   invocation = c.invocation_of-invocation.result;
   is_invocation = c.invocation_of-invocation.ensures;
-  console = c.execute_in_process-result.ensures.executes.0;
-  result = c.execute_in_process-result.result;
-  executes = c.execute_in_process-result.ensures.executes.1;
-  opens = c.execute_in_process-result.ensures.open;
-  ends = c.ending_of.ensures;
+  executed = record {
+    result = c.execute-result.result;
+    executes = c.execute-result.ensures.executes;
+    fails = record {
+      opens = c.execute-result.ensures.refused;
+      reads = c.execute-result.ensures.read;
+      writes = c.execute-result.ensures.write;
+      allocates = c.execute-result.ensures.allocates;
+    };
+    opens = c.execute-result.ensures.open;
+    untouched = c.execute-result.ensures.untouched;
+    asks = λ unasked.
+        let same = c.execute-result.ensures.asked unasked in
+        (ap g.I.Inputs.has_refused same.0 ∙ c.requires.inputs, ap g.I.Opened.Source.has_failed same.1 ∙ c.requires.source);
+    main = c.execute-result.ensures.main;
+    starves = λ is. (c.execute-result.ensures.memory is, c.execute-result.ensures.stopped is);
+    ends = c.ending_of.ensures;
+  };
 }
