@@ -92,8 +92,12 @@ starved script bytes taken console report has had (inr all) =
     let unread = all.1 in
     let left = all.2 in
     let whole = all.4 in
-    inr (whole.0, left, met script.opening (initial_state script.limit) bytes taken unread left console.output console.output_now (Ok whole.0)
-    (read_bytes bytes (console.input script.input) unread has all.3) had whole.1)
+    inr (
+      whole.0,
+      left,
+      met script.opening (initial_state script.limit) bytes taken unread left console.output console.output_now (Ok whole.0)
+          (read_bytes bytes (console.input script.input) unread has all.3) had whole.1,
+    )
 
 -- ---- the command's own input
 
