@@ -1,3 +1,2 @@
 mod HintLemmas
 mod RoundListLemmas
-mod TypedLineLemmas

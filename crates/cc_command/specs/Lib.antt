@@ -4,6 +4,5 @@ pub mod Rounding
 pub mod BareDigits
 pub mod RoundList
 pub mod Rounder
-pub mod TypedLines
 pub mod Statistics
 pub mod Hints

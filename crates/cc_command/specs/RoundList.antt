@@ -1,6 +1,6 @@
 -- The output of `round` for a list of lengths: a line for each line of the list. `base` is that of
 -- each request, if there is one.
-use Rattle.std.specs.Prelude.{◌≡◌, ◌≤◌, ◌<◌, ◌⊎◌, ◌↔◌, ℕ, Bool, not, ◌||◌, ◌==◌, IsTrue, List, [], ◌∷◌, ◌++◌, length, map, take, ⊤, Option, Some, Result, Ok, Err, OnOk, if◌then◌else◌}
+use Rattle.std.specs.Prelude.{◌≡◌, ◌≤◌, ◌<◌, ◌⊎◌, ◌↔◌, ℕ, Bool, not, ◌||◌, ◌==◌, IsTrue, List, [], ◌∷◌, ◌++◌, length, take, ⊤, Option, Result, Ok, Err, OnOk}
 use Rattle.std.specs.List.{list_any}
 use Rattle.std.specs.Io.KnownBytes.{Appends, Consumes, IsAtEnd}
 use Rattle.cc_word.specs.declared.refusal.Refusal.TheVariants.{TooLong}
@@ -8,7 +8,7 @@ use Rattle.cc_io.specs.Text.{rest_text}
 use Rattle.cc_values.specs.Values.{length_in}
 use Rattle.cc_explain.specs.Answer.{IsRefusalLine}
 use Rattle.cc_io.specs.Answers.{Answer, answers_text, LastFits}
-use Rattle.cc_io.specs.Lines.{lines_of, lines_text, rest_of}
+use Rattle.cc_io.specs.Lines.{lines_of, rest_of}
 use Rattle.cc_io.specs.declared.summary.IoError.{IoError}
 use Rattle.cc_io.specs.declared.summary.IoError.TheVariants.{Read, Write}
 use Rattle.cc_io.specs.declared.summary.Summary.{Summary}
@@ -87,19 +87,3 @@ pub record RoundsList (base : Option ℕ) (bare : Bool) (to_come left taken take
   pub given : Consumes to_come left text
   pub rounds : RoundsText base text left taken taken_now result
   pub bare_is : OnOk result (bare ≡ list_any is_bare (lines_of text))
-
--- Whether the text has a line feed.
-abbrev pub has_line_feed : (text : List ℕ) → Bool
-has_line_feed text = list_any (λ byte. byte == 10) text
-
--- The line of a typed length in the list that has it: the text, or the empty line if it has a line
--- feed. Neither is a length then, so the output for it is `error 1 syntax`.
-abbrev pub typed_line : (text : List ℕ) → List ℕ
-typed_line text = if has_line_feed text then [] else text
-
--- RoundsTyped holds if the bytes written are those for the list whose lines are these texts, up to
--- a failure of the sink.
-pub record RoundsTyped (base : Option ℕ) (texts : List (List ℕ)) (taken taken_now : Option (List ℕ)) (result : Result Summary IoError) : Type 0 where
-  pub bare : Bool
-  pub left : Option (List ℕ)
-  pub rounds : RoundsList base bare (Some (lines_text (map typed_line texts))) left taken taken_now result

@@ -1,20 +1,11 @@
 //! The output of `round` for a list: how setting bounds rounds each length of a list.
-ghost use Rattle.std.specs.Prelude.{◌≡◌, ◌≢◌, ◌↔◌, ◌≤◌, ◌+◌, ◌++◌, ℕ, IsTrue, List, Ok, codes, length, map, false, true, Err, OnOk};
-ghost use Rattle.cc_bounds.specs.Granule.{IsGranted};
-ghost use Rattle.cc_bounds.specs.Span.{IsSpan};
-ghost use Rattle.cc_bounds.specs.declared.span.Span.{Span as SpanSpec};
-ghost use Rattle.cc_command.specs.Rounding.{IsRoundingFrom, IsUnroundable};
-ghost use Rattle.cc_syntax.specs.Replies.{bounds_text};
-ghost use Rattle.cc_command.specs.RoundList.{RoundsList, RoundsTyped};
+ghost use Rattle.std.specs.Prelude.{◌≡◌, ◌↔◌, Err, OnOk, false, true};
+ghost use Rattle.cc_command.specs.RoundList.{RoundsList};
 ghost use Rattle.cc_command.specs.Rounder.{AnswersLength, RefusesRest};
 
 use crate::bare_digits::is_bare;
-use crate::request::request_from;
-use crate::typed_lines::TypedLines;
-use cc_bounds::{Len, Span, set_bounds};
+use crate::rounding::push_round;
 use cc_io::{Answerer, IoError, Lines, Page, Sink, Source, Summary, pump, refusal_bytes};
-use cc_syntax::{read_length, reply_line};
-use cc_values::Reply;
 use cc_word::Refusal;
 
 /// The length of the page of output in bytes.
@@ -50,67 +41,13 @@ impl Answerer<ROOM> for Rounder {
             out.push(refusal_bytes(Refusal::TooLong));
             return true;
         }
-        match read_length(line) {
-            Ok(length) => push_rounding(self.base, length, out),
-            Err(refusal) => {
-                out.push(refusal_bytes(refusal));
-                true
-            }
-        }
+        push_round(self.base, line, out)
     }
 
     fn end(&mut self, _rest: &[u8], out: &mut Page<ROOM>) -> bool {
         out.push(refusal_bytes(Refusal::Unfinished));
         true
     }
-}
-
-/// Appends the reply to a length, and returns whether it is an error.
-fn push_rounding(base: Option<u64>, size: Len, out: &mut Page<ROOM>) -> bool
-    requires { length out.old + 264 ≤ 32768 }
-    ensures { (text : List ℕ) × (out.new ≡ out.old ++ text) × IsRoundingFrom base size text × (IsTrue result ↔ IsUnroundable base (Ok size)) }
-{
-    match base {
-        None => {
-            out.push(reply_line(&Reply::rounded(size)).bytes());
-            out.push(b"\n");
-            false
-        }
-        Some(base) => match request_from(base, size.get()) {
-            Ok(request) => {
-                out.push(reply_line(&Reply::rounded(size)).bytes());
-                push_granted(&request, out);
-                out.push(b"\n");
-                false
-            }
-            Err(refusal) => {
-                out.push(refusal_bytes(refusal));
-                true
-            }
-        },
-    }
-}
-
-/// Appends the base and the top that a request is granted.
-fn push_granted(request: &Span, out: &mut Page<ROOM>)
-    requires is_span { IsSpan request.now }
-    requires room { length out.old + 70 ≤ 32768 }
-    ensures value { (granted : SpanSpec) × IsGranted request.now granted × (out.new ≡ out.old ++ codes " " ++ bounds_text granted) }
-    ensures fits { length out.new ≤ length out.old + 70 }
-{
-    let granted = granted_to(request);
-    out.push(b" ");
-    out.push_hexadecimal(u128::from(granted.base));
-    out.push(b" ");
-    out.push_hexadecimal(granted.top);
-}
-
-/// Returns the span that a request is granted.
-fn granted_to(request: &Span) -> Span
-    requires { IsSpan request.now }
-    ensures { IsGranted request.now result }
-{
-    set_bounds(request.base, request.top - u128::from(request.base)).granted()
 }
 
 /// Writes the line `round LENGTH GRANULE MASK` for each line of a list of lengths, in order, or with
@@ -154,28 +91,4 @@ pub fn round_list<R: Source, W: Sink>(
     let result = pump(&Lines, &mut rounder, source, sink, &mut page);
     *bare = rounder.bare;
     result
-}
-
-/// Writes the line of [`round_list`] for each of these lengths, in order.
-///
-/// The output is that of [`round_list`] for the list that has each length on a line. A length with
-/// a line feed in it gets `error 1 syntax`. The output for each length is written before the next
-/// is read. The sink is flushed once, at the end. Allocates nothing.
-///
-/// Requires: the sink has not failed.
-/// Errors: `Write` if and only if the sink failed. It has then taken a prefix of the output.
-pub fn round_typed<W: Sink>(
-    base: Option<u64>,
-    lengths: &[&str],
-    sink: &mut W,
-) -> Result<Summary, IoError>
-    requires { W.has_failed sink.old ≡ false }
-    ensures rounds { RoundsTyped base (map (λ length. length.now) lengths.now) (W.taken_bytes sink.old) (W.taken_bytes sink.new) result }
-    ensures read { result ≢ Err IoError.Read }
-    ensures write { (result ≡ Err IoError.Write) ↔ (W.has_failed sink.new ≡ true) }
-    ensures flushed { OnOk result (W.is_flushed sink.new ≡ true) }
-{
-    let mut source = TypedLines::new(lengths);
-    let mut bare = false;
-    round_list(base, &mut source, sink, &mut bare)
 }

@@ -14,13 +14,14 @@ mod explaining_bounds;
 mod hints;
 mod length_list;
 mod request;
+mod rounding;
 mod statistics;
-mod typed_lines;
 
 pub use bare_digits::is_bare;
 pub use cc_explain::{draw_window, explain_word, show_line, show_word, write_refusal};
 pub use explaining_bounds::explain_length;
 pub use hints::{Hints, show_hints};
-pub use length_list::{round_list, round_typed};
+pub use length_list::round_list;
 pub use request::read_request;
+pub use rounding::{show_round, show_round_from};
 pub use statistics::show_statistics;

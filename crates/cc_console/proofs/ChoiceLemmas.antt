@@ -4,12 +4,12 @@ use Rattle.std.specs.Prelude.{◌&&◌, Result, Ok, Err, not, unwrap_or}
 use Rattle.std.specs.Borrow.{Bor}
 use Rattle.std.specs.Result.{IfErr}
 use Rattle.clap.specs.Kinds.{or_else}
-use Rattle.clap.specs.Walk.{Text, texts}
+use Rattle.clap.specs.Walk.{Text}
 use Rattle.clap.specs.Words.{App, FailsBy, HasKind, Kinds, fault_of, kind_of, subcommand_of, takes}
 use Rattle.clap.specs.declared.error.Error.{Error}
 use Rattle.clap.specs.declared.error.kind.ErrorKind.{ErrorKind}
 use Rattle.clap.specs.declared.error.kind.ErrorKind.TheVariants.{OutOfMemory}
-use Rattle.cc_console.specs.Invocation.{choice_fault, choice_fault_in, faults_of, is_taken, kinds_in}
+use Rattle.cc_console.specs.Invocation.{choice_fault, choice_fault_in, faults_of, is_taken, kinds_in, list_fault}
 
 -- ---- the values of `explain`
 
@@ -33,11 +33,15 @@ pub text_or : (given : Option (Bor Text)) (other : Bor Text)
 text_or None other = refl
 text_or (Some text) other = refl
 
--- The values of an argument, or those of the default.
-pub values_or : (given : Option (Bor (List (Bor Text)))) (other : Bor (List (Bor Text)))
-    → unwrap_or (option_map (λ values. texts values.now) given) (texts other.now) ≡ texts (unwrap_or given other).now
-values_or None other = refl
-values_or (Some values) other = refl
+-- `--list` excludes N.
+pub list_alone : (size : Option Text) → list_fault true (is_some size) ≡ None → size ≡ None
+list_alone None e = refl
+list_alone (Some text) e = cc e
+
+-- Without `--list`, N is required.
+pub size_wanted : (size : Option Text) → list_fault false (is_some size) ≡ None → (text : Text) × (size ≡ Some text)
+size_wanted None e = cc e
+size_wanted (Some text) e = (text, refl)
 
 -- A text is given if and only if it has a value.
 pub is_some-now : (found : Option (Bor Text)) → is_some found ≡ is_some (option_map (λ text. text.now) found)

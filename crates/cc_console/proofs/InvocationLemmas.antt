@@ -424,7 +424,7 @@ module _ (aligns : Bor (List (Bor Text))) (are : texts aligns.now ≡ codes "1" 
       (codes "show", rows, refl, ((required_given show words show_gives e).1.0 refl, line))
 
   round_serves : Serves round
-  round_serves words e choice = (codes "round", rows_after round.rules [] words, refl, tt)
+  round_serves words e choice = (codes "round", rows_after round.rules [] words, refl, choice)
 
   annotate_serves : Serves annotate
   annotate_serves words e choice = (codes "annotate", rows_after annotate.rules [] words, refl, tt)

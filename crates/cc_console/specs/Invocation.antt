@@ -7,7 +7,7 @@ use Rattle.std.specs.Str.Parse.{IsNumeral, digits_value, without_leading_plus}
 pub use Rattle.cc_console.specs.Usage.{IsProgram, choice_option, flag_option, format_names, order_names, program, slots_option, summary_names}
 use Rattle.clap.specs.Kinds.{or_else}
 use Rattle.clap.specs.Walk.{texts}
-use Rattle.clap.specs.Words.{App, Kinds, Row, Text, all_of, fault_of, first_of, one_of, subcommand_of, takes}
+use Rattle.clap.specs.Words.{App, Kinds, Row, Text, fault_of, first_of, one_of, subcommand_of, takes}
 use Rattle.clap.specs.declared.error.kind.ErrorKind.{ErrorKind}
 use Rattle.clap.specs.declared.error.kind.ErrorKind.TheVariants.{ArgumentConflict, MissingRequiredArgument}
 use Rattle.cc_bounds.specs.declared.align.Align.{Align}
@@ -24,9 +24,9 @@ use Rattle.cc_io.specs.declared.format.Format.{Format}
 use Rattle.cc_io.specs.declared.format.Format.TheVariants.{Columns, Csv, Fixed}
 use Rattle.cc_io.specs.declared.format.Format.TheVariants as format
 use Rattle.cc_console.specs.declared.invocation.Invocation.{Invocation}
-use Rattle.cc_console.specs.declared.invocation.Invocation.TheVariants.{Annotate, Ask, Decode, Map, Plan, Replay, Round, RoundList, Run}
+use Rattle.cc_console.specs.declared.invocation.Invocation.TheVariants.{Annotate, Ask, Decode, Map, Plan, Replay, RoundList, Run}
 use Rattle.cc_console.specs.declared.question.Question.{Question}
-use Rattle.cc_console.specs.declared.question.Question.TheVariants.{DrawWindow, Explain, ExplainLength, Show}
+use Rattle.cc_console.specs.declared.question.Question.TheVariants.{DrawWindow, Explain, ExplainLength, Round, Show}
 
 -- ---- the command and the values that clap found
 
@@ -81,6 +81,7 @@ is_on value = option_map_or (λ text. bytes_eq text (codes "true")) value false
 -- The name of the command that asks the question.
 abbrev pub question_command : Question → Text
 question_command (Show word as_line) = codes "show"
+question_command (Round base size) = codes "round"
 question_command (Explain word) = codes "explain"
 question_command (DrawWindow word) = codes "explain"
 question_command (ExplainLength base size) = codes "explain"
@@ -94,7 +95,6 @@ command_name_of (Map limit pool align svg file) = codes "map"
 command_name_of (Replay align strict format texts file) = codes "replay"
 command_name_of (Decode input format texts file) = codes "decode"
 command_name_of (Annotate file) = codes "annotate"
-command_name_of (Round base sizes) = codes "round"
 command_name_of (RoundList base file) = codes "round"
 
 -- `HasPool` holds if the texts of the pool are the values of BASE and LENGTH.
@@ -130,34 +130,21 @@ pub record HasReplayTexts (rows : List Row) (texts : ReplayTexts) : Type 0 where
   pub svg : texts.svg ≡ is_on (first_of (codes "svg") rows)
   pub script : texts.script ≡ is_on (first_of (codes "script") rows)
 
+-- `HasBase` holds if the base is the value of `--base`, or `None` if it is not given.
+abbrev pub HasBase : List Row → Option (Bor Text) → Type 0
+HasBase rows base = first_of (codes "base") rows ≡ option_map (λ text. text.now) base
+
 -- `HasTexts` holds if the texts of the question are the values that clap found. The arguments of `explain` that the
 -- question has no text for have no value, and a missing `--base` is `0`.
 abbrev pub HasTexts : List Row → Question → Type 0
 HasTexts rows (Show word as_line) = (first_of (codes "word") rows ≡ Some word.now) × IsGiven (first_of (codes "line") rows) as_line
+HasTexts rows (Round base size) =
+    HasBase rows base × (first_of (codes "list") rows ≡ None) × (first_of (codes "length") rows ≡ Some size.now)
 HasTexts rows (Explain word) = HasWordAlone rows word.now × (is_on (first_of (codes "svg") rows) ≡ false)
 HasTexts rows (DrawWindow word) = HasWordAlone rows word.now × (is_on (first_of (codes "svg") rows) ≡ true)
 HasTexts rows (ExplainLength base size) =
     (first_of (codes "word") rows ≡ None) × (first_of (codes "length") rows ≡ Some size.now)
     × (base.now ≡ unwrap_or (first_of (codes "base") rows) (codes "0")) × (is_on (first_of (codes "svg") rows) ≡ false)
-
--- The lengths of `round` that are given, in order.
-abbrev pub lengths_of : List Row → List Text
-lengths_of rows = unwrap_or (all_of (codes "length") rows) []
-
--- Whether `-` is the only length, which is the list that standard input has.
-abbrev pub is_dash : (sizes : List Text) → Bool
-is_dash (text ∷ []) = bytes_eq text (codes "-")
-is_dash _ = false
-
--- `HasBase` holds if the base is the value of `--base`, or `None` if it is not given.
-abbrev pub HasBase : List Row → Option (Bor Text) → Type 0
-HasBase rows base = first_of (codes "base") rows ≡ option_map (λ text. text.now) base
-
--- `HasList` holds if the file is the value of `--list`, or if it is `None`, this option is not given, and `-` is the only
--- length.
-abbrev pub HasList : List Row → Option (Bor Text) → Type 0
-HasList rows (Some file) = first_of (codes "list") rows ≡ Some file.now
-HasList rows None = (first_of (codes "list") rows ≡ None) × (is_dash (lengths_of rows) ≡ true)
 
 -- `HasValues` holds if the values of the command are those that clap found.
 abbrev pub HasValues : List Row → Invocation → Type 0
@@ -177,9 +164,8 @@ HasValues rows (Decode input format texts file) =
     IsChosen format_named Columns (first_of (codes "format") rows) format
     × IsChosen input_named Lines (first_of (codes "bytes") rows) input × HasDecodeTexts rows texts × HasFile rows file
 HasValues rows (Annotate file) = HasFile rows file
-HasValues rows (Round base sizes) =
-    HasBase rows base × (first_of (codes "list") rows ≡ None) × (lengths_of rows ≡ texts sizes.now) × (is_dash (lengths_of rows) ≡ false)
-HasValues rows (RoundList base file) = HasBase rows base × HasList rows file
+HasValues rows (RoundList base file) =
+    HasBase rows base × (first_of (codes "list") rows ≡ Some file.now) × (first_of (codes "length") rows ≡ None)
 
 -- `IsInvocation` holds if clap found this command, with these values.
 abbrev pub IsInvocation : Option (Text × List Row) → Invocation → Type 0
@@ -201,12 +187,15 @@ choice_fault_of rows =
     choice_fault (is_some (first_of (codes "word") rows)) (is_some (first_of (codes "length") rows)) (is_some (first_of (codes "base") rows))
     (is_on (first_of (codes "svg") rows))
 
--- The kind of error of the values of `round` in these rows, if there is one: one of N and `--list` is required, and each
--- excludes the other.
+-- The kind of error of the given values, if there is one: one of N and `--list` is required, and each excludes the other.
+abbrev pub list_fault : (has_list has_length : Bool) → Option ErrorKind
+list_fault has_list has_length =
+    if has_list then (if has_length then Some ArgumentConflict else None)
+    else if has_length then None else Some MissingRequiredArgument
+
+-- The kind of error of the values of `round` in these rows, if there is one.
 abbrev pub list_fault_of : List Row → Option ErrorKind
-list_fault_of rows =
-    if is_some (first_of (codes "list") rows) then (if is_some (first_of (codes "length") rows) then Some ArgumentConflict else None)
-    else if is_some (first_of (codes "length") rows) then None else Some MissingRequiredArgument
+list_fault_of rows = list_fault (is_some (first_of (codes "list") rows)) (is_some (first_of (codes "length") rows))
 
 -- The kind of error of the values of the command that clap found, if there is one: only `explain` and `round` have one.
 abbrev pub choice_fault_in : Option (Text × List Row) → Option ErrorKind
@@ -263,7 +252,7 @@ HasChoice named name rows = IfSome (first_of name rows) (λ text. IsSome (named 
 abbrev pub HasWanted : Text → List Row → Type 0
 HasWanted name rows =
     cond (bytes_eq name (codes "show")) (HasText (codes "word") rows × HasFlag (codes "line") rows)
-    (cond (bytes_eq name (codes "round")) ⊤
+    (cond (bytes_eq name (codes "round")) (list_fault_of rows ≡ None)
     (cond (bytes_eq name (codes "run")) (HasLimit rows × HasFlag (codes "stats") rows)
     (cond (bytes_eq name (codes "plan")) (HasPoolTexts rows × HasLimit rows × HasChoice align_named (codes "align") rows × HasFlag (codes "stats") rows)
     (cond (bytes_eq name (codes "map")) (HasPoolTexts rows × HasLimit rows × HasChoice align_named (codes "align") rows × HasFlag (codes "svg") rows)

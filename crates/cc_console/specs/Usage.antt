@@ -3,12 +3,12 @@ use Rattle.std.specs.Prelude.{◌≡◌, true, pos, List, [], ◌∷◌, Some, c
 use Rattle.std.specs.Borrow.{Bor}
 use Rattle.clap.specs.Walk.{texts}
 use Rattle.clap.specs.Words.{App, Rule, Text, new_app, new_rule, with_rule, with_subcommand}
-use Rattle.clap.specs.declared.builder.action.ArgAction.TheVariants.{Append, Set, SetTrue}
+use Rattle.clap.specs.declared.builder.action.ArgAction.TheVariants.{Set, SetTrue}
 use Rattle.clap.specs.declared.builder.value_parser.ValueParser.TheVariants.{Names, Signed}
 use Rattle.cc_console.specs.declared.table.Choices.{Choices}
 use Rattle.cc_console.specs.declared.table.CommandRow.{CommandRow}
 use Rattle.cc_console.specs.declared.table.Kind.{Kind}
-use Rattle.cc_console.specs.declared.table.Kind.TheVariants.{Align, Flag, Format, Free, Order, Several, Slots, Summary, Valued, Wanted}
+use Rattle.cc_console.specs.declared.table.Kind.TheVariants.{Align, Flag, Format, Free, Order, Slots, Summary, Valued, Wanted}
 use Rattle.cc_console.specs.declared.table.Row.{Row}
 
 -- An optional argument.
@@ -18,10 +18,6 @@ optional_argument name = record (new_rule name) { action = Some Set; value_names
 -- A required argument.
 abbrev pub wanted_argument : Text → Rule
 wanted_argument name = record (optional_argument name) { required = true }
-
--- An optional argument that can be given more than once.
-abbrev pub several_argument : Text → Rule
-several_argument name = record (new_rule name) { action = Some Append; value_names = 1 }
 
 -- An option `--name` with a value.
 abbrev pub valued_option : Text → Rule
@@ -50,11 +46,11 @@ explain_command =
     let options = with_rule (with_rule drawn (valued_option (codes "length"))) (valued_option (codes "base")) in
     with_rule options (optional_argument (codes "word"))
 
--- The command `round [--base B] [--list FILE] [N]..`.
+-- The command `round [--base B] [--list FILE] [N]`.
 abbrev pub round_command : App
 round_command =
     let options = with_rule (with_rule (new_app (codes "round")) (valued_option (codes "base"))) (valued_option (codes "list")) in
-    with_rule options (several_argument (codes "length"))
+    with_rule options (optional_argument (codes "length"))
 
 -- The command `run [--slots N] [--stats] [FILE]`.
 abbrev pub run_command : App
@@ -179,7 +175,6 @@ pub record IsProgram (app : App) : Type 0 where
 abbrev pub kind_rule : Choices → Kind → Text → Rule
 kind_rule choices Wanted name = wanted_argument name
 kind_rule choices Free name = optional_argument name
-kind_rule choices Several name = several_argument name
 kind_rule choices Valued name = valued_option name
 kind_rule choices Flag name = flag_option name
 kind_rule choices Slots name = record (valued_option name) { parser = Some (Signed (pos 1) (pos 65536)) }

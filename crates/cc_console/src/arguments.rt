@@ -1,7 +1,7 @@
 //! The arguments and options of the commands, as clap reads them.
 ghost use Rattle.std.specs.Prelude.{◌≡◌, Some, codes, false};
 ghost use Rattle.clap.specs.Words.{rule_of};
-ghost use Rattle.cc_console.specs.Usage.{argument_of, choice_option, flag_option, optional_argument, several_argument, slots_option, valued_option, wanted_argument};
+ghost use Rattle.cc_console.specs.Usage.{argument_of, choice_option, flag_option, optional_argument, slots_option, valued_option, wanted_argument};
 
 use crate::table::{Choices, Kind, Row, help};
 use clap::builder::ValueParser;
@@ -17,7 +17,6 @@ pub(crate) fn argument<'a>(alloc: Global, row: &Row<'a>, choices: Choices<'a>) -
     match row.kind {
         Kind::Wanted => taken(bare, row).required(true),
         Kind::Free => taken(bare, row),
-        Kind::Several => bare.value_name(row.placeholder).action(ArgAction::Append),
         Kind::Valued => valued(bare, row),
         Kind::Flag => bare.long(row.name).action(ArgAction::SetTrue),
         Kind::Slots => valued(bare, row).value_parser(value_parser!(u32).range(1..=65_536)),

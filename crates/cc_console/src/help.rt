@@ -19,15 +19,15 @@ and 3 if the program ran out of memory, a file cannot be opened, or its input or
 pub(crate) const SHOW_ABOUT: &str = "Shows the fields of a capability word, one on each line";
 
 pub(crate) const WORD_HELP: &str = "\
-The word: its 128 bits as 32 hexadecimal digits, the highest first, in either case, with or without
-0x";
+The word: its 128 bits as 32 hexadecimal digits, the highest first, in either case";
 
 pub(crate) const LINE_HELP: &str =
     "Show the word on one line: its address, permissions, base and top";
 
 pub(crate) const SHOW_AFTER_HELP: &str = "\
-The word is in its memory form, in which the null capability is all zeros. Any 32 digits are a word.
-Any other input gets `error 1 syntax`, with exit status 1.
+The word is in its memory form, in which the null capability is all zeros. Any 32 digits are a word,
+without 0x before them; with --line, they may have it. Any other input gets `error 1 syntax`, with
+exit status 1.
 
 The line shows a word as a tagged one: LOAD is r, STORE w, EXECUTE x, LOAD_CAP R and STORE_CAP W,
 and (sentry) or (sealed) follows the bounds for a type that is not unsealed.
@@ -62,9 +62,9 @@ For a WORD the output has its fields, its exponent, granule and mantissas, its w
 top, whether it is canonical, and if not the reason. A word from setting bounds keeps its bounds
 wherever in the window its address is. A picture of the window in 64 cells follows, eight for each
 of its eight sections: `#` marks the cells with bytes of the bounds, and B, T and A those of the
-base, of the top and of the address. Input that is not a word gets `error 1 syntax`, with exit
-status 1. With --svg the output is an SVG document instead: a drawing of the window, with its
-sections, the bounds and the address.
+base, of the top and of the address. A WORD may have 0x before its digits. Input that is not a word
+gets `error 1 syntax`, with exit status 1. With --svg the output is an SVG document instead: a
+drawing of the window, with its sections, the bounds and the address.
 
 For N bytes from B it has the granule in which their bounds are stored, and why half of it is not
 enough, the granted bounds, the bytes that they contain in addition to the N, the length and the
@@ -86,24 +86,24 @@ pub(crate) const ROUND_ABOUT: &str =
     "Shows the size and alignment to reserve for an allocation of N bytes";
 
 pub(crate) const ROUND_USAGE: &str = "\
-cheri-cap round [--base <B>] <N>...
+cheri-cap round [--base <B>] <N>
        cheri-cap round [--base <B>] --list <FILE>";
 
 /// The message if the values of `round` do not go together.
-pub const ROUND_CHOICE: &str = "give either one or more lengths N, or `--list FILE`";
+pub const ROUND_CHOICE: &str = "give either N or `--list FILE`";
 
 pub(crate) const ROUND_BASE_HELP: &str =
-    "Also show the bounds granted to N bytes from address B, for each N; B is a number like N";
+    "Also show the bounds granted to N bytes from address B; B is a number like N";
 
 pub(crate) const LIST_HELP: &str =
     "Read the lengths from FILE, one on each line; `-` is standard input";
 
 pub(crate) const LENGTH_HELP: &str = "\
 A length in bytes, at most 2^64: decimal digits, or 0x and hexadecimal digits of either case. Put 0x
-before a hexadecimal size that has none, as `nm -S` prints it. `-` alone is `--list -`";
+before a hexadecimal size that has none, as `nm -S` prints it";
 
 pub(crate) const ROUND_AFTER_HELP: &str = "\
-The output for each N is one line, `round LENGTH GRANULE MASK`, with each number in hexadecimal:
+The output is one line, `round LENGTH GRANULE MASK`, with each number in hexadecimal:
   LENGTH   the number of bytes to reserve: N rounded up for exact bounds
   GRANULE  their alignment: they begin at an address that is a multiple of this
   MASK     rounds an address down to such a multiple, as `address & MASK`
@@ -112,17 +112,16 @@ A capability for bytes that are placed so grants them, and no others.
 With --base, two more numbers follow, BASE and TOP: the bounds that are granted to N bytes from B.
 They are exact if and only if BASE is B and TOP is B + N.
 
-For a list the output has such a line for each line of the list, in their order. An unterminated
-last line gets `error 2 unfinished`.
+For a list the output has such a line for each line of the list, in their order. A line of more than
+128 bytes gets `error 3 long`, and an unterminated last line `error 2 unfinished`.
 
-Input that is not a number gets `error 1 syntax`, a number above 2^64 gets `error 4 range`, and
-input of more than 128 bytes gets `error 3 long`, each with exit status 1. Bytes from B on that end
-past 2^64 get `error 9 bounds`, also with exit status 1. If B is refused, that is the only line.
+Input that is not a number gets `error 1 syntax`, and a number above 2^64 gets `error 4 range`, each
+with exit status 1. Bytes from B on that end past 2^64 get `error 9 bounds`, also with exit status 1.
+If B is refused, that is the only line.
 
 Examples:
-  cheri-cap round 8191 5000
+  cheri-cap round 8191
   round 0x2000 0x10 0xfffffffffffffff0
-  round 0x1388 0x8 0xfffffffffffffff8
 
   cheri-cap round --base 0x10068 8191
   round 0x2000 0x10 0xfffffffffffffff0 0x10060 0x12070

@@ -126,19 +126,12 @@ pub enum Invocation<'a> {
         /// The words' file; `None` and `-` are standard input.
         file: Option<&'a str>,
     },
-    /// `round [--base B] N..`: rounds each length.
-    Round {
-        /// The base of each request, as it was typed.
-        base: Option<&'a str>,
-        /// The lengths, as they were typed.
-        lengths: &'a [&'a str],
-    },
-    /// `round [--base B] --list FILE`, or `round [--base B] -`: rounds each length of a list.
+    /// `round [--base B] --list FILE`: rounds each length of a list.
     RoundList {
         /// The base of each request, as it was typed.
         base: Option<&'a str>,
-        /// The list's file; `None` and `-` are standard input.
-        file: Option<&'a str>,
+        /// The list's file; `-` is standard input.
+        file: &'a str,
     },
     /// `annotate [FILE]`: copies a text, with the line of each word after the word.
     Annotate {

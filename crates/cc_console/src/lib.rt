@@ -31,4 +31,4 @@ pub use memory::{GlobalMemory, Memory};
 pub use outcome::{Ending, ending_of, ending_status, finish, status, tell};
 pub use process_inputs::{ProcessInputs, no_input};
 pub use question::Question;
-pub use reading::{invocation_of, read_words};
+pub use reading::read_words;

@@ -1,12 +1,13 @@
 //! The memory of the process, for what a command allocates.
 ghost use Rattle.std.specs.Prelude.{◌≡◌, ◌↔◌, Bool, IfErr, IfOk, MatchResult, false, true};
 ghost use Rattle.clap.specs.Walk.{texts};
-ghost use Rattle.clap.specs.Words.{App, FailsBy, kind_of, subcommand_of, subcommand_rows_of};
-ghost use Rattle.cc_console.specs.Invocation.{HasItsTexts, IsProgram, faults_of, is_taken};
+ghost use Rattle.clap.specs.Words.{App, FailsBy, kind_of, subcommand_of};
+ghost use Rattle.cc_console.specs.Invocation.{IsInvocation, IsProgram, faults_of, is_taken};
 
+use crate::invocation::Invocation;
 use crate::reading::read_words;
+use clap::Error;
 use clap::error::ErrorKind;
-use clap::{ArgMatches, Error};
 use std::alloc::Global;
 
 /// The memory for what a command allocates.
@@ -14,14 +15,13 @@ pub trait Memory {
     // An allocation has failed in the last call.
     ghost has_failed: { Self → Bool };
 
-    /// Parses the program's arguments as [`read_words`] does.
-    fn read_words<'a>(&mut self, words: &'a [&'a str]) -> Result<ArgMatches<'a>, Error>
-        ensures read { IfOk result (λ matches.
-            (app : App) × IsProgram app × (subcommand_rows_of matches ≡ subcommand_of app (texts words.now)) × HasItsTexts (subcommand_rows_of matches)) }
+    /// Reads the program's arguments as [`read_words`] does.
+    fn read_words<'a>(&mut self, words: &'a [&'a str]) -> Result<Invocation<'a>, Error>
+        ensures read { IfOk result (λ invocation. (app : App) × IsProgram app × IsInvocation (subcommand_of app (texts words.now)) invocation) }
         ensures refused { IfErr result (λ error.
             (app : App) × IsProgram app × (is_taken app (texts words.now) ≡ true → kind_of error ≡ ErrorKind.OutOfMemory)) }
         ensures kinds { (app : App) × IsProgram app × FailsBy (faults_of app (texts words.now)) result }
-        ensures fails { MatchResult result (λ matches. Self.has_failed self.new ≡ false)
+        ensures fails { MatchResult result (λ invocation. Self.has_failed self.new ≡ false)
             (λ error. (kind_of error ≡ ErrorKind.OutOfMemory) ↔ (Self.has_failed self.new ≡ true)) };
 }
 
@@ -49,7 +49,7 @@ impl GlobalMemory {
 impl Memory for GlobalMemory {
     ghost has_failed = { λ memory. memory.has_failed };
 
-    fn read_words<'a>(&mut self, words: &'a [&'a str]) -> Result<ArgMatches<'a>, Error> {
+    fn read_words<'a>(&mut self, words: &'a [&'a str]) -> Result<Invocation<'a>, Error> {
         let read = read_words(self.alloc, words);
         self.has_failed = match &read {
             Ok(_) => false,

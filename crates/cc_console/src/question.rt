@@ -1,6 +1,6 @@
 //! A question about one word or one length.
 
-/// A question of `show` or `explain`, with the texts as they were typed: any text is possible in place of a
+/// A question of `show`, `round` or `explain`, with the texts as they were typed: any text is possible in place of a
 /// word or a number.
 #[derive(Clone, Copy)]
 pub enum Question<'a> {
@@ -10,6 +10,13 @@ pub enum Question<'a> {
         word: &'a str,
         /// Whether `--line` was given.
         as_line: bool,
+    },
+    /// `round [--base B] N`: how setting bounds rounds a length.
+    Round {
+        /// The base of the request, if the bounds that it is granted are shown.
+        base: Option<&'a str>,
+        /// The length.
+        length: &'a str,
     },
     /// `explain WORD`: how a word is decoded.
     Explain {

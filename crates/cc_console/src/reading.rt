@@ -2,7 +2,7 @@
 ghost use Rattle.std.specs.Prelude.{◌≡◌, ◌∷◌, [], IfErr, IfOk, None, codes, is_some, true};
 ghost use Rattle.clap.specs.Walk.{texts};
 ghost use Rattle.clap.specs.Words.{App, FailsBy, first_of, found_of, kind_of, rows_of, subcommand_of, subcommand_rows_of};
-ghost use Rattle.cc_console.specs.Invocation.{HasChoice, HasFlag, HasItsTexts, HasLimit, HasPoolTexts, HasText, HasValues, HasWanted, IsInvocation, IsProgram, align_named, choice_fault_in, choice_fault_of, command_name_of, faults_of, format_named, format_names, input_named, is_dash, is_taken, kinds_in, list_fault_of, order_names, summary_named, summary_names};
+ghost use Rattle.cc_console.specs.Invocation.{HasChoice, HasFlag, HasItsTexts, HasLimit, HasPoolTexts, HasText, HasValues, HasWanted, IsInvocation, IsProgram, align_named, choice_fault_in, choice_fault_of, command_name_of, faults_of, format_named, format_names, input_named, is_taken, kinds_in, list_fault_of, order_names, summary_named, summary_names};
 
 use crate::commands::{bare_round_command, explain_command, program};
 use crate::help::{EXPLAIN_CHOICE, ROUND_CHOICE};
@@ -10,18 +10,30 @@ use crate::invocation::Invocation;
 use crate::question::Question;
 use crate::values::{
     align_of, base_of, decode_texts, format_of, input_of, is_given, is_on, limit_of, pool_texts,
-    replay_texts, summary_of, value_of, values_of, wanted_text,
+    replay_texts, summary_of, value_of, wanted_text,
 };
 use clap::error::ErrorKind;
 use clap::{ArgMatches, Error};
 use std::alloc::{AllocError, Global};
 
-/// Parses the program's arguments, its own name first, as those of one of its commands with the values that it needs.
-/// [`invocation_of`] is their invocation.
+/// Reads the program's arguments, its own name first, as a command and its values.
 ///
 /// Errors: a mistake in the arguments, a request for help or for the version, or an allocation that fails. The kind of
 /// the error says which.
-pub fn read_words<'a>(alloc: Global, words: &'a [&'a str]) -> Result<ArgMatches<'a>, Error>
+pub fn read_words<'a>(alloc: Global, words: &'a [&'a str]) -> Result<Invocation<'a>, Error>
+    ensures read { IfOk result (λ invocation. (app : App) × IsProgram app × IsInvocation (subcommand_of app (texts words.now)) invocation) }
+    ensures refused { IfErr result (λ error.
+        (app : App) × IsProgram app × (is_taken app (texts words.now) ≡ true → kind_of error ≡ ErrorKind.OutOfMemory)) }
+    ensures kinds { (app : App) × IsProgram app × FailsBy (faults_of app (texts words.now)) result }
+{
+    match parse_words(alloc, words) {
+        Ok(matches) => Ok(invocation_of(&matches)),
+        Err(error) => Err(error),
+    }
+}
+
+/// Parses the program's arguments as those of one of its commands with the values that it needs.
+fn parse_words<'a>(alloc: Global, words: &'a [&'a str]) -> Result<ArgMatches<'a>, Error>
     ensures read { IfOk result (λ matches.
         (app : App) × IsProgram app × (subcommand_rows_of matches ≡ subcommand_of app (texts words.now)) × HasItsTexts (subcommand_rows_of matches)) }
     ensures refused { IfErr result (λ error.
@@ -139,9 +151,7 @@ fn has_value(matches: &ArgMatches<'_>, name: &str) -> bool
 }
 
 /// Returns the invocation of the command that clap found, by its name.
-///
-/// Requires: clap found a command of the program, with the values that it needs.
-pub fn invocation_of<'a>(matches: &'a ArgMatches<'_>) -> Invocation<'a>
+fn invocation_of<'a>(matches: &ArgMatches<'a>) -> Invocation<'a>
     requires { HasItsTexts (subcommand_rows_of matches.now) }
     ensures { IsInvocation (subcommand_rows_of matches.now) result }
 {
@@ -152,7 +162,7 @@ pub fn invocation_of<'a>(matches: &'a ArgMatches<'_>) -> Invocation<'a>
 }
 
 /// Returns the invocation of the command of this name with these values.
-fn read_command<'a>(name: &str, matches: &'a ArgMatches<'_>) -> Invocation<'a>
+fn read_command<'a>(name: &str, matches: &ArgMatches<'a>) -> Invocation<'a>
     requires { HasWanted name.now (rows_of (found_of matches.now)) }
     ensures command { command_name_of result ≡ name.now }
     ensures values { HasValues (rows_of (found_of matches.now)) result }
@@ -171,7 +181,7 @@ fn read_command<'a>(name: &str, matches: &'a ArgMatches<'_>) -> Invocation<'a>
     }
 }
 
-fn read_show<'a>(matches: &'a ArgMatches<'_>) -> Invocation<'a>
+fn read_show<'a>(matches: &ArgMatches<'a>) -> Invocation<'a>
     requires word { HasText (codes "word") (rows_of (found_of matches.now)) }
     requires line { HasFlag (codes "line") (rows_of (found_of matches.now)) }
     ensures command { command_name_of result ≡ codes "show" }
@@ -183,33 +193,22 @@ fn read_show<'a>(matches: &'a ArgMatches<'_>) -> Invocation<'a>
     })
 }
 
-fn read_round<'a>(matches: &'a ArgMatches<'_>) -> Invocation<'a>
+fn read_round<'a>(matches: &ArgMatches<'a>) -> Invocation<'a>
+    requires { list_fault_of (rows_of (found_of matches.now)) ≡ None }
     ensures command { command_name_of result ≡ codes "round" }
     ensures values { HasValues (rows_of (found_of matches.now)) result }
 {
     let base = value_of(matches, "base");
-    let lengths = values_of(matches, "length");
     match value_of(matches, "list") {
-        Some(file) => Invocation::RoundList {
+        Some(file) => Invocation::RoundList { base, file },
+        None => Invocation::Ask(Question::Round {
             base,
-            file: Some(file),
-        },
-        None if is_dash(lengths) => Invocation::RoundList { base, file: None },
-        None => Invocation::Round { base, lengths },
+            length: wanted_text(matches, "length"),
+        }),
     }
 }
 
-/// Returns whether `-` is the only length.
-fn is_dash(lengths: &[&str]) -> bool
-    ensures { result ≡ is_dash (texts lengths.now) }
-{
-    match lengths.split_first() {
-        Some((first, rest)) => rest.is_empty() && *first == "-",
-        None => false,
-    }
-}
-
-fn read_run<'a>(matches: &'a ArgMatches<'_>) -> Invocation<'a>
+fn read_run<'a>(matches: &ArgMatches<'a>) -> Invocation<'a>
     requires limit { HasLimit (rows_of (found_of matches.now)) }
     requires stats { HasFlag (codes "stats") (rows_of (found_of matches.now)) }
     ensures command { command_name_of result ≡ codes "run" }
@@ -222,7 +221,7 @@ fn read_run<'a>(matches: &'a ArgMatches<'_>) -> Invocation<'a>
     }
 }
 
-fn read_plan<'a>(matches: &'a ArgMatches<'_>) -> Invocation<'a>
+fn read_plan<'a>(matches: &ArgMatches<'a>) -> Invocation<'a>
     requires pool { HasPoolTexts (rows_of (found_of matches.now)) }
     requires limit { HasLimit (rows_of (found_of matches.now)) }
     requires align { HasChoice align_named (codes "align") (rows_of (found_of matches.now)) }
@@ -239,7 +238,7 @@ fn read_plan<'a>(matches: &'a ArgMatches<'_>) -> Invocation<'a>
     }
 }
 
-fn read_map<'a>(matches: &'a ArgMatches<'_>) -> Invocation<'a>
+fn read_map<'a>(matches: &ArgMatches<'a>) -> Invocation<'a>
     requires pool { HasPoolTexts (rows_of (found_of matches.now)) }
     requires limit { HasLimit (rows_of (found_of matches.now)) }
     requires align { HasChoice align_named (codes "align") (rows_of (found_of matches.now)) }
@@ -256,7 +255,7 @@ fn read_map<'a>(matches: &'a ArgMatches<'_>) -> Invocation<'a>
     }
 }
 
-fn read_replay<'a>(matches: &'a ArgMatches<'_>) -> Invocation<'a>
+fn read_replay<'a>(matches: &ArgMatches<'a>) -> Invocation<'a>
     requires align { HasChoice align_named (codes "align") (rows_of (found_of matches.now)) }
     requires strict { HasFlag (codes "strict") (rows_of (found_of matches.now)) }
     requires summary { HasChoice summary_named (codes "summary") (rows_of (found_of matches.now)) }
@@ -272,7 +271,7 @@ fn read_replay<'a>(matches: &'a ArgMatches<'_>) -> Invocation<'a>
     }
 }
 
-fn read_decode<'a>(matches: &'a ArgMatches<'_>) -> Invocation<'a>
+fn read_decode<'a>(matches: &ArgMatches<'a>) -> Invocation<'a>
     requires format { HasChoice format_named (codes "format") (rows_of (found_of matches.now)) }
     requires order { HasChoice input_named (codes "bytes") (rows_of (found_of matches.now)) }
     ensures command { command_name_of result ≡ codes "decode" }
@@ -286,7 +285,7 @@ fn read_decode<'a>(matches: &'a ArgMatches<'_>) -> Invocation<'a>
     }
 }
 
-fn read_annotate<'a>(matches: &'a ArgMatches<'_>) -> Invocation<'a>
+fn read_annotate<'a>(matches: &ArgMatches<'a>) -> Invocation<'a>
     ensures command { command_name_of result ≡ codes "annotate" }
     ensures values { HasValues (rows_of (found_of matches.now)) result }
 {
@@ -295,7 +294,7 @@ fn read_annotate<'a>(matches: &'a ArgMatches<'_>) -> Invocation<'a>
     }
 }
 
-fn read_explain<'a>(matches: &'a ArgMatches<'_>) -> Invocation<'a>
+fn read_explain<'a>(matches: &ArgMatches<'a>) -> Invocation<'a>
     requires { choice_fault_of (rows_of (found_of matches.now)) ≡ None }
     ensures command { command_name_of result ≡ codes "explain" }
     ensures values { HasValues (rows_of (found_of matches.now)) result }

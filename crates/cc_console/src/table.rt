@@ -186,8 +186,6 @@ pub(crate) enum Kind {
     Wanted,
     /// An optional argument.
     Free,
-    /// An optional argument that can be given more than once.
-    Several,
     /// An option with a value.
     Valued,
     /// An option without a value.
@@ -267,7 +265,7 @@ const COMMANDS: &[CommandRow] = &[
                 topic: Topic::List,
             },
             Row {
-                kind: Kind::Several,
+                kind: Kind::Free,
                 name: "length",
                 placeholder: "N",
                 topic: Topic::Length,

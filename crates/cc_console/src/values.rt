@@ -1,7 +1,6 @@
 //! The values that clap found for arguments and options.
-ghost use Rattle.std.specs.Prelude.{◌≡◌, [], Some, codes, option_map, unwrap_or};
-ghost use Rattle.clap.specs.Walk.{texts};
-ghost use Rattle.clap.specs.Words.{all_of, first_of, found_of, rows_of};
+ghost use Rattle.std.specs.Prelude.{◌≡◌, Some, codes, option_map, unwrap_or};
+ghost use Rattle.clap.specs.Words.{first_of, found_of, rows_of};
 ghost use Rattle.cc_console.specs.Invocation.{HasChoice, HasDecodeTexts, HasFlag, HasLimit, HasPool, HasPoolTexts, HasReplayTexts, HasText, IsChosen, IsGiven, IsLimit, align_named, format_named, input_named, is_on, summary_named};
 
 use crate::invocation::{DecodeTexts, PoolTexts, ReplayTexts, SummaryFormat};
@@ -13,28 +12,21 @@ use clap::ArgMatches;
 const DEFAULT_LIMIT: u32 = 4096;
 
 /// Returns the value of an argument or of an option, if it has one.
-pub(crate) fn value_of<'a>(matches: &'a ArgMatches<'_>, name: &str) -> Option<&'a str>
+pub(crate) fn value_of<'a>(matches: &ArgMatches<'a>, name: &str) -> Option<&'a str>
     ensures { first_of name.now (rows_of (found_of matches.now)) ≡ option_map (λ text. text.now) result }
 {
     matches.get_str(name)
 }
 
-/// Returns all values of an argument, in order.
-pub(crate) fn values_of<'a>(matches: &'a ArgMatches<'_>, name: &str) -> &'a [&'a str]
-    ensures { unwrap_or (all_of name.now (rows_of (found_of matches.now))) [] ≡ texts result.now }
-{
-    matches.get_strs(name).unwrap_or(&[])
-}
-
 /// Returns the value of `--base`, or `0`.
-pub(crate) fn base_of<'a>(matches: &'a ArgMatches<'_>) -> &'a str
+pub(crate) fn base_of<'a>(matches: &ArgMatches<'a>) -> &'a str
     ensures { result.now ≡ unwrap_or (first_of (codes "base") (rows_of (found_of matches.now))) (codes "0") }
 {
     value_of(matches, "base").unwrap_or("0")
 }
 
 /// Returns the value of an argument that has one.
-pub(crate) fn wanted_text<'a>(matches: &'a ArgMatches<'_>, name: &str) -> &'a str
+pub(crate) fn wanted_text<'a>(matches: &ArgMatches<'a>, name: &str) -> &'a str
     requires { HasText name.now (rows_of (found_of matches.now)) }
     ensures { first_of name.now (rows_of (found_of matches.now)) ≡ Some result.now }
 {
@@ -45,7 +37,7 @@ pub(crate) fn wanted_text<'a>(matches: &'a ArgMatches<'_>, name: &str) -> &'a st
 }
 
 /// Returns the values of BASE and LENGTH.
-pub(crate) fn pool_texts<'a>(matches: &'a ArgMatches<'_>) -> PoolTexts<'a>
+pub(crate) fn pool_texts<'a>(matches: &ArgMatches<'a>) -> PoolTexts<'a>
     requires { HasPoolTexts (rows_of (found_of matches.now)) }
     ensures { HasPool (rows_of (found_of matches.now)) result }
 {
@@ -56,7 +48,7 @@ pub(crate) fn pool_texts<'a>(matches: &'a ArgMatches<'_>) -> PoolTexts<'a>
 }
 
 /// Returns the values of the options of `decode` that are numbers or names.
-pub(crate) fn decode_texts<'a>(matches: &'a ArgMatches<'_>) -> DecodeTexts<'a>
+pub(crate) fn decode_texts<'a>(matches: &ArgMatches<'a>) -> DecodeTexts<'a>
     ensures { HasDecodeTexts (rows_of (found_of matches.now)) result }
 {
     DecodeTexts {
@@ -69,7 +61,7 @@ pub(crate) fn decode_texts<'a>(matches: &'a ArgMatches<'_>) -> DecodeTexts<'a>
 
 /// Returns the values of the options of `replay` that are numbers, names, a policy or a pool, and whether `--sizes`, `--svg`
 /// and `--script` were given.
-pub(crate) fn replay_texts<'a>(matches: &'a ArgMatches<'_>) -> ReplayTexts<'a>
+pub(crate) fn replay_texts<'a>(matches: &ArgMatches<'a>) -> ReplayTexts<'a>
     ensures { HasReplayTexts (rows_of (found_of matches.now)) result }
 {
     ReplayTexts {

@@ -6,7 +6,7 @@ use Rattle.cc_word.specs.declared.fields.Fields.{Fields}
 use Rattle.cc_bounds.specs.declared.span.Span.{Span}
 use Rattle.cc_bounds.specs.Decoding.{stored_exponent}
 use Rattle.cc_io.specs.Text.{with_line_feed}
-use Rattle.cc_explain.specs.Answer.{AnswersTyped}
+use Rattle.cc_explain.specs.Answer.{AnswersText}
 use Rattle.cc_explain.specs.Permissions.{permissions_text}
 use Rattle.cc_explain.specs.WordTelling.{TellsWord}
 
@@ -45,7 +45,7 @@ listing_of word fields bounds canonical = field_lines_of word fields ++ bounds_l
 abbrev pub IsWordListing : (word : ℕ) (listing : List ℕ) → Type 0
 IsWordListing = TellsWord listing_of
 
--- IsListing holds if the listing is the output for a string: for a word, with or without `0x`, its
+-- IsListing holds if the listing is the output for a string: for a word, without `0x` before it, its
 -- listing, and for any other string `error 1 syntax`.
 abbrev pub IsListing : (text listing : List ℕ) → Type 0
-IsListing = AnswersTyped IsWordListing
+IsListing = AnswersText IsWordListing

@@ -1,13 +1,14 @@
-//! Reads a word as it is typed, writes the output of a command all at once, and output that is a
-//! refusal.
-ghost use Rattle.std.specs.Prelude.{◌≡◌, ◌↔◌, [], false, true, IfOk, IfSome, IsErr, IsSome, OnOk, OnErr};
+//! Reads a word as it is typed, and appends its digits. Writes the output of a command all at once, and
+//! output that is a refusal.
+ghost use Rattle.std.specs.Prelude.{◌≡◌, ◌+◌, ◌≤◌, ◌++◌, ◌↔◌, [], false, true, length, IfOk, IfSome, IsErr, IsSome, OnOk, OnErr};
 ghost use Rattle.std.specs.Io.KnownBytes.{Appends};
 ghost use Rattle.std.specs.Str.Parse.{digits_value};
 ghost use Rattle.cc_io.specs.Devices.{TakesBeginning};
+ghost use Rattle.cc_io.specs.Numbered.{with_digits};
 ghost use Rattle.cc_explain.specs.Answer.{IsRefusalLine, IsTypedWord, WritesAnswer, digits_in};
 
-use cc_io::{Failed, IoError, Sink, Summary, Text, refusal_bytes, write_all};
-use cc_word::{Refusal, read_word};
+use cc_io::{Failed, IoError, ROOM, Sink, Summary, Text, refusal_bytes, write_all};
+use cc_word::{Refusal, read_word, write_word};
 
 /// Writes the line of a refusal, `error CODE NAME`, and flushes the sink once after it. The summary
 /// reports an error.
@@ -50,6 +51,17 @@ pub(crate) fn read_typed_word(text: &[u8]) -> Option<u128>
     ensures value { IfSome result (λ word. word ≡ digits_value 16 (digits_in text.now)) }
 {
     read_word(digits_in(text))
+}
+
+/// Appends bytes, and then the 32 hexadecimal digits of a word.
+#[tactic(auto, unfolding(cc_io::specs::Numbered::with_digits))]
+pub(crate) fn push_word_digits(text: &mut Text, before: &[u8], word: u128)
+    requires { length text.old + length before.now + 32 ≤ ROOM }
+    ensures value { text.new ≡ text.old ++ with_digits before.now 32 word }
+    ensures fits { length text.new ≡ length text.old + length before.now + 32 }
+{
+    text.push(before);
+    text.push(&write_word(word));
 }
 
 /// Writes an output, then flushes the sink.

@@ -3,6 +3,7 @@ ghost use Rattle.std.specs.Prelude.{◌≡◌, ◌+◌, ◌≤◌, ◌<◌, ◌^
 ghost use Rattle.cc_word.specs.Word.{bit_of};
 ghost use Rattle.cc_explain.specs.Explanation.{base_mantissa_text, bounds_fields_text, bounds_line_text, bounds_lines, exponent_text, fields_text, granule_text, length_text, mantissas_text, rights_text, section_text, sections_text, standing_text, stored_text, top_mantissa_text, window_addresses_text, window_lines_text, window_text, word_text};
 
+use crate::answers::push_word_digits;
 use crate::standing::Standing;
 use crate::steps::{Steps, section, unit};
 use cc_bounds::Span;
@@ -32,7 +33,7 @@ pub fn push_word(text: &mut Text, word: u128)
     ensures value { text.new ≡ text.old ++ word_text word }
     ensures fits { length text.new ≤ length text.old + 43 }
 {
-    push_digits(text, b"word      ", word, 32);
+    push_word_digits(text, b"word      ", word);
     text.push(b"\n");
 }
 

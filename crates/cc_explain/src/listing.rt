@@ -1,31 +1,31 @@
 //! The listing of a word: thirteen lines with its fields and the values that they decode to.
 ghost use Rattle.std.specs.Prelude.{◌≡◌, ◌+◌, ◌≤◌, ◌++◌, ◌↔◌, [], codes, decimal, false, true, length, IfOk, IsErr, IsTrue, OnErr, OnOk, if◌then◌else◌};
 ghost use Rattle.cc_word.specs.Word.{bit_of, word_of};
-ghost use Rattle.cc_word.specs.WordText.{digits_of, hexadecimal};
-ghost use Rattle.cc_explain.specs.Answer.{IsTypedWord, WritesAnswer};
+ghost use Rattle.cc_word.specs.WordText.{IsWordText, digits_of, hexadecimal};
+ghost use Rattle.cc_explain.specs.Answer.{WritesAnswer};
 ghost use Rattle.cc_explain.specs.Listing.{IsListing, IsWordListing, bounds_lines_of, field_lines_of, line_of, listing_of};
 ghost use Rattle.cc_explain.specs.Permissions.{permissions_text};
 
-use crate::answers::{push_refusal, read_typed_word, write_answer};
+use crate::answers::{push_refusal, write_answer};
 use crate::permissions::push_permissions;
 use bitflags::Flags;
 use cc_bounds::{Span, decode, exponent};
 use cc_cap::{Perms, is_canonical};
 use cc_io::{IoError, Line, ROOM, Sink, Summary, Text};
-use cc_word::{Fields, Refusal, unpack};
+use cc_word::{Fields, Refusal, read_word, unpack, write_word};
 
 /// Writes the listing of a word, and flushes the sink once after the last line.
 ///
 /// The listing has thirteen lines: the word, its eight fields, the exponent, base and top that they
-/// decode to, and whether the word is canonical. A word is 32 hexadecimal digits of either case, with
-/// or without `0x` in front. For any other string, the output is the line `error 1 syntax`.
+/// decode to, and whether the word is canonical. A word is 32 hexadecimal digits of either case,
+/// without `0x` in front. For any other string, the output is the line `error 1 syntax`.
 ///
 /// Requires: the sink has not failed.
 /// Errors: `Write` if and only if the sink fails. A prefix of the output is then written.
 pub fn show_word<W: Sink>(text: &[u8], sink: &mut W) -> Result<Summary, IoError>
     requires { W.has_failed sink.old ≡ false }
     ensures shown { WritesAnswer (IsListing text.now) (W.taken_bytes sink.old) (W.taken_bytes sink.new) result }
-    ensures any_error { IfOk result (λ summary. IsTrue summary.any_error ↔ (¬ IsTypedWord text.now)) }
+    ensures any_error { IfOk result (λ summary. IsTrue summary.any_error ↔ (¬ IsWordText text.now)) }
     ensures flushed { OnOk result (W.is_flushed sink.new ≡ true) }
     ensures fails { IsErr result ↔ (W.has_failed sink.new ≡ true) }
     ensures write { OnErr result (result ≡ Err IoError.Write) }
@@ -41,9 +41,9 @@ pub fn show_word<W: Sink>(text: &[u8], sink: &mut W) -> Result<Summary, IoError>
 fn push_answer(answer: &mut Text, text: &[u8]) -> Summary
     requires { answer.old ≡ [] }
     ensures listing { IsListing text.now answer.new }
-    ensures any_error { IsTrue result.any_error ↔ (¬ IsTypedWord text.now) }
+    ensures any_error { IsTrue result.any_error ↔ (¬ IsWordText text.now) }
 {
-    match read_typed_word(text) {
+    match read_word(text) {
         Some(word) => {
             push_listing(answer, word);
             Summary { any_error: false }
@@ -82,7 +82,7 @@ fn push_field_lines(text: &mut Text, word: u128, fields: &Fields)
     ensures value { text.new ≡ field_lines_of word fields.now }
     ensures fits { length text.new ≤ 382 }
 {
-    push_digits_line(text, b"word", word, 32);
+    push_word_line(text, word);
     push_permissions_line(text, fields.perms);
     push_decimal_line(text, b"reserved", u128::from(fields.reserved));
     push_decimal_line(text, b"flag", u128::from(fields.flag));
@@ -113,6 +113,17 @@ fn push_canonical_line(text: &mut Text, canonical: bool)
 {
     let mut line = line_named(b"canonical");
     line.push(if canonical { b"yes" } else { b"no" });
+    text.push_line(&line);
+}
+
+/// Appends the line of the word.
+fn push_word_line(text: &mut Text, word: u128)
+    requires { length text.old + 38 ≤ ROOM }
+    ensures value { text.new ≡ text.old ++ line_of (codes "word") (digits_of 32 word) }
+    ensures fits { length text.new ≤ length text.old + 38 }
+{
+    let mut line = line_named(b"word");
+    line.push(&write_word(word));
     text.push_line(&line);
 }
 

@@ -3,12 +3,12 @@ ghost use Rattle.std.specs.Prelude.{◌≡◌, ◌+◌, ◌-◌, ◌<◌, ◌≤
 ghost use Rattle.cc_explain.specs.Answer.{IsTypedWord, WritesAnswer};
 ghost use Rattle.cc_explain.specs.WindowDrawing.{IsWindowDrawing, IsWordDrawing, address_mark_text, addresses_text, bounds_marks_text, bytes_text, closing_text, ends_text, heading_text, mark_text, number_text, numbers_text, opening_text, section_lines_text, sheet_text, side_text, title_text, units_to, window_drawing_of, window_ground_text};
 
-use crate::answers::{push_refusal, read_typed_word, write_answer};
+use crate::answers::{push_refusal, push_word_digits, read_typed_word, write_answer};
 use crate::steps::{LAPS, Steps, decoding_steps, section, unit};
 use cc_bounds::{Span, decode};
 use cc_io::{
     IoError, ROOM, Sink, Summary, Text, end_with_decimal, end_with_hexadecimal, push_decimal,
-    push_digits, push_hexadecimal,
+    push_hexadecimal,
 };
 use cc_word::{Fields, Refusal, unpack};
 
@@ -112,7 +112,7 @@ fn push_title(text: &mut Text, word: u128, fields: &Fields, bounds: &Span)
     ensures value { text.new ≡ text.old ++ title_text word fields.now bounds.now }
     ensures fits { length text.new ≤ length text.old + 240 }
 {
-    push_digits(text, b"<title>The window of ", word, 32);
+    push_word_digits(text, b"<title>The window of ", word);
     text.push(b"</title>\n");
     push_hexadecimal(text, b"<desc>Bounds from ", u128::from(bounds.base));
     push_hexadecimal(text, b" to ", bounds.top);
@@ -126,7 +126,7 @@ fn push_heading(text: &mut Text, word: u128, steps: &Steps)
     ensures value { text.new ≡ text.old ++ heading_text word steps.now }
     ensures fits { length text.new ≤ length text.old + 200 }
 {
-    push_digits(text, b"<text y='-928'>", word, 32);
+    push_word_digits(text, b"<text y='-928'>", word);
     push_decimal(text, b": exponent ", u128::from(steps.exponent));
     end_with_hexadecimal(
         text,

@@ -1,19 +1,23 @@
-//! `show` and `explain`: the call for each question.
+//! `show`, `round` and `explain`: the call for each question.
 ghost use Rattle.std.specs.Io.KnownBytes.{Appends};
-ghost use Rattle.cc_tasks.specs.NumberHint.{is_hinted, number_hint};
 ghost use Rattle.std.specs.Prelude.{◌≡◌, ◌≢◌, ◌↔◌, [], Err, false, true, IfOk, IsErr, IsTrue, OnErr, OnOk};
 ghost use Rattle.cc_explain.specs.Answer.{WritesAnswer};
 ghost use Rattle.cc_console.specs.Devices.{OnDevices};
-ghost use Rattle.cc_tasks.specs.Questions.{IsAnswerTo, IsUnanswerable, numbers_of};
+ghost use Rattle.cc_console.specs.declared.question.Question.TheVariants as question;
+ghost use Rattle.cc_tasks.specs.Questions.{IsAnswerTo, IsUnanswerable, has_hint, question_hint};
 ghost use Rattle.cc_tasks.specs.Tasks.{AnswersQuestion};
 
 use crate::number_hint::hint_numbers;
-use cc_command::{draw_window, explain_length, explain_word, show_line, show_word};
+use crate::word_hint::hint_word;
+use cc_command::{
+    draw_window, explain_length, explain_word, show_line, show_round, show_round_from, show_word,
+};
 use cc_console::{Fault, Question};
 use cc_io::{IoError, Sink, Summary};
 
-/// Writes the listing, line, explanation or drawing that a question asks for. Then writes the hint on numbers to `errors`, if
-/// hints are given and a number of the question may be meant as hexadecimal digits.
+/// Writes the listing, line, rounding, explanation or drawing that a question asks for. Then writes the hint on the question to
+/// `errors`, if hints are given: for `show` that a word has no `0x` before it, and otherwise that a number may be meant as
+/// hexadecimal digits.
 ///
 /// The output is an error, and the summary says so, if a text is not that of a word or of a number, if a number is too
 /// large, or if the requested bytes end past 2^64.
@@ -29,8 +33,8 @@ pub fn ask<W: Sink, E: Sink>(
     requires sink { W.has_failed sink.old ≡ false }
     requires errors { E.has_failed errors.old ≡ false }
     ensures answers { OnDevices (AnswersQuestion question.entry (W.taken_bytes sink.old) (W.taken_bytes sink.new)) result }
-    ensures hinted { OnOk result (E.has_failed errors.new ≡ false → Appends (E.taken_bytes errors.old) (E.taken_bytes errors.new) (number_hint hints (numbers_of question.entry))) }
-    ensures silent { ¬ IsTrue (is_hinted hints (numbers_of question.entry)) → errors.new ≡ errors.old }
+    ensures hinted { OnOk result (E.has_failed errors.new ≡ false → Appends (E.taken_bytes errors.old) (E.taken_bytes errors.new) (question_hint hints question.entry)) }
+    ensures silent { ¬ IsTrue (has_hint hints question.entry) → errors.new ≡ errors.old }
     ensures unreported { OnErr result (errors.new ≡ errors.old) }
     ensures open { result ≢ Err Fault.Open }
     ensures memory { result ≢ Err Fault.Memory }
@@ -46,7 +50,7 @@ pub fn ask<W: Sink, E: Sink>(
     result
 }
 
-/// Writes the listing, line, explanation or drawing that a question asks for.
+/// Writes the listing, line, rounding, explanation or drawing that a question asks for.
 fn answer<W: Sink>(question: Question<'_>, sink: &mut W) -> Result<Summary, Fault>
     requires { W.has_failed sink.old ≡ false }
     ensures answers { OnDevices (AnswersQuestion question.entry (W.taken_bytes sink.old) (W.taken_bytes sink.new)) result }
@@ -59,13 +63,15 @@ fn answer<W: Sink>(question: Question<'_>, sink: &mut W) -> Result<Summary, Faul
     Ok(answer_question(question, sink)?)
 }
 
-/// Writes the hint on the numbers of a question, if hints are given.
+/// Writes the hint on a question, if hints are given.
 fn hint_question<E: Sink>(hints: bool, question: Question<'_>, errors: &mut E)
     requires { E.has_failed errors.old ≡ false }
-    ensures hinted { E.has_failed errors.new ≡ false → Appends (E.taken_bytes errors.old) (E.taken_bytes errors.new) (number_hint hints (numbers_of question.entry)) }
-    ensures silent { ¬ IsTrue (is_hinted hints (numbers_of question.entry)) → errors.new ≡ errors.old }
+    ensures hinted { E.has_failed errors.new ≡ false → Appends (E.taken_bytes errors.old) (E.taken_bytes errors.new) (question_hint hints question.entry) }
+    ensures silent { ¬ IsTrue (has_hint hints question.entry) → errors.new ≡ errors.old }
 {
     match question {
+        Question::Show { word, as_line } => hint_word(hints && !as_line, word.as_bytes(), errors),
+        Question::Round { base, length } => hint_numbers(hints, base, &[length], errors),
         Question::ExplainLength { base, length } => hint_numbers(
             hints,
             Some(base),
@@ -76,7 +82,7 @@ fn hint_question<E: Sink>(hints: bool, question: Question<'_>, errors: &mut E)
     }
 }
 
-/// Writes the listing, line, explanation or drawing that a question asks for.
+/// Writes the listing, line, rounding, explanation or drawing that a question asks for.
 fn answer_question<W: Sink>(question: Question<'_>, sink: &mut W) -> Result<Summary, IoError>
     requires { W.has_failed sink.old ≡ false }
     ensures answered { WritesAnswer (IsAnswerTo question.entry) (W.taken_bytes sink.old) (W.taken_bytes sink.new) result }
@@ -86,16 +92,41 @@ fn answer_question<W: Sink>(question: Question<'_>, sink: &mut W) -> Result<Summ
     ensures write { OnErr result (result ≡ Err IoError.Write) }
 {
     match question {
-        Question::Show {
-            word,
-            as_line: false,
-        } => show_word(word.as_bytes(), sink),
-        Question::Show {
-            word,
-            as_line: true,
-        } => show_line(word.as_bytes(), sink),
+        Question::Show { word, as_line } => show(word, as_line, sink),
+        Question::Round { base, length } => round(base, length, sink),
         Question::Explain { word } => explain_word(word.as_bytes(), sink),
         Question::DrawWindow { word } => draw_window(word.as_bytes(), sink),
         Question::ExplainLength { base, length } => explain_length(base, length, sink),
+    }
+}
+
+/// Writes the listing of a word, or its one-line form.
+fn show<W: Sink>(word: &str, as_line: bool, sink: &mut W) -> Result<Summary, IoError>
+    requires { W.has_failed sink.old ≡ false }
+    ensures answered { WritesAnswer (IsAnswerTo (question.Show word.entry as_line)) (W.taken_bytes sink.old) (W.taken_bytes sink.new) result }
+    ensures any_error { IfOk result (λ summary. IsTrue summary.any_error ↔ IsUnanswerable (question.Show word.entry as_line)) }
+    ensures flushed { OnOk result (W.is_flushed sink.new ≡ true) }
+    ensures fails { IsErr result ↔ (W.has_failed sink.new ≡ true) }
+    ensures write { OnErr result (result ≡ Err IoError.Write) }
+{
+    if as_line {
+        show_line(word.as_bytes(), sink)
+    } else {
+        show_word(word.as_bytes(), sink)
+    }
+}
+
+/// Writes how setting bounds rounds a length, with the bounds granted from a base on if one is given.
+fn round<W: Sink>(base: Option<&str>, length: &str, sink: &mut W) -> Result<Summary, IoError>
+    requires { W.has_failed sink.old ≡ false }
+    ensures answered { WritesAnswer (IsAnswerTo (question.Round base.entry length.entry)) (W.taken_bytes sink.old) (W.taken_bytes sink.new) result }
+    ensures any_error { IfOk result (λ summary. IsTrue summary.any_error ↔ IsUnanswerable (question.Round base.entry length.entry)) }
+    ensures flushed { OnOk result (W.is_flushed sink.new ≡ true) }
+    ensures fails { IsErr result ↔ (W.has_failed sink.new ≡ true) }
+    ensures write { OnErr result (result ≡ Err IoError.Write) }
+{
+    match base {
+        None => show_round(length.as_bytes(), sink),
+        Some(base) => show_round_from(base.as_bytes(), length.as_bytes(), sink),
     }
 }

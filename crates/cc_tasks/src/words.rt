@@ -1,17 +1,13 @@
-//! `decode`, `annotate` and `round`: the call for the words or the lengths of an input, and for typed lengths.
+//! `decode`, `annotate` and `round --list`: the call for the words or the lengths of an input.
 ghost use Rattle.std.specs.Prelude.{◌≡◌, ◌≢◌, ◌↔◌, IsTrue, false, true, Err, IsOk, OnErr, OnOk};
-ghost use Rattle.std.specs.Io.KnownBytes.{Appends};
-ghost use Rattle.clap.specs.Walk.{texts};
-ghost use Rattle.cc_command.specs.RoundList.{RoundsTyped};
 ghost use Rattle.cc_console.specs.Devices.{FromInput, OnDevices, OnOutput};
 ghost use Rattle.cc_console.specs.Input.{IsFile, file_input};
 ghost use Rattle.cc_tasks.specs.Listing.{listing_in, place_in};
-ghost use Rattle.cc_tasks.specs.NumberHint.{after_base, is_hinted, number_hint};
 ghost use Rattle.cc_tasks.specs.Tasks.{AnnotatesWords, ListsWords, RoundsLengths, SeesLengths, WithBase, WithListing};
 
 use crate::listing::{listing_of, place_of};
-use crate::number_hint::{hint_list, hint_numbers};
-use cc_command::{round_list, round_typed, write_refusal};
+use crate::number_hint::hint_list;
+use cc_command::{round_list, write_refusal};
 use cc_console::{Content, DecodeTexts, Fault, InputName, Inputs, file_input};
 use cc_decode::{Format, InputForm, Options, annotate, decode_words_after};
 use cc_io::{Sink, Summary};
@@ -239,72 +235,4 @@ fn round_input<I: Inputs, W: Sink>(
 {
     inputs.open(input, Content::Words, source)?;
     Ok(round_list(base, source, sink, bare)?)
-}
-
-/// Writes the output of `round` for each of these lengths, with the bounds granted from a base on if one is given. If the base is
-/// refused, the output is that refusal. Then writes the hint on numbers to `errors`, if hints are given and the base or
-/// one of the lengths may be meant as hexadecimal digits.
-///
-/// Requires: neither sink has failed.
-/// Errors: `Write` if and only if the sink failed. No hint is written then.
-pub fn round_lengths<W: Sink, E: Sink>(
-    base: Option<&str>,
-    lengths: &[&str],
-    hints: bool,
-    sink: &mut W,
-    errors: &mut E,
-) -> Result<Summary, Fault>
-    requires sink { W.has_failed sink.old ≡ false }
-    requires errors { E.has_failed errors.old ≡ false }
-    ensures rounds { OnDevices (WithBase base.entry (W.taken_bytes sink.old) (W.taken_bytes sink.new)
-        (λ base. RoundsTyped base (texts lengths.now) (W.taken_bytes sink.old) (W.taken_bytes sink.new))) result }
-    ensures hinted { OnOk result (E.has_failed errors.new ≡ false → Appends (E.taken_bytes errors.old) (E.taken_bytes errors.new) (number_hint hints (after_base base.entry (texts lengths.now)))) }
-    ensures silent { ¬ IsTrue (is_hinted hints (after_base base.entry (texts lengths.now))) → errors.new ≡ errors.old }
-    ensures unreported { OnErr result (errors.new ≡ errors.old) }
-    ensures open { result ≢ Err Fault.Open }
-    ensures memory { result ≢ Err Fault.Memory }
-    ensures read { result ≢ Err Fault.Read }
-    ensures write { (result ≡ Err Fault.Write) ↔ (W.has_failed sink.new ≡ true) }
-    ensures flushed { OnOk result (W.is_flushed sink.new ≡ true) }
-{
-    let result = round_typed_lengths(base, lengths, sink);
-    if result.is_err() {
-        return result;
-    }
-    hint_numbers(hints, base, lengths, errors);
-    result
-}
-
-/// Writes the output of `round` for each of these lengths, with the bounds granted from a base on if one is given.
-fn round_typed_lengths<W: Sink>(
-    base: Option<&str>,
-    lengths: &[&str],
-    sink: &mut W,
-) -> Result<Summary, Fault>
-    requires { W.has_failed sink.old ≡ false }
-    ensures rounds { OnDevices (WithBase base.entry (W.taken_bytes sink.old) (W.taken_bytes sink.new)
-        (λ base. RoundsTyped base (texts lengths.now) (W.taken_bytes sink.old) (W.taken_bytes sink.new))) result }
-    ensures open { result ≢ Err Fault.Open }
-    ensures memory { result ≢ Err Fault.Memory }
-    ensures read { result ≢ Err Fault.Read }
-    ensures write { (result ≡ Err Fault.Write) ↔ (W.has_failed sink.new ≡ true) }
-    ensures flushed { OnOk result (W.is_flushed sink.new ≡ true) }
-{
-    match place_of(base) {
-        Ok(base) => round_each(base, lengths, sink),
-        Err(refusal) => Ok(write_refusal(refusal, sink)?),
-    }
-}
-
-/// Writes the output of `round` for each of these lengths.
-fn round_each<W: Sink>(base: Option<u64>, lengths: &[&str], sink: &mut W) -> Result<Summary, Fault>
-    requires { W.has_failed sink.old ≡ false }
-    ensures rounds { OnDevices (RoundsTyped base (texts lengths.now) (W.taken_bytes sink.old) (W.taken_bytes sink.new)) result }
-    ensures open { result ≢ Err Fault.Open }
-    ensures memory { result ≢ Err Fault.Memory }
-    ensures read { result ≢ Err Fault.Read }
-    ensures write { (result ≡ Err Fault.Write) ↔ (W.has_failed sink.new ≡ true) }
-    ensures flushed { OnOk result (W.is_flushed sink.new ≡ true) }
-{
-    Ok(round_typed(base, lengths, sink)?)
 }

@@ -9,7 +9,7 @@ use Rattle.cc_machine.specs.State.{State, initial_state}
 use Rattle.cc_console.specs.Devices.{Console, OnDevices}
 use Rattle.cc_console.specs.Outcome.{ending_of}
 use Rattle.cc_console.specs.declared.invocation.Invocation.{Invocation}
-use Rattle.cc_console.specs.declared.invocation.Invocation.TheVariants.{Annotate, Ask, Decode, Map, Plan, Replay, Round, RoundList, Run}
+use Rattle.cc_console.specs.declared.invocation.Invocation.TheVariants.{Annotate, Ask, Decode, Map, Plan, Replay, RoundList, Run}
 use Rattle.cc_console.specs.declared.input.Content.TheVariants as content
 use Rattle.cc_console.specs.declared.input.InputName.{InputName}
 use Rattle.cc_console.specs.Input.{file_input}
@@ -122,7 +122,6 @@ input_is (Map limit pool align svg file) script is = absurd (cc is)
 input_is (Replay align strict format texts file) script is = absurd (cc is)
 input_is (Decode input format texts file) script is = absurd (cc is)
 input_is (Annotate file) script is = absurd (cc is)
-input_is (Round base sizes) script is = absurd (cc is)
 input_is (RoundList base file) script is = absurd (cc is)
 
 -- The headline: `run` and `plan`.

@@ -1,12 +1,10 @@
 -- The output of a command, by its input: the program's own theorem.
-use Rattle.std.specs.Prelude.{[], ⊤, None, Result}
+use Rattle.std.specs.Prelude.{[], ⊤, None, Result, Some}
 use Rattle.cc_io.specs.declared.summary.IoError.{IoError}
 use Rattle.cc_io.specs.declared.summary.Summary.{Summary}
-use Rattle.clap.specs.Walk.{texts}
-use Rattle.cc_command.specs.RoundList.{RoundsTyped}
 use Rattle.cc_machine.specs.State.{initial_state}
 use Rattle.cc_console.specs.declared.invocation.Invocation.{Invocation}
-use Rattle.cc_console.specs.declared.invocation.Invocation.TheVariants.{Annotate, Ask, Decode, Map, Plan, Replay, Round, RoundList, Run}
+use Rattle.cc_console.specs.declared.invocation.Invocation.TheVariants.{Annotate, Ask, Decode, Map, Plan, Replay, RoundList, Run}
 use Rattle.cc_console.specs.Devices.{Console, FromInput}
 use Rattle.cc_console.specs.Input.{file_input}
 use Rattle.cc_traces.specs.Replaying.{ReplaysTrace, WithReplay}
@@ -27,10 +25,8 @@ Executes (Replay align strict format texts file) terminals console result =
 Executes (Decode input format texts file) terminals console result =
     WithListing input format texts console (λ skipped options. FromInput (file_input file) console (ListsWords skipped options)) result
 Executes (Annotate file) terminals console result = FromInput (file_input file) console AnnotatesWords result
-Executes (Round base sizes) terminals console result =
-    WithBase base console.output console.output_now (λ base. RoundsTyped base (texts sizes.now) console.output console.output_now) result
 Executes (RoundList text file) terminals console result =
-    WithBase text console.output console.output_now (λ base. FromInput (file_input file) console (RoundsLengths text terminals.errors base)) result
+    WithBase text console.output console.output_now (λ base. FromInput (file_input (Some file)) console (RoundsLengths text terminals.errors base)) result
 
 -- StarvesCommand holds if `run` or `plan` has written nothing, or, with `--stats`, the whole output, when memory runs out.
 abbrev pub StarvesCommand : Invocation → Terminals → Console → Type 0

@@ -1,6 +1,5 @@
 -- The files that a command reads, the machine that it creates, and whether it writes to standard error.
 use Rattle.std.specs.Prelude.{ℕ, ◌≡◌, ◌⊎◌, false, IsOk, IsSome, IsTrue, Bool, List, [], ⊤, Option, Some, None, Result, Ok, Err}
-use Rattle.clap.specs.Walk.{texts}
 use Rattle.cc_word.specs.declared.refusal.Refusal.{Refusal}
 use Rattle.cc_bounds.specs.declared.align.Align.{Align}
 use Rattle.cc_values.specs.declared.op.Op.{Op}
@@ -9,11 +8,10 @@ use Rattle.cc_console.specs.declared.input.Content.{Content}
 use Rattle.cc_console.specs.declared.input.Content.TheVariants as content
 use Rattle.cc_console.specs.declared.input.InputName.{InputName}
 use Rattle.cc_console.specs.declared.invocation.Invocation.{Invocation}
-use Rattle.cc_console.specs.declared.invocation.Invocation.TheVariants.{Annotate, Ask, Decode, Map, Plan, Replay, Round, RoundList, Run}
+use Rattle.cc_console.specs.declared.invocation.Invocation.TheVariants.{Annotate, Ask, Decode, Map, Plan, Replay, RoundList, Run}
 use Rattle.cc_console.specs.Input.{IsFile, file_input, trace_content}
 use Rattle.cc_tasks.specs.Listing.{listing_in, place_in}
-use Rattle.cc_tasks.specs.NumberHint.{after_base, is_hinted}
-use Rattle.cc_tasks.specs.Questions.{numbers_of}
+use Rattle.cc_tasks.specs.Questions.{has_hint, question_hint}
 use Rattle.cc_runs.specs.declared.report.Terminals.{Terminals}
 use Rattle.cc_traces.specs.ReplayTexts.{replay_in}
 
@@ -27,8 +25,7 @@ ReadsFile (Map limit pool align svg file) = IsOk (pool_of pool.base.now pool.len
 ReadsFile (Replay align strict format texts file) = IsOk (replay_in align strict texts) × IsFile (file_input file)
 ReadsFile (Decode input format texts file) = IsOk (listing_in input format texts) × IsFile (file_input file)
 ReadsFile (Annotate file) = IsFile (file_input file)
-ReadsFile (Round base sizes) = ⊥
-ReadsFile (RoundList base file) = IsOk (place_in base) × IsFile (file_input file)
+ReadsFile (RoundList base file) = IsOk (place_in base) × IsFile (file_input (Some file))
 
 -- RunsMachine holds if the command creates a machine or a heap: `run`, `plan` and `map` if BASE and LENGTH are those of a pool, and
 -- `replay` if its numbers and names are such.
@@ -40,7 +37,6 @@ RunsMachine (Map limit pool align svg file) = IsOk (pool_of pool.base.now pool.l
 RunsMachine (Replay align strict format texts file) = IsOk (replay_in align strict texts)
 RunsMachine (Decode input format texts file) = ⊥
 RunsMachine (Annotate file) = ⊥
-RunsMachine (Round base sizes) = ⊥
 RunsMachine (RoundList base file) = ⊥
 
 -- IsStreamed holds if the command writes a series or a script, while it reads a trace: `replay` with `--each` or `--script`.
@@ -48,26 +44,23 @@ abbrev pub IsStreamed : Invocation → Type 0
 IsStreamed (Replay align strict format texts file) = IsSome texts.each ⊎ IsTrue texts.script
 IsStreamed _ = ⊥
 
--- The numbers of `round` and of a question, as they were typed. The base of `round` comes first, if one is given.
-abbrev pub typed_numbers : Invocation → List (List ℕ)
-typed_numbers (Ask question) = numbers_of question
-typed_numbers (Round base sizes) = after_base base (texts sizes.now)
-typed_numbers _ = []
+-- The hint on the texts that were typed, or nothing if there is none.
+abbrev pub typed_hint : (hints : Bool) → Invocation → List ℕ
+typed_hint hints (Ask question) = question_hint hints question
+typed_hint hints _ = []
 
--- IsHinted holds of the commands that get the hint on the numbers that were typed: `show`, which has none, `explain` and `round N..`.
+-- IsHinted holds of the commands that get such a hint: `show`, `round` without `--list`, and `explain`.
 abbrev pub IsHinted : Invocation → Type 0
 IsHinted (Ask question) = ⊤
-IsHinted (Round base sizes) = ⊤
 IsHinted _ = ⊥
 
 -- IsReported holds if the command can write to standard error: `run`, and `plan` if BASE and LENGTH are those of a pool, and
--- a command with a hint on its typed numbers, and `round` of a list if standard error is a terminal
+-- a command with a hint on its typed texts, and `round` of a list if standard error is a terminal
 -- and the base is a number, and `decode` if standard error is a terminal.
 abbrev pub IsReported : Terminals → Invocation → Type 0
 IsReported terminals (Run limit stats file) = ⊤
 IsReported terminals (Plan limit pool align stats file) = IsOk (pool_of pool.base.now pool.length.now)
-IsReported terminals (Ask question) = IsTrue (is_hinted terminals.errors (numbers_of question))
-IsReported terminals (Round base sizes) = IsTrue (is_hinted terminals.errors (after_base base (texts sizes.now)))
+IsReported terminals (Ask question) = IsTrue (has_hint terminals.errors question)
 IsReported terminals (RoundList base file) = IsTrue terminals.errors × IsOk (place_in base)
 IsReported terminals (Decode input format texts file) = IsTrue terminals.errors
 IsReported terminals _ = ⊥
@@ -85,7 +78,7 @@ input_of (Map limit pool align svg file) = Some (record { input = file_input fil
 input_of (Replay align strict format texts file) = Some (record { input = file_input file; content = trace_content texts.script })
 input_of (Decode input format texts file) = Some (record { input = file_input file; content = content.Words })
 input_of (Annotate file) = Some (record { input = file_input file; content = content.Words })
-input_of (RoundList base file) = Some (record { input = file_input file; content = content.Words })
+input_of (RoundList base file) = Some (record { input = file_input (Some file); content = content.Words })
 input_of _ = None
 
 -- IsUnasked holds if the last input that was asked for is not this one.

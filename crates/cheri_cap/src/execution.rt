@@ -4,19 +4,18 @@ ghost use Rattle.clap.specs.Words.{Row, Text};
 ghost use Rattle.cc_console.specs.Invocation.{IsInvocation};
 ghost use Rattle.std.specs.Io.KnownBytes.{Appends};
 ghost use Rattle.cc_console.specs.Devices.{OnDevices};
-ghost use Rattle.cc_tasks.specs.NumberHint.{number_hint};
 ghost use Rattle.cheri_cap.specs.Execution.{Executes, StarvesCommand};
-ghost use Rattle.cheri_cap.specs.Input.{IsHinted, IsReported, IsStreamed, IsUnasked, ReadsFile, RunsMachine, input_of, script_of, typed_numbers};
+ghost use Rattle.cheri_cap.specs.Input.{IsHinted, IsReported, IsStreamed, IsUnasked, ReadsFile, RunsMachine, input_of, script_of, typed_hint};
 ghost use Rattle.cc_runs.specs.Runs.{MeetsMain};
 
 use cc_console::{Fault, Inputs, Invocation};
 use cc_io::{Sink, Summary};
 use cc_runs::{Report, RunMemory, Terminals, map_file, plan_file, run_file};
-use cc_tasks::{annotate_file, ask, decode_file, hint_on_file, round_file, round_lengths};
+use cc_tasks::{annotate_file, ask, decode_file, hint_on_file, round_file};
 use cc_traces::{TraceMemory, replay_file};
 
 /// Executes a command: reads its input, writes its output to `sink`, and reports a run on `errors`, or a hint on
-/// the numbers of `round`, its list and `explain --length`, if standard error is a terminal.
+/// the word of `show`, and on the numbers of `round`, its list and `explain --length`, if standard error is a terminal.
 ///
 /// BASE and LENGTH of `plan` and `map`, the numbers and names of `decode`, the base of `round` and the texts of `replay`
 /// are read first. If one is refused, the output is that refusal, and nothing is read. The machine or the heap is
@@ -60,7 +59,7 @@ pub fn execute<M: RunMemory + TraceMemory, I: Inputs, W: Sink, E: Sink>(
     ensures flushed { OnOk result (W.is_flushed sink.new ≡ true) }
     ensures unreported { OnErr result (E.taken_bytes errors.new ≡ E.taken_bytes errors.old) }
     ensures untouched { result ≡ Err Fault.Open → W.taken_bytes sink.new ≡ W.taken_bytes sink.old }
-    ensures hinted { IsHinted invocation.entry → OnOk result (E.has_failed errors.new ≡ false → Appends (E.taken_bytes errors.old) (E.taken_bytes errors.new) (number_hint terminals.errors (typed_numbers invocation.entry))) }
+    ensures hinted { IsHinted invocation.entry → OnOk result (E.has_failed errors.new ≡ false → Appends (E.taken_bytes errors.old) (E.taken_bytes errors.new) (typed_hint terminals.errors invocation.entry)) }
     ensures silent { ¬ IsReported terminals invocation.entry → errors.new ≡ errors.old }
     ensures stopped { result ≡ Err Fault.Memory → StarvesCommand invocation.entry terminals (record {
       input = I.bytes_of inputs.old;
@@ -119,11 +118,16 @@ pub fn execute<M: RunMemory + TraceMemory, I: Inputs, W: Sink, E: Sink>(
             result
         }
         Invocation::Annotate { file } => annotate_file(inputs, source, file, sink),
-        Invocation::Round { base, lengths } => {
-            round_lengths(base, lengths, terminals.errors, sink, errors)
-        }
         Invocation::RoundList { base, file } => {
-            round_file(base, terminals.errors, inputs, source, file, sink, errors)
+            round_file(
+                base,
+                terminals.errors,
+                inputs,
+                source,
+                Some(file),
+                sink,
+                errors,
+            )
         }
     }
 }

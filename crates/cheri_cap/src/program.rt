@@ -1,25 +1,25 @@
 //! The execution of the program's command line: on given devices, and on those of the process.
 ghost use Rattle.std.specs.Prelude.{◌≡◌, ◌≢◌, ◌↔◌, IfErr, IfOk, OnErr, false, true, List, Option};
 ghost use Rattle.clap.specs.Walk.{texts};
-ghost use Rattle.clap.specs.Words.{App, FailsBy, Row, Text, kind_of, subcommand_of, subcommand_rows_of};
+ghost use Rattle.clap.specs.Words.{App, FailsBy, Row, Text, kind_of, subcommand_of};
 ghost use Rattle.cc_console.specs.declared.outcome.Ending.TheVariants as ending;
 ghost use Rattle.cc_console.specs.declared.outcome.Ending.{Ending as EndingSpec};
 ghost use Rattle.cc_console.specs.declared.invocation.Invocation.{Invocation as InvocationSpec};
 ghost use Rattle.cheri_cap.specs.Ending.{AnswersEveryScript, ExecutesCommand, Failures};
 ghost use Rattle.cc_console.specs.Devices.{Console};
-ghost use Rattle.cc_console.specs.Invocation.{HasItsTexts, IsInvocation, IsProgram, faults_of, is_taken};
+ghost use Rattle.cc_console.specs.Invocation.{IsInvocation, IsProgram, faults_of, is_taken};
 ghost use Rattle.cc_console.specs.Outcome.{EndsOn};
 
 use crate::execution::execute;
 use cc_console::{
-    Ending, ErrorWriter, Fault, GlobalMemory, Inputs, Memory, ProcessInputs, ending_of,
-    invocation_of, no_input, tell,
+    Ending, ErrorWriter, Fault, GlobalMemory, Inputs, Invocation, Memory, ProcessInputs, ending_of,
+    no_input, tell,
 };
 use cc_io::{FromWriter, Sink};
 use cc_runs::{RunMemory, Terminals};
 use cc_traces::TraceMemory;
+use clap::Error;
 use clap::error::ErrorKind;
-use clap::{ArgMatches, Error};
 use either::{Either, Left, Right};
 use std::alloc::AllocError;
 use std::env::{self, Env};
@@ -163,31 +163,31 @@ pub fn answer_words<M: RunMemory + TraceMemory, I: Inputs, W: Sink, E: Sink>(
     ensures unread { OnErr result (source.new ≡ source.old) }
 {
     match memory.read_words(words) {
-        Ok(matches) => Ok(answer_matches(
-            memory, terminals, &matches, inputs, source, sink, errors,
+        Ok(invocation) => Ok(answer_invocation(
+            memory, terminals, invocation, inputs, source, sink, errors,
         )),
         Err(error) => Err(error),
     }
 }
 
-/// Executes the command that clap found on these devices, and returns the program's end.
-fn answer_matches<M: RunMemory + TraceMemory, I: Inputs, W: Sink, E: Sink>(
+/// Executes a command on these devices, and returns the program's end.
+fn answer_invocation<M: RunMemory + TraceMemory, I: Inputs, W: Sink, E: Sink>(
     memory: &mut M,
     terminals: Terminals,
-    matches: &ArgMatches<'_>,
+    invocation: Invocation<'_>,
     inputs: &mut I,
     source: &mut I::Opened,
     sink: &mut W,
     errors: &mut E,
 ) -> Ending
-    requires texts { HasItsTexts (subcommand_rows_of matches.now) }
+    requires invocation { (found : Option (Text × List Row)) × IsInvocation found invocation }
     requires memory { M.has_failed memory.old ≡ false }
     requires source { I.Opened.has_failed source.old ≡ false }
     requires inputs { I.has_refused inputs.old ≡ false }
     requires sink { W.has_failed sink.old ≡ false }
     requires errors { E.has_failed errors.old ≡ false }
     ensures accepted { result ≢ ending.Refused }
-    ensures executes { ExecutesCommand (subcommand_rows_of matches.now) terminals (record {
+    ensures executes { (found : Option (Text × List Row)) → IsInvocation found invocation.entry → ExecutesCommand found terminals (record {
       input = I.bytes_of inputs.old;
       output = W.taken_bytes sink.old;
       output_now = W.taken_bytes sink.new;
@@ -203,7 +203,6 @@ fn answer_matches<M: RunMemory + TraceMemory, I: Inputs, W: Sink, E: Sink>(
       left = I.Opened.to_come source.new;
     }) result }
 {
-    let invocation = invocation_of(matches);
     let result = execute(memory, invocation, terminals, inputs, source, sink, errors);
     ending_of(result)
 }

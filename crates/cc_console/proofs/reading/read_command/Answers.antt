@@ -12,6 +12,10 @@ read_show-requires c =
 pub returns-in-show : goal.returns-in-show
 returns-in-show c = record { command = c.read_show.ensures.command ∙ sym c.in-show.is; values = c.read_show.ensures.values }
 
+pub read_round-requires : goal.read_round-requires
+read_round-requires c =
+    subst (λ (name : Text). HasWanted name (rows_of (found_of c.args.matches.now))) c.in-round.is c.requires
+
 pub returns-in-round : goal.returns-in-round
 returns-in-round c = record { command = c.read_round.ensures.command ∙ sym c.in-round.is; values = c.read_round.ensures.values }
 

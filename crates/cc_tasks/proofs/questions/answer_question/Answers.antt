@@ -1,5 +1,4 @@
-use Rattle.std.proofs.Common.{◌≡◌, ℕ, List, ap, subst, sym}
-use Rattle.std.specs.Borrow.{Bor}
+use Rattle.std.proofs.Common.{◌≡◌, ℕ, List, subst, sym}
 use Rattle.std.specs.Prelude.{Result, IfOk, IsTrue, ◌↔◌}
 use Rattle.cc_io.specs.declared.summary.IoError.{IoError}
 use Rattle.cc_io.specs.declared.summary.Summary.{Summary}
@@ -22,30 +21,22 @@ question_told : (result : Result Summary IoError) (question other : Question) �
     → IfOk result (λ summary. IsTrue summary.any_error ↔ IsUnanswerable question)
 question_told result question other same told = subst (λ (q : Question). IfOk result (λ summary. IsTrue summary.any_error ↔ IsUnanswerable q)) (sym same) told
 
-pub returns-in-Show-default-true-clause-any_error : goal.returns-in-Show-default-true-clause-any_error
-returns-in-Show-default-true-clause-any_error g c =
-    let here = c.in-Show-default-true in
-    let same : c.as_bytes.result.now ≡ here.word.now = cc (c.as_bytes.ensures.value, ap (λ (word : Bor (List ℕ)). word.now) here.word-is) in
-    question_told c.show_line.result c.args.question _ here.is
-    (word_told c.show_line.result c.as_bytes.result.now here.word.now same c.show_line.ensures.any_error)
+pub returns-in-Show-clause-any_error : goal.returns-in-Show-clause-any_error
+returns-in-Show-clause-any_error g c = question_told c.show.result c.args.question _ c.in-Show.is c.show.ensures.any_error
 
-pub returns-in-Show-default-false-clause-any_error : goal.returns-in-Show-default-false-clause-any_error
-returns-in-Show-default-false-clause-any_error g c =
-    let here = c.in-Show-default-false in
-    let same : c.as_bytes-in-Show-default-false.result.now ≡ here.word.now = cc (c.as_bytes-in-Show-default-false.ensures.value, ap (λ (word : Bor (List ℕ)). word.now) here.word-is) in
-    question_told c.show_word.result c.args.question _ here.is
-    (word_told c.show_word.result c.as_bytes-in-Show-default-false.result.now here.word.now same c.show_word.ensures.any_error)
+pub returns-in-Round-clause-any_error : goal.returns-in-Round-clause-any_error
+returns-in-Round-clause-any_error g c = question_told c.round.result c.args.question _ c.in-Round.is c.round.ensures.any_error
 
 pub returns-in-Explain-clause-answered : goal.returns-in-Explain-clause-answered
 returns-in-Explain-clause-answered g c =
     subst (λ (q : Question). WritesAnswer (IsAnswerTo q) (g.W.Sink.taken_bytes c.args.sink.now) (g.W.Sink.taken_bytes c.explain_word.new.sink) c.explain_word.result) (sym c.in-Explain.is)
     (subst (λ (text : List ℕ). WritesAnswer (IsExplanation text) (g.W.Sink.taken_bytes c.args.sink.now) (g.W.Sink.taken_bytes c.explain_word.new.sink) c.explain_word.result)
-    c.as_bytes-in-Explain.ensures.value c.explain_word.ensures.shown)
+    c.as_bytes.ensures.value c.explain_word.ensures.shown)
 
 pub returns-in-Explain-clause-any_error : goal.returns-in-Explain-clause-any_error
 returns-in-Explain-clause-any_error g c =
     question_told c.explain_word.result c.args.question _ c.in-Explain.is
-    (word_told c.explain_word.result c.as_bytes-in-Explain.result.now _ c.as_bytes-in-Explain.ensures.value c.explain_word.ensures.any_error)
+    (word_told c.explain_word.result c.as_bytes.result.now _ c.as_bytes.ensures.value c.explain_word.ensures.any_error)
 
 pub returns-in-DrawWindow-clause-answered : goal.returns-in-DrawWindow-clause-answered
 returns-in-DrawWindow-clause-answered g c =

@@ -39,9 +39,6 @@ returns-in-RoundList-clause-silent g c = λ unreported. c.round_file.ensures.sil
 pub returns-in-Ask-clause-silent : goal.returns-in-Ask-clause-silent
 returns-in-Ask-clause-silent g c = λ unreported. c.ask.ensures.silent (λ is. unreported (subst (IsReported c.args.terminals) (sym c.in-Ask.is) is))
 
-pub returns-in-Round-clause-silent : goal.returns-in-Round-clause-silent
-returns-in-Round-clause-silent g c = λ unreported. c.round_lengths.ensures.silent (λ is. unreported (subst (IsReported c.args.terminals) (sym c.in-Round.is) is))
-
 pub returns-in-RoundList-clause-executes : goal.returns-in-RoundList-clause-executes
 returns-in-RoundList-clause-executes g c =
     by_invocation _ _ c.in-RoundList.is c.args.terminals _ c.round_file.result c.round_file.ensures.rounds

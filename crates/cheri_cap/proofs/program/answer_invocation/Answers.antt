@@ -3,15 +3,15 @@ use Rattle.std.specs.Prelude.{◌≢◌}
 use Rattle.cc_console.specs.declared.outcome.Ending.{Ending}
 use Rattle.cc_console.specs.declared.outcome.Ending.TheVariants.{Refused}
 use Rattle.cheri_cap.proofs.OutcomeLemmas.{answer_not_refused}
-use Rattle.cheri_cap.proofs.program.answer_matches.Goals as goal
+use Rattle.cheri_cap.proofs.program.answer_invocation.Goals as goal
 
 pub returns-clause-accepted : goal.returns-clause-accepted
 returns-clause-accepted g c = subst (λ (ending : Ending). ending ≢ Refused) (sym c.ending_of.ensures) (answer_not_refused c.execute-result.result)
 
 pub returns-clause-executes : goal.returns-clause-executes
-returns-clause-executes g c = record {
-  invocation = c.invocation_of-invocation.result;
-  is_invocation = c.invocation_of-invocation.ensures;
+returns-clause-executes g c = λ found is_invocation. record {
+  invocation = c.args.invocation;
+  is_invocation = is_invocation;
   executed = record {
     result = c.execute-result.result;
     executes = c.execute-result.ensures.executes;

@@ -1,7 +1,7 @@
 use Rattle.std.proofs.Common.{◌≡◌, ℕ, ◌+◌, ◌-◌, arith, subst, sym}
 use Rattle.cc_bounds.specs.Granule.{IsGranted}
 use Rattle.cc_bounds.specs.declared.span.Span.{Span}
-use Rattle.cc_command.proofs.length_list.granted_to.Goals as goal
+use Rattle.cc_command.proofs.rounding.granted_to.Goals as goal
 
 pub returns : goal.returns
 returns c =

@@ -11,7 +11,7 @@ use Rattle.cc_io.specs.Text.{with_line_feed}
 use Rattle.cc_syntax.specs.Replies.{bounds_text, reply_text}
 use Rattle.cc_command.specs.Request.{request_from}
 use Rattle.cc_command.specs.Rounding.{IsRoundingFrom, IsUnroundable}
-use Rattle.cc_command.proofs.length_list.push_rounding.Goals as goal
+use Rattle.cc_command.proofs.rounding.push_rounding.Goals as goal
 
 -- The reply without a base.
 rounded_alone : (base : Option ℕ) (size : ℕ) (reply : Reply) (out new : List ℕ) → base ≡ None → RoundsLength size reply → new ≡ out ++ with_line_feed (reply_text reply)
@@ -42,12 +42,12 @@ joined : (out a b c d : List ℕ) → out ++ a ++ b ++ c ++ d ≡ out ++ (a ++ b
 joined out a b c d = simp append_assoc
 
 pub returns-in-None : goal.returns-in-None
-returns-in-None c =
+returns-in-None g c =
     rounded_alone c.args.base c.args.size c.rounded.result c.args.out.now c.push-in-None.new.self c.in-None.is c.rounded.ensures
     (rw (c.push-in-None.ensures, c.push.ensures, c.bytes.ensures.value, c.reply_line.ensures) (append_assoc c.args.out.now (reply_text c.rounded.result) (10 ∷ [])))
 
 pub returns-in-Ok : goal.returns-in-Ok
-returns-in-Ok c =
+returns-in-Ok g c =
     let given = c.push_granted.ensures.value in
     rounded_at c.args.base c.in-Some.base c.args.size c.in-Ok.request c.rounded-in-Ok.result given.0 c.args.out.now c.push-in-Ok-2.new.self c.in-Some.is
     (ap (λ (n : ℕ). request_from (Ok (c.in-Some.base, n))) (sym c.get.ensures.value) ∙ sym c.request_from.ensures.request ∙ c.in-Ok.is)
@@ -56,42 +56,42 @@ returns-in-Ok c =
     (joined c.args.out.now (reply_text c.rounded-in-Ok.result) (codes " ") (bounds_text given.0) (10 ∷ [])))
 
 pub returns-in-Err : goal.returns-in-Err
-returns-in-Err c =
+returns-in-Err g c =
     not_rounded c.args.base c.in-Some.base c.args.size c.in-Err.refusal c.args.out.now c.push-in-Err.new.self c.in-Some.is
     (ap (λ (n : ℕ). request_from (Ok (c.in-Some.base, n))) (sym c.get.ensures.value) ∙ sym c.request_from.ensures.request ∙ c.in-Err.is)
     (rw (c.push-in-Err.ensures, c.refusal_bytes.ensures.value) refl)
 
 -- ---- the room
 pub push-requires : goal.push-requires
-push-requires c =
+push-requires g c =
     let few : length c.bytes.result.now ≤ 192 = c.bytes.ensures.fits in
-    let fits : length c.args.out.now + length c.bytes.result.now ≤ 32768 = omega (arith, few, c.requires) in
+    let fits : length c.args.out.now + length c.bytes.result.now ≤ g.row.N = omega (arith, few, c.requires) in
     (search rules, fits)
 
 pub push-requires-in-None : goal.push-requires-in-None
-push-requires-in-None c =
+push-requires-in-None g c =
     let few : length c.bytes.result.now ≤ 192 = c.bytes.ensures.fits in
-    let fits : length c.push.new.self + 1 ≤ 32768 = omega (arith, few, ap length c.push.ensures, length-append c.args.out.now c.bytes.result.now, c.requires) in
+    let fits : length c.push.new.self + 1 ≤ g.row.N = omega (arith, few, ap length c.push.ensures, length-append c.args.out.now c.bytes.result.now, c.requires) in
     (search rules, fits)
 
 pub push-requires-in-Ok : goal.push-requires-in-Ok
-push-requires-in-Ok c =
+push-requires-in-Ok g c =
     let few : length c.bytes-in-Ok.result.now ≤ 192 = c.bytes-in-Ok.ensures.fits in
-    let fits : length c.args.out.now + length c.bytes-in-Ok.result.now ≤ 32768 = omega (arith, few, c.requires) in
+    let fits : length c.args.out.now + length c.bytes-in-Ok.result.now ≤ g.row.N = omega (arith, few, c.requires) in
     (search rules, fits)
 
-pub push_granted-requires-clause-room : goal.push_granted-requires-clause-room
-push_granted-requires-clause-room c =
+pub push_granted-requires : goal.push_granted-requires
+push_granted-requires g c =
     let few : length c.bytes-in-Ok.result.now ≤ 192 = c.bytes-in-Ok.ensures.fits in
-    omega (arith, few, ap length c.push-in-Ok.ensures, length-append c.args.out.now c.bytes-in-Ok.result.now, c.requires)
+    (search rules, (search rules, omega (arith, few, ap length c.push-in-Ok.ensures, length-append c.args.out.now c.bytes-in-Ok.result.now, c.requires)))
 
 pub push-requires-in-Ok-2 : goal.push-requires-in-Ok-2
-push-requires-in-Ok-2 c =
+push-requires-in-Ok-2 g c =
     let few : length c.bytes-in-Ok.result.now ≤ 192 = c.bytes-in-Ok.ensures.fits in
-    let fits : length c.push_granted.new.out + 1 ≤ 32768 = omega (arith, few, ap length c.push-in-Ok.ensures, length-append c.args.out.now c.bytes-in-Ok.result.now, c.push_granted.ensures.fits, c.requires) in
+    let fits : length c.push_granted.new.out + 1 ≤ g.row.N = omega (arith, few, ap length c.push-in-Ok.ensures, length-append c.args.out.now c.bytes-in-Ok.result.now, c.push_granted.ensures.fits, c.requires) in
     (search rules, fits)
 
 pub push-requires-in-Err : goal.push-requires-in-Err
-push-requires-in-Err c =
-    let fits : length c.args.out.now + length c.refusal_bytes.result.now ≤ 32768 = omega (arith, c.refusal_bytes.ensures.fits, c.requires) in
+push-requires-in-Err g c =
+    let fits : length c.args.out.now + length c.refusal_bytes.result.now ≤ g.row.N = omega (arith, c.refusal_bytes.ensures.fits, c.requires) in
     (search rules, fits)
