@@ -48,7 +48,7 @@ pub fn machines_place_like_heaps()
 /// Reallocations move objects, since no operation of a machine changes the size of an object in its
 /// place. No event may ask for a larger alignment than the unit of its size, and the objects that are
 /// made must have slots. [`machines_place_like_heaps`] says it of the changes alone, and by
-/// [`every_run_has_an_outcome`](cc_machine::every_run_has_an_outcome) the machine has such a run.
+/// [`every_run_has_an_outcome`](crate::machine::every_run_has_an_outcome) the machine has such a run.
 pub fn traces_are_placed_alike()
     ensures { (limit base size : ℕ) (settings : Settings) (events : List Event) (heap : Heap)
         (opening : List Reply) (opened : State)
@@ -65,7 +65,7 @@ pub fn traces_are_placed_alike()
 ///
 /// `Output` is the relation between a trace and its output that
 /// [`script_trace`](cc_changes::script_trace) states by `Pumps`. The output is the script of the trace's
-/// own events, as [`outputs_are_scripts`](cc_trace_laws::outputs_are_scripts) says. Its lines are read by
+/// own events, as [`outputs_are_scripts`](crate::scripting::outputs_are_scripts) says. Its lines are read by
 /// [`parse_line`](cc_syntax::parse_line) as the operations of the changes of these events, and the
 /// machine has a run of these. The pool of the machine is that of the heap, made by
 /// [`plan_opening`](cc_syntax::plan_opening), with the heap's alignment. A script makes at most 65,533

@@ -38,8 +38,7 @@ pub fn commands_run()
 /// Proves that a script whose commands use only slots of one held object, and slots that they made,
 /// is confined to that object.
 ///
-/// cc_machine's law [`confinement_to_an_object`](cc_machine::confinement_to_an_object) says the
-/// same of a run.
+/// The law [`confinement_to_an_object`](crate::machine::confinement_to_an_object) says the same of a run.
 pub fn scripts_are_confined_to_an_object()
     ensures { (given : ℕ → Bool) (old new : State) (commands : List (Result Op Refusal)) (replies : List Reply) (number : ℕ) (object : Object)
         → IsReached old → IsHeldObject old number object → AreOfObject given old object
