@@ -115,7 +115,7 @@ abbrev pub MapsFile : (limit : ℕ) → PoolTexts → Align → (svg : Bool) →
 MapsFile limit pool align svg file console result =
     WithPool pool console (λ base size. FromInput (file_input file) console (DrawsRun svg (plan_opening base size align) (initial_state limit))) result
 
--- StarvesPlan holds if BASE and LENGTH are those of a pool, and memory ran out in the run on it as `StarvesRun` says.
+-- StarvesPlan holds if BASE and LENGTH are an address and a length, and memory ran out in the run on it as `StarvesRun` says.
 abbrev pub StarvesPlan : Report → (limit : ℕ) → PoolTexts → Align → (file : Option (Bor Text)) → Console → Type 0
 StarvesPlan report limit pool align file console =
     MatchResult (pool_of pool.base.now pool.length.now)

@@ -36,12 +36,14 @@ pub record TellsFailures (failures : Failures) (result : Result Summary Fault) :
   pub writes : (result ≡ Err fault.Write) ↔ (failures.write_failed ≡ true)
   pub allocates : (result ≡ Err fault.Memory) ↔ (failures.memory_failed ≡ true)
 
--- ReadsAsked holds if no other input than the last one that was asked for could not be opened, or failed to be read.
+-- ReadsAsked holds if an opening or a read failed only if the last input that was asked for is this one. If there is none, neither
+-- failed.
 abbrev pub ReadsAsked : Option Asked → Failures → Type 0
 ReadsAsked asked failures = IsUnasked asked failures.last_asked → (failures.open_failed ≡ false) × (failures.read_failed ≡ false)
 
 -- EndsInvocation holds if the command was executed on devices in these states before and after it, and its result ends the program.
--- The result is an error of a device if and only if that device failed.
+-- The result is an error of a device if and only if that device failed. It also says what was written after a failed opening or
+-- allocation, which input was asked for, and for `run` and `plan` the main theorem.
 pub record EndsInvocation (invocation : Invocation) (terminals : Terminals) (console : Console) (failures : Failures) (ending : Ending) : Type 0 where
   pub result : Result Summary Fault
   pub executes : OnDevices (Executes invocation terminals console) result
@@ -63,10 +65,10 @@ pub record ExecutesCommand (found : Option (Text × List Row)) (terminals : Term
 
 -- ---- `run` and `plan`
 
--- AnswersScript holds if the main theorem does of a run on a new machine that read these bytes and wrote after the bytes `taken`. The
--- result is an error of a device if and only if that device failed, and ends the program: with 0, or with 1 if a reply is an error, or
--- with 3 if a device failed. No other input was opened or read. Nothing
--- was written if it was not opened; if memory ran out, nothing was, or the whole output.
+-- AnswersScript holds if the result is an error of a device if and only if that device failed, and is the end of the program. After a
+-- summary or a failed read or write, the main theorem holds of a run on a new machine that read these bytes and wrote after the bytes
+-- `taken`. After a failed opening nothing was written, and after a failed allocation nothing was, or the whole output. An opening or a
+-- read failed only if the last input that was asked for is that of the script.
 pub record AnswersScript (script : Script) (bytes taken : List ℕ) (taken_now : Option (List ℕ)) (failures : Failures) (ending : Ending) : Type 0 where
   pub result : Result Summary Fault
   pub main : OnDevices (MeetsFrom script.opening (initial_state script.limit) (Some bytes) failures.left (Some taken) taken_now) result

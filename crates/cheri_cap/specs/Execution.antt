@@ -28,7 +28,7 @@ Executes (Annotate file) terminals console result = FromInput (file_input file) 
 Executes (RoundList text file) terminals console result =
     WithBase text console.output console.output_now (λ base. FromInput (file_input (Some file)) console (RoundsLengths text terminals.errors base)) result
 
--- StarvesCommand holds if `run` or `plan` has written nothing, or, with `--stats`, the whole output, when memory runs out.
+-- StarvesCommand holds if `run` or `plan` has written nothing, or, with `--stats`, the whole output, when memory runs out. Of other commands it says nothing.
 abbrev pub StarvesCommand : Invocation → Terminals → Console → Type 0
 StarvesCommand (Run limit stats file) terminals console = StarvesRun (report_of stats terminals) [] (initial_state limit) (file_input file) console
 StarvesCommand (Plan limit pool align stats file) terminals console = StarvesPlan (report_of stats terminals) limit pool align file console

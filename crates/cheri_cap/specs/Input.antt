@@ -15,7 +15,7 @@ use Rattle.cc_tasks.specs.Questions.{has_hint, question_hint}
 use Rattle.cc_runs.specs.declared.report.Terminals.{Terminals}
 use Rattle.cc_traces.specs.ReplayTexts.{replay_in}
 
--- ReadsFile holds if the command reads a file: FILE names one, BASE and LENGTH of `plan` and `map` are those of a pool, and the
+-- ReadsFile holds if the command reads a file: FILE names one, BASE and LENGTH of `plan` and `map` are an address and a length, and the
 -- numbers and names of `decode` and `replay`, and the base of `round`, are such.
 abbrev pub ReadsFile : Invocation → Type 0
 ReadsFile (Ask question) = ⊥
@@ -27,7 +27,7 @@ ReadsFile (Decode input format texts file) = IsOk (listing_in input format texts
 ReadsFile (Annotate file) = IsFile (file_input file)
 ReadsFile (RoundList base file) = IsOk (place_in base) × IsFile (file_input (Some file))
 
--- RunsMachine holds if the command creates a machine or a heap: `run`, `plan` and `map` if BASE and LENGTH are those of a pool, and
+-- RunsMachine holds if the command creates a machine or a heap: `run`, `plan` and `map` if BASE and LENGTH are an address and a length, and
 -- `replay` if its numbers and names are such.
 abbrev pub RunsMachine : Invocation → Type 0
 RunsMachine (Ask question) = ⊥
@@ -54,7 +54,7 @@ abbrev pub IsHinted : Invocation → Type 0
 IsHinted (Ask question) = ⊤
 IsHinted _ = ⊥
 
--- IsReported holds if the command can write to standard error: `run`, and `plan` if BASE and LENGTH are those of a pool, and
+-- IsReported holds if the command can write to standard error: `run`, and `plan` if BASE and LENGTH are an address and a length, and
 -- a command with a hint on its typed texts, and `round` of a list if standard error is a terminal
 -- and the base is a number, and `decode` if standard error is a terminal.
 abbrev pub IsReported : Terminals → Invocation → Type 0
@@ -97,7 +97,7 @@ abbrev pub pool_script : (found : Result (ℕ × ℕ) Refusal) (limit : ℕ) →
 pool_script (Ok numbers) limit align input = Some (record { limit = limit; opening = plan_opening numbers.0 numbers.1 align; input = input })
 pool_script (Err refusal) limit align input = None
 
--- The script of `run`, and of `plan` if BASE and LENGTH are those of a pool; other commands have none here.
+-- The script of `run`, and of `plan` if BASE and LENGTH are an address and a length; other commands have none here.
 abbrev pub script_of : Invocation → Option Script
 script_of (Run limit stats file) = Some (record { limit = limit; opening = []; input = file_input file })
 script_of (Plan limit pool align stats file) = pool_script (pool_of pool.base.now pool.length.now) limit align (file_input file)
