@@ -39,3 +39,6 @@ mod OutputLemmas
 mod ChartedRunLemmas
 mod TakenLemmas
 mod ReadBackLemmas
+mod StayingLemmas
+mod StayingCounterexampleLemmas
+mod WitnessLemmas

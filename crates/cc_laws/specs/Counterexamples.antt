@@ -201,3 +201,21 @@ root_alone = of_slots (first_slot root_capability ∷ [])
 -- The five replies of a machine that refuses everything.
 abbrev pub five_refusals : List Reply
 five_refusals = Refused Full ∷ Refused Full ∷ Refused Full ∷ Refused Full ∷ Refused Full ∷ []
+
+-- ---- states that do not stay
+
+-- The root alone, under a limit of 9 slots.
+abbrev pub with_another_limit : State
+with_another_limit = record root_alone { limit = 9 }
+
+-- The root as the pool's slot.
+abbrev pub pool_alone : State
+pool_alone = of_objects (first_slot root_capability ∷ []) []
+
+-- An object that is live after it was swept.
+abbrev pub live_after_sweep : State
+live_after_sweep = record tagged_after_sweep { objects = object_in 1 Live ∷ [] }
+
+-- An object of two bytes after it had one.
+abbrev pub grown_object : State
+grown_object = record tagged_after_sweep { objects = record (object_in 1 Swept) { size = 2 } ∷ [] }

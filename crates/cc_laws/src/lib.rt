@@ -14,6 +14,7 @@ pub mod frames;
 pub mod heaps;
 pub mod machine;
 mod machine_counterexamples;
+mod machine_witnesses;
 pub mod placing;
 pub mod planner;
 pub mod replaying;

@@ -23,6 +23,7 @@ ghost use Rattle.cc_machine.specs.ObjectLaws.{HangsFromPool, HasExactObjects, Ha
 ghost use Rattle.cc_machine.specs.Confinement.{RunsWithin, IsConfined};
 ghost use Rattle.cc_cap.specs.Reach.{IsReachable};
 ghost use Rattle.cc_machine.specs.Reach.{ReachesAll};
+ghost use Rattle.cc_laws.specs.Staying.{KeepsSlots};
 
 /// Proves that a step has one outcome, and so has a run: from one state the same operations give
 /// the same replies and lead to the same state.
@@ -115,6 +116,16 @@ pub fn exact_revocation()
 pub fn confinement()
     ensures { (given : ℕ → Bool) (old new : State) (ops : List Op) (replies : List Reply)
         → IsReached old → RunsWithin given old old ops replies new → IsConfined given old new }
+{}
+
+/// Proves that slots stay through every run. A slot keeps its capability and its parent, and a
+/// revoked slot stays revoked. An object keeps its size and its slot, and goes from live to freed to
+/// swept, never back. A pool, once set, stays, with its alignment, and so does the limit.
+///
+/// So a client can keep what it read of a slot. Only its tag can go.
+pub fn slots_stay()
+    ensures { (old new : State) (ops : List Op) (replies : List Reply)
+        → IsReached old → Run old ops replies new → KeepsSlots old new }
 {}
 
 /// Proves that every unsealed capability that grants no more than a slot's is derived from the slot

@@ -23,6 +23,8 @@ ghost use Rattle.cc_laws.specs.Counterexamples.{object_without_pool, slot_of_two
 ghost use Rattle.cc_laws.specs.Counterexamples.{object_without_bytes, object_off_alignment};
 ghost use Rattle.cc_laws.specs.Counterexamples.{live_in_freed, revoked_without_object, tagged_after_sweep};
 ghost use Rattle.cc_laws.specs.Counterexamples.{revoked_while_live, revoked_pool};
+ghost use Rattle.cc_laws.specs.Staying.{KeepsSlots};
+ghost use Rattle.cc_laws.specs.Counterexamples.{with_another_limit, pool_alone, live_after_sweep, grown_object};
 ghost use Rattle.cc_laws.specs.Counterexamples.{is_first, two_slots, child_of_another, sealed_alone, child_unsealed};
 ghost use Rattle.cc_laws.specs.Counterexamples.{unsealed_alone, child_sealed, root_alone, five_refusals};
 
@@ -77,6 +79,18 @@ fn runs_that_are_not_confined()
     ensures derived { ¬ IsConfined is_first two_slots child_of_another }
     ensures unsealed { ¬ IsConfined is_first sealed_alone child_unsealed }
     ensures sealed { ¬ IsConfined is_first unsealed_alone child_sealed }
+{}
+
+#[tactic(auto, using(crate::proofs::StayingCounterexampleLemmas::staying_breaks))]
+fn slots_that_do_not_stay()
+    ensures limit { ¬ KeepsSlots root_alone with_another_limit }
+    ensures slot { ¬ KeepsSlots two_slots unsealed_alone }
+    ensures capability { ¬ KeepsSlots unsealed_alone root_alone }
+    ensures parent { ¬ KeepsSlots root_alone own_parent }
+    ensures revoked { ¬ KeepsSlots revoked_pool pool_alone }
+    ensures size { ¬ KeepsSlots tagged_after_sweep grown_object }
+    ensures state { ¬ KeepsSlots tagged_after_sweep live_after_sweep }
+    ensures pool { ¬ KeepsSlots pool_alone root_alone }
 {}
 
 #[tactic(auto, using(crate::proofs::StepCounterexampleLemmas::reuse_breaks))]

@@ -1,0 +1,30 @@
+-- Worked states that runs lead to, for the premises of the laws.
+use Rattle.std.specs.Prelude.{ℕ, Bool, ◌==◌, Some}
+use Rattle.cc_bounds.specs.Span.{span_from}
+use Rattle.cc_cap.specs.Capability.{Capability, root_capability, with_permissions, with_span}
+use Rattle.cc_plan.specs.declared.object.ObjectState.TheVariants.{Live}
+use Rattle.cc_machine.specs.declared.object.Object.{Object}
+use Rattle.cc_machine.specs.State.{State, initial_state, with_slot}
+use Rattle.cc_machine.specs.Objects.{with_object}
+
+-- A new machine of 8 slots, with the root's slot as the pool's.
+abbrev pub with_pool : State
+with_pool = record (initial_state 8) { pool = Some 0 }
+
+-- An object of 16 bytes, its capability, and the state with it, in slot 1.
+abbrev pub first_object : Object
+first_object = record { size = 16; slot = 1; state = Live }
+
+abbrev pub sixteen_capability : Capability
+sixteen_capability = with_span root_capability (span_from 0 16)
+
+abbrev pub with_first_object : State
+with_first_object = with_object with_pool sixteen_capability 0 16
+
+-- The slot that is given to a client: the object's.
+abbrev pub is_of_object : ℕ → Bool
+is_of_object slot = slot == 1
+
+-- The state in which the client has derived a slot without permissions from it.
+abbrev pub with_derived_slot : State
+with_derived_slot = with_slot with_first_object (with_permissions sixteen_capability 0) 1
