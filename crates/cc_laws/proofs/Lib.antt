@@ -40,5 +40,6 @@ mod ChartedRunLemmas
 mod TakenLemmas
 mod ReadBackLemmas
 mod StayingLemmas
+mod ByteConfinementLemmas
 mod StayingCounterexampleLemmas
 mod WitnessLemmas

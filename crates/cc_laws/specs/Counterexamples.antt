@@ -219,3 +219,19 @@ live_after_sweep = record tagged_after_sweep { objects = object_in 1 Live ∷ []
 -- An object of two bytes after it had one.
 abbrev pub grown_object : State
 grown_object = record tagged_after_sweep { objects = record (object_in 1 Swept) { size = 2 } ∷ [] }
+
+-- The slot without permissions, and a child with those of the root.
+abbrev pub child_with_more_permissions : State
+child_with_more_permissions = record unsealed_alone { slots = unsealed_alone.slots ++ child_slot root_capability ∷ [] }
+
+-- A slot of 16 bytes.
+abbrev pub sixteen_bytes : State
+sixteen_bytes = of_slots (first_slot (bounded_root 0 16) ∷ [])
+
+-- A revoked slot.
+abbrev pub revoked_alone : State
+revoked_alone = of_slots (revoked_slot (first_slot root_capability) ∷ [])
+
+-- The revoked slot, and a tagged child.
+abbrev pub child_of_revoked : State
+child_of_revoked = record revoked_alone { slots = revoked_alone.slots ++ child_slot root_capability ∷ [] }

@@ -1,6 +1,7 @@
 -- In reading order.
 pub mod ListingParts
 pub mod Staying
+pub mod ByteConfinement
 pub mod Witnesses
 pub mod Counterexamples
 pub mod DrawnObjects

@@ -24,6 +24,7 @@ ghost use Rattle.cc_machine.specs.Confinement.{RunsWithin, IsConfined};
 ghost use Rattle.cc_cap.specs.Reach.{IsReachable};
 ghost use Rattle.cc_machine.specs.Reach.{ReachesAll};
 ghost use Rattle.cc_laws.specs.Staying.{KeepsSlots};
+ghost use Rattle.cc_laws.specs.ByteConfinement.{IsConfinedInBytes};
 
 /// Proves that a step has one outcome, and so has a run: from one state the same operations give
 /// the same replies and lead to the same state.
@@ -126,6 +127,14 @@ pub fn confinement()
 pub fn slots_stay()
     ensures { (old new : State) (ops : List Op) (replies : List Reply)
         → IsReached old → Run old ops replies new → KeepsSlots old new }
+{}
+
+/// Proves that a run that uses only given slots, and slots that it made, gains no byte and no
+/// permission that they lack. Each slot that it makes grants no more than one of the given slots
+/// granted before the run. If it is tagged after the run, that one was tagged before it.
+pub fn confinement_in_bytes()
+    ensures { (given : ℕ → Bool) (old new : State) (ops : List Op) (replies : List Reply)
+        → IsReached old → RunsWithin given old old ops replies new → IsConfinedInBytes given old new }
 {}
 
 /// Proves that every unsealed capability that grants no more than a slot's is derived from the slot

@@ -24,7 +24,9 @@ ghost use Rattle.cc_laws.specs.Counterexamples.{object_without_bytes, object_off
 ghost use Rattle.cc_laws.specs.Counterexamples.{live_in_freed, revoked_without_object, tagged_after_sweep};
 ghost use Rattle.cc_laws.specs.Counterexamples.{revoked_while_live, revoked_pool};
 ghost use Rattle.cc_laws.specs.Staying.{KeepsSlots};
+ghost use Rattle.cc_laws.specs.ByteConfinement.{IsConfinedInBytes};
 ghost use Rattle.cc_laws.specs.Counterexamples.{with_another_limit, pool_alone, live_after_sweep, grown_object};
+ghost use Rattle.cc_laws.specs.Counterexamples.{child_with_more_permissions, sixteen_bytes, revoked_alone, child_of_revoked};
 ghost use Rattle.cc_laws.specs.Counterexamples.{is_first, two_slots, child_of_another, sealed_alone, child_unsealed};
 ghost use Rattle.cc_laws.specs.Counterexamples.{unsealed_alone, child_sealed, root_alone, five_refusals};
 
@@ -91,6 +93,13 @@ fn slots_that_do_not_stay()
     ensures size { ¬ KeepsSlots tagged_after_sweep grown_object }
     ensures state { ¬ KeepsSlots tagged_after_sweep live_after_sweep }
     ensures pool { ¬ KeepsSlots pool_alone root_alone }
+{}
+
+#[tactic(auto, using(crate::proofs::StayingCounterexampleLemmas::bytes_break))]
+fn runs_that_are_not_confined_in_bytes()
+    ensures permissions { ¬ IsConfinedInBytes is_first unsealed_alone child_with_more_permissions }
+    ensures bytes { ¬ IsConfinedInBytes is_first sixteen_bytes child_with_more_bytes }
+    ensures tag { ¬ IsConfinedInBytes is_first revoked_alone child_of_revoked }
 {}
 
 #[tactic(auto, using(crate::proofs::StepCounterexampleLemmas::reuse_breaks))]
