@@ -1,4 +1,6 @@
 mod PaddedLemmas
+mod MarginLemmas
+mod MarginCounterexampleLemmas
 mod ResultLemmas
 mod RuleCounterexampleLemmas
 mod ListingLemmas

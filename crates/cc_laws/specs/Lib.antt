@@ -1,5 +1,6 @@
 -- In reading order.
 pub mod ListingParts
+pub mod Margin
 pub mod Staying
 pub mod ByteConfinement
 pub mod Witnesses

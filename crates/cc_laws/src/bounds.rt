@@ -1,14 +1,15 @@
 //! Laws of every word, of every request and of every sound span. The contract of each function is a
 //! law, and its body is empty.
-ghost use Rattle.std.specs.Prelude.{ℕ, Bool, ◌≡◌, ◌+◌, ◌%◌, ◌/◌, ◌^◌, ◌<◌, ◌≤◌, ◌↔◌};
+ghost use Rattle.std.specs.Prelude.{ℕ, Bool, ◌≡◌, ◌+◌, ◌%◌, ◌/◌, ◌^◌, ◌<◌, ◌≤◌, ◌↔◌, max};
 ghost use Rattle.cc_word.specs.declared.fields.Fields.{Fields as FieldsSpec};
 ghost use Rattle.cc_bounds.specs.declared.span.Span.{Span as SpanSpec};
 ghost use Rattle.cc_bounds.specs.Span.{IsSpan, length_of, span_from, from_zero};
 ghost use Rattle.cc_bounds.specs.Granule.{IsGranule, IsExponent, IsGranted, IsSound, granule_of, exponent_of, granted_span, padded_size};
 ghost use Rattle.cc_bounds.specs.Encoding.{HasBoundsFields, StoresSpan, ie_of, t_of, b_of};
-ghost use Rattle.cc_bounds.specs.Window.{IsRepresentable};
+ghost use Rattle.cc_bounds.specs.Window.{IsRepresentable, Represents};
 ghost use Rattle.cc_bounds.specs.Decoding.{stored_exponent, IsTopMantissa, IsWindow, IsPlaced, IsTopBeside, DecodesTo, SharesBoundsFields, EveryBitCounts, ExactlyOne};
 ghost use Rattle.cc_bounds.specs.Tightest.{IsDecoded};
+ghost use Rattle.cc_laws.specs.Margin.{IsNear};
 
 /// Proves that each relation that defines decoding has exactly one number, and so every word one
 /// span.
@@ -93,4 +94,18 @@ pub fn representable_addresses_keep_bounds()
         → DecodesTo fields span → 50 ≤ stored_exponent fields → DecodesTo other span }
     ensures every_address { (fields : FieldsSpec) (address : ℕ) → address < 2 ^ 64
         → ((other : FieldsSpec) × SharesBoundsFields fields other × (other.address ≡ address)) }
+{}
+
+/// Proves that bounds have a margin of representable addresses: every address from the section below
+/// that of the base to the second section above that of the top.
+///
+/// A section has 2^(exponent + 11) bytes: at least 2,048, and more than a quarter of the span's
+/// length. So an address is representable if it is at most a quarter of the length below the base, or
+/// at most half of the length above the top. For worked spans, addresses one section further are not.
+pub fn margin_around_bounds()
+    ensures sections { (span : SpanSpec) (exponent address : ℕ) → IsSpan span → IsSound span → IsExponent span exponent
+        → IsNear span exponent address → Represents span address }
+    ensures bytes { (span : SpanSpec) (address : ℕ) → IsSpan span → IsSound span
+        → span.base ≤ address + max 2048 (length_of span / 4) → address ≤ span.top + max 4096 (length_of span / 2)
+        → Represents span address }
 {}

@@ -3,6 +3,7 @@
 #![tactic(auto)]
 
 pub mod bounds;
+mod bounds_counterexamples;
 pub mod capabilities;
 mod capabilities_counterexamples;
 pub mod charting;
