@@ -1,6 +1,7 @@
 mod PaddedLemmas
 mod MarginLemmas
 mod MarginCounterexampleLemmas
+mod LargerRequestLemmas
 mod ResultLemmas
 mod RuleCounterexampleLemmas
 mod ListingLemmas

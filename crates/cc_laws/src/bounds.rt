@@ -3,7 +3,7 @@
 ghost use Rattle.std.specs.Prelude.{ℕ, Bool, ◌≡◌, ◌+◌, ◌%◌, ◌/◌, ◌^◌, ◌<◌, ◌≤◌, ◌↔◌, max};
 ghost use Rattle.cc_word.specs.declared.fields.Fields.{Fields as FieldsSpec};
 ghost use Rattle.cc_bounds.specs.declared.span.Span.{Span as SpanSpec};
-ghost use Rattle.cc_bounds.specs.Span.{IsSpan, length_of, span_from, from_zero};
+ghost use Rattle.cc_bounds.specs.Span.{IsSpan, IsWithin, length_of, span_from, from_zero};
 ghost use Rattle.cc_bounds.specs.Granule.{IsGranule, IsExponent, IsGranted, IsSound, granule_of, exponent_of, granted_span, padded_size};
 ghost use Rattle.cc_bounds.specs.Encoding.{HasBoundsFields, StoresSpan, ie_of, t_of, b_of};
 ghost use Rattle.cc_bounds.specs.Window.{IsRepresentable, Represents};
@@ -108,4 +108,15 @@ pub fn margin_around_bounds()
     ensures bytes { (span : SpanSpec) (address : ℕ) → IsSpan span → IsSound span
         → span.base ≤ address + max 2048 (length_of span / 4) → address ≤ span.top + max 4096 (length_of span / 2)
         → Represents span address }
+{}
+
+/// Proves that a larger request is granted more: a request within another is granted bounds within
+/// those that the other is granted.
+///
+/// So the representable length grows with the length. That of a representable length is itself.
+pub fn larger_requests_are_granted_more()
+    ensures within { (inner outer granted more : SpanSpec) → IsSpan inner → IsSpan outer → IsWithin inner outer
+        → IsGranted inner granted → IsGranted outer more → IsWithin granted more }
+    ensures padded { (size larger : ℕ) → size ≤ larger → larger ≤ 2 ^ 64 → padded_size size ≤ padded_size larger }
+    ensures twice { (size : ℕ) → size ≤ 2 ^ 64 → padded_size (padded_size size) ≡ padded_size size }
 {}
