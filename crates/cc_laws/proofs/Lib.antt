@@ -46,3 +46,8 @@ mod StayingLemmas
 mod ByteConfinementLemmas
 mod StayingCounterexampleLemmas
 mod WitnessLemmas
+mod EntryOrderLemmas
+mod AlikeHeapLemmas
+mod EventOutcomeLemmas
+mod OneSummaryLemmas
+mod HeapCounterexampleLemmas

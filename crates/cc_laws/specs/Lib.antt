@@ -8,5 +8,6 @@ pub mod Counterexamples
 pub mod DrawnObjects
 pub mod ScriptParts
 pub mod IgnoresPeaks
+pub mod OneOutcome
 pub mod Translation
 pub mod ChartedRun

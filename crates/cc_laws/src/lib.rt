@@ -13,6 +13,7 @@ pub mod drawings;
 pub mod formats;
 pub mod frames;
 pub mod heaps;
+mod heaps_counterexamples;
 pub mod machine;
 mod machine_counterexamples;
 mod machine_witnesses;
