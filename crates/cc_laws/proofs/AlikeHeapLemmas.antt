@@ -77,7 +77,7 @@ count_sum : (entries : List Entry) → sum_by (λ (entry : Entry). 1) entries �
 count_sum [] = refl
 count_sum (entry ∷ entries) = omega (arith, count_sum entries, sum_by-cons (λ (e : Entry). 1) entry entries)
 
-usage_along : (live other : List Entry) (waiting : List Span) → HaveSameSums live other
+pub usage_along : (live other : List Entry) (waiting : List Span) → HaveSameSums live other
     → usage_of (record { live = other; quarantined = waiting }) ≡ usage_of (record { live = live; quarantined = waiting })
 usage_along live other waiting same =
     let count : length other ≡ length live = omega (arith, same (λ entry. 1), count_sum live, count_sum other) in

@@ -51,3 +51,4 @@ mod AlikeHeapLemmas
 mod EventOutcomeLemmas
 mod OneSummaryLemmas
 mod HeapCounterexampleLemmas
+mod OneReplayLemmas

@@ -82,7 +82,7 @@ pub record LeadsRun (old : RunState) (event : Event) : Type 0 where
   pub new : RunState
   pub is : IsRunEvent old event outcome new
 
-run_leads : (old : RunState) (event : Event) → AreOnceIn old.heap.memory.live → LeadsRun old event
+pub run_leads : (old : RunState) (event : Event) → AreOnceIn old.heap.memory.live → LeadsRun old event
 run_leads old event once =
     let made = event_leads old.heap event once in
     let freed = noted_list (freed_id event) false old.lost in
@@ -139,7 +139,7 @@ pub record IsOneRunOutcome (outcome told : Outcome) (new another : RunState) : T
   pub same : told ≡ outcome
   pub alike : AreAlikeRuns new another
 
-alike_run_event : (old other new another : RunState) (event : Event) (outcome told : Outcome) → AreOnceIn old.heap.memory.live
+pub alike_run_event : (old other new another : RunState) (event : Event) (outcome told : Outcome) → AreOnceIn old.heap.memory.live
     → AreAlikeRuns old other → IsRunEvent old event outcome new → IsRunEvent other event told another
     → IsOneRunOutcome outcome told new another
 alike_run_event old other new another event outcome told once alike first second =
