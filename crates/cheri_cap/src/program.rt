@@ -1,5 +1,5 @@
 //! The execution of the program's command line: on given devices, and on those of the process.
-ghost use Rattle.std.specs.Prelude.{◌≡◌, ◌≢◌, ◌↔◌, IfErr, IfOk, OnErr, false, true, List, Option};
+ghost use Rattle.std.specs.Prelude.{◌≡◌, ◌≢◌, ◌↔◌, IfErr, IfOk, MatchResult, OnErr, false, true, List, Option};
 ghost use Rattle.clap.specs.Walk.{texts};
 ghost use Rattle.clap.specs.Words.{App, FailsBy, Row, Text, kind_of, subcommand_of};
 ghost use Rattle.cc_console.specs.declared.outcome.Ending.TheVariants as ending;
@@ -138,7 +138,7 @@ pub fn answer_words<M: RunMemory + TraceMemory, I: Inputs, W: Sink, E: Sink>(
       last_asked = I.last_asked inputs.new;
       left = I.Opened.to_come source.new;
     }) end) }
-    ensures runs_script { IfOk result (λ end. (app : App) × IsProgram app × (invocation : InvocationSpec) × IsInvocation (subcommand_of app (texts words.now)) invocation × AnswersEveryScript invocation (record {
+    ensures runs_script { (app : App) × IsProgram app × MatchResult result (λ end. (invocation : InvocationSpec) × IsInvocation (subcommand_of app (texts words.now)) invocation × AnswersEveryScript invocation (record {
       input = I.bytes_of inputs.old;
       output = W.taken_bytes sink.old;
       output_now = W.taken_bytes sink.new;
@@ -152,7 +152,7 @@ pub fn answer_words<M: RunMemory + TraceMemory, I: Inputs, W: Sink, E: Sink>(
       memory_failed = M.has_failed memory.new;
       last_asked = I.last_asked inputs.new;
       left = I.Opened.to_come source.new;
-    }) end) }
+    }) end) (λ error. is_taken app (texts words.now) ≡ true → M.has_failed memory.new ≡ true) }
     ensures accepted { IfOk result (λ end. end ≢ ending.Refused) }
     ensures kinds { (app : App) × IsProgram app × FailsBy (faults_of app (texts words.now)) result }
     ensures refused { IfErr result (λ error. (app : App) × IsProgram app × (is_taken app (texts words.now) ≡ true → kind_of error ≡ ErrorKind.OutOfMemory)) }
