@@ -52,3 +52,5 @@ mod EventOutcomeLemmas
 mod OneSummaryLemmas
 mod HeapCounterexampleLemmas
 mod OneReplayLemmas
+mod TraceCounterexampleLemmas
+mod DrawingCounterexampleLemmas

@@ -1,0 +1,28 @@
+//! Proves that no claim of the laws of drawings and listings holds for everything. Each function here
+//! does nothing, and its contract is the claim.
+ghost use Rattle.std.specs.Prelude.{ℕ, ◌≡◌, true, false, List, [], ◌∷◌, Option};
+ghost use Rattle.cc_bounds.specs.Span.{span_from};
+ghost use Rattle.cc_values.specs.declared.usage.Usage.{Usage};
+ghost use Rattle.cc_io.specs.declared.input_form.InputForm.TheVariants.{Lines};
+ghost use Rattle.cc_draw.specs.declared.layout.Layout.{Layout};
+ghost use Rattle.cc_decode.specs.declared.options.Options.{Options};
+ghost use Rattle.cc_laws.specs.DrawnObjects.{CountsFreeBytes, IsDrawnExactly};
+ghost use Rattle.cc_laws.specs.ListingParts.{RowsInParts};
+
+/// A pool of 16 free bytes in which no hole, or a hole of no bytes, is counted.
+fn usage_that_misses_free_bytes()
+    ensures holes { (usage : Usage) → usage.holes ≡ 0 → ¬ CountsFreeBytes (span_from 0 16) [] usage }
+    ensures largest { (usage : Usage) → usage.largest ≡ 0 → ¬ CountsFreeBytes (span_from 0 16) [] usage }
+{}
+
+/// A span of no bytes, and one that is longer than the layout.
+fn objects_that_are_not_drawn_exactly()
+    ensures some { ¬ IsDrawnExactly (record { start = 0; size = 1; cells = 1; width = 1 }) (span_from 0 0) }
+    ensures in_layout { ¬ IsDrawnExactly (record { start = 0; size = 1; cells = 1; width = 1 }) (span_from 0 2) }
+{}
+
+/// A row, or an error, that no part of an input has.
+fn rows_of_other_input()
+    ensures rows { (options : Options) → options.input ≡ Lines → ¬ RowsInParts options [] [] (10 ∷ []) false }
+    ensures error { (options : Options) → options.input ≡ Lines → ¬ RowsInParts options [] [] [] true }
+{}
