@@ -54,3 +54,4 @@ mod HeapCounterexampleLemmas
 mod OneReplayLemmas
 mod TraceCounterexampleLemmas
 mod DrawingCounterexampleLemmas
+mod SealingLemmas

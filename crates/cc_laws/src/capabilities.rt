@@ -1,6 +1,7 @@
 //! Laws of all capabilities, and of their words.
-ghost use Rattle.std.specs.Prelude.{ℕ, Bool};
-ghost use Rattle.cc_cap.specs.Capability.{Capability, IsCapability, IsUnsealed, GrantsNoMore};
+ghost use Rattle.std.specs.Prelude.{ℕ, Bool, ◌≡◌, Ok};
+ghost use Rattle.cc_word.specs.Permissions.{HasAll, global_permission};
+ghost use Rattle.cc_cap.specs.Capability.{Capability, IsCapability, IsUnsealed, GrantsNoMore, unsealed_permissions, with_permissions};
 ghost use Rattle.cc_cap.specs.Canonical.{IsCanonical};
 ghost use Rattle.cc_cap.specs.Reach.{IsReachable};
 ghost use Rattle.cc_cap.specs.Derivation.{SetsAddress, Increments, SetsBounds, SetsExactBounds, MasksPermissions, SetsFlag, Seals, Unseals, Rebuilds};
@@ -59,4 +60,13 @@ pub fn rules_on_words_are_monotonic()
     ensures itself { (word : ℕ) → IsCanonical word → IsCanonicalSubset word word }
     ensures chain { (one two three : ℕ) → IsCanonical three → IsCanonicalSubset one two → IsCanonicalSubset two three
         → IsCanonicalSubset one three }
+{}
+
+/// Proves that a capability that is sealed and unsealed again is as before, except for GLOBAL. It keeps
+/// GLOBAL if the authority that unseals it has GLOBAL, and loses it otherwise.
+pub fn sealed_and_unsealed_again()
+    ensures permissions { (cap by authority sealed again : Capability) → Seals cap by (Ok sealed) → Unseals sealed authority (Ok again)
+        → again ≡ with_permissions cap (unsealed_permissions cap.permissions authority.permissions) }
+    ensures global { (cap by authority sealed again : Capability) → Seals cap by (Ok sealed) → Unseals sealed authority (Ok again)
+        → HasAll authority.permissions global_permission → again ≡ cap }
 {}

@@ -1,8 +1,9 @@
 //! Proves that the law of rules on words is not vacuous: a rule returns a word, and not every
-//! canonical word is a subset of another. The function here does nothing, and its contract is the
-//! claim.
+//! canonical word is a subset of another; and that the root is sealed and unsealed again. Each function
+//! here does nothing, and its contract is the claim.
 ghost use Rattle.std.specs.Prelude.{◌*◌, ◌^◌, Ok};
-ghost use Rattle.cc_cap.specs.Derivation.{MasksPermissions};
+ghost use Rattle.cc_cap.specs.Capability.{root_capability, sealed_with, with_permissions};
+ghost use Rattle.cc_cap.specs.Derivation.{MasksPermissions, Seals, Unseals};
 ghost use Rattle.cc_cap.specs.WordRules.{OnWord, IsCanonicalSubset};
 
 /// Proves that removing all permissions of the root's word returns null, and that the root's word
@@ -11,4 +12,12 @@ ghost use Rattle.cc_cap.specs.WordRules.{OnWord, IsCanonicalSubset};
 fn null_and_the_word_of_the_root()
     ensures made { OnWord (λ cap. MasksPermissions cap 0) (0xffff * 2 ^ 112) (Ok 0) }
     ensures outside { ¬ IsCanonicalSubset (0xffff * 2 ^ 112) 0 }
+{}
+
+/// The root, sealed with type 0 and unsealed again, by itself and by an authority without GLOBAL.
+fn the_root_sealed_and_unsealed_again()
+    ensures seals { Seals root_capability root_capability (Ok (sealed_with root_capability 0)) }
+    ensures unseals { Unseals (sealed_with root_capability 0) root_capability (Ok root_capability) }
+    ensures loses_global { Unseals (sealed_with root_capability 0) (with_permissions root_capability 0xfffe)
+        (Ok (with_permissions root_capability 0xfffe)) }
 {}
