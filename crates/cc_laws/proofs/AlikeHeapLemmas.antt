@@ -49,7 +49,7 @@ pub record AreSame {X : Type 0} (result told : X) (one other : Heap) : Type 0 wh
 
 -- ---- what does not depend on the order
 
-sum_spans : (weight : Span → ℕ) (entries : List Entry)
+pub sum_spans : (weight : Span → ℕ) (entries : List Entry)
     → sum_by weight (map span_of entries) ≡ sum_by (λ (entry : Entry). weight (span_of entry)) entries
 sum_spans weight [] = refl
 sum_spans weight (entry ∷ entries) =

@@ -55,3 +55,4 @@ mod OneReplayLemmas
 mod TraceCounterexampleLemmas
 mod DrawingCounterexampleLemmas
 mod SealingLemmas
+mod HeldAgainLemmas

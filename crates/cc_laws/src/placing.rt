@@ -5,22 +5,26 @@ ghost use Rattle.cc_bounds.specs.Span.{span_from};
 ghost use Rattle.cc_io.specs.Answers.{Output};
 ghost use Rattle.cc_io.specs.Frames.{lines};
 ghost use Rattle.cc_io.specs.Lines.{lines_of};
+ghost use Rattle.cc_values.specs.declared.op.Op.{Op};
 ghost use Rattle.cc_values.specs.declared.reply.Reply.{Reply};
 ghost use Rattle.cc_syntax.specs.Planning.{plan_opening};
 ghost use Rattle.cc_machine.specs.State.{State, initial_state};
+ghost use Rattle.cc_machine.specs.Objects.{held_bytes_of};
 ghost use Rattle.cc_machine.specs.Run.{Run};
 ghost use Rattle.cc_placer.specs.declared.event.Event.{Event};
 ghost use Rattle.cc_heap.specs.declared.reallocation.Reallocation.TheVariants.{Move};
 ghost use Rattle.cc_heap.specs.declared.settings.Settings.{Settings};
 ghost use Rattle.cc_heap.specs.Heap.{Heap, empty_heap};
+ghost use Rattle.cc_heap.specs.Lost.{empty_run};
+ghost use Rattle.cc_heap.specs.Memory.{usage_of};
 ghost use Rattle.cc_heap.specs.Run.{Runs};
-ghost use Rattle.cc_replay.specs.Replay.{events_in};
-ghost use Rattle.cc_formats.specs.declared.reading.Progress.TheVariants.{OutOfMemory};
+ghost use Rattle.cc_replay.specs.Replay.{ReplayState, TakesLine, TakesRest, begun, events_in};
+ghost use Rattle.cc_formats.specs.declared.reading.Progress.TheVariants.{Running, OutOfMemory};
 ghost use Rattle.cc_formats.specs.declared.reading.Reading.{Reading};
 ghost use Rattle.cc_changes.specs.Changes.{AsksForUnit, CanBePlanned, Change, Changes, objects_made};
 ghost use Rattle.cc_changes.specs.Operations.{no_numbers, operations_of};
 ghost use Rattle.cc_changes.specs.Script.{ScriptState, ScriptsLine, ScriptsRest, script_begun};
-ghost use Rattle.cc_laws.specs.Translation.{IsAccepted, IsFollowed, IsTranslated, PlacesAlike};
+ghost use Rattle.cc_laws.specs.Translation.{IsAccepted, IsFollowed, IsReadAs, IsTranslated, PlacesAlike};
 
 /// Proves that a machine that takes the changes of a heap as operations places each object at the bytes
 /// at which the heap placed it, and holds the same spans in the end.
@@ -79,4 +83,22 @@ pub fn scripts_are_placed_alike()
         → Run (initial_state limit) (plan_opening base size settings.align) opening opened → AllByRecursion IsAccepted opening
         → 65536 ≤ limit
         → IsFollowed settings (events_in reading.format None (lines_of text)) new.progress output new.heap opened }
+{}
+
+/// Proves that, at the end of a trace's script, a machine holds as many bytes as the heap of the trace's
+/// replay: its live and its quarantined ones, including padding.
+///
+/// Both outputs are for all lines of one trace: lines are still taken at the end. The machine has run the
+/// operations as which the script is read, in a pool that is that of the heap.
+pub fn scripts_hold_the_bytes_of_replays()
+    ensures { (limit base size : ℕ) (settings : Settings) (reading : Reading) (text script series : List ℕ) (any_error is_error : Bool)
+        (scripted : ScriptState) (replayed : ReplayState) (opening replies : List Reply) (opened state : State) (ops : List Op)
+        → Output ScriptsLine ScriptsRest lines (script_begun settings reading) text script any_error scripted
+        → scripted.progress ≡ Running
+        → Output TakesLine TakesRest lines (begun (empty_run settings) reading) text series is_error replayed
+        → replayed.progress ≡ Running
+        → settings.pool ≡ span_from base size
+        → Run (initial_state limit) (plan_opening base size settings.align) opening opened → AllByRecursion IsAccepted opening
+        → 65536 ≤ limit → IsReadAs script ops → Run opened ops replies state
+        → held_bytes_of state ≡ (usage_of replayed.run.heap.memory).live + (usage_of replayed.run.heap.memory).quarantine }
 {}
