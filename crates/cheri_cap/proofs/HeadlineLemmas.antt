@@ -80,7 +80,6 @@ script_starves (Map limit pool align svg file) terminals console script is starv
 script_starves (Replay align strict format texts file) terminals console script is starves = absurd (cc is)
 script_starves (Decode input format texts file) terminals console script is starves = absurd (cc is)
 script_starves (Annotate file) terminals console script is starves = absurd (cc is)
-script_starves (Round base sizes) terminals console script is starves = absurd (cc is)
 script_starves (RoundList base file) terminals console script is starves = absurd (cc is)
 
 starved : (script : Script) (bytes taken : List ℕ) (console : Console) (report : Report) → console.input script.input ≡ Some bytes → console.output ≡ Some taken

@@ -40,9 +40,9 @@ returns-in-Ok-clause-runs_script g c =
       last_asked = g.I.Inputs.last_asked c.answer_invocation.new.inputs;
       left = g.I.Opened.Source.to_come c.answer_invocation.new.source;
     } in
-    (told.0, told.1, done.invocation, done.is_invocation, runs_script done.invocation c.args.terminals console failures c.answer_invocation.result done.executed)
+    (told.0, told.1, (done.invocation, done.is_invocation, runs_script done.invocation c.args.terminals console failures c.answer_invocation.result done.executed))
 
-pub returns-clause-runs_script : goal.returns-clause-runs_script
-returns-clause-runs_script g c =
+pub returns-in-Err-clause-runs_script : goal.returns-in-Err-clause-runs_script
+returns-in-Err-clause-runs_script g c =
     let told = c.in-Err.ensures.refused in
     (told.0, told.1, λ taken. c.in-Err.ensures.fails.0 (told.2 taken))
