@@ -44,12 +44,11 @@ known_too (Some bytes) one other same told = same ∙ told
 
 -- A run whose source has the bytes of a reader of this input, which `bytes_of` knows or not.
 pub from_input : (input : InputName) (console : Console) (Does : Traffic → Result Summary IoError → Type 0) (bytes_of : InputName → Option (List ℕ))
-    (unread remaining left : Option (List ℕ)) (io : Result Summary IoError)
+    (unread remaining : Option (List ℕ)) (io : Result Summary IoError)
     → console.input ≡ bytes_of → unread ≡ remaining → IfSome (bytes_of input) (λ bytes. remaining ≡ Some bytes)
-    → Does (traffic_of console unread left) io → FromInput input console Does io
-from_input input console Does bytes_of unread remaining left io same is told does = record {
+    → Does (traffic_of console unread) io → FromInput input console Does io
+from_input input console Does bytes_of unread remaining io same is told does = record {
   unread = unread;
-  left = left;
   known = subst (λ (bytes : InputName → Option (List ℕ)). IfSome (bytes input) (λ b. unread ≡ Some b)) (sym same) (known_too (bytes_of input) unread remaining is told);
   does = does;
 }

@@ -26,6 +26,7 @@ pub record Traffic : Type 0 where
 -- The bytes of the inputs, if they are known, and the others as in `Traffic`.
 pub record Console : Type 0 where
   pub input : InputName → Option (List ℕ)
+  pub left : Option (List ℕ)
   pub output : Option (List ℕ)
   pub output_now : Option (List ℕ)
   pub errors : Option (List ℕ)
@@ -33,10 +34,10 @@ pub record Console : Type 0 where
   pub errors_failed : Bool
 
 -- The traffic of a run that reads one of the inputs.
-abbrev pub traffic_of : Console → (unread left : Option (List ℕ)) → Traffic
-traffic_of console unread left = record {
+abbrev pub traffic_of : Console → (unread : Option (List ℕ)) → Traffic
+traffic_of console unread = record {
   unread = unread;
-  left = left;
+  left = console.left;
   output = console.output;
   output_now = console.output_now;
   errors = console.errors;
@@ -48,9 +49,8 @@ traffic_of console unread left = record {
 -- known.
 pub record FromInput (input : InputName) (console : Console) (Does : Traffic → Result Summary IoError → Type 0) (result : Result Summary IoError) : Type 0 where
   pub unread : Option (List ℕ)
-  pub left : Option (List ℕ)
   pub known : IfSome (console.input input) (λ bytes. unread ≡ Some bytes)
-  pub does : Does (traffic_of console unread left) result
+  pub does : Does (traffic_of console unread) result
 
 -- OnDevices holds if the result is that of the devices, and the claim holds of it. It holds if memory ran out or the input was not
 -- opened.
@@ -60,13 +60,15 @@ OnDevices Holds (Err fault.Read) = Holds (Err Read)
 OnDevices Holds (Err fault.Write) = Holds (Err Write)
 OnDevices Holds (Err _) = ⊤
 
--- OnOutput holds if the claim holds of the result for these inputs and this output, whatever standard error has taken.
-abbrev pub OnOutput : (input : InputName → Option (List ℕ)) (output output_now : Option (List ℕ)) (Holds : Console → Result Summary IoError → Type 0)
+-- OnOutput holds if the claim holds of the result for these inputs and this output, and what the source has left, whatever standard
+-- error has taken.
+abbrev pub OnOutput : (input : InputName → Option (List ℕ)) (output output_now left : Option (List ℕ)) (Holds : Console → Result Summary IoError → Type 0)
     → Result Summary Fault → Type 0
-OnOutput input output output_now Holds result =
+OnOutput input output output_now left Holds result =
     (errors errors_now : Option (List ℕ)) (errors_failed : Bool)
     → OnDevices (Holds (record {
       input = input;
+      left = left;
       output = output;
       output_now = output_now;
       errors = errors;

@@ -51,15 +51,15 @@ draws_end svg opening start traffic unread left output output_now summary sessio
 -- A drawing after a run that read an input.
 pub draws_input : (svg : Bool) (opening : List Op) (start new : State) (input : InputName) (console : Console) (bytes_of : InputName → Option (List ℕ))
     (unread remaining left output output_now : Option (List ℕ)) (result : Result Summary Fault) → start ≡ new → console.input ≡ bytes_of → unread ≡ remaining
-    → IfSome (bytes_of input) (λ bytes. remaining ≡ Some bytes) → console.output ≡ output → console.output_now ≡ output_now
+    → IfSome (bytes_of input) (λ bytes. remaining ≡ Some bytes) → console.left ≡ left → console.output ≡ output → console.output_now ≡ output_now
     → ((traffic : Traffic) → traffic.unread ≡ unread → traffic.left ≡ left → traffic.output ≡ output → traffic.output_now ≡ output_now
     → OnDevices (DrawsRun svg opening start traffic) result)
     → OnDevices (FromInput input console (DrawsRun svg opening new)) result
-draws_input svg opening start new input console bytes_of unread remaining left output output_now result is same has told o n draws =
-    on_devices-map (DrawsRun svg opening start (traffic_of console unread left)) (FromInput input console (DrawsRun svg opening new))
-    (λ io holds. from_input input console (DrawsRun svg opening new) bytes_of unread remaining left io same has told
-    (subst (λ (state : State). DrawsRun svg opening state (traffic_of console unread left) io) is holds))
-    result (draws (traffic_of console unread left) refl refl o n)
+draws_input svg opening start new input console bytes_of unread remaining left output output_now result is same has told l o n draws =
+    on_devices-map (DrawsRun svg opening start (traffic_of console unread)) (FromInput input console (DrawsRun svg opening new))
+    (λ io holds. from_input input console (DrawsRun svg opening new) bytes_of unread remaining io same has told
+    (subst (λ (state : State). DrawsRun svg opening state (traffic_of console unread) io) is holds))
+    result (draws (traffic_of console unread) refl l o n)
 
 -- ---- inputs
 
@@ -91,14 +91,14 @@ plan_starves report limit pool align file console numbers opening input is_pool 
 
 -- A run that read an input.
 pub runs_input : (report : Report) (opening : List Op) (pool : Option ℕ) (start new : State) (input : InputName) (console : Console)
-    (bytes_of : InputName → Option (List ℕ)) (unread remaining left : Option (List ℕ)) (result : Result Summary Fault) → start ≡ new → console.input ≡ bytes_of
+    (bytes_of : InputName → Option (List ℕ)) (unread remaining : Option (List ℕ)) (result : Result Summary Fault) → start ≡ new → console.input ≡ bytes_of
     → unread ≡ remaining → IfSome (bytes_of input) (λ bytes. remaining ≡ Some bytes)
-    → OnDevices (ReportsRun report opening pool start (traffic_of console unread left)) result
+    → OnDevices (ReportsRun report opening pool start (traffic_of console unread)) result
     → OnDevices (FromInput input console (ReportsRun report opening pool new)) result
-runs_input report opening pool start new input console bytes_of unread remaining left result is same has told runs =
-    on_devices-map (ReportsRun report opening pool start (traffic_of console unread left)) (FromInput input console (ReportsRun report opening pool new))
-    (λ io holds. from_input input console (ReportsRun report opening pool new) bytes_of unread remaining left io same has told
-    (subst (λ (state : State). ReportsRun report opening pool state (traffic_of console unread left) io) is holds))
+runs_input report opening pool start new input console bytes_of unread remaining result is same has told runs =
+    on_devices-map (ReportsRun report opening pool start (traffic_of console unread)) (FromInput input console (ReportsRun report opening pool new))
+    (λ io holds. from_input input console (ReportsRun report opening pool new) bytes_of unread remaining io same has told
+    (subst (λ (state : State). ReportsRun report opening pool state (traffic_of console unread) io) is holds))
     result runs
 
 -- A run meets the main theorem.

@@ -43,8 +43,8 @@ AnswersAll opening start traffic =
 abbrev pub StarvesRun : Report → (opening : List Op) (start : State) → InputName → Console → Type 0
 StarvesRun report opening start input console =
     (console.output_now ≡ console.output)
-    ⊎ ((report.stats ≡ true) × (unread : Option (List ℕ)) × (left : Option (List ℕ)) × IfSome (console.input input) (λ bytes. unread ≡ Some bytes)
-    × AnswersAll opening start (traffic_of console unread left))
+    ⊎ ((report.stats ≡ true) × (unread : Option (List ℕ)) × IfSome (console.input input) (λ bytes. unread ≡ Some bytes)
+    × AnswersAll opening start (traffic_of console unread))
 
 -- ReportsRun holds if a machine in the state `start` took the operations of `opening` and then the script, the bytes written are
 -- its replies, up to a failure, and a run that came to its end was reported.

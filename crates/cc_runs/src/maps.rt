@@ -41,13 +41,14 @@ pub fn map_file<M: RunMemory, I: Inputs, W: Sink>(
     requires source { I.Opened.has_failed source.old ≡ false }
     requires inputs { I.has_refused inputs.old ≡ false }
     requires sink { W.has_failed sink.old ≡ false }
-    ensures executes { OnOutput (I.bytes_of inputs.old) (W.taken_bytes sink.old) (W.taken_bytes sink.new)
+    ensures executes { OnOutput (I.bytes_of inputs.old) (W.taken_bytes sink.old) (W.taken_bytes sink.new) (I.Opened.to_come source.new)
         (MapsFile limit pool.entry align svg file.entry) result }
     ensures memory { result ≡ Err Fault.Memory → IsOk (pool_of pool.entry.base.now pool.entry.length.now) }
-    ensures open { result ≡ Err Fault.Open → IsOk (pool_of pool.entry.base.now pool.entry.length.now) × IsFile (file_input file.entry) }
+    ensures open { result ≡ Err Fault.Open → IsFile (file_input file.entry) }
     ensures untouched { result ≡ Err Fault.Open → W.taken_bytes sink.new ≡ W.taken_bytes sink.old }
     ensures starved { result ≡ Err Fault.Memory → W.taken_bytes sink.new ≡ W.taken_bytes sink.old }
     ensures asked { I.last_asked inputs.new (file_input file.entry) Content.Pool ≡ false → (inputs.new ≡ inputs.old) × (source.new ≡ source.old) }
+    ensures unused { ¬ IsOk (pool_of pool.entry.base.now pool.entry.length.now) → (inputs.new ≡ inputs.old) × (source.new ≡ source.old) }
     ensures refused { (result ≡ Err Fault.Open) ↔ (I.has_refused inputs.new ≡ true) }
     ensures read { (result ≡ Err Fault.Read) ↔ (I.Opened.has_failed source.new ≡ true) }
     ensures allocates { (result ≡ Err Fault.Memory) ↔ (M.has_failed memory.new ≡ true) }
@@ -91,7 +92,7 @@ fn draw<M: RunMemory, I: Inputs, W: Sink>(
     requires source { I.Opened.has_failed source.old ≡ false }
     requires inputs { I.has_refused inputs.old ≡ false }
     requires sink { W.has_failed sink.old ≡ false }
-    ensures draws { OnOutput (I.bytes_of inputs.old) (W.taken_bytes sink.old) (W.taken_bytes sink.new)
+    ensures draws { OnOutput (I.bytes_of inputs.old) (W.taken_bytes sink.old) (W.taken_bytes sink.new) (I.Opened.to_come source.new)
         (λ console. FromInput input.entry console (DrawsRun svg opening.now (initial_state limit))) result }
     ensures open { result ≡ Err Fault.Open → IsFile input.entry }
     ensures untouched { result ≡ Err Fault.Open → W.taken_bytes sink.new ≡ W.taken_bytes sink.old }

@@ -42,6 +42,7 @@ pub fn run_file<M: RunMemory, I: Inputs, W: Sink, E: Sink>(
     requires errors { E.has_failed errors.old ≡ false }
     ensures executes { OnDevices (FromInput (file_input file.entry) (record {
       input = I.bytes_of inputs.old;
+      left = I.Opened.to_come source.new;
       output = W.taken_bytes sink.old;
       output_now = W.taken_bytes sink.new;
       errors = E.taken_bytes errors.old;
@@ -57,6 +58,7 @@ pub fn run_file<M: RunMemory, I: Inputs, W: Sink, E: Sink>(
     ensures write { (result ≡ Err Fault.Write) ↔ (W.has_failed sink.new ≡ true) }
     ensures starved { result ≡ Err Fault.Memory → StarvesRun report [] (initial_state limit) (file_input file.entry) (record {
       input = I.bytes_of inputs.old;
+      left = I.Opened.to_come source.new;
       output = W.taken_bytes sink.old;
       output_now = W.taken_bytes sink.new;
       errors = E.taken_bytes errors.old;
@@ -108,6 +110,7 @@ pub fn plan_file<M: RunMemory, I: Inputs, W: Sink, E: Sink>(
     requires errors { E.has_failed errors.old ≡ false }
     ensures executes { OnDevices (PlansFile report limit pool.entry align file.entry (record {
       input = I.bytes_of inputs.old;
+      left = I.Opened.to_come source.new;
       output = W.taken_bytes sink.old;
       output_now = W.taken_bytes sink.new;
       errors = E.taken_bytes errors.old;
@@ -115,15 +118,17 @@ pub fn plan_file<M: RunMemory, I: Inputs, W: Sink, E: Sink>(
       errors_failed = E.has_failed errors.new;
     })) result }
     ensures memory { result ≡ Err Fault.Memory → IsOk (pool_of pool.entry.base.now pool.entry.length.now) }
-    ensures open { result ≡ Err Fault.Open → IsOk (pool_of pool.entry.base.now pool.entry.length.now) × IsFile (file_input file.entry) }
+    ensures open { result ≡ Err Fault.Open → IsFile (file_input file.entry) }
     ensures untouched { result ≡ Err Fault.Open → W.taken_bytes sink.new ≡ W.taken_bytes sink.old }
     ensures asked { I.last_asked inputs.new (file_input file.entry) Content.Script ≡ false → (inputs.new ≡ inputs.old) × (source.new ≡ source.old) }
+    ensures unused { ¬ IsOk (pool_of pool.entry.base.now pool.entry.length.now) → (inputs.new ≡ inputs.old) × (source.new ≡ source.old) }
     ensures refused { (result ≡ Err Fault.Open) ↔ (I.has_refused inputs.new ≡ true) }
     ensures read { (result ≡ Err Fault.Read) ↔ (I.Opened.has_failed source.new ≡ true) }
     ensures allocates { (result ≡ Err Fault.Memory) ↔ (M.has_failed memory.new ≡ true) }
     ensures write { (result ≡ Err Fault.Write) ↔ (W.has_failed sink.new ≡ true) }
     ensures starved { result ≡ Err Fault.Memory → StarvesPlan report limit pool.entry align file.entry (record {
       input = I.bytes_of inputs.old;
+      left = I.Opened.to_come source.new;
       output = W.taken_bytes sink.old;
       output_now = W.taken_bytes sink.new;
       errors = E.taken_bytes errors.old;
@@ -179,6 +184,7 @@ fn run<M: RunMemory, I: Inputs, W: Sink, E: Sink>(
     requires errors { E.has_failed errors.old ≡ false }
     ensures runs { OnDevices (FromInput input.entry (record {
       input = I.bytes_of inputs.old;
+      left = I.Opened.to_come source.new;
       output = W.taken_bytes sink.old;
       output_now = W.taken_bytes sink.new;
       errors = E.taken_bytes errors.old;
@@ -194,6 +200,7 @@ fn run<M: RunMemory, I: Inputs, W: Sink, E: Sink>(
     ensures write { (result ≡ Err Fault.Write) ↔ (W.has_failed sink.new ≡ true) }
     ensures starved { result ≡ Err Fault.Memory → StarvesRun report opening.now (initial_state limit) input.entry (record {
       input = I.bytes_of inputs.old;
+      left = I.Opened.to_come source.new;
       output = W.taken_bytes sink.old;
       output_now = W.taken_bytes sink.new;
       errors = E.taken_bytes errors.old;

@@ -55,19 +55,16 @@ pub hinted_too : (text : Option (Bor Text)) (hints bare : Bool) (place : Option 
     → OnDevices (FromInput input console (SeesLengths place bare)) result → OnDevices (FromInput input console (RoundsLengths text hints place)) result
 hinted_too text hints bare place input console (Ok summary) hinted f = record {
   unread = f.unread;
-  left = f.left;
   known = f.known;
   does = record { bare = bare; rounds = f.does; hinted = hinted };
 }
 hinted_too text hints bare place input console (Err fault.Read) hinted f = record {
   unread = f.unread;
-  left = f.left;
   known = f.known;
   does = record { bare = bare; rounds = f.does; hinted = tt };
 }
 hinted_too text hints bare place input console (Err fault.Write) hinted f = record {
   unread = f.unread;
-  left = f.left;
   known = f.known;
   does = record { bare = bare; rounds = f.does; hinted = tt };
 }

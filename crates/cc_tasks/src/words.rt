@@ -30,12 +30,13 @@ pub fn decode_file<I: Inputs, W: Sink>(
     requires source { I.Opened.has_failed source.old ≡ false }
     requires inputs { I.has_refused inputs.old ≡ false }
     requires sink { W.has_failed sink.old ≡ false }
-    ensures decodes { OnOutput (I.bytes_of inputs.old) (W.taken_bytes sink.old) (W.taken_bytes sink.new)
+    ensures decodes { OnOutput (I.bytes_of inputs.old) (W.taken_bytes sink.old) (W.taken_bytes sink.new) (I.Opened.to_come source.new)
         (λ console. WithListing input format texts.entry console (λ skipped options. FromInput (file_input file.entry) console (ListsWords skipped options))) result }
-    ensures open { result ≡ Err Fault.Open → IsOk (listing_in input format texts.entry) × IsFile (file_input file.entry) }
+    ensures open { result ≡ Err Fault.Open → IsFile (file_input file.entry) }
     ensures untouched { result ≡ Err Fault.Open → W.taken_bytes sink.new ≡ W.taken_bytes sink.old }
     ensures memory { result ≢ Err Fault.Memory }
     ensures asked { I.last_asked inputs.new (file_input file.entry) Content.Words ≡ false → (inputs.new ≡ inputs.old) × (source.new ≡ source.old) }
+    ensures unused { ¬ IsOk (listing_in input format texts.entry) → (inputs.new ≡ inputs.old) × (source.new ≡ source.old) }
     ensures refused { (result ≡ Err Fault.Open) ↔ (I.has_refused inputs.new ≡ true) }
     ensures read { (result ≡ Err Fault.Read) ↔ (I.Opened.has_failed source.new ≡ true) }
     ensures write { (result ≡ Err Fault.Write) ↔ (W.has_failed sink.new ≡ true) }
@@ -68,7 +69,7 @@ fn list_words<I: Inputs, W: Sink>(
     requires source { I.Opened.has_failed source.old ≡ false }
     requires inputs { I.has_refused inputs.old ≡ false }
     requires sink { W.has_failed sink.old ≡ false }
-    ensures lists { OnOutput (I.bytes_of inputs.old) (W.taken_bytes sink.old) (W.taken_bytes sink.new)
+    ensures lists { OnOutput (I.bytes_of inputs.old) (W.taken_bytes sink.old) (W.taken_bytes sink.new) (I.Opened.to_come source.new)
         (λ console. FromInput input.entry console (ListsWords skipped options)) result }
     ensures open { result ≡ Err Fault.Open → IsFile input.entry }
     ensures untouched { result ≡ Err Fault.Open → W.taken_bytes sink.new ≡ W.taken_bytes sink.old }
@@ -97,7 +98,7 @@ pub fn annotate_file<I: Inputs, W: Sink>(
     requires source { I.Opened.has_failed source.old ≡ false }
     requires inputs { I.has_refused inputs.old ≡ false }
     requires sink { W.has_failed sink.old ≡ false }
-    ensures annotates { OnOutput (I.bytes_of inputs.old) (W.taken_bytes sink.old) (W.taken_bytes sink.new)
+    ensures annotates { OnOutput (I.bytes_of inputs.old) (W.taken_bytes sink.old) (W.taken_bytes sink.new) (I.Opened.to_come source.new)
         (λ console. FromInput (file_input file.entry) console AnnotatesWords) result }
     ensures open { result ≡ Err Fault.Open → IsFile (file_input file.entry) }
     ensures untouched { result ≡ Err Fault.Open → W.taken_bytes sink.new ≡ W.taken_bytes sink.old }
@@ -134,6 +135,7 @@ pub fn round_file<I: Inputs, W: Sink, E: Sink>(
     requires errors { E.has_failed errors.old ≡ false }
     ensures rounds { OnDevices (WithBase base.entry (W.taken_bytes sink.old) (W.taken_bytes sink.new) (λ place. FromInput (file_input file.entry) (record {
       input = I.bytes_of inputs.old;
+      left = I.Opened.to_come source.new;
       output = W.taken_bytes sink.old;
       output_now = W.taken_bytes sink.new;
       errors = E.taken_bytes errors.old;
@@ -142,10 +144,11 @@ pub fn round_file<I: Inputs, W: Sink, E: Sink>(
     }) (RoundsLengths base.entry hints place))) result }
     ensures silent { ¬ (IsTrue hints × IsOk (place_in base.entry)) → errors.new ≡ errors.old }
     ensures unreported { OnErr result (errors.new ≡ errors.old) }
-    ensures open { result ≡ Err Fault.Open → IsOk (place_in base.entry) × IsFile (file_input file.entry) }
+    ensures open { result ≡ Err Fault.Open → IsFile (file_input file.entry) }
     ensures untouched { result ≡ Err Fault.Open → W.taken_bytes sink.new ≡ W.taken_bytes sink.old }
     ensures memory { result ≢ Err Fault.Memory }
     ensures asked { I.last_asked inputs.new (file_input file.entry) Content.Words ≡ false → (inputs.new ≡ inputs.old) × (source.new ≡ source.old) }
+    ensures unused { ¬ IsOk (place_in base.entry) → (inputs.new ≡ inputs.old) × (source.new ≡ source.old) }
     ensures refused { (result ≡ Err Fault.Open) ↔ (I.has_refused inputs.new ≡ true) }
     ensures read { (result ≡ Err Fault.Read) ↔ (I.Opened.has_failed source.new ≡ true) }
     ensures write { (result ≡ Err Fault.Write) ↔ (W.has_failed sink.new ≡ true) }
@@ -183,6 +186,7 @@ fn round_hinted<I: Inputs, W: Sink, E: Sink>(
     requires errors { E.has_failed errors.old ≡ false }
     ensures rounds { OnDevices (FromInput input.entry (record {
       input = I.bytes_of inputs.old;
+      left = I.Opened.to_come source.new;
       output = W.taken_bytes sink.old;
       output_now = W.taken_bytes sink.new;
       errors = E.taken_bytes errors.old;
@@ -222,7 +226,7 @@ fn round_input<I: Inputs, W: Sink>(
     requires source { I.Opened.has_failed source.old ≡ false }
     requires inputs { I.has_refused inputs.old ≡ false }
     requires sink { W.has_failed sink.old ≡ false }
-    ensures rounds { OnOutput (I.bytes_of inputs.old) (W.taken_bytes sink.old) (W.taken_bytes sink.new)
+    ensures rounds { OnOutput (I.bytes_of inputs.old) (W.taken_bytes sink.old) (W.taken_bytes sink.new) (I.Opened.to_come source.new)
         (λ console. FromInput input.entry console (SeesLengths base bare.new)) result }
     ensures open { result ≡ Err Fault.Open → IsFile input.entry }
     ensures untouched { result ≡ Err Fault.Open → W.taken_bytes sink.new ≡ W.taken_bytes sink.old }

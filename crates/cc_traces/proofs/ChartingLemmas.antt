@@ -14,18 +14,18 @@ use Rattle.cc_traces.specs.Charting.{Charted, ChartsAll, ChartsLine, StopsInChar
 
 -- The whole trace was taken, for bytes that are the same.
 takes_all : (old new : Charted) (unread unread_too left left_too : Option (List ℕ)) (summary : Summary) → unread_too ≡ unread → left_too ≡ left
-    → TakesLines old unread left None None (Ok summary) new → new.replay.progress ≢ OutOfMemory
+    → TakesLines old unread left (Ok summary) new → new.replay.progress ≢ OutOfMemory
     → TakesAll old unread_too left_too summary new
 takes_all old new unread unread_too left left_too summary u l takes has_memory = record {
-  takes = subst (λ (b : Option (List ℕ)). TakesLines old b left_too None None (Ok summary) new) (sym u)
-      (subst (λ (b : Option (List ℕ)). TakesLines old unread b None None (Ok summary) new) (sym l) takes);
+  takes = subst (λ (b : Option (List ℕ)). TakesLines old b left_too (Ok summary) new) (sym u)
+      (subst (λ (b : Option (List ℕ)). TakesLines old unread b (Ok summary) new) (sym l) takes);
   has_memory = has_memory;
 }
 
 -- A chart that was written, for the traffic of the devices.
 pub charts_all : (old new : Charted) (traffic : Traffic) (unread left output output_now : Option (List ℕ)) (summary : Summary)
     → traffic.unread ≡ unread → traffic.left ≡ left → traffic.output ≡ output → traffic.output_now ≡ output_now
-    → TakesLines old unread left None None (Ok summary) new → new.replay.progress ≢ OutOfMemory
+    → TakesLines old unread left (Ok summary) new → new.replay.progress ≢ OutOfMemory
     → Appends output output_now (chart_text new.chart) → ChartsAll old traffic summary
 charts_all old new traffic unread left output output_now summary u l o n takes has_memory written = record {
   new = new;
@@ -37,7 +37,7 @@ charts_all old new traffic unread left output output_now summary u l o n takes h
 -- A chart of which a prefix was written, for the traffic of the devices.
 pub stops_in_chart : (old new : Charted) (traffic : Traffic) (unread left output output_now : Option (List ℕ)) (summary : Summary)
     → traffic.unread ≡ unread → traffic.left ≡ left → traffic.output ≡ output → traffic.output_now ≡ output_now
-    → TakesLines old unread left None None (Ok summary) new → new.replay.progress ≢ OutOfMemory
+    → TakesLines old unread left (Ok summary) new → new.replay.progress ≢ OutOfMemory
     → TakesBeginning output output_now (chart_text new.chart) → StopsInChart old traffic
 stops_in_chart old new traffic unread left output output_now summary u l o n takes has_memory written = record {
   summary = summary;

@@ -8,15 +8,15 @@ use Rattle.cc_console.specs.declared.fault.Fault.{Fault}
 use Rattle.cc_console.specs.declared.input.InputName.{InputName}
 use Rattle.cc_console.proofs.DeviceLemmas.{from_input, on_devices-map}
 
--- What holds for the traffic of a source that reads an input holds for the input.
+-- A claim on the traffic of a source that reads an input holds for the input.
 pub reads_input : (Does : Traffic → Result Summary IoError → Type 0) (input : InputName) (console : Console)
     (bytes_of : InputName → Option (List ℕ)) (unread remaining left output output_now : Option (List ℕ)) (result : Result Summary Fault)
     → console.input ≡ bytes_of → unread ≡ remaining
-    → IfSome (bytes_of input) (λ bytes. remaining ≡ Some bytes) → console.output ≡ output → console.output_now ≡ output_now
+    → IfSome (bytes_of input) (λ bytes. remaining ≡ Some bytes) → console.left ≡ left → console.output ≡ output → console.output_now ≡ output_now
     → ((traffic : Traffic) → traffic.unread ≡ unread → traffic.left ≡ left → traffic.output ≡ output → traffic.output_now ≡ output_now
     → OnDevices (Does traffic) result)
     → OnDevices (FromInput input console Does) result
-reads_input Does input console bytes_of unread remaining left output output_now result same has told o n holds =
-    on_devices-map (Does (traffic_of console unread left)) (FromInput input console Does)
-    (λ io done. from_input input console Does bytes_of unread remaining left io same has told done)
-    result (holds (traffic_of console unread left) refl refl o n)
+reads_input Does input console bytes_of unread remaining left output output_now result same has told l o n holds =
+    on_devices-map (Does (traffic_of console unread)) (FromInput input console Does)
+    (λ io done. from_input input console Does bytes_of unread remaining io same has told done)
+    result (holds (traffic_of console unread) refl l o n)

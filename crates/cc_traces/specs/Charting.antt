@@ -60,14 +60,13 @@ pub record ChartsRest (old : Charted) (rest text : List ℕ) (is_error : Bool) (
 
 -- TakesLines holds if the lines that the source gave were taken, and the bytes after the last of them, until the replay and the chart
 -- were `new`. With a result that is `Ok` the source was read to its end.
-abbrev pub TakesLines : (old : Charted) (unread left output output_now : Option (List ℕ)) → Result Summary IoError → (new : Charted) → Type 0
-TakesLines old unread left output output_now result new =
-    Pumps ChartsLine ChartsRest lines 65536 1301 old [] unread left output output_now result new
+abbrev pub TakesLines : (old : Charted) (unread left : Option (List ℕ)) → Result Summary IoError → (new : Charted) → Type 0
+TakesLines old unread left result new = Pumps ChartsLine ChartsRest lines 65536 1301 old [] unread left None None result new
 
 -- TakesAll holds if the source gave the whole trace, and the lines were taken until one stopped the replay, if any
 -- did. No allocation failed.
 pub record TakesAll (old : Charted) (unread left : Option (List ℕ)) (summary : Summary) (new : Charted) : Type 0 where
-  pub takes : TakesLines old unread left None None (Ok summary) new
+  pub takes : TakesLines old unread left (Ok summary) new
   pub has_memory : new.replay.progress ≢ OutOfMemory
 
 -- ChartsAll holds if the whole trace was taken in this way, and the chart was written.

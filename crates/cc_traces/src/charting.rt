@@ -1,14 +1,15 @@
 //! A replay whose heap is drawn as a chart.
-ghost use Rattle.std.specs.Prelude.{◌≡◌, ◌≢◌, ◌≤◌, ◌+◌, ◌↔◌, false, true, length, Err, OnOk};
+ghost use Rattle.std.specs.Prelude.{◌≡◌, ◌≢◌, ◌≤◌, ◌+◌, ◌↔◌, IfOk, false, true, length, Err, OnOk};
 ghost use Rattle.cc_io.specs.Answers.{AnswersInto};
 ghost use Rattle.cc_console.specs.Devices.{FromInput, OnDevices, OnOutput, Traffic};
 ghost use Rattle.cc_console.specs.Input.{IsFile};
 ghost use Rattle.cc_traces.specs.Charting.{Charts, ChartsLine, ChartsRest, TakesLines, begun_chart, charted, levels_of};
 ghost use Rattle.cc_traces.specs.Settings.{IsForHeap};
 
-use crate::memory::{TakesTrace, TraceMemory};
+use crate::memory::TraceMemory;
 use cc_chart::{Chart, Levels, write_chart};
 use cc_console::{Content, Discard, Fault, InputName, Inputs};
+use cc_gaps::GapPlacer;
 use cc_io::{Answerer, IoError, Lines, Page, Sink, Source, Summary, Waiting, pump};
 use cc_placer::Placer;
 use cc_replay::{Figures, Progress, Reading, Replay, Settings};
@@ -17,7 +18,7 @@ use std::marker::Model;
 
 /// A replay, and the chart of its heap.
 #[derive(Drop)]
-pub(crate) struct Charting<P: Placer> {
+pub struct Charting<P: Placer> {
     replay: Replay<P>,
     chart: Chart,
 }
@@ -31,6 +32,30 @@ impl<P: Placer> Model for Charting<P> {
 }
 
 impl<P: Placer> Charting<P> {
+    /// Creates a replay with a heap that holds nothing, and a chart of no events.
+    ///
+    /// Errors: `AllocError` if an allocation fails.
+    pub(crate) fn with_settings(
+        alloc: Global,
+        settings: Settings,
+        reading: Reading,
+    ) -> Result<Self, AllocError>
+        requires { IsForHeap settings }
+        ensures { IfOk result (λ charting. charting ≡ begun_chart settings reading) }
+    {
+        Ok(Charting {
+            replay: Replay::with_settings(alloc, settings, reading)?,
+            chart: Chart::new(),
+        })
+    }
+
+    /// Returns whether lines are taken.
+    pub(crate) fn progress(&self) -> Progress
+        ensures { result ≡ self.now.replay.progress }
+    {
+        self.replay.progress()
+    }
+
     /// Returns the chart.
     fn chart(&self) -> &Chart
         ensures { result.now ≡ self.now.chart }
@@ -103,40 +128,24 @@ impl<P: Placer, const N: usize> Answerer<N> for Charting<P> {
     }
 }
 
-impl<P: Placer> TakesTrace for Charting<P> {
-    ghost Accepts = { IsForHeap };
-
-    ghost Begins = { λ settings reading charting. charting ≡ begun_chart settings reading };
-
-    ghost Takes = { TakesLines };
-
-    ghost progress_of = { λ charting. charting.replay.progress };
-
-    fn begin(alloc: Global, settings: Settings, reading: Reading) -> Result<Self, AllocError> {
-        Ok(Charting {
-            replay: Replay::with_settings(alloc, settings, reading)?,
-            chart: Chart::new(),
-        })
-    }
-
-    fn take<S: Source, W: Sink>(
-        &mut self,
-        source: &mut S,
-        sink: &mut W,
-    ) -> Result<Summary, IoError> {
-        let mut page = Waiting::new();
-        pump(&Lines, self, source, sink, &mut page)
-    }
-
-    fn progress(&self) -> Progress {
-        self.replay.progress()
-    }
+/// Replays a trace, and adds its events to the chart.
+pub(crate) fn take_trace<P: Placer, S: Source>(
+    charting: &mut Charting<P>,
+    source: &mut S,
+) -> Result<Summary, IoError>
+    requires { S.has_failed source.old ≡ false }
+    ensures takes { TakesLines charting.old (S.to_come source.old) (S.to_come source.new) result charting.new }
+    ensures read { (result ≡ Err IoError.Read) ↔ (S.has_failed source.new ≡ true) }
+    ensures written { result ≢ Err IoError.Write }
+{
+    let mut page = Waiting::new();
+    pump(&Lines, charting, source, &mut Discard, &mut page)
 }
 
 /// Replays the trace of an input, and writes the chart of its heap.
-pub(crate) fn draw_input<P: Placer, M: TraceMemory, I: Inputs, W: Sink>(
+pub(crate) fn draw_input<M: TraceMemory, I: Inputs, W: Sink>(
     memory: &mut M,
-    charting: &mut Charting<P>,
+    charting: &mut Charting<GapPlacer>,
     inputs: &mut I,
     source: &mut I::Opened,
     input: InputName<'_>,
@@ -146,7 +155,7 @@ pub(crate) fn draw_input<P: Placer, M: TraceMemory, I: Inputs, W: Sink>(
     requires source { I.Opened.has_failed source.old ≡ false }
     requires inputs { I.has_refused inputs.old ≡ false }
     requires sink { W.has_failed sink.old ≡ false }
-    ensures charts { OnOutput (I.bytes_of inputs.old) (W.taken_bytes sink.old) (W.taken_bytes sink.new)
+    ensures charts { OnOutput (I.bytes_of inputs.old) (W.taken_bytes sink.old) (W.taken_bytes sink.new) (I.Opened.to_come source.new)
         (λ console. FromInput input.entry console (Charts charting.old)) result }
     ensures open { result ≡ Err Fault.Open → IsFile input.entry }
     ensures untouched { result ≡ Err Fault.Open → W.taken_bytes sink.new ≡ W.taken_bytes sink.old }
@@ -163,9 +172,9 @@ pub(crate) fn draw_input<P: Placer, M: TraceMemory, I: Inputs, W: Sink>(
 }
 
 /// Replays a trace, and writes the chart of its heap.
-fn draw<P: Placer, M: TraceMemory, S: Source, W: Sink>(
+fn draw<M: TraceMemory, S: Source, W: Sink>(
     memory: &mut M,
-    charting: &mut Charting<P>,
+    charting: &mut Charting<GapPlacer>,
     source: &mut S,
     sink: &mut W,
 ) -> Result<Summary, Fault>
@@ -182,7 +191,7 @@ fn draw<P: Placer, M: TraceMemory, S: Source, W: Sink>(
     ensures write { (result ≡ Err Fault.Write) ↔ (W.has_failed sink.new ≡ true) }
     ensures flushed { OnOk result (W.is_flushed sink.new ≡ true) }
 {
-    let summary = memory.take(charting, source, &mut Discard)?;
+    let summary = memory.take_chart(charting, source)?;
     if let Progress::OutOfMemory = charting.progress() {
         return Err(Fault::Memory);
     }

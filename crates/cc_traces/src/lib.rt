@@ -7,5 +7,6 @@ mod replay_texts;
 mod replaying;
 mod scripting;
 
-pub use memory::{TakesTrace, TraceMemory};
+pub use charting::Charting;
+pub use memory::TraceMemory;
 pub use replaying::replay_file;

@@ -1,168 +1,171 @@
 //! The memory of a trace that is replayed.
-ghost use Rattle.std.specs.Prelude.{◌≡◌, ◌↔◌, ℕ, List, Option, Result, Err, IfOk, IsErr, OnErr, OnOk, false, true};
-ghost use Rattle.cc_io.specs.declared.summary.IoError.{IoError as IoErrorSpec};
-ghost use Rattle.cc_io.specs.declared.summary.Summary.{Summary as SummarySpec};
-ghost use Rattle.cc_formats.specs.declared.reading.Progress.{Progress as ProgressSpec};
+ghost use Rattle.std.specs.Prelude.{◌≡◌, ◌≢◌, ◌↔◌, Err, IfOk, IsErr, OnErr, OnOk, false, true};
 ghost use Rattle.cc_formats.specs.declared.reading.Progress.TheVariants.{OutOfMemory};
-ghost use Rattle.cc_formats.specs.declared.reading.Reading.{Reading as ReadingSpec};
 ghost use Rattle.cc_heap.specs.Lost.{empty_run};
-ghost use Rattle.cc_heap.specs.declared.settings.Settings.{Settings as SettingsSpec};
 ghost use Rattle.cc_replay.specs.Replay.{begun};
 ghost use Rattle.cc_changes.specs.Script.{script_begun};
+ghost use Rattle.cc_traces.specs.Charting.{TakesLines, begun_chart};
 ghost use Rattle.cc_traces.specs.Replaying.{Replays};
 ghost use Rattle.cc_traces.specs.Scripting.{Writes};
 ghost use Rattle.cc_traces.specs.Settings.{IsForHeap, IsForScript};
 
+use crate::charting::{Charting, take_trace};
 use cc_changes::{Script, script_trace};
 use cc_console::{GlobalMemory, Memory};
+use cc_gaps::GapPlacer;
 use cc_io::{IoError, Sink, Source, Summary};
-use cc_placer::Placer;
 use cc_replay::{Progress, Reading, Replay, Settings, replay_trace};
-use std::alloc::{AllocError, Global};
-
-/// A state to which a trace leads on a heap that allocates: a replay, one with its chart, or a script.
-pub trait TakesTrace {
-    // the settings of a heap with which it can begin
-    ghost Accepts: { SettingsSpec → Type 0 };
-
-    // before the first line, with these settings
-    ghost Begins: { SettingsSpec → ReadingSpec → Self → Type 0 };
-
-    // the lines that the source gave are taken, and what was written for them
-    ghost Takes: { Self → (unread left taken taken_now : Option (List ℕ)) → Result SummarySpec IoErrorSpec → Self → Type 0 };
-
-    // whether further lines are taken
-    ghost progress_of: { Self → ProgressSpec };
-
-    /// Begins with a heap that holds nothing, before the first line of a trace.
-    ///
-    /// Errors: `AllocError` if an allocation fails.
-    fn begin(alloc: Global, settings: Settings, reading: Reading) -> Result<Self, AllocError>
-        requires { Accepts settings }
-        ensures { IfOk result (λ trace. Begins settings reading trace) };
-
-    /// Takes the trace that the source gives.
-    ///
-    /// Requires: neither the source nor the sink has failed.
-    /// Errors: `Read` if and only if the source failed. `Write` if and only if the sink failed.
-    fn take<S: Source, W: Sink>(&mut self, source: &mut S, sink: &mut W) -> Result<Summary, IoError>
-        requires source { S.has_failed source.old ≡ false }
-        requires sink { W.has_failed sink.old ≡ false }
-        ensures takes { Takes self.old (S.to_come source.old) (S.to_come source.new) (W.taken_bytes sink.old) (W.taken_bytes sink.new) result self.new }
-        ensures read { (result ≡ Err IoError.Read) ↔ (S.has_failed source.new ≡ true) }
-        ensures write { (result ≡ Err IoError.Write) ↔ (W.has_failed sink.new ≡ true) }
-        ensures flushed { OnOk result (W.is_flushed sink.new ≡ true) };
-
-    /// Returns whether lines are taken.
-    fn progress(&self) -> Progress
-        ensures { result ≡ progress_of self.now };
-}
+use std::alloc::AllocError;
 
 /// The memory for the heap of a trace, which grows while lines are taken.
+///
+/// Each of its types has no parameter, so that no caller can bring one whose allocations always fail.
+///
+/// Each function that takes a trace requires that neither the source nor the sink has failed. Its errors are `Read` if and
+/// only if the source failed, and `Write` if and only if the sink failed.
 pub trait TraceMemory: Memory {
-    /// Begins as [`TakesTrace::begin`] does.
+    /// Begins a replay with a heap that holds nothing, before the first line of a trace.
     ///
     /// Errors: an allocation fails.
-    fn begin<T: TakesTrace>(
+    fn begin_replay(
         &mut self,
         settings: Settings,
         reading: Reading,
-    ) -> Result<T, AllocError>
-        requires { T.Accepts settings }
-        ensures begins { IfOk result (λ trace. T.Begins settings reading trace) }
+    ) -> Result<Replay<GapPlacer>, AllocError>
+        requires { IsForHeap settings }
+        ensures begins { IfOk result (λ replay. replay ≡ begun (empty_run settings) reading) }
         ensures fails { IsErr result ↔ (Self.has_failed self.new ≡ true) };
 
-    /// Takes a trace as [`TakesTrace::take`] does.
-    ///
-    /// Requires: neither the source nor the sink has failed.
-    /// Errors: `Read` if and only if the source failed. `Write` if and only if the sink failed.
-    fn take<T: TakesTrace, S: Source, W: Sink>(
+    /// Replays the trace that the source gives, and writes the samples of its series.
+    fn take_replay<S: Source, W: Sink>(
         &mut self,
-        trace: &mut T,
+        replay: &mut Replay<GapPlacer>,
         source: &mut S,
         sink: &mut W,
     ) -> Result<Summary, IoError>
         requires source { S.has_failed source.old ≡ false }
         requires sink { W.has_failed sink.old ≡ false }
-        ensures takes { T.Takes trace.old (S.to_come source.old) (S.to_come source.new) (W.taken_bytes sink.old) (W.taken_bytes sink.new) result trace.new }
+        ensures takes { Replays replay.old (S.to_come source.old) (S.to_come source.new) (W.taken_bytes sink.old) (W.taken_bytes sink.new) result replay.new }
         ensures read { (result ≡ Err IoError.Read) ↔ (S.has_failed source.new ≡ true) }
         ensures write { (result ≡ Err IoError.Write) ↔ (W.has_failed sink.new ≡ true) }
         ensures flushed { OnOk result (W.is_flushed sink.new ≡ true) }
-        ensures fails { OnOk result ((T.progress_of trace.new ≡ OutOfMemory) ↔ (Self.has_failed self.new ≡ true)) }
+        ensures fails { OnOk result ((replay.new.progress ≡ OutOfMemory) ↔ (Self.has_failed self.new ≡ true)) }
         ensures stopped { OnErr result (Self.has_failed self.new ≡ false) };
-}
 
-impl<P: Placer> TakesTrace for Replay<P> {
-    ghost Accepts = { IsForHeap };
-
-    ghost Begins = { λ settings reading replay. replay ≡ begun (empty_run settings) reading };
-
-    ghost Takes = { Replays };
-
-    ghost progress_of = { λ replay. replay.progress };
-
-    fn begin(alloc: Global, settings: Settings, reading: Reading) -> Result<Self, AllocError> {
-        Replay::with_settings(alloc, settings, reading)
-    }
-
-    fn take<S: Source, W: Sink>(
-        &mut self,
-        source: &mut S,
-        sink: &mut W,
-    ) -> Result<Summary, IoError> {
-        replay_trace(self, source, sink)
-    }
-
-    fn progress(&self) -> Progress {
-        Replay::progress(self)
-    }
-}
-
-impl<P: Placer> TakesTrace for Script<P> {
-    ghost Accepts = { IsForScript };
-
-    ghost Begins = { λ settings reading script. script ≡ script_begun settings reading };
-
-    ghost Takes = { Writes };
-
-    ghost progress_of = { λ script. script.progress };
-
-    fn begin(alloc: Global, settings: Settings, reading: Reading) -> Result<Self, AllocError> {
-        Script::with_settings(alloc, settings, reading)
-    }
-
-    fn take<S: Source, W: Sink>(
-        &mut self,
-        source: &mut S,
-        sink: &mut W,
-    ) -> Result<Summary, IoError> {
-        script_trace(self, source, sink)
-    }
-
-    fn progress(&self) -> Progress {
-        Script::progress(self)
-    }
-}
-
-impl TraceMemory for GlobalMemory {
-    fn begin<T: TakesTrace>(
+    /// Begins a replay and a chart of its heap, as [`TraceMemory::begin_replay`] does.
+    ///
+    /// Errors: an allocation fails.
+    fn begin_chart(
         &mut self,
         settings: Settings,
         reading: Reading,
-    ) -> Result<T, AllocError> {
-        let trace = T::begin(self.alloc, settings, reading);
-        self.has_failed = trace.is_err();
-        trace
+    ) -> Result<Charting<GapPlacer>, AllocError>
+        requires { IsForHeap settings }
+        ensures begins { IfOk result (λ charting. charting ≡ begun_chart settings reading) }
+        ensures fails { IsErr result ↔ (Self.has_failed self.new ≡ true) };
+
+    /// Replays the trace that the source gives, and adds its events to the chart.
+    fn take_chart<S: Source>(
+        &mut self,
+        charting: &mut Charting<GapPlacer>,
+        source: &mut S,
+    ) -> Result<Summary, IoError>
+        requires source { S.has_failed source.old ≡ false }
+        ensures takes { TakesLines charting.old (S.to_come source.old) (S.to_come source.new) result charting.new }
+        ensures read { (result ≡ Err IoError.Read) ↔ (S.has_failed source.new ≡ true) }
+        ensures written { result ≢ Err IoError.Write }
+        ensures fails { OnOk result ((charting.new.replay.progress ≡ OutOfMemory) ↔ (Self.has_failed self.new ≡ true)) }
+        ensures stopped { OnErr result (Self.has_failed self.new ≡ false) };
+
+    /// Begins the script of a trace, as [`TraceMemory::begin_replay`] does. A machine can follow its heap.
+    ///
+    /// Errors: an allocation fails.
+    fn begin_script(
+        &mut self,
+        settings: Settings,
+        reading: Reading,
+    ) -> Result<Script<GapPlacer>, AllocError>
+        requires { IsForScript settings }
+        ensures begins { IfOk result (λ script. script ≡ script_begun settings reading) }
+        ensures fails { IsErr result ↔ (Self.has_failed self.new ≡ true) };
+
+    /// Takes the trace that the source gives, and writes its script.
+    fn take_script<S: Source, W: Sink>(
+        &mut self,
+        script: &mut Script<GapPlacer>,
+        source: &mut S,
+        sink: &mut W,
+    ) -> Result<Summary, IoError>
+        requires source { S.has_failed source.old ≡ false }
+        requires sink { W.has_failed sink.old ≡ false }
+        ensures takes { Writes script.old (S.to_come source.old) (S.to_come source.new) (W.taken_bytes sink.old) (W.taken_bytes sink.new) result script.new }
+        ensures read { (result ≡ Err IoError.Read) ↔ (S.has_failed source.new ≡ true) }
+        ensures write { (result ≡ Err IoError.Write) ↔ (W.has_failed sink.new ≡ true) }
+        ensures flushed { OnOk result (W.is_flushed sink.new ≡ true) }
+        ensures fails { OnOk result ((script.new.progress ≡ OutOfMemory) ↔ (Self.has_failed self.new ≡ true)) }
+        ensures stopped { OnErr result (Self.has_failed self.new ≡ false) };
+}
+
+impl TraceMemory for GlobalMemory {
+    fn begin_replay(
+        &mut self,
+        settings: Settings,
+        reading: Reading,
+    ) -> Result<Replay<GapPlacer>, AllocError> {
+        let replay = Replay::with_settings(self.alloc, settings, reading);
+        self.has_failed = replay.is_err();
+        replay
     }
 
-    fn take<T: TakesTrace, S: Source, W: Sink>(
+    fn take_replay<S: Source, W: Sink>(
         &mut self,
-        trace: &mut T,
+        replay: &mut Replay<GapPlacer>,
         source: &mut S,
         sink: &mut W,
     ) -> Result<Summary, IoError> {
-        let result = trace.take(source, sink);
-        self.has_failed = result.is_ok() && matches!(trace.progress(), Progress::OutOfMemory);
+        let result = replay_trace(replay, source, sink);
+        self.has_failed = result.is_ok() && matches!(replay.progress(), Progress::OutOfMemory);
+        result
+    }
+
+    fn begin_chart(
+        &mut self,
+        settings: Settings,
+        reading: Reading,
+    ) -> Result<Charting<GapPlacer>, AllocError> {
+        let charting = Charting::with_settings(self.alloc, settings, reading);
+        self.has_failed = charting.is_err();
+        charting
+    }
+
+    fn take_chart<S: Source>(
+        &mut self,
+        charting: &mut Charting<GapPlacer>,
+        source: &mut S,
+    ) -> Result<Summary, IoError> {
+        let result = take_trace(charting, source);
+        self.has_failed = result.is_ok() && matches!(charting.progress(), Progress::OutOfMemory);
+        result
+    }
+
+    fn begin_script(
+        &mut self,
+        settings: Settings,
+        reading: Reading,
+    ) -> Result<Script<GapPlacer>, AllocError> {
+        let script = Script::with_settings(self.alloc, settings, reading);
+        self.has_failed = script.is_err();
+        script
+    }
+
+    fn take_script<S: Source, W: Sink>(
+        &mut self,
+        script: &mut Script<GapPlacer>,
+        source: &mut S,
+        sink: &mut W,
+    ) -> Result<Summary, IoError> {
+        let result = script_trace(script, source, sink);
+        self.has_failed = result.is_ok() && matches!(script.progress(), Progress::OutOfMemory);
         result
     }
 }

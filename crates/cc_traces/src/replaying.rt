@@ -10,12 +10,11 @@ ghost use Rattle.cc_traces.specs.Replaying.{ReplaysTrace, Samples, SumsUp, WithR
 ghost use Rattle.cc_traces.specs.Scripting.{ScriptsTrace};
 ghost use Rattle.cc_traces.specs.Settings.{IsForHeap, IsForScript};
 
-use crate::charting::{Charting, draw_input};
+use crate::charting::draw_input;
 use crate::memory::TraceMemory;
 use crate::replay_texts::replay_of;
 use crate::scripting::script_input;
 use cc_bounds::Align;
-use cc_changes::Script;
 use cc_command::write_refusal;
 use cc_console::{
     Content, Discard, Fault, InputName, Inputs, ReplayTexts, SummaryFormat, file_input,
@@ -52,13 +51,14 @@ pub fn replay_file<M: TraceMemory, I: Inputs, W: Sink>(
     requires source { I.Opened.has_failed source.old ≡ false }
     requires inputs { I.has_refused inputs.old ≡ false }
     requires sink { W.has_failed sink.old ≡ false }
-    ensures replays { OnOutput (I.bytes_of inputs.old) (W.taken_bytes sink.old) (W.taken_bytes sink.new)
+    ensures replays { OnOutput (I.bytes_of inputs.old) (W.taken_bytes sink.old) (W.taken_bytes sink.new) (I.Opened.to_come source.new)
         (λ console. WithReplay align strict texts.entry console (λ settings reading. FromInput (file_input file.entry) console (ReplaysTrace texts.entry.sizes texts.entry.svg texts.entry.script format settings reading))) result }
     ensures memory { result ≡ Err Fault.Memory → IsOk (replay_in align strict texts.entry) }
-    ensures open { result ≡ Err Fault.Open → IsOk (replay_in align strict texts.entry) × IsFile (file_input file.entry) }
+    ensures open { result ≡ Err Fault.Open → IsFile (file_input file.entry) }
     ensures untouched { result ≡ Err Fault.Open → W.taken_bytes sink.new ≡ W.taken_bytes sink.old }
     ensures starved { texts.entry.each ≡ None → texts.entry.script ≡ false → result ≡ Err Fault.Memory → W.taken_bytes sink.new ≡ W.taken_bytes sink.old }
     ensures asked { I.last_asked inputs.new (file_input file.entry) (trace_content texts.entry.script) ≡ false → (inputs.new ≡ inputs.old) × (source.new ≡ source.old) }
+    ensures unused { ¬ IsOk (replay_in align strict texts.entry) → (inputs.new ≡ inputs.old) × (source.new ≡ source.old) }
     ensures refused { (result ≡ Err Fault.Open) ↔ (I.has_refused inputs.new ≡ true) }
     ensures read { (result ≡ Err Fault.Read) ↔ (I.Opened.has_failed source.new ≡ true) }
     ensures allocates { (result ≡ Err Fault.Memory) ↔ (M.has_failed memory.new ≡ true) }
@@ -69,16 +69,12 @@ pub fn replay_file<M: TraceMemory, I: Inputs, W: Sink>(
         Ok((settings, reading)) => {
             let input = file_input(file);
             if texts.script {
-                return to_script::<GapPlacer, _, _, _>(
-                    memory, settings, reading, inputs, source, input, sink,
-                );
+                return to_script(memory, settings, reading, inputs, source, input, sink);
             }
             if texts.svg {
-                return chart::<GapPlacer, _, _, _>(
-                    memory, settings, reading, inputs, source, input, sink,
-                );
+                return chart(memory, settings, reading, inputs, source, input, sink);
             }
-            replay::<GapPlacer, _, _, _>(
+            replay(
                 memory,
                 settings,
                 reading,
@@ -98,7 +94,7 @@ pub fn replay_file<M: TraceMemory, I: Inputs, W: Sink>(
 /// samples are asked for.
 // not inlined, so that other commands do not touch the pages of its buffers on the stack
 #[inline(never)]
-fn replay<P: Placer, M: TraceMemory, I: Inputs, W: Sink>(
+fn replay<M: TraceMemory, I: Inputs, W: Sink>(
     memory: &mut M,
     settings: Settings,
     reading: Reading,
@@ -114,7 +110,7 @@ fn replay<P: Placer, M: TraceMemory, I: Inputs, W: Sink>(
     requires source { I.Opened.has_failed source.old ≡ false }
     requires inputs { I.has_refused inputs.old ≡ false }
     requires sink { W.has_failed sink.old ≡ false }
-    ensures replays { OnOutput (I.bytes_of inputs.old) (W.taken_bytes sink.old) (W.taken_bytes sink.new)
+    ensures replays { OnOutput (I.bytes_of inputs.old) (W.taken_bytes sink.old) (W.taken_bytes sink.new) (I.Opened.to_come source.new)
         (λ console. FromInput input.entry console (WritesTrace sizes format settings reading)) result }
     ensures open { result ≡ Err Fault.Open → IsFile input.entry }
     ensures untouched { result ≡ Err Fault.Open → W.taken_bytes sink.new ≡ W.taken_bytes sink.old }
@@ -127,7 +123,7 @@ fn replay<P: Placer, M: TraceMemory, I: Inputs, W: Sink>(
     ensures flushed { OnOk result (W.is_flushed sink.new ≡ true) }
 {
     let each = reading.each;
-    let mut replay: Replay<P> = memory.begin(settings, reading)?;
+    let mut replay = memory.begin_replay(settings, reading)?;
     replay_input(
         memory,
         each,
@@ -142,12 +138,12 @@ fn replay<P: Placer, M: TraceMemory, I: Inputs, W: Sink>(
 }
 
 /// Replays the trace of an input, and writes the summary or the table of sizes, or the series if samples are asked for.
-fn replay_input<P: Placer, M: TraceMemory, I: Inputs, W: Sink>(
+fn replay_input<M: TraceMemory, I: Inputs, W: Sink>(
     memory: &mut M,
     each: u64,
     sizes: bool,
     format: SummaryFormat,
-    replay: &mut Replay<P>,
+    replay: &mut Replay<GapPlacer>,
     inputs: &mut I,
     source: &mut I::Opened,
     input: InputName<'_>,
@@ -157,7 +153,7 @@ fn replay_input<P: Placer, M: TraceMemory, I: Inputs, W: Sink>(
     requires source { I.Opened.has_failed source.old ≡ false }
     requires inputs { I.has_refused inputs.old ≡ false }
     requires sink { W.has_failed sink.old ≡ false }
-    ensures replays { OnOutput (I.bytes_of inputs.old) (W.taken_bytes sink.old) (W.taken_bytes sink.new)
+    ensures replays { OnOutput (I.bytes_of inputs.old) (W.taken_bytes sink.old) (W.taken_bytes sink.new) (I.Opened.to_come source.new)
         (λ console. FromInput input.entry console (WritesReplay each (end_text sizes format) replay.old)) result }
     ensures open { result ≡ Err Fault.Open → IsFile input.entry }
     ensures untouched { result ≡ Err Fault.Open → W.taken_bytes sink.new ≡ W.taken_bytes sink.old }
@@ -180,7 +176,7 @@ fn replay_input<P: Placer, M: TraceMemory, I: Inputs, W: Sink>(
 /// Replays a trace on a heap of these settings, and writes the chart of the heap.
 // not inlined, so that other commands do not touch the pages of its buffers on the stack
 #[inline(never)]
-fn chart<P: Placer, M: TraceMemory, I: Inputs, W: Sink>(
+fn chart<M: TraceMemory, I: Inputs, W: Sink>(
     memory: &mut M,
     settings: Settings,
     reading: Reading,
@@ -194,7 +190,7 @@ fn chart<P: Placer, M: TraceMemory, I: Inputs, W: Sink>(
     requires source { I.Opened.has_failed source.old ≡ false }
     requires inputs { I.has_refused inputs.old ≡ false }
     requires sink { W.has_failed sink.old ≡ false }
-    ensures charts { OnOutput (I.bytes_of inputs.old) (W.taken_bytes sink.old) (W.taken_bytes sink.new)
+    ensures charts { OnOutput (I.bytes_of inputs.old) (W.taken_bytes sink.old) (W.taken_bytes sink.new) (I.Opened.to_come source.new)
         (λ console. FromInput input.entry console (ChartsTrace settings reading)) result }
     ensures open { result ≡ Err Fault.Open → IsFile input.entry }
     ensures untouched { result ≡ Err Fault.Open → W.taken_bytes sink.new ≡ W.taken_bytes sink.old }
@@ -206,14 +202,14 @@ fn chart<P: Placer, M: TraceMemory, I: Inputs, W: Sink>(
     ensures write { (result ≡ Err Fault.Write) ↔ (W.has_failed sink.new ≡ true) }
     ensures flushed { OnOk result (W.is_flushed sink.new ≡ true) }
 {
-    let mut charting: Charting<P> = memory.begin(settings, reading)?;
+    let mut charting = memory.begin_chart(settings, reading)?;
     draw_input(memory, &mut charting, inputs, source, input, sink)
 }
 
 /// Replays a trace on a heap of these settings, and writes the script of its changes.
 // not inlined, so that other commands do not touch the pages of its buffers on the stack
 #[inline(never)]
-fn to_script<P: Placer, M: TraceMemory, I: Inputs, W: Sink>(
+fn to_script<M: TraceMemory, I: Inputs, W: Sink>(
     memory: &mut M,
     settings: Settings,
     reading: Reading,
@@ -227,7 +223,7 @@ fn to_script<P: Placer, M: TraceMemory, I: Inputs, W: Sink>(
     requires source { I.Opened.has_failed source.old ≡ false }
     requires inputs { I.has_refused inputs.old ≡ false }
     requires sink { W.has_failed sink.old ≡ false }
-    ensures scripts { OnOutput (I.bytes_of inputs.old) (W.taken_bytes sink.old) (W.taken_bytes sink.new)
+    ensures scripts { OnOutput (I.bytes_of inputs.old) (W.taken_bytes sink.old) (W.taken_bytes sink.new) (I.Opened.to_come source.new)
         (λ console. FromInput input.entry console (ScriptsTrace settings reading)) result }
     ensures open { result ≡ Err Fault.Open → IsFile input.entry }
     ensures untouched { result ≡ Err Fault.Open → W.taken_bytes sink.new ≡ W.taken_bytes sink.old }
@@ -238,16 +234,16 @@ fn to_script<P: Placer, M: TraceMemory, I: Inputs, W: Sink>(
     ensures write { (result ≡ Err Fault.Write) ↔ (W.has_failed sink.new ≡ true) }
     ensures flushed { OnOk result (W.is_flushed sink.new ≡ true) }
 {
-    let mut script: Script<P> = memory.begin(settings, reading)?;
+    let mut script = memory.begin_script(settings, reading)?;
     script_input(memory, &mut script, inputs, source, input, sink)
 }
 
 /// Replays a trace, and writes the text of its end.
-fn sum_up<P: Placer, M: TraceMemory, S: Source, W: Sink>(
+fn sum_up<M: TraceMemory, S: Source, W: Sink>(
     memory: &mut M,
     sizes: bool,
     format: SummaryFormat,
-    replay: &mut Replay<P>,
+    replay: &mut Replay<GapPlacer>,
     source: &mut S,
     sink: &mut W,
 ) -> Result<Summary, Fault>
@@ -264,7 +260,7 @@ fn sum_up<P: Placer, M: TraceMemory, S: Source, W: Sink>(
     ensures write { (result ≡ Err Fault.Write) ↔ (W.has_failed sink.new ≡ true) }
     ensures flushed { OnOk result (W.is_flushed sink.new ≡ true) }
 {
-    let summary = memory.take(replay, source, &mut Discard)?;
+    let summary = memory.take_replay(replay, source, &mut Discard)?;
     if let Progress::OutOfMemory = replay.progress() {
         return Err(Fault::Memory);
     }
@@ -311,9 +307,9 @@ fn write_figures<P: Placer, W: Sink>(
 }
 
 /// Replays a trace, and writes its series.
-fn sample<P: Placer, M: TraceMemory, S: Source, W: Sink>(
+fn sample<M: TraceMemory, S: Source, W: Sink>(
     memory: &mut M,
-    replay: &mut Replay<P>,
+    replay: &mut Replay<GapPlacer>,
     source: &mut S,
     sink: &mut W,
 ) -> Result<Summary, Fault>
@@ -329,7 +325,7 @@ fn sample<P: Placer, M: TraceMemory, S: Source, W: Sink>(
     ensures write { (result ≡ Err Fault.Write) ↔ (W.has_failed sink.new ≡ true) }
     ensures flushed { OnOk result (W.is_flushed sink.new ≡ true) }
 {
-    let summary = memory.take(replay, source, sink)?;
+    let summary = memory.take_replay(replay, source, sink)?;
     if let Progress::OutOfMemory = replay.progress() {
         return Err(Fault::Memory);
     }

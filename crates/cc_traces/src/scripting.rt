@@ -7,14 +7,14 @@ ghost use Rattle.cc_traces.specs.Scripting.{Scripts};
 use crate::memory::TraceMemory;
 use cc_changes::Script;
 use cc_console::{Content, Fault, InputName, Inputs};
+use cc_gaps::GapPlacer;
 use cc_io::{Sink, Source, Summary};
-use cc_placer::Placer;
 use cc_replay::Progress;
 
 /// Takes the trace of an input, and writes its script.
-pub(crate) fn script_input<P: Placer, M: TraceMemory, I: Inputs, W: Sink>(
+pub(crate) fn script_input<M: TraceMemory, I: Inputs, W: Sink>(
     memory: &mut M,
-    script: &mut Script<P>,
+    script: &mut Script<GapPlacer>,
     inputs: &mut I,
     source: &mut I::Opened,
     input: InputName<'_>,
@@ -24,7 +24,7 @@ pub(crate) fn script_input<P: Placer, M: TraceMemory, I: Inputs, W: Sink>(
     requires source { I.Opened.has_failed source.old ≡ false }
     requires inputs { I.has_refused inputs.old ≡ false }
     requires sink { W.has_failed sink.old ≡ false }
-    ensures scripts { OnOutput (I.bytes_of inputs.old) (W.taken_bytes sink.old) (W.taken_bytes sink.new)
+    ensures scripts { OnOutput (I.bytes_of inputs.old) (W.taken_bytes sink.old) (W.taken_bytes sink.new) (I.Opened.to_come source.new)
         (λ console. FromInput input.entry console (Scripts script.old)) result }
     ensures open { result ≡ Err Fault.Open → IsFile input.entry }
     ensures untouched { result ≡ Err Fault.Open → W.taken_bytes sink.new ≡ W.taken_bytes sink.old }
@@ -40,9 +40,9 @@ pub(crate) fn script_input<P: Placer, M: TraceMemory, I: Inputs, W: Sink>(
 }
 
 /// Takes a trace, and writes its script.
-fn write_script<P: Placer, M: TraceMemory, S: Source, W: Sink>(
+fn write_script<M: TraceMemory, S: Source, W: Sink>(
     memory: &mut M,
-    script: &mut Script<P>,
+    script: &mut Script<GapPlacer>,
     source: &mut S,
     sink: &mut W,
 ) -> Result<Summary, Fault>
@@ -58,7 +58,7 @@ fn write_script<P: Placer, M: TraceMemory, S: Source, W: Sink>(
     ensures write { (result ≡ Err Fault.Write) ↔ (W.has_failed sink.new ≡ true) }
     ensures flushed { OnOk result (W.is_flushed sink.new ≡ true) }
 {
-    let summary = memory.take(script, source, sink)?;
+    let summary = memory.take_script(script, source, sink)?;
     if let Progress::OutOfMemory = script.progress() {
         return Err(Fault::Memory);
     }

@@ -85,17 +85,14 @@ script_starves (RoundList base file) terminals console script is starves = absur
 starved : (script : Script) (bytes taken : List ℕ) (console : Console) (report : Report) → console.input script.input ≡ Some bytes → console.output ≡ Some taken
     → StarvesRun report script.opening (initial_state script.limit) script.input console
     → (console.output_now ≡ Some taken)
-    ⊎ ((summary : Summary) × (left : Option (List ℕ)) × MeetsFrom script.opening (initial_state script.limit) (Some bytes) left (Some taken) console.output_now (Ok summary))
+    ⊎ ((summary : Summary) × MeetsFrom script.opening (initial_state script.limit) (Some bytes) console.left (Some taken) console.output_now (Ok summary))
 starved script bytes taken console report has had (inl same) = inl (same ∙ had)
 starved script bytes taken console report has had (inr all) =
-    let unread = all.1 in
-    let left = all.2 in
-    let whole = all.4 in
+    let whole = all.3 in
     inr (
       whole.0,
-      left,
-      met script.opening (initial_state script.limit) bytes taken unread left console.output console.output_now (Ok whole.0)
-          (read_bytes bytes (console.input script.input) unread has all.3) had whole.1,
+      met script.opening (initial_state script.limit) bytes taken all.1 console.left console.output console.output_now (Ok whole.0)
+          (read_bytes bytes (console.input script.input) all.1 has all.2) had whole.1,
     )
 
 -- ---- the command's own input
@@ -127,15 +124,16 @@ input_is (RoundList base file) script is = absurd (cc is)
 pub runs_script : (invocation : Invocation) (terminals : Terminals) (console : Console) (failures : Failures) (ending : Ending)
     → EndsInvocation invocation terminals console failures ending → AnswersEveryScript invocation console failures ending
 runs_script invocation terminals console failures ending e script bytes taken is has had =
-    let meets : OnDevices (MeetsMain script.limit script.opening (console.input script.input) failures.left console.output console.output_now) e.result =
-    subst (λ (found : Option Script). IfSome found (λ (s : Script). OnDevices (MeetsMain s.limit s.opening (console.input s.input) failures.left console.output console.output_now) e.result)) is e.main in
+    let meets : OnDevices (MeetsMain script.limit script.opening (console.input script.input) console.left console.output console.output_now) e.result =
+    subst (λ (found : Option Script). IfSome found (λ (s : Script). OnDevices (MeetsMain s.limit s.opening (console.input s.input) console.left console.output console.output_now) e.result)) is e.main in
     record {
       result = e.result;
-      main = on_result script bytes taken (console.input script.input) failures.left console.output console.output_now has had e.result meets;
+      main = on_result script bytes taken (console.input script.input) console.left console.output console.output_now has had e.result meets;
       untouched = λ refused. e.untouched refused ∙ had;
       starved = λ ran_out.
           let starves = script_starves invocation terminals console script is (e.starves ran_out).1 in
           starved script bytes taken console starves.0 has had starves.1;
+      flushed = e.flushed;
       fails = e.fails;
       asks = subst (λ (found : Option Asked). ReadsAsked found failures) (input_is invocation script is) e.asks;
       ends = e.ends;
@@ -166,7 +164,7 @@ to_end script bytes taken taken_now left failures ending (Err fault.Read) none t
 to_end script bytes taken taken_now left failures ending (Err fault.Write) none tells ends m = absurd (false≢true (sym none.written ∙ tells.writes.0 refl))
 
 -- A script that no device interrupts runs to its end.
-pub runs_to_end : (script : Script) (bytes taken : List ℕ) (taken_now : Option (List ℕ)) (failures : Failures) (ending : Ending)
-    → AnswersScript script bytes taken taken_now failures ending → NoneFailed failures → RunsToEnd script bytes taken taken_now ending
-runs_to_end script bytes taken taken_now failures ending r none =
-    to_end script bytes taken taken_now failures.left failures ending r.result none r.fails r.ends r.main
+pub runs_to_end : (script : Script) (bytes taken : List ℕ) (left taken_now : Option (List ℕ)) (failures : Failures) (ending : Ending)
+    → AnswersScript script bytes taken left taken_now failures ending → NoneFailed failures → RunsToEnd script bytes taken taken_now ending
+runs_to_end script bytes taken left taken_now failures ending r none =
+    to_end script bytes taken taken_now left failures ending r.result none r.fails r.ends r.main

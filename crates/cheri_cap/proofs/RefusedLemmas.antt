@@ -57,15 +57,15 @@ on_ok script bytes taken summary left (Ok other) some ends m =
 on_ok script bytes taken summary left (Err other) some ends m =
     let told : Answered summary ≡ Stopped other = ends in absurd (cc told)
 
-pub silent_is_refused : (script : Script) (bytes taken : List ℕ) (failures : Failures) (summary : Summary)
-    → commands_of script.opening bytes ≢ [] → AnswersScript script bytes taken (Some taken) failures (Answered summary) → ⊥
-silent_is_refused script bytes taken failures summary some r = on_ok script bytes taken summary failures.left r.result some r.ends r.main
+pub silent_is_refused : (script : Script) (bytes taken : List ℕ) (left : Option (List ℕ)) (failures : Failures) (summary : Summary)
+    → commands_of script.opening bytes ≢ [] → AnswersScript script bytes taken left (Some taken) failures (Answered summary) → ⊥
+silent_is_refused script bytes taken left failures summary some r = on_ok script bytes taken summary left r.result some r.ends r.main
 
 on_stop : (failures : Failures) (result : Result Summary Fault) → Stopped fault.Read ≡ ending_of result → TellsFailures failures result
     → failures.read_failed ≡ true
 on_stop failures (Ok other) ends tells = let told : Stopped fault.Read ≡ Answered other = ends in absurd (cc told)
 on_stop failures (Err other) ends tells = let told : Stopped fault.Read ≡ Stopped other = ends in tells.reads.0 (cc told)
 
-pub made_up_is_refused : (script : Script) (bytes taken : List ℕ) (taken_now : Option (List ℕ)) (failures : Failures)
-    → AnswersScript script bytes taken taken_now failures (Stopped fault.Read) → failures.read_failed ≡ true
-made_up_is_refused script bytes taken taken_now failures r = on_stop failures r.result r.ends r.fails
+pub made_up_is_refused : (script : Script) (bytes taken : List ℕ) (left taken_now : Option (List ℕ)) (failures : Failures)
+    → AnswersScript script bytes taken left taken_now failures (Stopped fault.Read) → failures.read_failed ≡ true
+made_up_is_refused script bytes taken left taken_now failures r = on_stop failures r.result r.ends r.fails

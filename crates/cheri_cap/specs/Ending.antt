@@ -1,12 +1,14 @@
 -- The bytes and the end of the program for a command line that is accepted.
-use Rattle.std.specs.Prelude.{ℕ, ◌≡◌, ◌⊎◌, ◌↔◌, true, false, List, [], Bool, Option, Some, Ok, Err, Result, IfSome}
+use Rattle.std.specs.Prelude.{ℕ, ◌≡◌, ◌⊎◌, ◌↔◌, true, false, List, [], Bool, Option, Some, Ok, Err, Result, IfSome, OnErr, OnOk}
+use Rattle.std.specs.Io.KnownBytes.{Appends}
 use Rattle.clap.specs.Words.{Row, Text}
 use Rattle.cc_io.specs.declared.summary.Summary.{Summary}
 use Rattle.cc_machine.specs.State.{initial_state}
 use Rattle.cc_console.specs.Devices.{Console, OnDevices}
 use Rattle.cheri_cap.specs.Execution.{Executes, StarvesCommand}
 use Rattle.cc_console.specs.Invocation.{IsInvocation}
-use Rattle.cheri_cap.specs.Input.{Asked, IsUnasked, ReadsFile, RunsMachine, Script, input_of, script_of}
+use Rattle.cheri_cap.specs.Input.{Asked, IsHinted, IsReported, IsStreamed, IsUnasked, RunsMachine, Script, input_of, script_of, typed_hint}
+use Rattle.cc_console.specs.Input.{IsFile}
 use Rattle.cc_console.specs.Outcome.{ending_of}
 use Rattle.cc_console.specs.declared.input.Content.{Content}
 use Rattle.cc_console.specs.declared.input.Content.TheVariants as content
@@ -20,14 +22,14 @@ use Rattle.cc_console.specs.declared.fault.Fault.TheVariants as fault
 use Rattle.cc_runs.specs.declared.report.Terminals.{Terminals}
 
 -- The devices after the program: whether an input was not opened, a read failed, a write failed, and an allocation failed; whether the
--- last input that was asked for is this one; and the bytes that the source has left, if it says which they are.
+-- output is flushed; and whether the last input that was asked for is this one.
 pub record Failures : Type 0 where
   pub open_failed : Bool
   pub read_failed : Bool
   pub write_failed : Bool
   pub memory_failed : Bool
+  pub is_flushed : Bool
   pub last_asked : InputName → Content → Bool
-  pub left : Option (List ℕ)
 
 -- TellsFailures holds if the result is an error of a device if and only if that device failed.
 pub record TellsFailures (failures : Failures) (result : Result Summary Fault) : Type 0 where
@@ -48,13 +50,19 @@ pub record EndsInvocation (invocation : Invocation) (terminals : Terminals) (con
   pub result : Result Summary Fault
   pub executes : OnDevices (Executes invocation terminals console) result
   pub fails : TellsFailures failures result
-  pub opens : result ≡ Err fault.Open → ReadsFile invocation
+  pub opens : result ≡ Err fault.Open → IfSome (input_of invocation) (λ asked. IsFile asked.input)
   pub untouched : result ≡ Err fault.Open → console.output_now ≡ console.output
   pub asks : ReadsAsked (input_of invocation) failures
   pub main :
       IfSome (script_of invocation)
-      (λ script. OnDevices (MeetsMain script.limit script.opening (console.input script.input) failures.left console.output console.output_now) result)
+      (λ script. OnDevices (MeetsMain script.limit script.opening (console.input script.input) console.left console.output console.output_now) result)
   pub starves : result ≡ Err fault.Memory → RunsMachine invocation × StarvesCommand invocation terminals console
+  pub starved : ¬ IsReported terminals invocation → ¬ IsStreamed invocation → result ≡ Err fault.Memory → console.output_now ≡ console.output
+  pub flushed : OnOk result (failures.is_flushed ≡ true)
+  pub unreported : OnErr result (console.errors_now ≡ console.errors)
+  pub silent : ¬ IsReported terminals invocation → console.errors_now ≡ console.errors
+  pub hinted : IsHinted invocation
+      → OnOk result (console.errors_failed ≡ false → Appends console.errors console.errors_now (typed_hint terminals.errors invocation))
   pub ends : ending ≡ ending_of result
 
 -- ExecutesCommand holds if `EndsInvocation` does for the command that clap found.
@@ -69,13 +77,14 @@ pub record ExecutesCommand (found : Option (Text × List Row)) (terminals : Term
 -- summary or a failed read or write, the main theorem holds of a run on a new machine that read these bytes and wrote after the bytes
 -- `taken`. After a failed opening nothing was written, and after a failed allocation nothing was, or the whole output. An opening or a
 -- read failed only if the last input that was asked for is that of the script.
-pub record AnswersScript (script : Script) (bytes taken : List ℕ) (taken_now : Option (List ℕ)) (failures : Failures) (ending : Ending) : Type 0 where
+pub record AnswersScript (script : Script) (bytes taken : List ℕ) (left taken_now : Option (List ℕ)) (failures : Failures) (ending : Ending) : Type 0 where
   pub result : Result Summary Fault
-  pub main : OnDevices (MeetsFrom script.opening (initial_state script.limit) (Some bytes) failures.left (Some taken) taken_now) result
+  pub main : OnDevices (MeetsFrom script.opening (initial_state script.limit) (Some bytes) left (Some taken) taken_now) result
   pub untouched : result ≡ Err fault.Open → taken_now ≡ Some taken
   pub starved : result ≡ Err fault.Memory
       → (taken_now ≡ Some taken)
-      ⊎ ((summary : Summary) × (left : Option (List ℕ)) × MeetsFrom script.opening (initial_state script.limit) (Some bytes) left (Some taken) taken_now (Ok summary))
+      ⊎ ((summary : Summary) × MeetsFrom script.opening (initial_state script.limit) (Some bytes) left (Some taken) taken_now (Ok summary))
+  pub flushed : OnOk result (failures.is_flushed ≡ true)
   pub fails : TellsFailures failures result
   pub asks : failures.last_asked script.input content.Script ≡ false → (failures.open_failed ≡ false) × (failures.read_failed ≡ false)
   pub ends : ending ≡ ending_of result
@@ -99,4 +108,4 @@ pub record NoneFailed (failures : Failures) : Type 0 where
 abbrev pub AnswersEveryScript : Invocation → Console → Failures → Ending → Type 0
 AnswersEveryScript invocation console failures ending =
     (script : Script) (bytes taken : List ℕ) → script_of invocation ≡ Some script → console.input script.input ≡ Some bytes
-    → console.output ≡ Some taken → AnswersScript script bytes taken console.output_now failures ending
+    → console.output ≡ Some taken → AnswersScript script bytes taken console.left console.output_now failures ending

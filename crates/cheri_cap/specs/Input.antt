@@ -9,23 +9,23 @@ use Rattle.cc_console.specs.declared.input.Content.TheVariants as content
 use Rattle.cc_console.specs.declared.input.InputName.{InputName}
 use Rattle.cc_console.specs.declared.invocation.Invocation.{Invocation}
 use Rattle.cc_console.specs.declared.invocation.Invocation.TheVariants.{Annotate, Ask, Decode, Map, Plan, Replay, RoundList, Run}
-use Rattle.cc_console.specs.Input.{IsFile, file_input, trace_content}
+use Rattle.cc_console.specs.Input.{file_input, trace_content}
 use Rattle.cc_tasks.specs.Listing.{listing_in, place_in}
 use Rattle.cc_tasks.specs.Questions.{has_hint, question_hint}
 use Rattle.cc_runs.specs.declared.report.Terminals.{Terminals}
 use Rattle.cc_traces.specs.ReplayTexts.{replay_in}
 
--- ReadsFile holds if the command reads a file: FILE names one, BASE and LENGTH of `plan` and `map` are an address and a length, and the
--- numbers and names of `decode` and `replay`, and the base of `round`, are such.
-abbrev pub ReadsFile : Invocation → Type 0
-ReadsFile (Ask question) = ⊥
-ReadsFile (Run limit stats file) = IsFile (file_input file)
-ReadsFile (Plan limit pool align stats file) = IsOk (pool_of pool.base.now pool.length.now) × IsFile (file_input file)
-ReadsFile (Map limit pool align svg file) = IsOk (pool_of pool.base.now pool.length.now) × IsFile (file_input file)
-ReadsFile (Replay align strict format texts file) = IsOk (replay_in align strict texts) × IsFile (file_input file)
-ReadsFile (Decode input format texts file) = IsOk (listing_in input format texts) × IsFile (file_input file)
-ReadsFile (Annotate file) = IsFile (file_input file)
-ReadsFile (RoundList base file) = IsOk (place_in base) × IsFile (file_input (Some file))
+-- ReadsInput holds if the command reads an input: BASE and LENGTH of `plan` and `map` are an address and a length, and the numbers and
+-- names of `decode` and `replay`, and the base of `round`, are such.
+abbrev pub ReadsInput : Invocation → Type 0
+ReadsInput (Ask question) = ⊥
+ReadsInput (Run limit stats file) = ⊤
+ReadsInput (Plan limit pool align stats file) = IsOk (pool_of pool.base.now pool.length.now)
+ReadsInput (Map limit pool align svg file) = IsOk (pool_of pool.base.now pool.length.now)
+ReadsInput (Replay align strict format texts file) = IsOk (replay_in align strict texts)
+ReadsInput (Decode input format texts file) = IsOk (listing_in input format texts)
+ReadsInput (Annotate file) = ⊤
+ReadsInput (RoundList base file) = IsOk (place_in base)
 
 -- RunsMachine holds if the command creates a machine or a heap: `run`, `plan` and `map` if BASE and LENGTH are an address and a length, and
 -- `replay` if its numbers and names are such.

@@ -4,8 +4,9 @@ ghost use Rattle.clap.specs.Words.{Row, Text};
 ghost use Rattle.cc_console.specs.Invocation.{IsInvocation};
 ghost use Rattle.std.specs.Io.KnownBytes.{Appends};
 ghost use Rattle.cc_console.specs.Devices.{OnDevices};
+ghost use Rattle.cc_console.specs.Input.{IsFile};
 ghost use Rattle.cheri_cap.specs.Execution.{Executes, StarvesCommand};
-ghost use Rattle.cheri_cap.specs.Input.{IsHinted, IsReported, IsStreamed, IsUnasked, ReadsFile, RunsMachine, input_of, script_of, typed_hint};
+ghost use Rattle.cheri_cap.specs.Input.{IsHinted, IsReported, IsStreamed, IsUnasked, ReadsInput, RunsMachine, input_of, script_of, typed_hint};
 ghost use Rattle.cc_runs.specs.Runs.{MeetsMain};
 
 use cc_console::{Fault, Inputs, Invocation};
@@ -42,6 +43,7 @@ pub fn execute<M: RunMemory + TraceMemory, I: Inputs, W: Sink, E: Sink>(
     requires errors { E.has_failed errors.old ≡ false }
     ensures executes { OnDevices (Executes invocation.entry terminals (record {
       input = I.bytes_of inputs.old;
+      left = I.Opened.to_come source.new;
       output = W.taken_bytes sink.old;
       output_now = W.taken_bytes sink.new;
       errors = E.taken_bytes errors.old;
@@ -49,8 +51,9 @@ pub fn execute<M: RunMemory + TraceMemory, I: Inputs, W: Sink, E: Sink>(
       errors_failed = E.has_failed errors.new;
     })) result }
     ensures memory { result ≡ Err Fault.Memory → RunsMachine invocation.entry }
-    ensures open { result ≡ Err Fault.Open → ReadsFile invocation.entry }
+    ensures open { result ≡ Err Fault.Open → IfSome (input_of invocation.entry) (λ asked. IsFile asked.input) }
     ensures asked { IsUnasked (input_of invocation.entry) (I.last_asked inputs.new) → (inputs.new ≡ inputs.old) × (source.new ≡ source.old) }
+    ensures unused { ¬ ReadsInput invocation.entry → (inputs.new ≡ inputs.old) × (source.new ≡ source.old) }
     ensures refused { (result ≡ Err Fault.Open) ↔ (I.has_refused inputs.new ≡ true) }
     ensures main { IfSome (script_of invocation.entry) (λ script. OnDevices (MeetsMain script.limit script.opening (I.bytes_of inputs.old script.input) (I.Opened.to_come source.new) (W.taken_bytes sink.old) (W.taken_bytes sink.new)) result) }
     ensures read { (result ≡ Err Fault.Read) ↔ (I.Opened.has_failed source.new ≡ true) }
@@ -63,6 +66,7 @@ pub fn execute<M: RunMemory + TraceMemory, I: Inputs, W: Sink, E: Sink>(
     ensures silent { ¬ IsReported terminals invocation.entry → errors.new ≡ errors.old }
     ensures stopped { result ≡ Err Fault.Memory → StarvesCommand invocation.entry terminals (record {
       input = I.bytes_of inputs.old;
+      left = I.Opened.to_come source.new;
       output = W.taken_bytes sink.old;
       output_now = W.taken_bytes sink.new;
       errors = E.taken_bytes errors.old;

@@ -15,8 +15,8 @@ ghost use Rattle.cheri_cap.specs.Input.{Script};
 
 /// Proves that a script runs to its end, and all of its output is written, if no device fails.
 pub fn unfailing_scripts_run_to_their_end()
-    ensures { (script : Script) (bytes taken : List ℕ) (taken_now : Option (List ℕ)) (failures : Failures) (ending : Ending)
-        → AnswersScript script bytes taken taken_now failures ending → NoneFailed failures
+    ensures { (script : Script) (bytes taken : List ℕ) (left taken_now : Option (List ℕ)) (failures : Failures) (ending : Ending)
+        → AnswersScript script bytes taken left taken_now failures ending → NoneFailed failures
         → RunsToEnd script bytes taken taken_now ending }
 {}
 
@@ -30,8 +30,8 @@ pub fn scripts_keep_the_laws()
 /// Proves that the program's promise refuses a program that ends well on a script with a command but
 /// writes nothing, and one that makes up a failed read.
 pub fn false_programs_are_refused()
-    ensures silent { (script : Script) (bytes taken : List ℕ) (failures : Failures) (summary : Summary)
-        → commands_of script.opening bytes ≢ [] → AnswersScript script bytes taken (Some taken) failures (Answered summary) → ⊥ }
-    ensures made_up { (script : Script) (bytes taken : List ℕ) (taken_now : Option (List ℕ)) (failures : Failures)
-        → AnswersScript script bytes taken taken_now failures (Stopped fault.Read) → failures.read_failed ≡ true }
+    ensures silent { (script : Script) (bytes taken : List ℕ) (left : Option (List ℕ)) (failures : Failures) (summary : Summary)
+        → commands_of script.opening bytes ≢ [] → AnswersScript script bytes taken left (Some taken) failures (Answered summary) → ⊥ }
+    ensures made_up { (script : Script) (bytes taken : List ℕ) (left taken_now : Option (List ℕ)) (failures : Failures)
+        → AnswersScript script bytes taken left taken_now failures (Stopped fault.Read) → failures.read_failed ≡ true }
 {}

@@ -6,6 +6,7 @@ ghost use Rattle.cc_console.specs.declared.outcome.Ending.TheVariants as ending;
 ghost use Rattle.cc_console.specs.declared.outcome.Ending.{Ending as EndingSpec};
 ghost use Rattle.cc_console.specs.declared.invocation.Invocation.{Invocation as InvocationSpec};
 ghost use Rattle.cheri_cap.specs.Ending.{AnswersEveryScript, ExecutesCommand, Failures};
+ghost use Rattle.cheri_cap.specs.Input.{IsUnasked, ReadsInput, input_of};
 ghost use Rattle.cc_console.specs.Devices.{Console};
 ghost use Rattle.cc_console.specs.Invocation.{IsInvocation, IsProgram, faults_of, is_taken};
 ghost use Rattle.cc_console.specs.Outcome.{EndsOn};
@@ -125,6 +126,7 @@ pub fn answer_words<M: RunMemory + TraceMemory, I: Inputs, W: Sink, E: Sink>(
     requires errors { E.has_failed errors.old ≡ false }
     ensures executes { IfOk result (λ end. (app : App) × IsProgram app × ExecutesCommand (subcommand_of app (texts words.now)) terminals (record {
       input = I.bytes_of inputs.old;
+      left = I.Opened.to_come source.new;
       output = W.taken_bytes sink.old;
       output_now = W.taken_bytes sink.new;
       errors = E.taken_bytes errors.old;
@@ -135,11 +137,12 @@ pub fn answer_words<M: RunMemory + TraceMemory, I: Inputs, W: Sink, E: Sink>(
       read_failed = I.Opened.has_failed source.new;
       write_failed = W.has_failed sink.new;
       memory_failed = M.has_failed memory.new;
+      is_flushed = W.is_flushed sink.new;
       last_asked = I.last_asked inputs.new;
-      left = I.Opened.to_come source.new;
     }) end) }
     ensures runs_script { (app : App) × IsProgram app × MatchResult result (λ end. (invocation : InvocationSpec) × IsInvocation (subcommand_of app (texts words.now)) invocation × AnswersEveryScript invocation (record {
       input = I.bytes_of inputs.old;
+      left = I.Opened.to_come source.new;
       output = W.taken_bytes sink.old;
       output_now = W.taken_bytes sink.new;
       errors = E.taken_bytes errors.old;
@@ -150,9 +153,12 @@ pub fn answer_words<M: RunMemory + TraceMemory, I: Inputs, W: Sink, E: Sink>(
       read_failed = I.Opened.has_failed source.new;
       write_failed = W.has_failed sink.new;
       memory_failed = M.has_failed memory.new;
+      is_flushed = W.is_flushed sink.new;
       last_asked = I.last_asked inputs.new;
-      left = I.Opened.to_come source.new;
     }) end) (λ error. is_taken app (texts words.now) ≡ true → M.has_failed memory.new ≡ true) }
+    ensures asked { IfOk result (λ end. (app : App) × IsProgram app × (invocation : InvocationSpec) × IsInvocation (subcommand_of app (texts words.now)) invocation
+        × (IsUnasked (input_of invocation) (I.last_asked inputs.new) → (inputs.new ≡ inputs.old) × (source.new ≡ source.old))
+        × (¬ ReadsInput invocation → (inputs.new ≡ inputs.old) × (source.new ≡ source.old))) }
     ensures accepted { IfOk result (λ end. end ≢ ending.Refused) }
     ensures kinds { (app : App) × IsProgram app × FailsBy (faults_of app (texts words.now)) result }
     ensures refused { IfErr result (λ error. (app : App) × IsProgram app × (is_taken app (texts words.now) ≡ true → kind_of error ≡ ErrorKind.OutOfMemory)) }
@@ -187,8 +193,11 @@ fn answer_invocation<M: RunMemory + TraceMemory, I: Inputs, W: Sink, E: Sink>(
     requires sink { W.has_failed sink.old ≡ false }
     requires errors { E.has_failed errors.old ≡ false }
     ensures accepted { result ≢ ending.Refused }
+    ensures asked { IsUnasked (input_of invocation.entry) (I.last_asked inputs.new) → (inputs.new ≡ inputs.old) × (source.new ≡ source.old) }
+    ensures unused { ¬ ReadsInput invocation.entry → (inputs.new ≡ inputs.old) × (source.new ≡ source.old) }
     ensures executes { (found : Option (Text × List Row)) → IsInvocation found invocation.entry → ExecutesCommand found terminals (record {
       input = I.bytes_of inputs.old;
+      left = I.Opened.to_come source.new;
       output = W.taken_bytes sink.old;
       output_now = W.taken_bytes sink.new;
       errors = E.taken_bytes errors.old;
@@ -199,8 +208,8 @@ fn answer_invocation<M: RunMemory + TraceMemory, I: Inputs, W: Sink, E: Sink>(
       read_failed = I.Opened.has_failed source.new;
       write_failed = W.has_failed sink.new;
       memory_failed = M.has_failed memory.new;
+      is_flushed = W.is_flushed sink.new;
       last_asked = I.last_asked inputs.new;
-      left = I.Opened.to_come source.new;
     }) result }
 {
     let result = execute(memory, invocation, terminals, inputs, source, sink, errors);

@@ -8,6 +8,7 @@ returns-clause-draws g c = λ errors errors_now errors_failed.
     draws_input c.args.svg c.args.opening.now c.in_ok-session.session.machine (initial_state c.args.limit) c.args.input
     (record {
       input = g.I.Inputs.bytes_of c.args.inputs.now;
+      left = g.I.Opened.Source.to_come c.draw_end.new.source;
       output = g.W.Sink.taken_bytes c.args.sink.now;
       output_now = g.W.Sink.taken_bytes c.draw_end.new.sink;
       errors = errors;
@@ -15,4 +16,4 @@ returns-clause-draws g c = λ errors errors_now errors_failed.
       errors_failed = errors_failed;
     })
     (g.I.Inputs.bytes_of c.args.inputs.now) _ _ _ _ _ c.draw_end.result c.in_ok-session.ensures.machine refl refl
-    c.in_ok-open.ensures.opened refl refl c.draw_end.ensures.draws
+    c.in_ok-open.ensures.opened refl refl refl c.draw_end.ensures.draws

@@ -12,6 +12,7 @@ returns-in-Ok-clause-executes g c = λ errors errors_now errors_failed.
     search rules in
     let console : Console = record {
       input = g.I.Inputs.bytes_of c.args.inputs.now;
+      left = g.I.Opened.Source.to_come c.draw.new.source;
       output = g.W.Sink.taken_bytes c.args.sink.now;
       output_now = g.W.Sink.taken_bytes c.draw.new.sink;
       errors = errors;

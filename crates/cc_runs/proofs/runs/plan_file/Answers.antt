@@ -12,6 +12,7 @@ returns-in-Ok-clause-starved g c = λ ran_out.
     search rules in
     let console : Console = record {
       input = g.I.Inputs.bytes_of c.args.inputs.now;
+      left = g.I.Opened.Source.to_come c.run.new.source;
       output = g.W.Sink.taken_bytes c.args.sink.now;
       output_now = g.W.Sink.taken_bytes c.run.new.sink;
       errors = g.E.Sink.taken_bytes c.args.errors.now;

@@ -10,13 +10,14 @@ returns-clause-runs g c =
     runs_input c.args.report c.args.opening.now c.args.pool c.in_ok-session.session.machine (initial_state c.args.limit) c.args.input
     (record {
       input = g.I.Inputs.bytes_of c.args.inputs.now;
+      left = g.I.Opened.Source.to_come c.run_and_report.new.source;
       output = g.W.Sink.taken_bytes c.args.sink.now;
       output_now = g.W.Sink.taken_bytes c.run_and_report.new.sink;
       errors = g.E.Sink.taken_bytes c.args.errors.now;
       errors_now = g.E.Sink.taken_bytes c.run_and_report.new.errors;
       errors_failed = g.E.Sink.has_failed c.run_and_report.new.errors;
     })
-    (g.I.Inputs.bytes_of c.args.inputs.now) _ _ _ c.run_and_report.result c.in_ok-session.ensures.machine refl refl
+    (g.I.Inputs.bytes_of c.args.inputs.now) _ _ c.run_and_report.result c.in_ok-session.ensures.machine refl refl
     c.in_ok-open.ensures.opened c.run_and_report.ensures.runs
 
 pub returns-clause-starved : goal.returns-clause-starved
@@ -24,6 +25,7 @@ returns-clause-starved g c = λ is.
     let told = c.run_and_report.ensures.starved is in
     let console : Console = record {
       input = g.I.Inputs.bytes_of c.args.inputs.now;
+      left = g.I.Opened.Source.to_come c.run_and_report.new.source;
       output = g.W.Sink.taken_bytes c.args.sink.now;
       output_now = g.W.Sink.taken_bytes c.run_and_report.new.sink;
       errors = g.E.Sink.taken_bytes c.args.errors.now;
@@ -31,13 +33,11 @@ returns-clause-starved g c = λ is.
       errors_failed = g.E.Sink.has_failed c.run_and_report.new.errors;
     } in
     let unread = g.I.Opened.Source.to_come c.open.new.source in
-    let left = g.I.Opened.Source.to_come c.run_and_report.new.source in
     inr (
       told.0,
       unread,
-      left,
       c.in_ok-open.ensures.opened,
-      subst (λ (start : State). AnswersAll c.args.opening.now start (traffic_of console unread left)) c.in_ok-session.ensures.machine told.1,
+      subst (λ (start : State). AnswersAll c.args.opening.now start (traffic_of console unread)) c.in_ok-session.ensures.machine told.1,
     )
 
 pub returns-clause-main : goal.returns-clause-main

@@ -7,6 +7,7 @@ pub returns-in-Ok-clause-decodes : goal.returns-in-Ok-clause-decodes
 returns-in-Ok-clause-decodes g c = λ errors errors_now errors_failed.
     let console : Console = record {
       input = g.I.Inputs.bytes_of c.args.inputs.now;
+      left = g.I.Opened.Source.to_come c.list_words.new.source;
       output = g.W.Sink.taken_bytes c.args.sink.now;
       output_now = g.W.Sink.taken_bytes c.list_words.new.sink;
       errors = errors;

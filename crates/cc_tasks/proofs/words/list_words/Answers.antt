@@ -11,6 +11,7 @@ returns-in_err-decode_words_after-clause-lists g c = λ errors errors_now errors
     let told = err_from_is_err_and c.from_residual-in_err-decode_words_after.result c.from_residual-in_err-decode_words_after.ensures.1 in
     let console : Console = record {
       input = g.I.Inputs.bytes_of c.args.inputs.now;
+      left = g.I.Opened.Source.to_come c.decode_words_after.new.source;
       output = g.W.Sink.taken_bytes c.args.sink.now;
       output_now = g.W.Sink.taken_bytes c.decode_words_after.new.sink;
       errors = errors;
@@ -19,6 +20,6 @@ returns-in_err-decode_words_after-clause-lists g c = λ errors errors_now errors
     } in
     on_devices (FromInput c.args.input console (ListsWords c.args.skipped c.args.options)) c.from_residual-in_err-decode_words_after.result
     (Err c.in_err-decode_words_after.field-0.0) (told.1 ∙ ap Err told.2)
-    (from_input c.args.input console (ListsWords c.args.skipped c.args.options) (g.I.Inputs.bytes_of c.args.inputs.now) _ _ _
+    (from_input c.args.input console (ListsWords c.args.skipped c.args.options) (g.I.Inputs.bytes_of c.args.inputs.now) _ _
     (Err c.in_err-decode_words_after.field-0.0) refl refl c.in_ok-open.ensures.opened
     (record { lists = c.in_err-decode_words_after.ensures.lists; whole = c.in_err-decode_words_after.ensures.whole }))

@@ -10,6 +10,7 @@ pub returns-in-Ok-clause-rounds : goal.returns-in-Ok-clause-rounds
 returns-in-Ok-clause-rounds g c =
     let console : Console = record {
       input = g.I.Inputs.bytes_of c.args.inputs.now;
+      left = g.I.Opened.Source.to_come c.round_hinted.new.source;
       output = g.W.Sink.taken_bytes c.args.sink.now;
       output_now = g.W.Sink.taken_bytes c.round_hinted.new.sink;
       errors = g.E.Sink.taken_bytes c.args.errors.now;

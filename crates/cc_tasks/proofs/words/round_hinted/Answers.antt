@@ -7,6 +7,7 @@ pub returns-then-is_err-clause-rounds : goal.returns-then-is_err-clause-rounds
 returns-then-is_err-clause-rounds g c =
     let console : Console = record {
       input = g.I.Inputs.bytes_of c.args.inputs.now;
+      left = g.I.Opened.Source.to_come c.round_input-result.new.source;
       output = g.W.Sink.taken_bytes c.args.sink.now;
       output_now = g.W.Sink.taken_bytes c.round_input-result.new.sink;
       errors = g.E.Sink.taken_bytes c.args.errors.now;
@@ -21,6 +22,7 @@ pub returns-clause-rounds : goal.returns-clause-rounds
 returns-clause-rounds g c =
     let console : Console = record {
       input = g.I.Inputs.bytes_of c.args.inputs.now;
+      left = g.I.Opened.Source.to_come c.round_input-result.new.source;
       output = g.W.Sink.taken_bytes c.args.sink.now;
       output_now = g.W.Sink.taken_bytes c.round_input-result.new.sink;
       errors = g.E.Sink.taken_bytes c.args.errors.now;

@@ -17,12 +17,12 @@ returns-in_err-write_chart-clause-charts g c = λ traffic unread left output out
     let is_write : c.in_err-write_chart.field-0.0 ≡ Write = cc c.in_err-write_chart.ensures.write in
     on_devices (Charts c.args.charting.now traffic) c.from_residual-in_err-write_chart.result (Err Write)
     (told.1 ∙ ap Err (told.2 ∙ ap fault_of is_write))
-    (stops_in_chart c.args.charting.now c.take.new.trace traffic _ _ _ _ _ unread left output output_now c.in_ok-summary.ensures.takes
+    (stops_in_chart c.args.charting.now c.take_chart.new.charting traffic _ _ _ _ _ unread left output output_now c.in_ok-summary.ensures.takes
     (λ is. c.in_default.not-OutOfMemory (c.progress.ensures ∙ is))
     (subst (λ (chart : Chart). TakesBeginning (g.W.Sink.taken_bytes c.args.sink.now) (g.W.Sink.taken_bytes c.write_chart.new.sink) (chart_text chart)) c.chart.ensures c.in_err-write_chart.ensures.err))
 
 pub returns-clause-charts : goal.returns-clause-charts
 returns-clause-charts g c = λ traffic unread left output output_now.
-    charts_all c.args.charting.now c.take.new.trace traffic _ _ _ _ _ unread left output output_now
+    charts_all c.args.charting.now c.take_chart.new.charting traffic _ _ _ _ _ unread left output output_now
     c.in_ok-summary.ensures.takes (λ is. c.in_default.not-OutOfMemory (c.progress.ensures ∙ is))
     (subst (λ (chart : Chart). Appends (g.W.Sink.taken_bytes c.args.sink.now) (g.W.Sink.taken_bytes c.write_chart.new.sink) (chart_text chart)) c.chart.ensures c.in_ok-write_chart.ensures.ok)

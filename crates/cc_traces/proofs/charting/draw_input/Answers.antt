@@ -8,6 +8,7 @@ returns-clause-charts g c = λ errors errors_now errors_failed.
     reads_input (Charts c.args.charting.now) c.args.input
     (record {
       input = g.I.Inputs.bytes_of c.args.inputs.now;
+      left = g.I.Opened.Source.to_come c.draw.new.source;
       output = g.W.Sink.taken_bytes c.args.sink.now;
       output_now = g.W.Sink.taken_bytes c.draw.new.sink;
       errors = errors;
@@ -15,4 +16,4 @@ returns-clause-charts g c = λ errors errors_now errors_failed.
       errors_failed = errors_failed;
     })
     (g.I.Inputs.bytes_of c.args.inputs.now) _ _ _ _ _ c.draw.result refl refl
-    c.in_ok-open.ensures.opened refl refl c.draw.ensures.charts
+    c.in_ok-open.ensures.opened refl refl refl c.draw.ensures.charts

@@ -11,6 +11,7 @@ returns-then-each-eq0-clause-replays g c = λ errors errors_now errors_failed.
     reads_input (WritesReplay c.args.each text_of c.args.replay.now) c.args.input
     (record {
       input = g.I.Inputs.bytes_of c.args.inputs.now;
+      left = g.I.Opened.Source.to_come c.sum_up.new.source;
       output = g.W.Sink.taken_bytes c.args.sink.now;
       output_now = g.W.Sink.taken_bytes c.sum_up.new.sink;
       errors = errors;
@@ -18,7 +19,7 @@ returns-then-each-eq0-clause-replays g c = λ errors errors_now errors_failed.
       errors_failed = errors_failed;
     })
     (g.I.Inputs.bytes_of c.args.inputs.now) _ _ _ _ _ c.sum_up.result refl refl
-    c.in_ok-open.ensures.opened refl refl
+    c.in_ok-open.ensures.opened refl refl refl
     (λ traffic u l o n. sums_up c.args.each text_of c.args.replay.now traffic c.sum_up.result none (c.sum_up.ensures.sums_up traffic u l o n))
 
 pub returns-else-each-eq0-clause-replays : goal.returns-else-each-eq0-clause-replays
@@ -28,6 +29,7 @@ returns-else-each-eq0-clause-replays g c = λ errors errors_now errors_failed.
     reads_input (WritesReplay c.args.each text_of c.args.replay.now) c.args.input
     (record {
       input = g.I.Inputs.bytes_of c.args.inputs.now;
+      left = g.I.Opened.Source.to_come c.sample.new.source;
       output = g.W.Sink.taken_bytes c.args.sink.now;
       output_now = g.W.Sink.taken_bytes c.sample.new.sink;
       errors = errors;
@@ -35,5 +37,5 @@ returns-else-each-eq0-clause-replays g c = λ errors errors_now errors_failed.
       errors_failed = errors_failed;
     })
     (g.I.Inputs.bytes_of c.args.inputs.now) _ _ _ _ _ c.sample.result refl refl
-    c.in_ok-open.ensures.opened refl refl
+    c.in_ok-open.ensures.opened refl refl refl
     (λ traffic u l o n. samples c.args.each text_of c.args.replay.now traffic c.sample.result some (c.sample.ensures.samples traffic u l o n))

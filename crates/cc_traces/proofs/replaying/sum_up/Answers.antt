@@ -14,10 +14,10 @@ returns-in_err-write_end-clause-sums_up g c = λ traffic unread left output outp
     let text_of = end_text c.args.sizes c.args.format in
     on_devices (SumsUp text_of c.args.replay.now traffic) c.from_residual-in_err-write_end.result (Err Write)
     (told.1 ∙ ap Err (told.2 ∙ ap fault_of is_write))
-    (stops_in_summary text_of c.args.replay.now c.take.new.trace traffic _ _ _ _ _ unread left output output_now c.in_ok-summary.ensures.takes
+    (stops_in_summary text_of c.args.replay.now c.take_replay.new.replay traffic _ _ _ _ _ unread left output output_now c.in_ok-summary.ensures.takes
     (λ is. c.in_default.not-OutOfMemory (c.progress.ensures ∙ is)) c.in_err-write_end.ensures.err)
 
 pub returns-clause-sums_up : goal.returns-clause-sums_up
 returns-clause-sums_up g c = λ traffic unread left output output_now.
-    sums_up_all (end_text c.args.sizes c.args.format) c.args.replay.now c.take.new.trace traffic _ _ _ _ _ unread left output output_now
+    sums_up_all (end_text c.args.sizes c.args.format) c.args.replay.now c.take_replay.new.replay traffic _ _ _ _ _ unread left output output_now
     c.in_ok-summary.ensures.takes (λ is. c.in_default.not-OutOfMemory (c.progress.ensures ∙ is)) c.in_ok-write_end.ensures.ok

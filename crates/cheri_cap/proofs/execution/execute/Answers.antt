@@ -5,7 +5,7 @@ use Rattle.cc_console.specs.Input.{file_input}
 use Rattle.cc_console.specs.declared.invocation.Invocation.{Invocation}
 use Rattle.cc_runs.specs.Runs.{MeetsMain}
 use Rattle.cc_syntax.specs.Planning.{pool_of}
-use Rattle.cheri_cap.specs.Input.{IsReported, IsStreamed, Script, script_of}
+use Rattle.cheri_cap.specs.Input.{IsReported, IsStreamed, ReadsInput, Script, script_of}
 use Rattle.cheri_cap.proofs.ExecutionLemmas.{by_invocation, not_given, not_on, on_pool}
 use Rattle.cheri_cap.proofs.execution.execute.Goals as goal
 
@@ -59,3 +59,21 @@ returns-in-Plan-clause-main g c =
     (g.I.Opened.Source.to_come c.plan_file.new.source) (g.W.Sink.taken_bytes c.args.sink.now) (g.W.Sink.taken_bytes c.plan_file.new.sink)) c.plan_file.result in
     subst (λ (invocation : Invocation). IfSome (script_of invocation) meets) (sym c.in-Plan.is)
     (on_pool (pool_of c.in-Plan.pool.base.now c.in-Plan.pool.length.now) c.in-Plan.limit c.in-Plan.align (file_input c.in-Plan.file) meets c.plan_file.ensures.main)
+
+pub returns-in-Plan-clause-unused : goal.returns-in-Plan-clause-unused
+returns-in-Plan-clause-unused g c = λ refused. c.plan_file.ensures.unused (λ ok. refused (subst ReadsInput (sym c.in-Plan.is) ok))
+
+pub returns-in-Map-clause-unused : goal.returns-in-Map-clause-unused
+returns-in-Map-clause-unused g c = λ refused. c.map_file.ensures.unused (λ ok. refused (subst ReadsInput (sym c.in-Map.is) ok))
+
+pub returns-in-Replay-clause-unused : goal.returns-in-Replay-clause-unused
+returns-in-Replay-clause-unused g c = λ refused. c.replay_file.ensures.unused (λ ok. refused (subst ReadsInput (sym c.in-Replay.is) ok))
+
+pub returns-in-RoundList-clause-unused : goal.returns-in-RoundList-clause-unused
+returns-in-RoundList-clause-unused g c = λ refused. c.round_file.ensures.unused (λ ok. refused (subst ReadsInput (sym c.in-RoundList.is) ok))
+
+pub returns-then-is_ok-clause-unused : goal.returns-then-is_ok-clause-unused
+returns-then-is_ok-clause-unused g c = λ refused. c.decode_file-result.ensures.unused (λ ok. refused (subst ReadsInput (sym c.in-Decode.is) ok))
+
+pub returns-else-terminals-clause-unused : goal.returns-else-terminals-clause-unused
+returns-else-terminals-clause-unused g c = λ refused. c.decode_file-result.ensures.unused (λ ok. refused (subst ReadsInput (sym c.in-Decode.is) ok))

@@ -26,6 +26,7 @@ returns-in-Ok-clause-runs_script g c =
     let done = c.answer_invocation.ensures.executes (subcommand_of told.0 (texts c.args.words.now)) told.2 in
     let console : Console = record {
       input = g.I.Inputs.bytes_of c.args.inputs.now;
+      left = g.I.Opened.Source.to_come c.answer_invocation.new.source;
       output = g.W.Sink.taken_bytes c.args.sink.now;
       output_now = g.W.Sink.taken_bytes c.answer_invocation.new.sink;
       errors = g.E.Sink.taken_bytes c.args.errors.now;
@@ -37,8 +38,8 @@ returns-in-Ok-clause-runs_script g c =
       read_failed = g.I.Opened.Source.has_failed c.answer_invocation.new.source;
       write_failed = g.W.Sink.has_failed c.answer_invocation.new.sink;
       memory_failed = g.M.Memory.has_failed c.answer_invocation.new.memory;
+      is_flushed = g.W.Sink.is_flushed c.answer_invocation.new.sink;
       last_asked = g.I.Inputs.last_asked c.answer_invocation.new.inputs;
-      left = g.I.Opened.Source.to_come c.answer_invocation.new.source;
     } in
     (told.0, told.1, (done.invocation, done.is_invocation, runs_script done.invocation c.args.terminals console failures c.answer_invocation.result done.executed))
 
@@ -46,3 +47,8 @@ pub returns-in-Err-clause-runs_script : goal.returns-in-Err-clause-runs_script
 returns-in-Err-clause-runs_script g c =
     let told = c.in-Err.ensures.refused in
     (told.0, told.1, λ taken. c.in-Err.ensures.fails.0 (told.2 taken))
+
+pub returns-in-Ok-clause-asked : goal.returns-in-Ok-clause-asked
+returns-in-Ok-clause-asked g c =
+    let told = c.in-Ok.ensures.read in
+    (told.0, told.1, c.in-Ok.invocation, told.2, c.answer_invocation.ensures.asked, c.answer_invocation.ensures.unused)
