@@ -56,3 +56,4 @@ mod TraceCounterexampleLemmas
 mod DrawingCounterexampleLemmas
 mod SealingLemmas
 mod HeldAgainLemmas
+mod WorkedScriptLemmas

@@ -11,3 +11,4 @@ pub mod IgnoresPeaks
 pub mod OneOutcome
 pub mod Translation
 pub mod ChartedRun
+pub mod WorkedScript

@@ -27,3 +27,4 @@ pub mod scripts;
 mod traces_counterexamples;
 pub mod values;
 pub mod words;
+pub mod worked;
