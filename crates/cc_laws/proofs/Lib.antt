@@ -57,3 +57,4 @@ mod DrawingCounterexampleLemmas
 mod SealingLemmas
 mod HeldAgainLemmas
 mod WorkedScriptLemmas
+mod ChartTotalLemmas

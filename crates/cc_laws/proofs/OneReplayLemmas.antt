@@ -35,7 +35,7 @@ abbrev re : RunState → ReplayState → ReplayState
 re run state = record state { run = run }
 
 -- each id is that of one object at most
-abbrev IsOnce : ReplayState → Type 0
+abbrev pub IsOnce : ReplayState → Type 0
 IsOnce state = AreOnceIn state.run.heap.memory.live
 
 -- the other replay is the one with a run that is alike
@@ -274,13 +274,13 @@ one_replay settings reading text output told any_error is_told new another first
 -- ---- every trace has a replay that does not run out of memory
 
 -- a line, or the trailing bytes, lead to a replay
-record LeadsOn (Takes : (text : List ℕ) → (is_error : Bool) → (new : ReplayState) → Type 0) : Type 0 where
-  text : List ℕ
-  is_error : Bool
-  new : ReplayState
-  takes : Takes text is_error new
-  once : IsOnce new
-  left : new.progress ≢ OutOfMemory
+pub record LeadsOn (Takes : (text : List ℕ) → (is_error : Bool) → (new : ReplayState) → Type 0) : Type 0 where
+  pub text : List ℕ
+  pub is_error : Bool
+  pub new : ReplayState
+  pub takes : Takes text is_error new
+  pub once : IsOnce new
+  pub left : new.progress ≢ OutOfMemory
 
 not_out : (reading : Reading) (refused : Bool) → progress_after reading refused ≢ OutOfMemory
 not_out reading refused = by_test (reading.is_strict && refused)
@@ -325,7 +325,7 @@ entry_leads old (Err refusal) once left = record {
   left = not_out old.reading true;
 }
 
-line_leads : (old : ReplayState) (line : List ℕ) → IsOnce old → old.progress ≢ OutOfMemory → LeadsOn (TakesLine old line)
+pub line_leads : (old : ReplayState) (line : List ℕ) → IsOnce old → old.progress ≢ OutOfMemory → LeadsOn (TakesLine old line)
 line_leads old line once left = by_progress old.progress left
   where
     by_progress : (progress : Progress) → progress ≢ OutOfMemory → LeadsOn (TakesLineIn progress old line)
@@ -335,7 +335,7 @@ line_leads old line once left = by_progress old.progress left
     by_progress Stopped runs = record { text = []; is_error = false; new = old; takes = (refl, refl, refl); once = once; left = left }
     by_progress OutOfMemory runs = absurd (runs refl)
 
-rest_leads : (old : ReplayState) (rest : List ℕ) → IsOnce old → old.progress ≢ OutOfMemory
+pub rest_leads : (old : ReplayState) (rest : List ℕ) → IsOnce old → old.progress ≢ OutOfMemory
     → LeadsOn (λ text is_error new. EndsWith TakesRest old rest (record { text = text; is_error = is_error }) new)
 rest_leads old [] once left = record { text = []; is_error = false; new = old; takes = (refl, refl, refl); once = once; left = left }
 rest_leads old (byte ∷ rest) once left = by_progress old.progress left

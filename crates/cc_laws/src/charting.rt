@@ -22,3 +22,12 @@ pub fn charts_are_of_all_events()
         → new.replay.progress ≢ OutOfMemory → length (events_in reading.format None (lines_of text)) < 2 ^ 64
         → ShowsRun (empty_heap settings) (events_in reading.format None (lines_of text)) new }
 {}
+
+/// Proves that every trace has a chart: from a heap that held nothing, its lines can be taken without
+/// running out of memory.
+pub fn every_trace_has_a_chart()
+    ensures { (settings : Settings) (reading : Reading) (text : List ℕ)
+        → (output : List ℕ) × (any_error : Bool) × (new : Charted)
+        × Output ChartsLine ChartsRest lines (begun_chart settings reading) text output any_error new
+        × (new.replay.progress ≢ OutOfMemory) }
+{}
