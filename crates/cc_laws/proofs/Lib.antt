@@ -58,3 +58,4 @@ mod SealingLemmas
 mod HeldAgainLemmas
 mod WorkedScriptLemmas
 mod ChartTotalLemmas
+mod TraceWitnessLemmas

@@ -116,15 +116,15 @@ second-computed : word_of_capability second_capability ≡ 0xffff0000000f803d000
 unfolding word_of_capability exponent_of first_exponent
 second-computed = refl
 
-pool-sound : IsSound pool_span
+pub pool-sound : IsSound pool_span
 pool-sound = sound-of pool_span pool-is_span pool-granted
 
-base-word : IsWordOf base_capability 0xffff0000000000000000000000010000
+pub base-word : IsWordOf base_capability 0xffff0000000000000000000000010000
 base-word =
     word_is base_capability 0xffff0000000000000000000000010000
     (over (from_zero (2 ^ 64)) 0x10000 root-IsCapability.is_span root-IsCapability.sound (omega arith) (omega arith) (omega arith)) base-computed
 
-pool-word : IsWordOf pool_capability 0xffff0000000190000000000000010000
+pub pool-word : IsWordOf pool_capability 0xffff0000000190000000000000010000
 pool-word =
     word_is pool_capability 0xffff0000000190000000000000010000
     (over pool_span 0x10000 pool-is_span pool-sound (omega arith) (omega arith) (omega arith)) pool-computed

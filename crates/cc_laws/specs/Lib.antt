@@ -12,3 +12,4 @@ pub mod OneOutcome
 pub mod Translation
 pub mod ChartedRun
 pub mod WorkedScript
+pub mod WorkedTrace

@@ -25,6 +25,7 @@ pub mod runs;
 pub mod scripting;
 pub mod scripts;
 mod traces_counterexamples;
+mod traces_witnesses;
 pub mod values;
 pub mod words;
 pub mod worked;
