@@ -1,9 +1,8 @@
 -- Every trace has a chart.
-use Rattle.std.proofs.Common.{◌≡◌, ◌≢◌, ◌||◌, ℕ, Bool, true, false, List, [], ◌∷◌, ◌++◌, refl, arith}
+use Rattle.std.proofs.Common.{◌≢◌, ◌||◌, ℕ, Bool, false, List, [], ◌∷◌, ◌++◌, refl, arith}
 use Rattle.std.specs.List.{list_any}
 use Rattle.cc_io.specs.Answers.{Answer, AnswersAll, EndsWith, Output, answers_text, entries_of, rest_of}
 use Rattle.cc_io.specs.Frames.{lines}
-use Rattle.cc_chart.specs.Chart.{Chart}
 use Rattle.cc_formats.specs.declared.reading.Progress.TheVariants.{Running, OutOfMemory}
 use Rattle.cc_formats.specs.declared.reading.Reading.{Reading}
 use Rattle.cc_heap.specs.declared.settings.Settings.{Settings}

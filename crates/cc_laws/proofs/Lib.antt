@@ -59,3 +59,4 @@ mod HeldAgainLemmas
 mod WorkedScriptLemmas
 mod ChartTotalLemmas
 mod TraceWitnessLemmas
+mod DrawingWitnessLemmas

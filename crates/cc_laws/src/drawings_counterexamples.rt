@@ -1,13 +1,20 @@
-//! Proves that no claim of the laws of drawings and listings holds for everything. Each function here
-//! does nothing, and its contract is the claim.
-ghost use Rattle.std.specs.Prelude.{ℕ, ◌≡◌, true, false, List, [], ◌∷◌, Option};
+//! Proves that no claim of the laws of drawings and listings holds for everything, and that their
+//! premises are met. Each function here does nothing, and its contract is the claim.
+ghost use Rattle.std.specs.Prelude.{ℕ, ◌≡◌, true, false, List, [], ◌∷◌, ◌++◌, Option, Some};
 ghost use Rattle.cc_bounds.specs.Span.{span_from};
 ghost use Rattle.cc_values.specs.declared.usage.Usage.{Usage};
 ghost use Rattle.cc_io.specs.declared.input_form.InputForm.TheVariants.{Lines};
-ghost use Rattle.cc_draw.specs.declared.layout.Layout.{Layout};
+ghost use Rattle.cc_machine.specs.Planned.{plan_of};
+ghost use Rattle.cc_draw.specs.Usage.{IsUsage, pool_span};
+ghost use Rattle.cc_io.specs.declared.format.Format.{Format};
+ghost use Rattle.cc_decode.specs.declared.options.Search.{Search};
+ghost use Rattle.cc_decode.specs.Correct.{WritesListing};
+ghost use Rattle.cc_decode.specs.Output.{refused_text};
+ghost use Rattle.cc_decode.specs.Place.{header_of};
 ghost use Rattle.cc_decode.specs.declared.options.Options.{Options};
-ghost use Rattle.cc_laws.specs.DrawnObjects.{CountsFreeBytes, IsDrawnExactly};
+ghost use Rattle.cc_laws.specs.DrawnObjects.{ArePlaced, CountsFreeBytes, IsDrawnExactly};
 ghost use Rattle.cc_laws.specs.ListingParts.{RowsInParts};
+ghost use Rattle.cc_laws.specs.Witnesses.{with_first_object};
 
 /// A pool of 16 free bytes in which no hole, or a hole of no bytes, is counted.
 fn usage_that_misses_free_bytes()
@@ -25,4 +32,17 @@ fn objects_that_are_not_drawn_exactly()
 fn rows_of_other_input()
     ensures rows { (options : Options) → options.input ≡ Lines → ¬ RowsInParts options [] [] (10 ∷ []) false }
     ensures error { (options : Options) → options.input ≡ Lines → ¬ RowsInParts options [] [] [] true }
+{}
+
+/// A plan with an object, which is that of a worked state, and its usage.
+fn a_plan_with_its_usage()
+    ensures placed { ArePlaced (pool_span (plan_of with_first_object)) (plan_of with_first_object).objects }
+    ensures usage { (usage : Usage) × IsUsage 2 (plan_of with_first_object) usage }
+{}
+
+/// The listing of a line that is not a word: the refusal of this line.
+fn a_listing_of_a_line()
+    ensures { (format : Format) (at : Option ℕ) (search : Option Search) → WritesListing
+        (record { input = Lines; format = format; at = at; search = search }) (120 ∷ 10 ∷ []) (Some [])
+        (Some (header_of (record { input = Lines; format = format; at = at; search = search }) ++ (refused_text search ++ []) ++ [])) true }
 {}
