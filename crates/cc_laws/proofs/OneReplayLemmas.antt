@@ -273,14 +273,22 @@ one_replay settings reading text output told any_error is_told new another first
 
 -- ---- every trace has a replay that does not run out of memory
 
+-- lines are still taken, if no refusal stops them
+abbrev pub KeepsOn : (old new : ReplayState) → Type 0
+KeepsOn old new = old.reading.is_strict ≡ false → old.progress ≡ Running → (new.progress ≡ Running) × (new.reading.is_strict ≡ false)
+
+keeps-on : (reading : Reading) (refused : Bool) → reading.is_strict ≡ false → progress_after reading refused ≡ Running
+keeps-on reading refused loose = ap (λ (strict : Bool). if strict && refused then Stopped else Running) loose
+
 -- a line, or the trailing bytes, lead to a replay
-pub record LeadsOn (Takes : (text : List ℕ) → (is_error : Bool) → (new : ReplayState) → Type 0) : Type 0 where
+pub record LeadsOn (old : ReplayState) (Takes : (text : List ℕ) → (is_error : Bool) → (new : ReplayState) → Type 0) : Type 0 where
   pub text : List ℕ
   pub is_error : Bool
   pub new : ReplayState
   pub takes : Takes text is_error new
   pub once : IsOnce new
   pub left : new.progress ≢ OutOfMemory
+  pub runs : KeepsOn old new
 
 not_out : (reading : Reading) (refused : Bool) → progress_after reading refused ≢ OutOfMemory
 not_out reading refused = by_test (reading.is_strict && refused)
@@ -290,7 +298,7 @@ not_out reading refused = by_test (reading.is_strict && refused)
     by_test false e = cc
 
 entry_leads : (old : ReplayState) (event : Result (Option Event) Refusal) → IsOnce old → old.progress ≢ OutOfMemory
-    → LeadsOn (TakesEntry old event)
+    → LeadsOn old (TakesEntry old event)
 entry_leads old (Ok (Some event)) once left =
     let made = run_leads old.run event once in
     record {
@@ -313,9 +321,10 @@ entry_leads old (Ok (Some event)) once left =
       });
       once = event_once old.run.heap event made.is.told made.new.heap once made.is.is_event;
       left = not_out old.reading (is_refused made.outcome);
+      runs = λ loose running. (keeps-on old.reading (is_refused made.outcome) loose, loose);
     }
 entry_leads old (Ok None) once left =
-    record { text = []; is_error = false; new = old; takes = (refl, refl, refl); once = once; left = left }
+    record { text = []; is_error = false; new = old; takes = (refl, refl, refl); once = once; left = left; runs = λ loose running. (running, loose) }
 entry_leads old (Err refusal) once left = record {
   text = [];
   is_error = true;
@@ -323,24 +332,25 @@ entry_leads old (Err refusal) once left = record {
   takes = record { is_new = refl; error_is = refl; text_is = refl };
   once = once;
   left = not_out old.reading true;
+  runs = λ loose running. (keeps-on old.reading true loose, loose);
 }
 
-pub line_leads : (old : ReplayState) (line : List ℕ) → IsOnce old → old.progress ≢ OutOfMemory → LeadsOn (TakesLine old line)
+pub line_leads : (old : ReplayState) (line : List ℕ) → IsOnce old → old.progress ≢ OutOfMemory → LeadsOn old (TakesLine old line)
 line_leads old line once left = by_progress old.progress left
   where
-    by_progress : (progress : Progress) → progress ≢ OutOfMemory → LeadsOn (TakesLineIn progress old line)
+    by_progress : (progress : Progress) → progress ≢ OutOfMemory → LeadsOn old (TakesLineIn progress old line)
     by_progress Running runs =
         let made = entry_leads (at_entry (next_entry old line) old) (next_entry old line).event once left in
-        record { text = made.text; is_error = made.is_error; new = made.new; takes = made.takes; once = made.once; left = made.left }
-    by_progress Stopped runs = record { text = []; is_error = false; new = old; takes = (refl, refl, refl); once = once; left = left }
+        record { text = made.text; is_error = made.is_error; new = made.new; takes = made.takes; once = made.once; left = made.left; runs = made.runs }
+    by_progress Stopped runs = record { text = []; is_error = false; new = old; takes = (refl, refl, refl); once = once; left = left; runs = λ loose running. (running, loose) }
     by_progress OutOfMemory runs = absurd (runs refl)
 
 pub rest_leads : (old : ReplayState) (rest : List ℕ) → IsOnce old → old.progress ≢ OutOfMemory
-    → LeadsOn (λ text is_error new. EndsWith TakesRest old rest (record { text = text; is_error = is_error }) new)
-rest_leads old [] once left = record { text = []; is_error = false; new = old; takes = (refl, refl, refl); once = once; left = left }
+    → LeadsOn old (λ text is_error new. EndsWith TakesRest old rest (record { text = text; is_error = is_error }) new)
+rest_leads old [] once left = record { text = []; is_error = false; new = old; takes = (refl, refl, refl); once = once; left = left; runs = λ loose running. (running, loose) }
 rest_leads old (byte ∷ rest) once left = by_progress old.progress left
   where
-    by_progress : (progress : Progress) → progress ≢ OutOfMemory → LeadsOn (TakesRestIn progress old (byte ∷ rest))
+    by_progress : (progress : Progress) → progress ≢ OutOfMemory → LeadsOn old (TakesRestIn progress old (byte ∷ rest))
     by_progress Running runs = record {
       text = [];
       is_error = true;
@@ -348,8 +358,9 @@ rest_leads old (byte ∷ rest) once left = by_progress old.progress left
       takes = record { is_new = refl; error_is = refl; text_is = refl };
       once = once;
       left = not_out old.reading true;
+      runs = λ loose running. (keeps-on old.reading true loose, loose);
     }
-    by_progress Stopped runs = record { text = []; is_error = false; new = old; takes = (refl, refl, refl); once = once; left = left }
+    by_progress Stopped runs = record { text = []; is_error = false; new = old; takes = (refl, refl, refl); once = once; left = left; runs = λ loose running. (running, loose) }
     by_progress OutOfMemory runs = absurd (runs refl)
 
 record LeadsThrough (old : ReplayState) (entries : List (List ℕ)) : Type 0 where
@@ -358,9 +369,10 @@ record LeadsThrough (old : ReplayState) (entries : List (List ℕ)) : Type 0 whe
   takes : AnswersAll TakesLine old entries answers new
   once : IsOnce new
   left : new.progress ≢ OutOfMemory
+  runs : KeepsOn old new
 
 lines_lead : (old : ReplayState) (entries : List (List ℕ)) → IsOnce old → old.progress ≢ OutOfMemory → LeadsThrough old entries
-lines_lead old [] once left = record { answers = []; new = old; takes = refl; once = once; left = left }
+lines_lead old [] once left = record { answers = []; new = old; takes = refl; once = once; left = left; runs = λ loose running. (running, loose) }
 lines_lead old (line ∷ entries) once left =
     let first = line_leads old line once left in
     let next = lines_lead first.new entries first.once first.left in
@@ -370,6 +382,7 @@ lines_lead old (line ∷ entries) once left =
       takes = (first.new, first.takes, next.takes);
       once = next.once;
       left = next.left;
+      runs = λ loose running. let after = first.runs loose running in next.runs after.1 after.0;
     }
 
 pub record HasReplay (settings : Settings) (reading : Reading) (text : List ℕ) : Type 0 where
@@ -378,6 +391,7 @@ pub record HasReplay (settings : Settings) (reading : Reading) (text : List ℕ)
   pub new : ReplayState
   pub is : Output TakesLine TakesRest lines (begun (empty_run settings) reading) text output any_error new
   pub left : new.progress ≢ OutOfMemory
+  pub runs : reading.is_strict ≡ false → new.progress ≡ Running
 
 pub some_replay : (settings : Settings) (reading : Reading) (text : List ℕ) → HasReplay settings reading text
 some_replay settings reading text =
@@ -397,6 +411,7 @@ some_replay settings reading text =
         error_is = refl;
       };
       left = end.left;
+      runs = λ loose. let after = all.runs loose refl in (end.runs after.1 after.0).0;
     }
   where
     runs : Running ≢ OutOfMemory

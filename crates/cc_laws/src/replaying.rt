@@ -1,5 +1,5 @@
 //! The laws of replays.
-ghost use Rattle.std.specs.Prelude.{◌≡◌, ◌≢◌, ℕ, Bool, List, Ok, Some};
+ghost use Rattle.std.specs.Prelude.{◌≡◌, ◌≢◌, ℕ, Bool, false, List, Ok, Some};
 ghost use Rattle.cc_io.specs.Answers.{Output};
 ghost use Rattle.cc_io.specs.Frames.{lines};
 ghost use Rattle.cc_io.specs.Lines.{lines_of};
@@ -30,7 +30,7 @@ pub fn replays_are_runs()
 
 /// Proves that a trace has one replay. Two replays of it from a heap that held nothing, neither of which
 /// ran out of memory, have the same series, and the same figures, of which a summary consists. Every
-/// trace has such a replay.
+/// trace has such a replay; unless it is strict, lines are still taken at its end.
 ///
 /// `Output` is the relation between an input and its output that [`replay_trace`](cc_replay::replay_trace)
 /// states by `Pumps`. The output is the series. Only the order of live objects can differ.
@@ -43,7 +43,7 @@ pub fn one_replay()
     ensures some { (settings : Settings) (reading : Reading) (text : List ℕ)
         → (output : List ℕ) × (any_error : Bool) × (new : ReplayState)
         × Output TakesLine TakesRest lines (begun (empty_run settings) reading) text output any_error new
-        × (new.progress ≢ OutOfMemory) }
+        × (new.progress ≢ OutOfMemory) × (reading.is_strict ≡ false → new.progress ≡ Running) }
 {}
 
 /// Proves that every event is the event of its line in the own format: its name and its numbers in

@@ -8,4 +8,4 @@ returns-clause-same c settings reading text output told any_error is_told new an
 
 pub returns-clause-some : goal.returns-clause-some
 returns-clause-some c settings reading text =
-    let made = some_replay settings reading text in (made.output, made.any_error, made.new, made.is, made.left)
+    let made = some_replay settings reading text in (made.output, made.any_error, made.new, made.is, made.left, made.runs)
