@@ -1,5 +1,5 @@
 -- The output of `show`, `round` and `explain`, the questions for which it is an error, and the hint on a question.
-use Rattle.std.specs.Prelude.{ℕ, Bool, true, false, not, ◌&&◌, IsErr, List, [], ◌∷◌, None, Option, Some}
+use Rattle.std.specs.Prelude.{ℕ, Bool, true, false, not, ◌&&◌, IsErr, List, [], ◌∷◌, None, Some}
 use Rattle.cc_word.specs.WordText.{IsWordText}
 use Rattle.cc_values.specs.Values.{length_in}
 use Rattle.cc_explain.specs.Explanation.{IsExplanation}

@@ -1,4 +1,4 @@
-use Rattle.std.proofs.Common.{◌≡◌, ℕ, Bool, List, subst, sym}
+use Rattle.std.proofs.Common.{ℕ, Bool, List, subst, sym}
 use Rattle.std.specs.Prelude.{IfOk, IsTrue, ◌↔◌}
 use Rattle.cc_word.specs.WordText.{IsWordText}
 use Rattle.cc_explain.specs.Answer.{IsTypedWord}
