@@ -1,20 +1,23 @@
 #!/usr/bin/env python3
-"""The conformance set: its words, and the values of each.
+"""The conformance set: words, requests for bounds, and addresses, with the values of each.
 
 It does not use the library: the rules of decoding are written here from the public standard (UCAM-CL-TR-987;
-Woodruff et al. 2019), and canonical words from the definition of a sound span. docs/CONFORMANCE.md describes the table.
+Woodruff et al. 2019), and canonical words from the definition of a sound span. docs/CONFORMANCE.md describes the tables.
+The inputs of the last rows of each table are in chosen.txt: tests/mistakes chose them, by the mistakes that they find.
 
-    generate.py            compares conformance.tsv with the table that it computes; status 1 if they differ
-    generate.py --write    writes the table
+    generate.py            compares the three tables with those that it computes; status 1 if they differ
+    generate.py --write    writes the tables
 """
 
 import sys
 from pathlib import Path
 
 HERE = Path(__file__).resolve().parent
-TABLE = HERE / "conformance.tsv"
+CHOSEN = HERE / "chosen.txt"
 
 COLUMNS = "name word perms reserved flag type ie t b address exponent base top canonical rebuild".split()
+REQUEST_COLUMNS = "name base length granted_base granted_top exponent ie t b exact mask rounded".split()
+ADDRESS_COLUMNS = "name word address representable".split()
 
 ADDRESS_SPACE = 1 << 64
 NULL_MASK = 0x00001FFFFC018004 << 64
@@ -48,6 +51,7 @@ top_past_end                 ffff00000441bf04ffffffffffffff00 3ffff 0 100 3f00 0
 reserved_bit                 ffff4000000000000000000000000000 3ffff 1 006 0004 52 0x0                0x10000000000000000 no
 flag_set                     ffff2000000000000000000000000000 3ffff 1 006 0004 52 0x0                0x10000000000000000 yes
 all_ones                     ffffffffffffffffffffffffffffffff 00000 0 ff9 3ffb 0  0xfffffffffffffffb 0x10000000000000ff9 no
+carry_with_ie                ffff00000001bf050000000000020010 3ffff 1 000 3f01 1  0x1fe00            0x22000             yes
 """
 
 # One pair of bounds fields at four addresses: name, address, base, top.
@@ -114,6 +118,13 @@ def is_representable(base, exponent, address):
     return (address - start) % ADDRESS_SPACE < 8 * section
 
 
+def stored(base, top):
+    """Returns IE, the B field and the T field that setting bounds to a sound span stores."""
+    exponent, ie = granted(base, top)[0], int(top - base >= 4096)
+    b, t = base >> exponent & 0x3FFF, top >> exponent & 0xFFF
+    return (ie, b | exponent % 8, t | exponent // 8) if ie else (ie, b, t)
+
+
 def is_canonical(fields):
     """Returns whether the fields are those of a capability: a sound span as it is stored, and an address in its window."""
     base, top = decode(fields)
@@ -121,12 +132,15 @@ def is_canonical(fields):
         return False
     if not base <= top <= ADDRESS_SPACE or granted(base, top)[1:] != (base, top):
         return False
-    exponent, ie = granted(base, top)[0], int(top - base >= 4096)
-    b, t = base >> exponent & 0x3FFF, top >> exponent & 0xFFF
-    if ie:
-        b, t = b | exponent % 8, t | exponent // 8
-    is_stored = (fields["ie"], fields["b"], fields["t"]) == (ie, b, t)
-    return is_stored and is_representable(base, exponent, fields["address"])
+    is_stored = (fields["ie"], fields["b"], fields["t"]) == stored(base, top)
+    return is_stored and is_representable(base, granted(base, top)[0], fields["address"])
+
+
+def word_of(base, top, address, perms=0xFFFF, otype=UNSEALED):
+    """Returns the word of a capability, without its flag."""
+    ie, b, t = stored(base, top)
+    fields = perms << 112 | otype << 91 | ie << 90 | t << 78 | b << 64 | address % ADDRESS_SPACE
+    return fields ^ NULL_MASK
 
 
 def row_of(name, word):
@@ -191,24 +205,166 @@ def window_rows():
         yield expect(row, address=address, base=base, top=top, canonical="yes")
 
 
-def table():
-    """Returns the names of the columns, and then the rows, as lists of cells."""
-    rows = [*worked_rows(), *exponent_rows(), *reserved_rows(), *window_rows()]
-    return [COLUMNS, *([row[column] for column in COLUMNS] for row in rows)]
+# The corrections of the base and of the top: the mantissa of the base, and the address, both from the start of B's section 0. Each
+# exponent has two of the five in turn: one length without a carry of the mantissas, and one with it.
+CORRECTIONS = """
+none          0x1480 0x1900
+both_up       0x0300 -0x200
+top_up        0x3a40 0x3b00
+base_down     0x3a40 0x4100
+both_down     0x1d80 0x4600
+"""
 
 
-def with_tabs(lines):
-    return "".join("\t".join(cells) + "\n" for cells in lines)
+def correction_rows():
+    lines = [line.split() for line in CORRECTIONS.strip().splitlines()]
+    for exponent in range(-1, 50):
+        pair = lines[exponent % 5], lines[(exponent + 3) % 5]
+        for number, (name, base, address) in enumerate(pair):
+            unit = 1 << max(exponent, 0)
+            start = 0x5A5A5A5A5A5A5A5A >> (max(exponent, 0) + 14) << (max(exponent, 0) + 14)
+            length = ((0x1158, 0x1D58) if exponent >= 0 else (0x8BD, 0xABD))[number]
+            base, address = start + int(base, 16) * unit, start + int(address, 16) * unit + unit // 3
+            mixed = 2 * exponent + number + 3
+            perms, is_sealed = 0x9E37 * mixed % 0x10000, mixed % 4 == 0
+            word = word_of(base, base + length * unit, address, perms, 0x2A5B7 * mixed % LAST_SEALING_TYPE if is_sealed else UNSEALED)
+            label = f"e{exponent}" if exponent >= 0 else "ie_0"
+            yield expect(row_of(f"{label}_{name}", word), base=f"{base:#x}", top=f"{base + length * unit:#x}", canonical="yes")
+
+
+def chosen(kind):
+    """Yields the name and the numbers of each line of a kind."""
+    for line in CHOSEN.read_text().splitlines():
+        first, name, *numbers = line.split()
+        if first == kind:
+            yield name, *(int(it, 16) for it in numbers)
+
+
+def word_rows():
+    yield from (*worked_rows(), *exponent_rows(), *reserved_rows(), *window_rows(), *correction_rows())
+    for name, word in chosen("word"):
+        yield row_of(name, word)
+
+
+# ---- Requests
+
+
+def request_row(name, base, length):
+    """Returns the row of a request, as printed strings."""
+    exponent, granted_base, granted_top = granted(base, base + length)
+    ie, b, t = stored(granted_base, granted_top)
+    granule = 8 << granted(0, length)[0] if length >= 4096 else 1
+    return {
+        "name": name,
+        "base": f"{base:#x}",
+        "length": f"{length:#x}",
+        "granted_base": f"{granted_base:#x}",
+        "granted_top": f"{granted_top:#x}",
+        "exponent": str(exponent),
+        "ie": str(ie),
+        "t": f"{t:03x}",
+        "b": f"{b:04x}",
+        "exact": "yes" if (granted_base, granted_top) == (base, base + length) else "no",
+        "mask": f"{ADDRESS_SPACE - granule:#x}",
+        "rounded": f"{-(-length // granule) * granule:#x}",
+    }
+
+
+# Requests with their values, written by hand: name, base, length, granted base and top, exponent, ie, t, b, exact, rounded length.
+WORKED_REQUESTS = """
+small_exact          0x1000             0x200               0x1000             0x1200              0  0 200 1000 yes 0x200
+longest_byte_granule 0x0                0xfff               0x0                0xfff               0  0 fff 0000 yes 0xfff
+shortest_with_ie     0x0                0x1000              0x0                0x1000              0  1 000 0000 yes 0x1000
+from_an_odd_address  0x1                0x1000              0x0                0x1008              0  1 008 0000 no  0x1000
+rounded_to_two_pages 0x0                0x1fff              0x0                0x2000              1  1 000 0001 no  0x2000
+grows_from_one       0x1                0x1ff8              0x0                0x2000              1  1 000 0001 no  0x1ff8
+grows_not_yet        0x1                0x1ff7              0x0                0x1ff8              0  1 ff8 0000 no  0x1ff8
+buffer_of_8191       0x10068            0x1fff              0x10060            0x12070             1  1 038 0031 no  0x2000
+upper_half           0x8000000000000000 0x8000000000000000  0x8000000000000000 0x10000000000000000 51 1 006 1003 yes 0x8000000000000000
+last_exponent_51     0x0                0xffc0000000000000  0x0                0xffc0000000000000  51 1 ffe 0003 yes 0xffc0000000000000
+all_but_one_byte     0x0                0xffffffffffffffff  0x0                0x10000000000000000 52 1 006 0004 no  0x10000000000000000
+whole_address_space  0x0                0x10000000000000000 0x0                0x10000000000000000 52 1 006 0004 yes 0x10000000000000000
+nothing              0x0                0x0                 0x0                0x0                 0  0 000 0000 yes 0x0
+nothing_at_the_end   0xffffffffffffffff 0x0                 0xffffffffffffffff 0xffffffffffffffff  0  0 fff 3fff yes 0x0
+last_byte            0xffffffffffffffff 0x1                 0xffffffffffffffff 0x10000000000000000 0  0 000 3fff yes 0x1
+"""
+
+
+def request_rows():
+    """Yields the worked requests, four for each exponent at the limit of 1,023 granules, and the chosen ones."""
+    for line in WORKED_REQUESTS.strip().splitlines():
+        name, base, length, granted_base, granted_top, exponent, ie, t, b, exact, rounded = line.split()
+        values = dict(exponent=exponent, ie=ie, t=t, b=b, exact=exact, rounded=rounded, granted_base=granted_base, granted_top=granted_top)
+        yield expect(request_row(name, int(base, 16), int(length, 16)), **values)
+    for exponent in range(52):
+        granule = 8 << exponent
+        far = (ADDRESS_SPACE // 3) >> (exponent + 13) << (exponent + 13)
+        longest = 1023 * granule
+        yield expect(request_row(f"e{exponent}_longest", 0, longest), exponent=str(exponent), exact="yes")
+        yield expect(request_row(f"e{exponent}_byte_too_long", 0, longest + 1), exponent=str(exponent + 1), exact="no")
+        if far + longest <= ADDRESS_SPACE:
+            row = request_row(f"e{exponent}_both_rounded", far + granule // 2, 700 * granule + 1)
+            yield expect(row, exponent=str(exponent), granted_base=f"{far:#x}", granted_top=f"{far + 701 * granule:#x}")
+            row = request_row(f"e{exponent}_too_many_touched", far + granule - 1, 1022 * granule + 2)
+            yield expect(row, exponent=str(exponent + 1), granted_base=f"{far:#x}", granted_top=f"{far + 1024 * granule:#x}")
+    for name, base, length in chosen("request"):
+        yield request_row(name, base, length)
+
+
+# ---- Addresses
+
+
+def address_row(name, word, address):
+    """Returns the row of an address: it is representable if the word decodes to the same bounds with it, which the window has to say too."""
+    fields = fields_of(word)
+    same = decode(fields) == decode({**fields, "address": address})
+    base, top = decode(fields)
+    if not is_canonical(fields) or same != is_representable(base, granted(base, top)[0], address):
+        sys.exit(f"{name}: the word is not canonical, or the window is not where the bounds are the same")
+    return {"name": name, "word": f"{word:032x}", "address": f"{address:#x}", "representable": "yes" if same else "no"}
+
+
+def address_rows():
+    """Yields the ends of the window for each exponent, and the addresses next to it, and then the chosen ones."""
+    for exponent in range(-1, 50):
+        unit, label = 1 << max(exponent, 0), f"e{exponent}" if exponent >= 0 else "ie_0"
+        section = unit << 11
+        mark = (5 * exponent + 13) * 0x640 % 0x4000 & ~7
+        base = ((ADDRESS_SPACE // 7 * 5) >> (max(exponent, 0) + 14) << 14) * unit + mark * unit
+        top = base + (0x9A1 if exponent < 0 else 0x1208) * unit
+        first = (base // section - 1) * section
+        word = word_of(base, top, base if exponent % 2 else first + 8 * section - 1)
+        ends = dict(first=(first, "yes"), last=(first + 8 * section - 1, "yes"), before=(first - 1, "no"), after=(first + 8 * section, "no"))
+        for name, (address, representable) in ends.items():
+            yield expect(address_row(f"{label}_{name}", word, address % ADDRESS_SPACE), representable=representable)
+    for name, word, address in chosen("address"):
+        yield address_row(name, word, address)
+
+
+TABLES = {
+    "conformance.tsv": (COLUMNS, word_rows),
+    "requests.tsv": (REQUEST_COLUMNS, request_rows),
+    "addresses.tsv": (ADDRESS_COLUMNS, address_rows),
+}
+
+
+def text_of(columns, rows):
+    """Returns the text of a table: the names of the columns, and then the rows."""
+    names = [row["name"] for row in rows]
+    if len({*names}) < len(names):
+        sys.exit(f"two rows have the name {[name for name in names if names.count(name) > 1][0]}")
+    return "".join("\t".join(cells) + "\n" for cells in [columns, *([row[column] for column in columns] for row in rows)])
 
 
 def main(arguments):
-    text = with_tabs(table())
-    if arguments == ["--write"]:
-        TABLE.write_text(text)
-    elif arguments:
+    if arguments not in ([], ["--write"]):
         sys.exit(__doc__)
-    if TABLE.read_text() != text:
-        sys.exit(f"{TABLE} is not the table that the generator computes")
+    for name, (columns, rows) in TABLES.items():
+        text = text_of(columns, [*rows()])
+        if arguments:
+            (HERE / name).write_text(text)
+        if (HERE / name).read_text() != text:
+            sys.exit(f"{HERE / name} is not the table that the generator computes")
 
 
 if __name__ == "__main__":

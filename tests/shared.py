@@ -1,4 +1,4 @@
-"""The parts that several tests share: how they load a file as a module, run programs, report, and read the conformance table."""
+"""The parts that several tests share: how they load a file as a module, run programs, report, and read the conformance tables."""
 import importlib.machinery
 import importlib.util
 import os
@@ -42,9 +42,9 @@ def run(*words, **how):
     return done.stdout
 
 
-def rows():
-    """Returns the conformance table, a dictionary for each row."""
-    lines = (TOP / "conformance/conformance.tsv").read_text().splitlines()
+def rows(name="conformance"):
+    """Returns a conformance table, a dictionary for each row."""
+    lines = (TOP / f"conformance/{name}.tsv").read_text().splitlines()
     names = lines[0].split("\t")
     return [dict(zip(names, line.split("\t"))) for line in lines[1:]]
 
