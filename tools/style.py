@@ -132,7 +132,7 @@ def prose():
         return {str(it.relative_to(TOP)): how(it.read_text(encoding="utf-8")) for it in files}
 
     sources = "crates/*/src/**/*.rt"
-    plain = [it for folder in ("tests", "tools", "bench", "examples") for it in (TOP / folder).iterdir() if it.is_file() and it.suffix in ("", ".bash")]
+    plain = [it for folder in ("tests", "tools", "bench", "examples", "hardware") for it in (TOP / folder).iterdir() if it.is_file() and it.suffix in ("", ".bash")]
     plain += [TOP / it for it in ("install", "cheri-cap", ".ci/run", "docs/check")]
     return {
         "pages": all_of(markdown, "*.md", "docs/*.md"),
@@ -140,8 +140,8 @@ def prose():
         "public": all_of(lambda text: rattle(text, True), sources) | all_of(c, "include/*.h", "include/*.hpp") | all_of(antt, "crates/*/specs/**/*.antt"),
         "other": all_of(lambda text: rattle(text, False), sources)
         | all_of(antt, "crates/*/proofs/**/*.antt")
-        | all_of(c, "examples/*.c", "examples/*.cpp", "bench/*.[ch]")
-        | all_of(script, "python/*.py", "gdb/*.py", "lldb/*.py", "conformance/*.py")
+        | all_of(c, "examples/*.c", "examples/*.cpp", "bench/*.[ch]", "hardware/*.sv", "tests/hardware.d/*.sv")
+        | all_of(script, "python/*.py", "gdb/*.py", "lldb/*.py", "conformance/*.py", "hardware/*.py")
         | {str(it.relative_to(TOP)): script(it.read_text(encoding="utf-8")) for it in plain},
     }
 

@@ -1,0 +1,93 @@
+#!/usr/bin/env python3
+"""Prints the terms of the model as modules of Verilog with the ports of the parts of hardware/reference.sv. Needs python3-z3."""
+import sys
+
+sys.dont_write_bytecode = True
+
+import model
+import z3
+
+BINARY = {
+    z3.Z3_OP_BADD: " + ", z3.Z3_OP_BSUB: " - ", z3.Z3_OP_BAND: " & ", z3.Z3_OP_BOR: " | ", z3.Z3_OP_BXOR: " ^ ", z3.Z3_OP_BSHL: " << ",
+    z3.Z3_OP_BLSHR: " >> ", z3.Z3_OP_EQ: " == ", z3.Z3_OP_DISTINCT: " != ", z3.Z3_OP_ULT: " < ", z3.Z3_OP_ULEQ: " <= ",
+    z3.Z3_OP_UGT: " > ", z3.Z3_OP_UGEQ: " >= ", z3.Z3_OP_AND: " && ", z3.Z3_OP_OR: " || ",
+}
+
+
+class Verilog:
+    """Terms of z3 as wires of a module, one for each operation."""
+
+    def __init__(self):
+        self.lines, self.names = [], {}
+
+    def text(self, term):
+        """Returns the expression of a term over the wires of its parts."""
+        kind = term.decl().kind()
+        if z3.is_bv_value(term):
+            return f"{term.size()}'h{term.as_long():x}"
+        if z3.is_true(term) or z3.is_false(term):
+            return str(int(z3.is_true(term)))
+        parts = [self.wire(it) for it in term.children()]
+        if kind in BINARY:
+            return BINARY[kind].join(parts)
+        high, low = term.params() if kind == z3.Z3_OP_EXTRACT else (0, 0)
+        return {
+            z3.Z3_OP_BNOT: lambda: f"~{parts[0]}",
+            z3.Z3_OP_NOT: lambda: f"!{parts[0]}",
+            z3.Z3_OP_ITE: lambda: f"{parts[0]} ? {parts[1]} : {parts[2]}",
+            z3.Z3_OP_CONCAT: lambda: f"{{{', '.join(parts)}}}",
+            z3.Z3_OP_ZERO_EXT: lambda: parts[0],  # an assignment extends by zeros
+            z3.Z3_OP_EXTRACT: lambda: f"{parts[0]}[{high}:{low}]" if term.arg(0).size() > 1 else parts[0],
+        }[kind]()
+
+    def wire(self, term):
+        """Returns the name of the wire of a term."""
+        if z3.is_const(term) and term.decl().kind() == z3.Z3_OP_UNINTERPRETED:
+            return str(term)
+        # the term is kept, so that z3 gives its number to no other
+        if term.get_id() not in self.names:
+            text, size = self.text(term), term.size() if z3.is_bv(term) else 1
+            self.names[term.get_id()] = f"w{len(self.names)}", term
+            self.lines.append(f"  wire [{size - 1}:0] {self.names[term.get_id()][0]} = {text};")
+        return self.names[term.get_id()][0]
+
+
+def module(name, inputs, outputs):
+    """Returns the module of terms over its inputs. An output that is a condition has one bit."""
+    verilog = Verilog()
+    ends = {output: (verilog.wire(term), term.size() if z3.is_bv(term) else 1) for output, term in outputs.items()}
+    ports = [f"input [{it.size() - 1}:0] {it}" for it in inputs] + [f"output [{size - 1}:0] {output}" for output, (_, size) in ends.items()]
+    lines = verilog.lines + [f"  assign {output} = {wire};" for output, (wire, _) in ends.items()]
+    return "\n".join([f"module {name}({', '.join(ports)});", *lines, "endmodule\n"])
+
+
+def modules():
+    """Returns the texts of the modules."""
+    word, address, base, length = (z3.BitVec(*it) for it in (("word", 128), ("address", 64), ("base", 64), ("length", 65)))
+    fields = model.Fields(model.bits(word, 127, 64), model.bits(word, 63, 0))
+    reason, stored, low, high, exponent = model.defect(fields)
+    decoder = {name: getattr(fields, name) for name in "perms reserved flag otype ie t b address".split()}
+    decoder |= dict(exponent=model.bits(exponent, 5, 0), base=low, top=high, stored=stored, canonical=reason == 0)
+    moved_low, moved_high, _ = model.decode(fields, address)
+
+    def or_zero(granted, term):
+        return z3.If(granted.in_range, term, z3.BitVecVal(0, term.size())) if z3.is_bv(term) else z3.And(granted.in_range, term)
+
+    granted = model.Granted(base, model.ext(length, 128))
+    encoder = {name: or_zero(granted, getattr(granted, name)) for name in "exact ie t b granted_base granted_top".split()}
+    encoder |= dict(in_range=granted.in_range, exponent=or_zero(granted, model.bits(granted.e, 5, 0)))
+    granted = model.Granted(z3.BitVecVal(0, 64), model.ext(length, 128))
+    rounded = (model.ext(length) + granted.granule - 1) & ~(granted.granule - 1)
+    lengths = dict(in_range=granted.in_range, mask=or_zero(granted, model.bits(~(granted.granule - 1), 63, 0)))
+    lengths |= dict(rounded=z3.If(granted.in_range, model.bits(rounded, 64, 0), z3.BitVecVal(-1, 65)))
+    same = z3.And(low == moved_low, high == moved_high)
+    return [
+        module("model_decoder", [word], decoder),
+        module("model_encoder", [base, length], encoder),
+        module("model_length", [length], lengths),
+        module("model_window", [word, address], dict(keeps_bounds=same)),
+    ]
+
+
+if __name__ == "__main__":
+    print("".join(modules()), end="")
