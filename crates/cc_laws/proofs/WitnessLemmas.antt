@@ -1,5 +1,5 @@
 -- A run that makes an object, and a run of a client within it.
-use Rattle.std.proofs.Common.{ℕ, ◌≡◌, ◌<◌, ◌^◌, IsTrue, [], ◌∷◌, refl, sym, subst, inl, Ok, arith}
+use Rattle.std.proofs.Common.{ℕ, Bool, true, false, ◌≡◌, ◌^◌, IsTrue, [], ◌∷◌, refl, sym, subst, inl, Ok, arith}
 use Rattle.std.proofs.lemmas.Bool.Decides.{nat_tests}
 use Rattle.cc_bounds.specs.declared.span.Span.{Span}
 use Rattle.cc_bounds.specs.declared.align.Align.TheVariants.{One}
@@ -7,11 +7,11 @@ use Rattle.cc_bounds.specs.Span.{IsSpan, from_zero, span_from}
 use Rattle.cc_bounds.specs.Granule.{IsGranule, IsGranted, IsSound, exponent_of, first_exponent, granule_of, granted_span}
 use Rattle.cc_bounds.proofs.ComputingLemmas.{granted_span-is, granule_of-is}
 use Rattle.cc_bounds.proofs.SoundDecodingLemmas.{inside-Represents}
-use Rattle.cc_cap.specs.Capability.{IsCapability, with_permissions}
+use Rattle.cc_cap.specs.Capability.{IsCapability, with_flag}
 use Rattle.cc_cap.proofs.BoundsLemmas.{root-IsCapability}
 use Rattle.cc_placer.specs.Align.{IsUnit}
 use Rattle.cc_placer.specs.Placement.{IsPlacement}
-use Rattle.cc_values.specs.declared.op.Op.TheVariants.{Perms, Pool, Alloc}
+use Rattle.cc_values.specs.declared.op.Op.TheVariants.{Flag, Pool, Alloc}
 use Rattle.cc_values.specs.declared.reply.Reply.TheVariants.{Made, PoolSet, Allocated}
 use Rattle.cc_machine.specs.State.{initial_state}
 use Rattle.cc_machine.specs.Objects.{IsHeldObject}
@@ -41,21 +41,21 @@ sixteen-granule = refl
 sixteen-sound : IsSound sixteen
 sixteen-sound = subst (λ (s : Span). IsGranted sixteen s) (sym sixteen-granted) (granted_span-is sixteen sixteen-is_span)
 
-is-cap : (permissions : ℕ) → permissions < 2 ^ 16 → IsCapability (with_permissions sixteen_capability permissions)
-is-cap permissions fit = record {
+is-cap : (flag : Bool) → IsCapability (with_flag sixteen_capability flag)
+is-cap flag = record {
   is_span = sixteen-is_span;
   sound = sixteen-sound;
   address_fits = omega arith;
   representable = inside-Represents sixteen 0 sixteen-is_span sixteen-sound (omega arith) (omega arith);
-  permissions_fit = fit;
+  permissions_fit = root-IsCapability.permissions_fit;
   is_type = root-IsCapability.is_type;
 }
 
 object-word : HasWord sixteen_capability
-object-word = has_word sixteen_capability (is-cap 0xffff (omega arith))
+object-word = has_word sixteen_capability (is-cap false)
 
-derived-word : HasWord (with_permissions sixteen_capability 0)
-derived-word = has_word (with_permissions sixteen_capability 0) (is-cap 0 (omega arith))
+derived-word : HasWord (with_flag sixteen_capability true)
+derived-word = has_word (with_flag sixteen_capability true) (is-cap true)
 
 -- ---- the run that makes it
 
@@ -123,14 +123,14 @@ is-one slot given = grind (arith, nat_tests)
 pub given : AreOfObject is_of_object with_first_object first_object
 given number within is = inl (is-one number is)
 
-derives : Step with_first_object (Perms 1 (record { 0 = 0 })) (Made 2 derived-word.word sixteen) with_derived_slot
+derives : Step with_first_object (Flag 1 true) (Made 2 derived-word.word sixteen) with_derived_slot
 derives = record {
-  result = Ok (with_permissions sixteen_capability 0);
+  result = Ok (with_flag sixteen_capability true);
   made = inl (refl, refl);
   added = inl (omega arith, record { word = derived-word.word; is_word = derived-word.is_word; replied = refl; added = refl });
 }
 
-pub within : (word : ℕ) × RunsWithin is_of_object with_first_object with_first_object (Perms 1 (record { 0 = 0 }) ∷ [])
+pub within : (word : ℕ) × RunsWithin is_of_object with_first_object with_first_object (Flag 1 true ∷ [])
     (Made 2 word sixteen ∷ []) with_derived_slot
 within = (
   derived-word.word,

@@ -1,7 +1,7 @@
 -- Worked states that runs lead to, for the premises of the laws.
-use Rattle.std.specs.Prelude.{ℕ, Bool, ◌==◌, Some}
+use Rattle.std.specs.Prelude.{ℕ, Bool, true, ◌==◌, Some}
 use Rattle.cc_bounds.specs.Span.{span_from}
-use Rattle.cc_cap.specs.Capability.{Capability, root_capability, with_permissions, with_span}
+use Rattle.cc_cap.specs.Capability.{Capability, root_capability, with_flag, with_span}
 use Rattle.cc_plan.specs.declared.object.ObjectState.TheVariants.{Live}
 use Rattle.cc_machine.specs.declared.object.Object.{Object}
 use Rattle.cc_machine.specs.State.{State, initial_state, with_slot}
@@ -25,6 +25,6 @@ with_first_object = with_object with_pool sixteen_capability 0 16
 abbrev pub is_of_object : ℕ → Bool
 is_of_object slot = slot == 1
 
--- The state in which the client has derived a slot without permissions from it.
+-- The state in which the client has derived a slot with the flag set from it.
 abbrev pub with_derived_slot : State
-with_derived_slot = with_slot with_first_object (with_permissions sixteen_capability 0) 1
+with_derived_slot = with_slot with_first_object (with_flag sixteen_capability true) 1

@@ -1,9 +1,9 @@
 //! Proves that the premises of the laws of runs are met: a worked run makes an object, and another
 //! one uses only the object's slot. Each function here does nothing, and its contract is the claim.
-ghost use Rattle.std.specs.Prelude.{ℕ, ◌^◌, [], ◌∷◌};
+ghost use Rattle.std.specs.Prelude.{ℕ, true, ◌^◌, [], ◌∷◌};
 ghost use Rattle.cc_bounds.specs.Span.{from_zero, span_from};
 ghost use Rattle.cc_bounds.specs.declared.align.Align.TheVariants.{One};
-ghost use Rattle.cc_values.specs.declared.op.Op.TheVariants.{Perms, Pool, Alloc};
+ghost use Rattle.cc_values.specs.declared.op.Op.TheVariants.{Flag, Pool, Alloc};
 ghost use Rattle.cc_values.specs.declared.reply.Reply.TheVariants.{Made, PoolSet, Allocated};
 ghost use Rattle.cc_machine.specs.State.{initial_state};
 ghost use Rattle.cc_machine.specs.Objects.{IsHeldObject};
@@ -25,6 +25,6 @@ fn a_run_that_makes_an_object()
 #[tactic(auto, using(crate::proofs::WitnessLemmas::object_used))]
 fn a_run_within_an_object()
     ensures given { AreOfObject is_of_object with_first_object first_object }
-    ensures run { (word : ℕ) × RunsWithin is_of_object with_first_object with_first_object (Perms 1 (record { 0 = 0 }) ∷ [])
+    ensures run { (word : ℕ) × RunsWithin is_of_object with_first_object with_first_object (Flag 1 true ∷ [])
         (Made 2 word (span_from 0 16) ∷ []) with_derived_slot }
 {}
