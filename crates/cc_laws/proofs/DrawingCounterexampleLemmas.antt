@@ -1,5 +1,5 @@
 -- Usages, layouts and listings that break the claims of the laws of drawings and listings.
-use Rattle.std.proofs.Common.{ℕ, zero, suc, Bool, true, false, ◌≡◌, ◌≤◌, ◌||◌, ◌==◌, not, List, [], ◌∷◌, ◌++◌, length, map, Contains, refl, ap, subst, ◌∙◌, arith}
+use Rattle.std.proofs.Common.{ℕ, zero, suc, Bool, true, false, ◌≡◌, ◌<◌, ◌≤◌, ◌||◌, ◌==◌, not, List, [], ◌∷◌, ◌++◌, length, map, Contains, refl, sym, ap, subst, ◌∙◌, arith}
 use Rattle.cc_bounds.specs.declared.span.Span.{Span}
 use Rattle.cc_bounds.specs.Span.{HasByte, length_of, span_from}
 use Rattle.cc_values.specs.declared.usage.Usage.{Usage}
@@ -101,3 +101,34 @@ error-breaks options lines parts =
     let two = nothing (options_after options (length (entries_of options.input []))) parts.second parts.second_error (still-lines options lines) parts.of_more in
     let same : true ≡ false = parts.error_is ∙ (λ i. one.error_none i || two.error_none i) in
     cc
+
+pub row-breaks : (options : Options) → options.input ≡ Lines → ¬ AreListingRows options [] (10 ∷ []) false
+row-breaks options lines rows =
+    let none : 10 ∷ [] ≡ [] = (nothing options (10 ∷ []) false lines rows).rows_none in
+    let count : 1 ≡ 0 = ap (λ (l : List ℕ). length l) none in
+    absurd (omega (arith, count))
+
+-- ---- holes
+
+pub free-breaks : ¬ AreHoles (span_from 0 16) [] []
+free-breaks are = let hole = has-hole [] are in let within = hole.1.1 in absurd (omega (arith, within))
+
+pub in_pool-breaks : ¬ AreHoles (span_from 0 16) [] (span_from 0 17 ∷ [])
+in_pool-breaks are =
+    let free = (are.free 16).1 (record { value = span_from 0 17; has = ((0, omega arith, refl), last); only = only }) in
+    let below = free.in_pool.below_top in
+    absurd (omega (arith, below))
+  where
+    last : HasByte (span_from 0 17) 16
+    last = record { from_base = omega arith; below_top = omega arith }
+
+    only : (other : Span) → Contains (span_from 0 17 ∷ []) other × HasByte other 16 → other ≡ span_from 0 17
+    only other ((zero, within, is), byte) = sym is
+    only other ((suc k, within, is), byte) = absurd (omega (arith, within))
+
+pub apart-breaks : ¬ AreHoles (span_from 0 16) [] (span_from 0 8 ∷ span_from 8 8 ∷ [])
+apart-breaks are =
+    let apart : 8 < 8 = are.apart 0 1 (span_from 0 0) (omega arith) (omega arith) in absurd (omega (arith, apart))
+
+pub empty-breaks : ¬ AreHoles (span_from 0 0) [] (span_from 0 0 ∷ [])
+empty-breaks are = let some : 0 < 0 = are.some 0 (span_from 0 0) (omega arith) in absurd (omega (arith, some))

@@ -1,16 +1,19 @@
 -- Heaps and runs that break the claims of the laws of heaps.
-use Rattle.std.proofs.Common.{ℕ, true, false, ◌≡◌, ◌+◌, ◌≤◌, List, [], ◌∷◌, refl, ap, ◌∙◌, arith}
+use Rattle.std.proofs.Common.{ℕ, true, false, ◌≡◌, ◌+◌, ◌≤◌, List, [], ◌∷◌, None, length, refl, ap, ◌∙◌, arith}
 use Rattle.std.proofs.lemmas.List.Sorted.{IsPermutation-middle, length_permutation}
 use Rattle.cc_placer.specs.declared.event.Event.TheVariants.{Clock}
 use Rattle.cc_heap.specs.declared.object.Object.{Object}
+use Rattle.cc_heap.specs.declared.outcome.Outcome.{Outcome}
 use Rattle.cc_heap.specs.declared.settings.Settings.{Settings}
 use Rattle.cc_heap.specs.declared.sizes.SizeTotals.{SizeTotals}
 use Rattle.cc_heap.specs.declared.totals.Totals.{Totals}
+use Rattle.cc_heap.specs.Events.{outcome_of}
 use Rattle.cc_heap.specs.Heap.{Heap, empty_heap, no_totals, swept}
-use Rattle.cc_heap.specs.Lost.{HasSizes, empty_run}
+use Rattle.cc_heap.specs.Lost.{HasSizes, RunState, RunsNoting, empty_run}
 use Rattle.cc_heap.specs.Peaks.{HasPeaks}
 use Rattle.cc_heap.specs.Run.{HasTotals, Moment, greatest, usage_in}
 use Rattle.cc_heap.specs.Sizes.{no_objects, sizes_after}
+use Rattle.cc_laws.specs.IgnoresPeaks.{IgnoresPeaks}
 use Rattle.cc_laws.specs.OneOutcome.{AreAlike, AreAlikeRuns}
 
 pub total-breaks : (settings : Settings)
@@ -68,3 +71,20 @@ totals-break settings alike =
 
 pub lost-breaks : (settings : Settings) → ¬ AreAlikeRuns (empty_run settings) (record (empty_run settings) { lost = 1 ∷ [] })
 lost-breaks settings alike = let same : true ≡ false = alike.lost 1 in cc
+
+-- ---- outcomes
+
+pub other_heap-breaks : (settings : Settings) (time : ℕ) (outcome : Outcome) → ¬ IgnoresPeaks (empty_heap settings) (Clock time) outcome
+    (record (empty_heap settings) { totals = record no_totals { sweeps = 1 } })
+other_heap-breaks settings time outcome ignores =
+    let none : ignores.other.totals.sweeps ≡ 0 = ap (λ (h : Heap). h.totals.sweeps) ignores.happens.0 in
+    let one : ignores.other.totals.sweeps ≡ 1 = ap (λ (h : Heap). h.totals.sweeps) ignores.alike in
+    absurd (omega (arith, none, one))
+
+pub outcome-breaks : (old new : Heap) (time : ℕ) → ¬ IgnoresPeaks old (Clock time) (outcome_of true false None) new
+outcome-breaks old new time ignores =
+    let same : true ≡ false = ap (λ (o : Outcome). o.was_live) ignores.happens.1 in cc
+
+pub run-breaks : (settings : Settings) → ¬ RunsNoting (empty_run settings) [] (record (empty_run settings) { lost = 1 ∷ [] })
+run-breaks settings runs =
+    let count : 1 ≡ 0 = ap (λ (r : RunState). length r.lost) runs in absurd (omega (arith, count))

@@ -60,3 +60,7 @@ mod WorkedScriptLemmas
 mod ChartTotalLemmas
 mod TraceWitnessLemmas
 mod DrawingWitnessLemmas
+mod PlannerWitnessLemmas
+mod FrameWitnessLemmas
+mod ScriptWitnessLemmas
+mod TextWitnessLemmas

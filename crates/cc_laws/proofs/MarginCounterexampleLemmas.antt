@@ -3,6 +3,7 @@ use Rattle.std.proofs.Common.{◌≡◌, ℕ, ◌*◌, ◌<◌, ◌^◌, ◌≤�
 use Rattle.cc_bounds.specs.declared.span.Span.{Span}
 use Rattle.cc_bounds.specs.Span.{IsSpan, span_from}
 use Rattle.cc_bounds.specs.Granule.{IsExponent, IsGranted, IsSound, exponent_of, first_exponent, granule_of, granted_span}
+use Rattle.cc_bounds.specs.Decoding.{ExactlyOne}
 use Rattle.cc_bounds.specs.Window.{IsRepresentable, Represents, section_of}
 use Rattle.cc_bounds.proofs.ComputingLemmas.{exponent_of-is, granted_span-is}
 use Rattle.cc_bounds.proofs.SoundDecodingLemmas.{represents-computed}
@@ -69,3 +70,12 @@ thin-far = far thin 2047 thin-is_span (omega arith) thin-exponent (omega arith)
 pub ruleset span_has_margin = (wide-is_span, wide-sound, wide-IsExponent, wide-near)
 
 pub ruleset margin_ends = (wide-not_near, wide-far, thin-not_near, thin-far)
+
+pub none-breaks : ¬ ExactlyOne (λ (number : ℕ). number < 0)
+none-breaks is = let has = is.has in absurd (omega (arith, has))
+
+pub two-breaks : ¬ ExactlyOne (λ (number : ℕ). number < 2)
+two-breaks is =
+    let first = is.only 0 (omega arith) in
+    let second = is.only 1 (omega arith) in
+    absurd (omega (arith, first, second))

@@ -1,16 +1,19 @@
 -- The words of the root and of null, of which null alone is a subset of the other.
-use Rattle.std.proofs.Common.{ℕ, true, false, ◌≡◌, ◌*◌, ◌<◌, ◌^◌, Ok, refl, inl, arith}
+use Rattle.std.proofs.Common.{ℕ, true, false, ◌≡◌, ◌*◌, ◌<◌, ◌≤◌, ◌^◌, Ok, Err, refl, inl, arith}
 use Rattle.cc_word.specs.declared.fields.Fields.{Fields}
+use Rattle.cc_word.specs.declared.refusal.Refusal.TheVariants.{Full}
 use Rattle.cc_bounds.specs.Span.{from_zero}
+use Rattle.cc_bounds.specs.Decoding.{stored_exponent}
 use Rattle.cc_bounds.specs.Granule.{IsExponent, first_exponent, exponent_of}
 use Rattle.cc_bounds.proofs.ComputingLemmas.{exponent_of-is}
 use Rattle.cc_cap.specs.Capability.{root_capability, with_permissions}
 use Rattle.cc_cap.specs.Canonical.{IsWordOf}
-use Rattle.cc_cap.specs.Derivation.{MasksPermissions}
-use Rattle.cc_cap.specs.WordRules.{OnWord, IsCanonicalSubset}
+use Rattle.cc_cap.specs.Derivation.{MasksPermissions, Rebuilds}
+use Rattle.cc_cap.specs.WordRules.{OnWord, IsCanonicalSubset, AreLikeCalls, IsLikeCalls, IsMonotonicOn, IsMonotonicUnder}
 use Rattle.cc_cap.proofs.BoundsLemmas.{root-IsCapability}
+use Rattle.cc_cap.proofs.DerivationLemmas.{GrantsNoMore-itself}
 use Rattle.cc_cap.proofs.SubsetLemmas.{subset_grants}
-use Rattle.cc_cap.proofs.WordRuleLemmas.{word_made}
+use Rattle.cc_cap.proofs.WordRuleLemmas.{word_made, words_made}
 
 -- the exponent of the whole address space
 whole-exponent : IsExponent (from_zero (2 ^ 64)) 52
@@ -82,3 +85,40 @@ root_outside is =
     let grants = subset_grants root_capability (with_permissions root_capability 0) (0xffff * 2 ^ 112) 0 root_word null_word is in
     let none : 0 ≡ 0xffff = grants.permissions in
     absurd (omega (arith, none))
+
+pub monotonic-breaks : ¬ IsMonotonicOn (λ cap made. made ≡ Ok root_capability) 0
+monotonic-breaks monotonic =
+    root_outside (monotonic (Ok (0xffff * 2 ^ 112))
+    (word_made (λ cap made. made ≡ Ok root_capability) 0 (with_permissions root_capability 0) (Ok root_capability) (Ok (0xffff * 2 ^ 112))
+    null_word refl root_word))
+
+pub calls-break : ¬ IsLikeCalls (λ cap made. Unit {0}) 0
+calls-break alike =
+    alike (Ok 0)
+    (word_made (λ cap made. Unit {0}) 0 (with_permissions root_capability 0) (Ok (with_permissions root_capability 0)) (Ok 0)
+    null_word _ null_word)
+    (with_permissions root_capability 0) null_word (Err Full) _
+
+pub under-breaks : ¬ IsMonotonicUnder (λ cap by made. made ≡ Ok root_capability) 0 0
+under-breaks monotonic =
+    root_outside (monotonic (Ok (0xffff * 2 ^ 112))
+    (words_made (λ cap by made. made ≡ Ok root_capability) 0 0 (with_permissions root_capability 0) (with_permissions root_capability 0)
+    (Ok root_capability) (Ok (0xffff * 2 ^ 112)) null_word null_word refl root_word))
+
+pub two_calls-break : ¬ AreLikeCalls (λ cap by made. Unit {0}) 0 0
+two_calls-break alike =
+    alike (Ok 0)
+    (words_made (λ cap by made. Unit {0}) 0 0 (with_permissions root_capability 0) (with_permissions root_capability 0)
+    (Ok (with_permissions root_capability 0)) (Ok 0) null_word null_word _ null_word)
+    (with_permissions root_capability 0) (with_permissions root_capability 0) null_word null_word (Err Full) _
+
+pub root-rebuilds : Rebuilds root_capability (0xffff * 2 ^ 112) (Ok root_capability)
+root-rebuilds =
+    inl (
+      refl,
+      inl ((root_capability, root_word), (root_capability, root_word, inl ((refl, GrantsNoMore-itself root_capability), refl))),
+    )
+
+pub large_exponent : (fields : Fields) × (50 ≤ stored_exponent fields)
+unfolding whole-fields
+large_exponent = (whole-fields 0 (omega arith), omega arith)

@@ -1,9 +1,10 @@
 -- Charts, scripts and machines that break the claims of the laws of traces.
-use Rattle.std.proofs.Common.{ℕ, ◌≡◌, ◌<◌, List, [], ◌∷◌, ◌++◌, length, refl, sym, ap, subst, ◌∙◌, arith}
+use Rattle.std.proofs.Common.{ℕ, ◌≡◌, ◌<◌, List, [], ◌∷◌, ◌++◌, Result, length, refl, sym, ap, subst, ◌∙◌, arith}
 use Rattle.std.proofs.lemmas.List.Sorted.{length_permutation}
 use Rattle.cc_word.specs.declared.refusal.Refusal.{Refusal}
 use Rattle.cc_bounds.specs.declared.span.Span.{Span}
 use Rattle.cc_bounds.specs.Span.{span_from}
+use Rattle.cc_values.specs.declared.op.Op.{Op}
 use Rattle.cc_values.specs.declared.reply.Reply.TheVariants.{Allocated, Refused}
 use Rattle.cc_machine.specs.State.{State}
 use Rattle.cc_machine.specs.Run.{Run}
@@ -15,12 +16,17 @@ use Rattle.cc_chart.specs.Levels.{greatest, no_levels}
 use Rattle.cc_formats.specs.declared.reading.Progress.TheVariants.{Running}
 use Rattle.cc_formats.specs.declared.reading.Reading.{Reading}
 use Rattle.cc_heap.specs.declared.settings.Settings.{Settings}
-use Rattle.cc_heap.specs.Heap.{Heap, empty_heap}
+use Rattle.cc_heap.specs.Heap.{Heap, empty_heap, no_totals}
+use Rattle.cc_heap.specs.Lost.{empty_run}
+use Rattle.cc_heap.specs.Memory.{Memory, usage_of}
+use Rattle.cc_replay.specs.Replay.{ReplayState, begun}
 use Rattle.cc_changes.specs.Changes.{AreChangesOf, Change}
+use Rattle.cc_changes.specs.Changes.Change.{Sweep}
 use Rattle.cc_changes.specs.Operations.{no_numbers, operation_lines, operations_of}
 use Rattle.cc_traces.specs.Charting.{begun_chart}
-use Rattle.cc_laws.specs.ChartedRun.{RunsWithLevels, ShowsRun}
-use Rattle.cc_laws.specs.Translation.{HasScript, IsFollowed, PlacesAlike}
+use Rattle.cc_laws.specs.ChartedRun.{HasLevels, RunsWithLevels, ShowsRun}
+use Rattle.cc_laws.specs.OneOutcome.{AreAlikeReplays}
+use Rattle.cc_laws.specs.Translation.{HasScript, IsFollowed, IsReadAs, IsTranslated, PlacesAlike}
 use Rattle.cc_laws.specs.Witnesses.{with_first_object}
 
 -- ---- charts
@@ -105,3 +111,56 @@ machine-breaks settings followed =
     held-breaks settings
     (subst (λ (changes : List Change). PlacesAlike changes (empty_heap settings) [] with_first_object) none
     (followed.places [] with_first_object run))
+
+-- ---- levels
+
+pub high-breaks : (settings : Settings) (levels : Levels) → 0 < levels.high → ¬ HasLevels (empty_heap settings) (empty_heap settings) levels
+high-breaks settings levels some has = let high : levels.high ≡ 0 = has.high in absurd (omega (arith, some, high))
+
+abbrev waiting : Memory
+waiting = record { live = []; quarantined = span_from 0 16 ∷ [] }
+
+quarantine-bytes : (usage_of waiting).quarantine ≡ 16
+quarantine-bytes = refl
+
+pub quarantine-breaks : (settings : Settings) (old : Heap) (levels : Levels) → levels.quarantine ≡ 0
+    → ¬ HasLevels old (record (empty_heap settings) { memory = waiting }) levels
+quarantine-breaks settings old levels none has =
+    let quarantine = has.quarantine in absurd (omega (arith, none, quarantine, quarantine-bytes))
+
+pub no_event-breaks : (old new : Heap) (levels : Levels) → ¬ RunsWithLevels old [] (levels ∷ []) new
+no_event-breaks old new levels runs = runs
+
+-- ---- replays
+
+pub time-breaks : (settings : Settings) (reading : Reading) → ¬ AreAlikeReplays (begun (empty_run settings) reading)
+    (record (begun (empty_run settings) reading) { time = 1 })
+time-breaks settings reading alike =
+    let same : 1 ≡ 0 = ap (λ (s : ReplayState). s.time) alike.rest in absurd (omega (arith, same))
+
+-- ---- changes
+
+pub changes-break : (settings : Settings) → ¬ AreChangesOf (empty_heap settings) [] (Sweep ∷ []) (empty_heap settings)
+changes-break settings are =
+    let count : 1 ≡ 0 = ap (λ (l : List Change). length l) are.0 in absurd (omega (arith, count))
+
+pub heap-breaks : (settings : Settings) (opened : State) → ¬ IsTranslated settings []
+    (record (empty_heap settings) { totals = record no_totals { sweeps = 1 } }) opened
+heap-breaks settings opened translated =
+    let same : 1 ≡ 0 = ap (λ (h : Heap). h.totals.sweeps) translated.of_events.1 in absurd (omega (arith, same))
+
+pub opened-breaks : (settings : Settings) → ¬ IsTranslated settings [] (empty_heap settings) with_first_object
+opened-breaks settings translated =
+    let none = translated.of_events.0 in
+    let run : Run with_first_object (operations_of settings.policy no_numbers translated.changes) [] with_first_object =
+    subst (λ (changes : List Change). Run with_first_object (operations_of settings.policy no_numbers changes) [] with_first_object) (sym none) refl in
+    held-breaks settings
+    (subst (λ (changes : List Change). PlacesAlike changes (empty_heap settings) [] with_first_object) none
+    (translated.places [] with_first_object run))
+
+pub read-breaks : ¬ IsReadAs (10 ∷ []) []
+read-breaks reads =
+    let count : 1 ≡ 0 = ap (λ (l : List (Result Op Refusal)). length l) reads.0 in absurd (omega (arith, count))
+
+pub rest-breaks : ¬ IsReadAs (120 ∷ []) []
+rest-breaks reads = let count : 1 ≡ 0 = ap (λ (l : List ℕ). length l) reads.1 in absurd (omega (arith, count))

@@ -12,35 +12,42 @@ use Rattle.cc_bounds.proofs.SoundDecodingLemmas.{inside-Represents}
 use Rattle.cc_cap.proofs.BoundsLemmas.{root-IsCapability}
 use Rattle.cc_io.specs.Answers.{Output}
 use Rattle.cc_io.specs.Frames.{lines}
+use Rattle.cc_values.specs.declared.op.Op.{Op}
 use Rattle.cc_values.specs.declared.op.Op.TheVariants as op
 use Rattle.cc_values.specs.declared.reply.Reply.{Reply}
 use Rattle.cc_values.specs.declared.reply.Reply.TheVariants as reply
+use Rattle.cc_syntax.specs.Commands.{operation_of}
 use Rattle.cc_syntax.specs.Planning.{plan_opening}
 use Rattle.cc_machine.specs.State.{State, initial_state, with_slot}
 use Rattle.cc_machine.specs.Step.{Step}
 use Rattle.cc_machine.specs.Run.{Run}
 use Rattle.cc_placer.specs.Align.{padded_size_for, unit_of}
 use Rattle.cc_placer.specs.Placement.{IsPlacement}
+use Rattle.cc_placer.specs.declared.event.Event.{Event}
 use Rattle.cc_placer.specs.declared.event.Event.TheVariants as event
 use Rattle.cc_formats.specs.declared.reading.Progress.TheVariants.{Running}
 use Rattle.cc_heap.specs.declared.making.Making.TheVariants.{Made}
 use Rattle.cc_heap.specs.declared.object.Object.{Object}
-use Rattle.cc_heap.specs.Events.{Frees, outcome_of}
+use Rattle.cc_heap.specs.Events.{Frees, IsEvent, outcome_of}
 use Rattle.cc_heap.specs.Heap.{FreesObject, Heap, MakesObject, empty_heap, swept}
 use Rattle.cc_heap.specs.Memory.{object_at, start_unit, usage_of}
+use Rattle.cc_heap.specs.Run.{Runs}
+use Rattle.cc_heap.specs.declared.policy.Policy.TheVariants.{Trace}
 use Rattle.cc_heap.specs.Totals.{with_made, with_usage}
 use Rattle.cc_changes.specs.Changes.Change.{Make, Free as FreeLive, Sweep as SweepAll}
+use Rattle.cc_changes.specs.Changes.{AsksForUnit, CanBePlanned, Change, Changes, IsChange, objects_made}
 use Rattle.cc_changes.specs.Deeds.{NumberedIds}
-use Rattle.cc_changes.specs.Operations.{operation_lines}
+use Rattle.cc_changes.specs.Operations.{no_numbers, operation_lines, operations_of}
 use Rattle.cc_changes.specs.Script.{ScriptState, ScriptsEvent, ScriptsLine, ScriptsRest, can_have, script_begun}
 use Rattle.cc_formats.specs.Trace.{entry_of}
-use Rattle.cc_laws.specs.Translation.{IsAccepted}
+use Rattle.cc_laws.specs.Translation.{IsAccepted, IsReadAs}
 use Rattle.cc_laws.specs.WorkedTrace.{worked_settings, worked_reading, worked_trace, worked_trace_script}
+use Rattle.cc_laws.proofs.StepTotalLemmas.{Run-outcome}
 use Rattle.cc_laws.proofs.WorkedScriptLemmas.{base_capability, base-word, pool_capability, pool_span, pool-sound, pool-word}
 
 -- ---- the object and its place
 
-unit-one : unit_of One 16 ≡ 1
+pub unit-one : unit_of One 16 ≡ 1
 unfolding granule_of exponent_of first_exponent
 unit-one = refl
 
@@ -142,6 +149,22 @@ numbered id = by_test (nat_eq id 1) (nat_eq 1 id) (flips id 1)
     by_test true false same = absurd (let e = same in cc)
     by_test false true same = absurd (let e = same in cc)
 
+makes_event : IsEvent none (event.Allocate 1 16 1) (outcome_of false false (Some Made)) with_object
+makes_event = record {
+  was_live = false;
+  cleared = none;
+  clears = (refl, refl);
+  making = Made;
+  tries = inl (refl, makes);
+  is_told = refl;
+}
+
+makes_change : IsChange none (Make 1 object) with_object
+makes_change = (refl, record { makes = makes; is = refl })
+
+plannable : AllByRecursion (CanBePlanned One) (object ∷ [])
+plannable = (record { some = omega arith; aligned = omega (arith, unit-one) }, _)
+
 can-make : can_have begun (event.Allocate 1 16 1) ≡ true
 unfolding granule_of exponent_of first_exponent
 can-make = refl
@@ -153,22 +176,18 @@ makes_line = record {
   ids = ids;
   changes = Make 1 object ∷ [];
   can = can-make;
-  is_event = record {
-    was_live = false;
-    cleared = none;
-    clears = (refl, refl);
-    making = Made;
-    tries = inl (refl, makes);
-    is_told = refl;
-  };
-  are = (with_object, (refl, record { makes = makes; is = refl }), refl);
-  plannable = (record { some = omega arith; aligned = omega (arith, unit-one) }, _);
+  is_event = makes_event;
+  are = (with_object, makes_change, refl);
+  plannable = plannable;
   numbers = λ i. record { made = 1; number_of = λ id. numbered id i };
   few = λ fits. omega arith;
   is_new = refl;
   error_is = refl;
   text_is = refl;
 }
+
+frees_event : IsEvent with_object (event.Free 1) (outcome_of false false None) with_freed
+frees_event = record { is_live = true; frees = frees; is_told = refl }
 
 -- sweeps are still counted
 can-free : can_have (state_of with_object ids) (event.Free 1) ≡ true
@@ -181,7 +200,7 @@ frees_line = record {
   ids = ids;
   changes = FreeLive 1 object ∷ [];
   can = can-free;
-  is_event = record { is_live = true; frees = frees; is_told = refl };
+  is_event = frees_event;
   are = (with_freed, frees_object, refl);
   plannable = _;
   numbers = refl;
@@ -284,3 +303,49 @@ pool = (
         record { word = 0xffff0000000190000000000000010000; is_word = pool-word; replied = refl; added = refl },
       );
     }
+
+-- ---- the events, the changes and the operations
+
+abbrev worked_events : List Event
+worked_events = event.Allocate 1 16 1 ∷ event.Free 1 ∷ event.Sweep ∷ []
+
+abbrev worked_operations : List Op
+worked_operations = op.Alloc 16 ∷ op.Free 1 ∷ op.Sweep ∷ []
+
+pub events : (heap : Heap) × Runs (empty_heap worked_settings) worked_events heap × (heap.totals.made ≡ 1)
+events = (
+  swept with_freed,
+  (
+    outcome_of false false (Some Made),
+    with_object,
+    makes_event,
+    (outcome_of false false None, with_freed, frees_event, (outcome_of false false None, swept with_freed, (refl, refl), refl)),
+  ),
+  refl,
+)
+
+pub asks : AllByRecursion (AsksForUnit One) worked_events
+asks = (omega (arith, unit-one), _)
+
+pub changes : (changes : List Change) × (heap : Heap) × Changes (empty_heap worked_settings) changes heap
+    × AllByRecursion (CanBePlanned One) (objects_made changes)
+    × (operations_of Trace no_numbers changes ≡ worked_operations)
+changes = (
+  Make 1 object ∷ FreeLive 1 object ∷ SweepAll ∷ [],
+  swept with_freed,
+  (with_object, makes_change, (with_freed, frees_object, (swept with_freed, refl, refl))),
+  plannable,
+  refl,
+)
+
+pub reads : IsReadAs worked_trace_script worked_operations
+unfolding operation_of
+reads = (refl, refl)
+
+pub runs : (limit : ℕ) (opening : List Reply) (opened : State) → Run (initial_state limit) (plan_opening 0x10000 65536 One) opening opened
+    → (replies : List Reply) × (state : State) × Run opened worked_operations replies state
+runs limit opening opened run =
+    let has =
+    Run-outcome opened worked_operations
+    (record { limit = limit; ops = plan_opening 0x10000 65536 One; replies = opening; run = run }) _ in
+    (has.replies, has.new, has.run)

@@ -1,5 +1,5 @@
 -- A run that makes an object, and a run of a client within it.
-use Rattle.std.proofs.Common.{ℕ, Bool, true, false, ◌≡◌, ◌^◌, IsTrue, [], ◌∷◌, refl, sym, subst, inl, Ok, arith}
+use Rattle.std.proofs.Common.{ℕ, Bool, true, false, ◌≡◌, ◌<◌, ◌^◌, IsTrue, None, [], ◌∷◌, refl, sym, subst, inl, inr, Ok, arith}
 use Rattle.std.proofs.lemmas.Bool.Decides.{nat_tests}
 use Rattle.cc_bounds.specs.declared.span.Span.{Span}
 use Rattle.cc_bounds.specs.declared.align.Align.TheVariants.{One}
@@ -7,18 +7,21 @@ use Rattle.cc_bounds.specs.Span.{IsSpan, from_zero, span_from}
 use Rattle.cc_bounds.specs.Granule.{IsGranule, IsGranted, IsSound, exponent_of, first_exponent, granule_of, granted_span}
 use Rattle.cc_bounds.proofs.ComputingLemmas.{granted_span-is, granule_of-is}
 use Rattle.cc_bounds.proofs.SoundDecodingLemmas.{inside-Represents}
-use Rattle.cc_cap.specs.Capability.{IsCapability, with_flag}
+use Rattle.cc_cap.specs.Capability.{IsCapability, root_capability, with_flag}
 use Rattle.cc_cap.proofs.BoundsLemmas.{root-IsCapability}
 use Rattle.cc_placer.specs.Align.{IsUnit}
 use Rattle.cc_placer.specs.Placement.{IsPlacement}
 use Rattle.cc_values.specs.declared.op.Op.TheVariants.{Flag, Pool, Alloc}
 use Rattle.cc_values.specs.declared.reply.Reply.TheVariants.{Made, PoolSet, Allocated}
-use Rattle.cc_machine.specs.State.{initial_state}
-use Rattle.cc_machine.specs.Objects.{IsHeldObject}
+use Rattle.cc_machine.specs.State.{SlotState, initial_state, tagged_slot}
+use Rattle.cc_machine.specs.Objects.{BelongsTo, IsHeldObject, IsPool}
 use Rattle.cc_machine.specs.ObjectConfinement.{AreOfObject}
 use Rattle.cc_machine.specs.Run.{Run, IsReached}
 use Rattle.cc_machine.specs.Step.{Step, PlacesObject}
 use Rattle.cc_machine.specs.Confinement.{RunsWithin}
+use Rattle.cc_machine.proofs.SlotLemmas.{ancestor-before}
+use Rattle.cc_machine.proofs.TreeLemmas.{IsMonotonicTree-reached}
+use Rattle.cc_laws.specs.Counterexamples.{is_first}
 use Rattle.cc_laws.specs.Witnesses.{with_pool, first_object, sixteen_capability, with_first_object, is_of_object, with_derived_slot}
 use Rattle.cc_laws.proofs.ResultLemmas.{HasWord, has_word}
 
@@ -27,7 +30,7 @@ use Rattle.cc_laws.proofs.ResultLemmas.{HasWord, has_word}
 abbrev sixteen : Span
 sixteen = span_from 0 16
 
-sixteen-is_span : IsSpan sixteen
+pub sixteen-is_span : IsSpan sixteen
 sixteen-is_span = record { in_order = omega arith; base_fits = omega arith; top_fits = omega arith }
 
 sixteen-granted : sixteen ≡ granted_span sixteen
@@ -38,7 +41,7 @@ sixteen-granule : granule_of sixteen ≡ 1
 unfolding granule_of exponent_of first_exponent
 sixteen-granule = refl
 
-sixteen-sound : IsSound sixteen
+pub sixteen-sound : IsSound sixteen
 sixteen-sound = subst (λ (s : Span). IsGranted sixteen s) (sym sixteen-granted) (granted_span-is sixteen sixteen-is_span)
 
 is-cap : (flag : Bool) → IsCapability (with_flag sixteen_capability flag)
@@ -59,14 +62,13 @@ derived-word = has_word (with_flag sixteen_capability true) (is-cap true)
 
 -- ---- the run that makes it
 
-unit : IsUnit One 16 1
-unit = record {
-  granule = 1;
-  is_granule = subst (λ (g : ℕ). IsGranule sixteen g) sixteen-granule (granule_of-is sixteen sixteen-is_span);
-  is_larger = refl;
-}
+pub sixteen-is_granule : IsGranule sixteen 1
+sixteen-is_granule = subst (λ (g : ℕ). IsGranule sixteen g) sixteen-granule (granule_of-is sixteen sixteen-is_span)
 
-placement : IsPlacement (from_zero (2 ^ 64)) [] 16 1 0
+pub unit : IsUnit One 16 1
+unit = record { granule = 1; is_granule = sixteen-is_granule; is_larger = refl }
+
+pub placement : IsPlacement (from_zero (2 ^ 64)) [] 16 1 0
 placement = record {
   place = record {
     aligned = refl;
@@ -115,6 +117,19 @@ reached = record {
 pub held : IsHeldObject with_first_object 1 first_object
 held = record { is_object = record { found = refl }; held = refl }
 
+pub pool : (slot : SlotState) × IsPool with_first_object 0 slot
+pool = (tagged_slot root_capability None, record { is_pool = refl; is_slot = record { found = refl } })
+
+-- the pool's slot is neither the object's, nor has it as an ancestor
+pub not_given : ¬ AreOfObject is_first with_first_object first_object
+not_given given = by_belongs (given 0 (omega arith) refl)
+  where
+    by_belongs : BelongsTo with_first_object first_object 0 → ⊥
+    by_belongs (inl same) = omega (arith, same)
+    by_belongs (inr up) =
+        let less : 1 < 0 =
+        ancestor-before with_first_object (IsMonotonicTree-reached with_first_object reached).parent_first up in omega (arith, less)
+
 -- ---- the run within it
 
 is-one : (slot : ℕ) → IsTrue (is_of_object slot) → slot ≡ 1
@@ -147,6 +162,6 @@ within = (
 
 -- ---- those of each function
 
-pub ruleset object_made = (makes, reached, held)
+pub ruleset object_made = (makes, reached, held, pool)
 
 pub ruleset object_used = (given, within)

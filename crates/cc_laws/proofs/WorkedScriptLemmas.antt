@@ -221,14 +221,14 @@ second-granule : granule_of (from_zero 8191) ≡ 16
 unfolding granule_of exponent_of first_exponent
 second-granule = refl
 
-first-unit : IsUnit One 100 1
+pub first-unit : IsUnit One 100 1
 first-unit = record {
   granule = 1;
   is_granule = subst (λ (g : ℕ). IsGranule (from_zero 100) g) first-granule (granule_of-is (from_zero 100) (from_zero-span 100 (omega arith)));
   is_larger = refl;
 }
 
-second-unit : IsUnit One 8191 16
+pub second-unit : IsUnit One 8191 16
 second-unit = record {
   granule = 16;
   is_granule =
@@ -254,7 +254,7 @@ overlap start from below = record {
   in_other = record { from_base = from; below_top = omega (arith, below) };
 }
 
-second-placement : IsPlacement pool_span (span_from 0x10000 100 ∷ []) 8192 16 0x10070
+pub second-placement : IsPlacement pool_span (span_from 0x10000 100 ∷ []) 8192 16 0x10070
 second-placement = record {
   place = record {
     aligned = refl;

@@ -1,6 +1,6 @@
 -- States that break the laws, each one of them, so that no law holds for everything. No run leads
 -- to a state that breaks a law. Only the tests of the laws cite this file.
-use Rattle.std.specs.Prelude.{ℕ, Bool, true, ◌^◌, ◌==◌, List, [], ◌∷◌, ◌++◌, Some, None}
+use Rattle.std.specs.Prelude.{ℕ, Bool, true, ◌≡◌, ◌^◌, ◌==◌, List, [], ◌∷◌, ◌++◌, Some, None}
 use Rattle.cc_word.specs.declared.refusal.Refusal.TheVariants.{Full}
 use Rattle.cc_bounds.specs.Span.{span_from}
 use Rattle.cc_cap.specs.Capability.{Capability, root_capability, at_address, with_span, with_permissions, sealed_with}
@@ -235,3 +235,13 @@ revoked_alone = of_slots (revoked_slot (first_slot root_capability) ∷ [])
 -- The revoked slot, and a tagged child.
 abbrev pub child_of_revoked : State
 child_of_revoked = record revoked_alone { slots = revoked_alone.slots ++ child_slot root_capability ∷ [] }
+
+-- ---- replies
+
+-- IsSilent holds if the reply to an entry is empty.
+abbrev pub IsSilent : (old : ℕ) → (entry text : List ℕ) → (is_error : Bool) → (new : ℕ) → Type 0
+IsSilent old entry text is_error new = text ≡ []
+
+-- IsAnything holds for every reply to an entry.
+abbrev pub IsAnything : (old : ℕ) → (entry text : List ℕ) → (is_error : Bool) → (new : ℕ) → Type 0
+IsAnything old entry text is_error new = Unit {0}

@@ -1,5 +1,5 @@
--- Worked states that runs lead to, for the premises of the laws.
-use Rattle.std.specs.Prelude.{ℕ, Bool, true, ◌==◌, Some}
+-- Worked states that runs lead to, and worked replies to entries, for the premises of the laws.
+use Rattle.std.specs.Prelude.{ℕ, Bool, true, false, ◌≡◌, ◌+◌, ◌==◌, List, [], ◌∷◌, Some}
 use Rattle.cc_bounds.specs.Span.{span_from}
 use Rattle.cc_cap.specs.Capability.{Capability, root_capability, with_flag, with_span}
 use Rattle.cc_plan.specs.declared.object.ObjectState.TheVariants.{Live}
@@ -28,3 +28,7 @@ is_of_object slot = slot == 1
 -- The state in which the client has derived a slot with the flag set from it.
 abbrev pub with_derived_slot : State
 with_derived_slot = with_slot with_first_object (with_flag sixteen_capability true) 1
+
+-- IsCounted holds if the reply to an entry is one byte, and the entry is counted.
+abbrev pub IsCounted : (old : ℕ) → (entry text : List ℕ) → (is_error : Bool) → (new : ℕ) → Type 0
+IsCounted old entry text is_error new = (text ≡ 33 ∷ []) × (is_error ≡ false) × (new ≡ old + 1)

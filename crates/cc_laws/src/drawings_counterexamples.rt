@@ -12,14 +12,22 @@ ghost use Rattle.cc_decode.specs.Correct.{WritesListing};
 ghost use Rattle.cc_decode.specs.Output.{refused_text};
 ghost use Rattle.cc_decode.specs.Place.{header_of};
 ghost use Rattle.cc_decode.specs.declared.options.Options.{Options};
-ghost use Rattle.cc_laws.specs.DrawnObjects.{ArePlaced, CountsFreeBytes, IsDrawnExactly};
-ghost use Rattle.cc_laws.specs.ListingParts.{RowsInParts};
+ghost use Rattle.cc_laws.specs.DrawnObjects.{AreHoles, ArePlaced, CountsFreeBytes, IsDrawnExactly};
+ghost use Rattle.cc_laws.specs.ListingParts.{AreListingRows, RowsInParts};
 ghost use Rattle.cc_laws.specs.Witnesses.{with_first_object};
 
 /// A pool of 16 free bytes in which no hole, or a hole of no bytes, is counted.
 fn usage_that_misses_free_bytes()
     ensures holes { (usage : Usage) → usage.holes ≡ 0 → ¬ CountsFreeBytes (span_from 0 16) [] usage }
     ensures largest { (usage : Usage) → usage.largest ≡ 0 → ¬ CountsFreeBytes (span_from 0 16) [] usage }
+{}
+
+/// A free byte that no span has, a byte above the pool, two spans that touch, and a span of no bytes.
+fn spans_that_are_not_holes()
+    ensures free { ¬ AreHoles (span_from 0 16) [] [] }
+    ensures in_pool { ¬ AreHoles (span_from 0 16) [] (span_from 0 17 ∷ []) }
+    ensures apart { ¬ AreHoles (span_from 0 16) [] (span_from 0 8 ∷ span_from 8 8 ∷ []) }
+    ensures some { ¬ AreHoles (span_from 0 0) [] (span_from 0 0 ∷ []) }
 {}
 
 /// A span of no bytes, and one that is longer than the layout.
@@ -30,6 +38,7 @@ fn objects_that_are_not_drawn_exactly()
 
 /// A row, or an error, that no part of an input has.
 fn rows_of_other_input()
+    ensures row { (options : Options) → options.input ≡ Lines → ¬ AreListingRows options [] (10 ∷ []) false }
     ensures rows { (options : Options) → options.input ≡ Lines → ¬ RowsInParts options [] [] (10 ∷ []) false }
     ensures error { (options : Options) → options.input ≡ Lines → ¬ RowsInParts options [] [] [] true }
 {}

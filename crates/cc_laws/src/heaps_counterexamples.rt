@@ -1,14 +1,17 @@
 //! Proves that no claim of the laws of heaps holds for everything: heaps, or runs, break it. Each
 //! function here does nothing, and its contract is the claim.
-ghost use Rattle.std.specs.Prelude.{ℕ, [], ◌∷◌};
+ghost use Rattle.std.specs.Prelude.{ℕ, true, false, [], ◌∷◌, None};
 ghost use Rattle.cc_placer.specs.declared.event.Event.TheVariants.{Clock};
 ghost use Rattle.cc_heap.specs.declared.object.Object.{Object};
+ghost use Rattle.cc_heap.specs.declared.outcome.Outcome.{Outcome};
 ghost use Rattle.cc_heap.specs.declared.settings.Settings.{Settings};
+ghost use Rattle.cc_heap.specs.Events.{outcome_of};
 ghost use Rattle.cc_heap.specs.Heap.{Heap, empty_heap, no_totals, swept};
-ghost use Rattle.cc_heap.specs.Lost.{HasSizes, empty_run};
+ghost use Rattle.cc_heap.specs.Lost.{HasSizes, RunsNoting, empty_run};
 ghost use Rattle.cc_heap.specs.Peaks.{HasPeaks};
 ghost use Rattle.cc_heap.specs.Run.{HasTotals};
 ghost use Rattle.cc_heap.specs.Sizes.{no_objects};
+ghost use Rattle.cc_laws.specs.IgnoresPeaks.{IgnoresPeaks};
 ghost use Rattle.cc_laws.specs.OneOutcome.{AreAlike, AreAlikeRuns};
 
 /// A sweep that no event did, an object that none made, and live bytes above the held ones.
@@ -19,6 +22,14 @@ fn numbers_of_other_states()
         → ¬ HasSizes [] (record (empty_run settings) { sizes = record no_objects { made = 1 } ∷ [] }) }
     ensures peaks { (settings : Settings) (old : Heap)
         → ¬ HasPeaks old (record (empty_heap settings) { totals = record no_totals { peak_live = 1 } }) }
+{}
+
+/// A sweep, and an id that was live, of which the event does not tell, and an id that no event lost.
+fn outcomes_of_another_event()
+    ensures heap { (settings : Settings) (time : ℕ) (outcome : Outcome) → ¬ IgnoresPeaks (empty_heap settings) (Clock time) outcome
+        (record (empty_heap settings) { totals = record no_totals { sweeps = 1 } }) }
+    ensures outcome { (old new : Heap) (time : ℕ) → ¬ IgnoresPeaks old (Clock time) (outcome_of true false None) new }
+    ensures run { (settings : Settings) → ¬ RunsNoting (empty_run settings) [] (record (empty_run settings) { lost = 1 ∷ [] }) }
 {}
 
 /// Two live objects in either order, a live object too many, a sweep too many, and an id that is lost
