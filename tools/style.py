@@ -5,8 +5,8 @@ and public doc comments, and few in all other comments.
 Usage: tools/style.py [--where RULE]     --where RULE prints each place of one rule. docs/check fails if this one does.
 
 Prose is: Markdown without code blocks, code spans and link targets; the strings of help.rt; manual pages without literal displays;
-comments of src, specs, proofs, the header, C, Python and shell. Names in backquotes are not counted, and neither is anything that
-the program prints.
+comments of src, specs, proofs, the header, C, Python and shell; the mistakes that mutants say. Names in backquotes are not counted,
+and neither is anything that the program prints.
 """
 import re
 import sys
@@ -104,6 +104,10 @@ def antt(text):
     return code_spans("\n".join(it[2:] if it.startswith("--") else "" for it in map(str.strip, text.splitlines())))
 
 
+def mistakes(text):
+    return code_spans("\n\n".join(re.findall(r"^says: (.*)$", text, flags=re.M)))
+
+
 def strings(text):
     return "\n".join(it[1] for it in re.finditer(r'"((?:[^"\\]|\\.)*)"', text, flags=re.S)).replace(PRINTED, "")
 
@@ -137,7 +141,8 @@ def prose():
     return {
         "pages": all_of(markdown, "*.md", "docs/*.md"),
         "help": all_of(strings, "crates/*/src/help.rt") | all_of(manual, "man/*"),
-        "public": all_of(lambda text: rattle(text, True), sources) | all_of(c, "include/*.h", "include/*.hpp") | all_of(antt, "crates/*/specs/**/*.antt"),
+        "public": all_of(lambda text: rattle(text, True), sources) | all_of(c, "include/*.h", "include/*.hpp") | all_of(antt, "crates/*/specs/**/*.antt")
+        | all_of(mistakes, "mutants/*/*.edit", "crates/*/must-fail/*.edit"),
         "other": all_of(lambda text: rattle(text, False), sources)
         | all_of(antt, "crates/*/proofs/**/*.antt")
         | all_of(c, "examples/*.c", "examples/*.cpp", "bench/*.[ch]", "hardware/*.sv", "tests/hardware.d/*.sv")
