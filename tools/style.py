@@ -82,9 +82,10 @@ def markdown(text):
 
 
 def rattle(text, is_public):
-    """The comments of a source: those of public items and of modules, or all others."""
-    lines, found, block = text.splitlines(), [], []
-    for line in lines:
+    """The comments of a source: those of public items, of modules and above clauses, or all others."""
+    text = re.sub(r"(?:^ *//(?!/).*\n)+(?= *(?:requires|ensures)\b)", lambda it: it[0].replace("//", "//!"), text, flags=re.M)
+    found, block = [], []
+    for line in text.splitlines():
         comment = re.match(r"\s*//([/!]?)(.*)$", line) or re.search(r"\s//(?!/)()\s(.*)$", line)
         if line.lstrip().startswith("///"):
             block.append(comment[2])

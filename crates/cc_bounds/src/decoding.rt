@@ -138,6 +138,7 @@ fn top_above(fields: &Fields, base: u64) -> u128
 /// Source: UCAM-CL-TR-987, the decoding of the bounds; Woodruff et al. 2019.
 #[inline(always)]
 pub fn decode(fields: &Fields) -> Span
+    // The fields decode to this span, and to no other.
     ensures decodes { DecodesTo fields.now result }
     ensures only { (span : SpanSpec) → DecodesTo fields.now span → span ≡ result }
 

@@ -286,11 +286,21 @@ fn encode(request: &Span) -> Set
 /// Source: UCAM-CL-TR-987; Woodruff et al. 2019.
 pub fn set_bounds(base: u64, len: u128) -> Set
     requires { base + len ≤ 2 ^ 64 }
+    // The granted span is the request rounded to its granule: 1 byte below 4,096 bytes, otherwise
+    // the smallest power of two that is coarse enough.
     ensures granted { IsGranted (span_from base len) result.granted }
+    // `exact` says whether the request is granted unchanged.
     ensures exact { IsTrue result.exact ↔ IsSound (span_from base len) }
+    // The stored fields are those of the granted span.
     ensures fields { HasBoundsFields result.granted (ie_of result.granted) (t_of result.granted) (b_of result.granted) }
+    // Fields with this encoding, at any representable address, decode to the granted span.
     ensures decodes { DecodesBack result.granted }
+    // The granted span covers the request, and equals it below 4,096 bytes. Otherwise it exceeds
+    // the request by less than a granule on each side, and 511 granules are shorter than the
+    // request.
     ensures tight { IsTight (span_from base len) result.granted }
+    // The granted span lies within the bounds of each of the 2^128 words whose bounds cover the
+    // request, including bounds with tops past 2^64.
     ensures tightest { IsTightest (span_from base len) result.granted }
 {
     encode(&Span {

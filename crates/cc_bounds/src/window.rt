@@ -32,7 +32,9 @@ fn is_representable(base: u64, exponent: u8, address: u64) -> bool
 ///
 /// Source: UCAM-CL-TR-987, the representable region; Woodruff et al. 2019.
 pub fn represents(set: &Set, address: u64) -> bool
+    // True if and only if the address is in the cyclic window of the span.
     ensures window { IsTrue result ↔ Represents set.now.granted address }
+    // True if and only if fields with this encoding, at this address, decode to the span.
     ensures decodes { (fields : FieldsSpec) → HasBoundsFields set.now.granted fields.ie fields.t fields.b
         → fields.address ≡ address → (IsTrue result ↔ DecodesTo fields set.now.granted) }
     ensures inside { set.now.granted.base ≤ address → address ≤ set.now.granted.top → IsTrue result }
@@ -49,8 +51,11 @@ pub fn represents(set: &Set, address: u64) -> bool
 ///
 /// Source: UCAM-CL-TR-987, the representable region; Woodruff et al. 2019.
 pub fn keeps_bounds(fields: &Fields, address: u64) -> bool
+    // True if and only if fields with the same IE, T and B, at this address, decode to the same
+    // bounds.
     ensures decodes { (other : FieldsSpec) (span : SpanSpec) → SharesBoundsFields fields.now other
         → other.address ≡ address → DecodesTo fields.now span → (IsTrue result ↔ DecodesTo other span) }
+    // True if and only if the address is in the cyclic window of these bounds.
     ensures window { (span : SpanSpec) → DecodesTo fields.now span
         → (IsTrue result ↔ IsRepresentable span.base (stored_exponent fields.now) address) }
     ensures large { 50 ≤ stored_exponent fields.now → IsTrue result }

@@ -10,8 +10,13 @@ use std::marker::Model;
 
 /// A capability: bounds, an address, permissions, a flag and an object type.
 ///
-/// It is tagged, and cannot be forged: only the functions of this type create one. Each of these
-/// except [`Cap::root`] derives it from one or two others, or refuses. Its word is canonical.
+/// It is tagged, and cannot be forged: its fields are private, only the functions of this type
+/// create one, and its invariant is proved whenever one is created. Each of these functions except
+/// [`Cap::root`] derives it from one or two others, or refuses. Its word is canonical.
+///
+/// The clause `made` of a function says exactly what it creates, when it refuses, and with which
+/// reason. `monotonic` says that the created capability grants no more than `self`, or for
+/// [`Cap::rebuild`] than the authority.
 ///
 /// Source: UCAM-CL-TR-987, the capability instructions.
 #[derive(Clone, Copy, Debug)]
@@ -280,6 +285,7 @@ impl Cap {
     pub fn rebuild(authority: &Cap, word: u128) -> Result<Cap, Refusal>
         ensures made { Rebuilds authority.now word result }
         ensures monotonic { IfOk result (λ cap. GrantsNoMore cap authority.now) }
+        // Five calls of the other functions derive it from the authority too, and none is refused.
         ensures reached { IfOk result (λ cap. IsReachable authority.now cap) }
     {
         if authority.is_sealed() {

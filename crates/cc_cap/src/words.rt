@@ -150,6 +150,8 @@ pub fn rebuild(authority: u128, word: u128) -> Result<u128, Refusal>
 /// Instruction: CTestSubset, for words with equal tags.
 pub fn is_subset(inner: u128, outer: u128) -> bool
     ensures words { (one other : FieldsSpec) → word_of one ≡ inner → word_of other ≡ outer → (IsTrue result ↔ IsSubset one other) }
+    // For words of capabilities: true if and only if the inner capability grants no more than the
+    // outer one.
     ensures capabilities { (one other : Capability) → IsWordOf one inner → IsWordOf other outer → (IsTrue result ↔ GrantsNoMore one other) }
 {
     is_subset_of(&unpack(inner), &unpack(outer))

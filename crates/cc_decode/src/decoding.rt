@@ -40,6 +40,7 @@ pub fn decode_words<R: Source, W: Sink>(
     requires sink { W.has_failed sink.old ≡ false }
     ensures whole { IfSome (R.to_come source.old) (λ text.
         ListsWhole options text (R.to_come source.new) (W.taken_bytes sink.old) (W.taken_bytes sink.new) result) }
+    // If the source does not say which bytes it has, the listing is that of some input.
     ensures lists { Lists options (R.to_come source.old) (R.to_come source.new) (W.taken_bytes sink.old) (W.taken_bytes sink.new) result }
     ensures read { (result ≡ Err IoError.Read) ↔ (R.has_failed source.new ≡ true) }
     ensures write { (result ≡ Err IoError.Write) ↔ (W.has_failed sink.new ≡ true) }

@@ -149,6 +149,8 @@ impl<P: Placer> Heap<P> {
         requires aligned { HasAlignment event }
         ensures is_event { IfOk result (λ outcome. IsEvent self.old event outcome self.new) }
         ensures refused { OnErr result (FailsInEvent self.old event self.new) }
+        // Held spans share no byte, and each object has exact bounds, also after a failed
+        // allocation.
         ensures sound { IsSound self.new.settings.align self.new.memory }
     {
         let _ = &self.settings;
@@ -174,6 +176,7 @@ impl<P: Placer> Heap<P> {
     pub fn run(&mut self, events: &[Event]) -> Result<(), AllocError>
         requires aligned { All HasAlignment events.now }
         ensures runs { OnOk result (Runs self.old events.now self.new) }
+        // Of a run that a failed allocation stopped, this is all that is promised.
         ensures sound { IsSound self.new.settings.align self.new.memory }
     {
         let _ = &self.settings;

@@ -1,5 +1,7 @@
 //! Models the heap of an allocator over the events of a trace: the objects that are live, the
 //! quarantine, and the numbers of both.
+//!
+//! All is proved from the contract of `Placer` alone, for traces of any length.
 #![tactic(auto)]
 
 mod entries;

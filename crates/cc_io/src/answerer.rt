@@ -6,7 +6,8 @@ use crate::Page;
 
 /// A type that replies to entries on a page of `N` bytes.
 ///
-/// A reply may depend on the state of the answerer, and may change it.
+/// A reply may depend on the state of the answerer, and may change it. The answerer sees the first
+/// 129 bytes of an entry or of trailing bytes.
 // `N` is a parameter of the trait, since a method of a trait cannot have a const parameter
 pub trait Answerer<const N: usize> {
     // the replies that an entry may get

@@ -41,7 +41,8 @@ pub trait Sink {
     // the bytes taken so far, if the sink says which they are
     ghost taken_bytes: { Self → Option (List ℕ) };
 
-    // the last call was a flush, and succeeded; always true of a sink that does not say so
+    // the last call was a flush, and succeeded; always true of a sink that does not say so, such as
+    // `FromWriter` and `SliceSink`
     ghost is_flushed: { Self → Bool } = { λ _. true };
 
     // a call of the sink has failed

@@ -1,5 +1,8 @@
 //! Laws of every word, of every request and of every sound span. The contract of each function is a
 //! law, and its body is empty.
+//!
+//! Requests, granted spans and sound spans are spans of the address space (`IsSpan`), and lengths
+//! are at most 2^64.
 ghost use Rattle.std.specs.Prelude.{ℕ, Bool, ◌≡◌, ◌+◌, ◌%◌, ◌/◌, ◌^◌, ◌<◌, ◌≤◌, ◌↔◌, max};
 ghost use Rattle.cc_word.specs.declared.fields.Fields.{Fields as FieldsSpec};
 ghost use Rattle.cc_bounds.specs.declared.span.Span.{Span as SpanSpec};
@@ -13,6 +16,9 @@ ghost use Rattle.cc_laws.specs.Margin.{IsNear};
 
 /// Proves that each relation that defines decoding has exactly one number, and so every word one
 /// span.
+///
+/// The relations are `IsTopMantissa`, `IsWindow`, `IsPlaced` for a mantissa below 2^14,
+/// `IsTopBeside` for a base below 2^64, and `DecodesTo`.
 pub fn every_word_decodes_once()
     ensures top_mantissa { (fields : FieldsSpec) → ExactlyOne (IsTopMantissa fields) }
     ensures window { (fields : FieldsSpec) → ExactlyOne (IsWindow fields) }

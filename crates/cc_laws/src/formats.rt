@@ -6,7 +6,8 @@ ghost use Rattle.cc_formats.specs.declared.report.Report.TheVariants.{Allocation
 /// Proves that a line of at most 128 bytes, as `mtrace` writes it for an object that is made or
 /// freed, reports that object.
 ///
-/// The caller has no `]`. The numbers are in hexadecimal with `0x`, and the pointer is not 0.
+/// The caller has no `]`. The numbers are below 2^64, in hexadecimal with `0x`, and the pointer is
+/// not 0.
 pub fn mtrace_lines_are_read_back()
     ensures allocation { (caller : List ℕ) (pointer size : ℕ) → IsCaller caller
         → length (allocation_line caller pointer size) ≤ 128 → 0 < pointer → pointer < 2 ^ 64 → size < 2 ^ 64

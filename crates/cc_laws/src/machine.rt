@@ -2,7 +2,8 @@
 //!
 //! Each function here is a law: it does nothing, and its contract is the claim. The claims are
 //! about the step and the run that the contracts of [`Machine::step`](cc_machine::Machine::step) and
-//! [`Machine::run`](cc_machine::Machine::run) cite.
+//! [`Machine::run`](cc_machine::Machine::run) cite. They hold even for numbers that no
+//! [`Op`](cc_values::Op) has; outcomes are promised for addresses of 64 bits alone.
 ghost use Rattle.std.specs.Prelude.{ℕ, Bool, ◌≡◌, ◌≤◌, List, Ok};
 ghost use Rattle.std.specs.List.{AllByRecursion};
 ghost use Rattle.cc_bounds.specs.Span.{IsWithin, length_of};
@@ -90,7 +91,8 @@ pub fn objects_from_pool()
 {}
 
 /// Proves that, in every state that a run leads to, each object has exact bounds. Its slot's bounds
-/// are sound, begin and end at multiples of the unit of its size, and have the padded size.
+/// are sound, begin and end at multiples of the unit of its size, and have the padded size. The
+/// padded size of n bytes is from n to n + n/512, and up to 15 more in a pool of alignment 16.
 pub fn exact_objects()
     ensures { (state : State) → IsReached state → HasExactObjects state }
 {}
@@ -114,6 +116,12 @@ pub fn exact_revocation()
 /// Proves that a run that uses only given slots, and slots that it made, makes only slots derived
 /// from the given ones. It neither seals nor unseals with a type that none of the given ones may
 /// seal or unseal with.
+///
+/// A refused operation uses no slot, and an `alloc` that makes an object uses the pool's slot. Each
+/// slot that the run makes has a given slot among its ancestors, and so, by [`monotonic_tree`] and
+/// [`slots_stay`], grants no more than that one granted before the run. If no given slot has both
+/// UNSEAL and a type in its bounds, nothing of this type was unsealed. If none has both SEAL and
+/// the type, nothing was sealed with it.
 pub fn confinement()
     ensures { (given : ℕ → Bool) (old new : State) (ops : List Op) (replies : List Reply)
         → IsReached old → RunsWithin given old old ops replies new → IsConfined given old new }
@@ -138,7 +146,8 @@ pub fn confinement_in_bytes()
 {}
 
 /// Proves that every unsealed capability that grants no more than a slot's is derived from the slot
-/// by five operations. The slot has to be tagged and unsealed, with five slots left.
+/// by five operations, of which none is refused. The slot has to be tagged and unsealed, with five
+/// slots left.
 ///
 /// A capability from [`Cap::rebuild`](cc_cap::Cap::rebuild) is reached from its authority by
 /// derivations too, so that call adds no power.
@@ -154,7 +163,7 @@ pub fn reachability()
 /// another object that was held before the run. Each is revoked if the object is swept in the state
 /// after the run.
 ///
-/// The run may free and sweep every object, as every client may.
+/// The run may free and sweep every object, as every client may. The claim holds then too.
 pub fn confinement_to_an_object()
     ensures { (given : ℕ → Bool) (old new : State) (ops : List Op) (replies : List Reply) (number : ℕ) (object : Object)
         → IsReached old → IsHeldObject old number object → AreOfObject given old object

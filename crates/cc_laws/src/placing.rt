@@ -29,9 +29,10 @@ ghost use Rattle.cc_laws.specs.Translation.{IsAccepted, IsFollowed, IsReadAs, Is
 /// Proves that a machine that takes the changes of a heap as operations places each object at the bytes
 /// at which the heap placed it, and holds the same spans in the end.
 ///
-/// The pool of the machine is that of the heap, made by [`plan_opening`](cc_syntax::plan_opening), with
-/// the heap's alignment. The machine has to have a slot for each object that is made, next to the three
-/// of its pool. No object may be requested with a larger alignment than the unit of its size.
+/// The pool of the machine is that of the heap, made by [`plan_opening`](cc_syntax::plan_opening),
+/// with the heap's alignment. The machine has to have a slot for each object that is made, next to
+/// the three of its pool. No object may be requested with a larger alignment than the unit of its
+/// size. Each object has a byte or more, and no setup operation is refused.
 pub fn machines_place_like_heaps()
     ensures { (limit base size : ℕ) (settings : Settings) (changes : List Change) (heap : Heap)
         (opening replies : List Reply) (opened state : State)
@@ -47,12 +48,14 @@ pub fn machines_place_like_heaps()
 /// Proves that a machine that takes the changes of a trace's events as operations places each object at
 /// the bytes at which the heap placed it, and holds the same spans in the end.
 ///
-/// It holds for every run of events from a heap that held nothing, whatever its policy, and whatever
-/// ids are unknown or live. An object that has no place is not made by the heap, and has no operation.
+/// It holds for every run of events from a heap that held nothing, whatever its policy, and whatever ids
+/// are unknown or live. An object that has no place is not made by the heap, and has no operation.
 /// Reallocations move objects, since no operation of a machine changes the size of an object in its
 /// place. No event may ask for a larger alignment than the unit of its size, and the objects that are
 /// made must have slots. [`machines_place_like_heaps`] says it of the changes alone, and by
-/// [`every_run_has_an_outcome`](crate::machine::every_run_has_an_outcome) the machine has such a run.
+/// [`every_run_has_an_outcome`](crate::machine::every_run_has_an_outcome) the machine has such a run. No
+/// setup operation is refused. The machine has at most 65,536 slots, and at least three more than objects
+/// are made.
 pub fn traces_are_placed_alike()
     ensures { (limit base size : ℕ) (settings : Settings) (events : List Event) (heap : Heap)
         (opening : List Reply) (opened : State)
@@ -68,12 +71,14 @@ pub fn traces_are_placed_alike()
 /// which the heap placed it, and holds the same spans in the end.
 ///
 /// `Output` is the relation between a trace and its output that
-/// [`script_trace`](cc_changes::script_trace) states by `Pumps`. The output is the script of the trace's
-/// own events, as [`outputs_are_scripts`](crate::scripting::outputs_are_scripts) says. Its lines are read by
-/// [`parse_line`](cc_syntax::parse_line) as the operations of the changes of these events, and the
-/// machine has a run of these. The pool of the machine is that of the heap, made by
-/// [`plan_opening`](cc_syntax::plan_opening), with the heap's alignment. A script makes at most 65,533
-/// objects, so that 65,536 slots are enough. It holds for every trace.
+/// [`script_trace`](cc_changes::script_trace) states by `Pumps`. The output is the script of the
+/// trace's own events, as [`outputs_are_scripts`](crate::scripting::outputs_are_scripts) says. Its
+/// lines are read by [`parse_line`](cc_syntax::parse_line) as the operations of the changes of
+/// these events, and the machine has a run of these. The pool of the machine is that of the heap,
+/// made by [`plan_opening`](cc_syntax::plan_opening), with the heap's alignment. A script makes at
+/// most 65,533 objects, so that 65,536 slots are enough. It holds for every trace. No setup
+/// operation is refused. If the script ends before its trace does, the heap is that of the events
+/// before.
 pub fn scripts_are_placed_alike()
     ensures { (limit base size : ℕ) (settings : Settings) (reading : Reading) (new : ScriptState) (text output : List ℕ)
         (any_error : Bool) (opening : List Reply) (opened : State)
@@ -88,8 +93,9 @@ pub fn scripts_are_placed_alike()
 /// Proves that, at the end of a trace's script, a machine holds as many bytes as the heap of the trace's
 /// replay: its live and its quarantined ones, including padding.
 ///
-/// Both outputs are for all lines of one trace: lines are still taken at the end. The machine has run the
-/// operations as which the script is read, in a pool that is that of the heap.
+/// Both outputs are for all lines of one trace: lines are still taken at the end. The machine has
+/// run the operations as which the script is read, in a pool that is that of the heap. It has
+/// 65,536 slots or more, and refuses no setup operation.
 pub fn scripts_hold_the_bytes_of_replays()
     ensures { (limit base size : ℕ) (settings : Settings) (reading : Reading) (text script series : List ℕ) (any_error is_error : Bool)
         (scripted : ScriptState) (replayed : ReplayState) (opening replies : List Reply) (opened state : State) (ops : List Op)

@@ -49,7 +49,8 @@ pub fn one_replay()
 /// Proves that every event is the event of its line in the own format: its name and its numbers in
 /// decimal, with a space between.
 ///
-/// So no two events have one line, and the format can give each event.
+/// So no two events have one line, and the format can give each event. Its numbers are below 2^64,
+/// and its alignment is a power of two.
 pub fn events_are_read_back()
     ensures { (event : Event) → HasAlignment event → HasNumbersInRange event
         → entry_of (event_text event) ≡ Ok (Some event) }

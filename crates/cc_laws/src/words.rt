@@ -17,7 +17,8 @@ pub fn words_are_read_back()
 /// Proves that the value of the digits of a number is the number.
 ///
 /// `padded` is about a given number of hexadecimal digits, and `plain` about digits without leading
-/// zeros, in any base from 2 to 16.
+/// zeros, in any base from 2 to 16. The number is below 16^count for `padded`, and below radix^64
+/// for `plain`.
 pub fn digits_are_read_back()
     ensures padded { (count number : ℕ) → number < 16 ^ count
         → digits_value 16 (digits_of count number) ≡ number }

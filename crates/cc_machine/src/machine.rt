@@ -196,10 +196,16 @@ impl Machine {
     /// an object comes after `Full`.
     #[inline(always)]
     pub fn step(&mut self, op: &Op) -> Reply
+        // The step is that of the model, with the first reason if it is refused.
         ensures step { Step self.old op.now result self.new }
         ensures refused { IsRefused result → self.new ≡ self.old }
+        // No slot, tagged or revoked, grants a byte or a permission that an ancestor does not.
         ensures tree { IsMonotonicTree self.new }
+        // A slot was sealed only under a slot with SEAL and its type, and unsealed only under one
+        // with UNSEAL and its type.
         ensures sealing { HasSealingAuthority self.new }
+        // Objects are children of the pool's slot, have exact bounds, share no byte while they are
+        // held, and are revoked exactly when they are swept.
         ensures objects { KeepsObjectLaws self.new }
     {
         self.tell_reached();
@@ -388,6 +394,8 @@ impl Machine {
         ensures tree { IsMonotonicTree self.new }
         ensures sealing { HasSealingAuthority self.new }
         ensures objects { KeepsObjectLaws self.new }
+        // If the run used only given slots, and slots that it made, it is confined to the given
+        // ones.
         ensures confined { (given : ℕ → Bool)
             → RunsWithin given self.old self.old ops.now replies.new self.new → IsConfined given self.old self.new }
         ensures reaches { ReachesAll self.old ops.now replies.new self.new }

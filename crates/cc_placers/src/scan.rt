@@ -13,6 +13,8 @@ use std::marker::Model;
 ///
 /// `hold` takes constant time, and `give_back` searches the held spans once. `room` may search all
 /// of them once for each.
+///
+/// It may be holding exactly the lists with its spans, in whatever order.
 #[derive(Drop)]
 pub struct ScanPlacer {
     limit: u32,

@@ -14,6 +14,8 @@ use std::marker::Model;
 ///
 /// `room` takes one walk over the held spans, from the lowest up. `hold` and `give_back` take a
 /// binary search, and move the later spans by one position.
+///
+/// It may be holding exactly the lists with its spans, in whatever order.
 #[derive(Drop)]
 pub struct SortedPlacer {
     limit: u32,

@@ -17,7 +17,9 @@ use cc_word::Refusal;
 #[tactic(auto, using(crate::proofs::PolicyLemmas::texts_are_read, crate::proofs::PolicyLemmas::read_texts))]
 pub fn read_policy(text: &[u8]) -> Result<Policy, Refusal>
     ensures value { result ≡ policy_in text.now }
+    // Each string that names a policy is read as that policy, or is out of range.
     ensures texts { (policy : PolicySpec) → IsPolicyText policy text.now → result ≡ in_range policy }
+    // No other string is read.
     ensures names { (policy : PolicySpec) → result ≡ Ok policy → IsPolicyText policy text.now }
 {
     if text == b"none".as_slice() {

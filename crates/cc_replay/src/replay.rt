@@ -318,6 +318,8 @@ pub fn replay_trace<P: Placer, R: Source, W: Sink>(
 ) -> Result<Summary, IoError>
     requires source { R.has_failed source.old ≡ false }
     requires sink { W.has_failed series.old ≡ false }
+    // Each line is taken in order, as `TakesLine` says, and the sink took the header of the series
+    // and the samples of the events that have one.
     ensures replays { Pumps TakesLine TakesRest lines 65536 1301 replay.old (series_header replay.old)
         (R.to_come source.old) (R.to_come source.new) (W.taken_bytes series.old) (W.taken_bytes series.new) result replay.new }
     ensures read { (result ≡ Err IoError.Read) ↔ (R.has_failed source.new ≡ true) }

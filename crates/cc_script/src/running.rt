@@ -28,6 +28,7 @@ pub fn run_script<R: Source, W: Sink>(
 ) -> Result<Summary, IoError>
     requires source { R.has_failed source.old ≡ false }
     requires sink { W.has_failed sink.old ≡ false }
+    // The main theorem (`main`), and what was written before a failure (`fails`).
     ensures runs { RunsScript StopsInReply []
         (record { machine = machine.old; unread = R.to_come source.old; taken = W.taken_bytes sink.old }) result
         (record { machine = machine.new; unread = R.to_come source.new; taken = W.taken_bytes sink.new }) }

@@ -88,6 +88,8 @@ pub fn run_session<R: Source, W: Sink, const N: usize>(
     requires sink { W.has_failed sink.old ≡ false }
     requires fresh { IsTally [] [] tally.old }
     requires room { 193 ≤ N }
+    // The main theorem (`main`), what was written before a failure (`fails`), and the counts of the
+    // replies at `Ok` (`counts`).
     ensures runs { RunsSession N opening.now
         (record { machine = machine.old; unread = R.to_come source.old; taken = W.taken_bytes sink.old }) result tally.new
         (record { machine = machine.new; unread = R.to_come source.new; taken = W.taken_bytes sink.new }) }

@@ -67,8 +67,10 @@ fn parse_words(line: &[u8]) -> Result<Op, Refusal>
     take_command(&mut Parser, &mut WholeLine::new(), line)
 }
 
-/// Takes the operation of a line of at most 128 bytes. This is the table of commands: a name, the form of the values, and
-/// the operation.
+/// Takes the operation of a line of at most 128 bytes, or the refusal of the line. This is the table of commands: a name,
+/// the form of the values, and the operation.
+///
+/// Requires: 193 bytes of the page are free.
 // Each command is taken in an arm in which the compiler knows the operation.
 #[inline(always)]
 pub fn take_command<const N: usize, T: Taker<N>>(

@@ -72,6 +72,7 @@ impl ObjType {
     /// Returns the type's 18 bits: from 0 to 0x3ffef, or 0x3ffff.
     pub fn bits(self) -> u32
         ensures value { result ≡ self }
+        // No type is a reserved one.
         ensures allowed { IsObjType self }
     {
         self.bits

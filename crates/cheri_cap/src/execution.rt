@@ -36,11 +36,13 @@ pub fn execute<M: RunMemory + TraceMemory, I: Inputs, W: Sink, E: Sink>(
     errors: &mut E,
 ) -> Result<Summary, Fault>
     requires invocation { (found : Option (Text × List Row)) × IsInvocation found invocation }
+    // Only a command that creates a machine or a heap runs out of memory.
     requires memory { M.has_failed memory.old ≡ false }
     requires source { I.Opened.has_failed source.old ≡ false }
     requires inputs { I.has_refused inputs.old ≡ false }
     requires sink { W.has_failed sink.old ≡ false }
     requires errors { E.has_failed errors.old ≡ false }
+    // The bytes written are those of the command, and the summary says whether there is an error.
     ensures executes { OnDevices (Executes invocation.entry terminals (record {
       input = I.bytes_of inputs.old;
       left = I.Opened.to_come source.new;
@@ -51,10 +53,15 @@ pub fn execute<M: RunMemory + TraceMemory, I: Inputs, W: Sink, E: Sink>(
       errors_failed = E.has_failed errors.new;
     })) result }
     ensures memory { result ≡ Err Fault.Memory → RunsMachine invocation.entry }
+    // Opening fails only for a FILE that is given and is not `-`.
     ensures open { result ≡ Err Fault.Open → IfSome (input_of invocation.entry) (λ asked. IsFile asked.input) }
+    // Unless the last input that was asked for is that of the command, neither inputs nor source
+    // were used.
     ensures asked { IsUnasked (input_of invocation.entry) (I.last_asked inputs.new) → (inputs.new ≡ inputs.old) × (source.new ≡ source.old) }
+    // A command without an input, or with refused arguments, uses neither inputs nor source.
     ensures unused { ¬ ReadsInput invocation.entry → (inputs.new ≡ inputs.old) × (source.new ≡ source.old) }
     ensures refused { (result ≡ Err Fault.Open) ↔ (I.has_refused inputs.new ≡ true) }
+    // The main theorem, for `run` and `plan`.
     ensures main { IfSome (script_of invocation.entry) (λ script. OnDevices (MeetsMain script.limit script.opening (I.bytes_of inputs.old script.input) (I.Opened.to_come source.new) (W.taken_bytes sink.old) (W.taken_bytes sink.new)) result) }
     ensures read { (result ≡ Err Fault.Read) ↔ (I.Opened.has_failed source.new ≡ true) }
     ensures allocates { (result ≡ Err Fault.Memory) ↔ (M.has_failed memory.new ≡ true) }
@@ -62,8 +69,13 @@ pub fn execute<M: RunMemory + TraceMemory, I: Inputs, W: Sink, E: Sink>(
     ensures flushed { OnOk result (W.is_flushed sink.new ≡ true) }
     ensures unreported { OnErr result (E.taken_bytes errors.new ≡ E.taken_bytes errors.old) }
     ensures untouched { result ≡ Err Fault.Open → W.taken_bytes sink.new ≡ W.taken_bytes sink.old }
+    // At `Ok`, the hint on the argument of `show`, `round` or `explain` is written, if there is one
+    // and standard error does not fail.
     ensures hinted { IsHinted invocation.entry → OnOk result (E.has_failed errors.new ≡ false → Appends (E.taken_bytes errors.old) (E.taken_bytes errors.new) (typed_hint terminals.errors invocation.entry)) }
+    // Other commands than those that can report write nothing to standard error.
     ensures silent { ¬ IsReported terminals invocation.entry → errors.new ≡ errors.old }
+    // If memory runs out in `run` or `plan`, nothing was written, or, with `--stats`, the whole
+    // output.
     ensures stopped { result ≡ Err Fault.Memory → StarvesCommand invocation.entry terminals (record {
       input = I.bytes_of inputs.old;
       left = I.Opened.to_come source.new;

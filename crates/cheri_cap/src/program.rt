@@ -28,6 +28,8 @@ use std::io::{self, BufWriter, Printer};
 use std::rt::Files;
 
 /// Executes the command line of the process, and returns the program's end. The arguments have to be UTF-8.
+///
+/// No clause says that these are the arguments of the process: `tests/program` does.
 pub fn answer_arguments<R: Env + AllocGlobal + Files + Input + Print + Eprint>(
     rt: &R,
     terminals: Terminals,
@@ -124,6 +126,7 @@ pub fn answer_words<M: RunMemory + TraceMemory, I: Inputs, W: Sink, E: Sink>(
     requires inputs { I.has_refused inputs.old ≡ false }
     requires sink { W.has_failed sink.old ≡ false }
     requires errors { E.has_failed errors.old ≡ false }
+    // A command line that is accepted ends as its command does on these devices.
     ensures executes { IfOk result (λ end. (app : App) × IsProgram app × ExecutesCommand (subcommand_of app (texts words.now)) terminals (record {
       input = I.bytes_of inputs.old;
       left = I.Opened.to_come source.new;
@@ -140,6 +143,8 @@ pub fn answer_words<M: RunMemory + TraceMemory, I: Inputs, W: Sink, E: Sink>(
       is_flushed = W.is_flushed sink.new;
       last_asked = I.last_asked inputs.new;
     }) end) }
+    // The main theorem of the program: from the arguments of `run` and `plan` to the bytes written
+    // and the end. If a command line that is accepted has no result, memory ran out.
     ensures runs_script { (app : App) × IsProgram app × MatchResult result (λ end. (invocation : InvocationSpec) × IsInvocation (subcommand_of app (texts words.now)) invocation × AnswersEveryScript invocation (record {
       input = I.bytes_of inputs.old;
       left = I.Opened.to_come source.new;
