@@ -5,7 +5,7 @@
  * (CHERI ISA version 9): fields, decoding, setting bounds, representable addresses and lengths,
  * canonical words, and the rules by which one capability is derived from another, on words.
  *
- * The functions are those of the library libcheri_cap, static or shared. A checkout builds the
+ * The library libcheri_cap has the functions, static or shared. A checkout builds the
  * static one as crates/cc_ffi/out/libcc_ffi.a. Each function is proved to return what its contract
  * in crates/cc_ffi says, and the comments here say the same in words. The inline functions at the
  * end are plain C: they are tested, not proved.
@@ -75,7 +75,7 @@ extern "C" {
  * CHERI_CAP_CONST: the result depends only on the values of the arguments, and the call has no
  * effect, so that a compiler may move or merge calls.
  * CHERI_CAP_PURE: the result also depends on the memory that a pointer leads to.
- * CHERI_CAP_NODISCARD: a call whose result is not used is a mistake, which gets a warning.
+ * CHERI_CAP_NODISCARD: the compiler warns of a call whose result is not used.
  * CHERI_CAP_NOEXCEPT: the function throws no exception.
  */
 #ifndef CHERI_CAP_CONST
@@ -147,7 +147,7 @@ extern "C" {
 #define CHERI_CAP_DEFECT_TYPE 2u          /* the type is reserved: 0x3fff0 to 0x3fffe */
 #define CHERI_CAP_DEFECT_ORDER 3u         /* the top is below the base */
 #define CHERI_CAP_DEFECT_TOP 4u           /* the top is above 2^64 */
-#define CHERI_CAP_DEFECT_FIELDS 5u        /* setting the bounds that it decodes to stores other bounds fields */
+#define CHERI_CAP_DEFECT_FIELDS 5u        /* its bounds fields are not the ones that setting these bounds stores */
 
 /*
  * The reasons for which a rule returns no word, as values of `refusal` in cheri_cap_made. 0 means
@@ -162,7 +162,7 @@ extern "C" {
 #define CHERI_CAP_REFUSAL_PERMISSION 12u      /* the authority lacks SEAL or UNSEAL */
 #define CHERI_CAP_REFUSAL_TYPE 13u            /* the authority's address is not a type that sealing may give */
 #define CHERI_CAP_REFUSAL_MISMATCH 14u        /* the authority's address is not the type of the sealed word */
-#define CHERI_CAP_REFUSAL_CANONICAL 15u       /* the word, or the authority's, is not that of a capability */
+#define CHERI_CAP_REFUSAL_CANONICAL 15u       /* the word, or the authority's, is not canonical */
 #define CHERI_CAP_REFUSAL_EXCEEDS 16u         /* the word grants more than its authority, or is sealed */
 
 /* A number of 128 bits: high * 2^64 + low. */
@@ -213,7 +213,7 @@ typedef struct cheri_cap_ends {
     uint64_t last;
 } cheri_cap_ends;
 
-/* The numbers of bytes that a request is granted before and after those that it asks for. */
+/* The numbers of bytes that a request is granted before and after the requested ones. */
 typedef struct cheri_cap_excess {
     uint64_t before;
     uint64_t after;
@@ -240,35 +240,35 @@ typedef struct cheri_cap_made {
 CHERI_CAP_NODISCARD CHERI_CAP_CONST
 uint32_t cheri_cap_version(void) CHERI_CAP_NOEXCEPT;
 
-/* Returns the fields of a word, for every word. */
+/* Returns the fields of a word. Every word has fields. */
 CHERI_CAP_NODISCARD CHERI_CAP_CONST
 cheri_cap_fields cheri_cap_unpack(uint64_t high, uint64_t low) CHERI_CAP_NOEXCEPT;
 
-/* Returns the permissions of a word, for every word. */
+/* Returns the permissions of a word. Every word has them. */
 CHERI_CAP_NODISCARD CHERI_CAP_CONST
 uint16_t cheri_cap_perms(uint64_t high, uint64_t low) CHERI_CAP_NOEXCEPT;
 
-/* Returns the object type of a word, for every word. */
+/* Returns the object type of a word. Every word has one. */
 CHERI_CAP_NODISCARD CHERI_CAP_CONST
 uint32_t cheri_cap_otype(uint64_t high, uint64_t low) CHERI_CAP_NOEXCEPT;
 
-/* Returns the flag of a word, for every word. */
+/* Returns the flag of a word. Every word has one. */
 CHERI_CAP_NODISCARD CHERI_CAP_CONST
 bool cheri_cap_flag(uint64_t high, uint64_t low) CHERI_CAP_NOEXCEPT;
 
 /*
- * Returns the word of these fields. Only the lowest bits of a number that is wider than its field
- * count. For the fields that cheri_cap_unpack returned for a word, that is this word again.
+ * Returns the word of these fields. Bits beyond the width of a field are ignored. For the fields that
+ * cheri_cap_unpack returned for a word, the result is this word again.
  */
 CHERI_CAP_NODISCARD CHERI_CAP_CONST
 cheri_cap_u128 cheri_cap_pack(cheri_cap_fields fields) CHERI_CAP_NOEXCEPT;
 
 /*
- * Returns whether the word is that of a capability, sealed or not: "canonical" means "of a
- * capability that this library makes".
+ * Returns whether the word is canonical: whether a derivation of this library can return it, sealed
+ * or not.
  *
- * Sentries and words of the other reserved types, 0x3fff0 to 0x3fffe, decode as every word does,
- * and are not canonical.
+ * Sentries and words of the other reserved types, 0x3fff0 to 0x3fffe, decode like every word, and
+ * are not canonical.
  */
 CHERI_CAP_NODISCARD CHERI_CAP_CONST
 bool cheri_cap_is_canonical(uint64_t high, uint64_t low) CHERI_CAP_NOEXCEPT;
@@ -281,27 +281,27 @@ CHERI_CAP_NODISCARD CHERI_CAP_CONST
 uint8_t cheri_cap_defect(uint64_t high, uint64_t low) CHERI_CAP_NOEXCEPT;
 
 /*
- * Returns the base, the top and the exponent of a word, for every word.
+ * Returns the base, the top and the exponent of a word. Every word decodes.
  *
  * If the word is not canonical, the top may be below the base, or above 2^64 (but below 2^65).
  */
 CHERI_CAP_NODISCARD CHERI_CAP_CONST
 cheri_cap_bounds cheri_cap_decode(uint64_t high, uint64_t low) CHERI_CAP_NOEXCEPT;
 
-/* Returns the exponent of a word, 0 to 52, for every word. */
+/* Returns the exponent of a word, 0 to 52. Every word has one. */
 CHERI_CAP_NODISCARD CHERI_CAP_CONST
 uint8_t cheri_cap_exponent(uint64_t high, uint64_t low) CHERI_CAP_NOEXCEPT;
 
 /*
- * Returns the number of bytes in the bounds of a word, for every word: the top minus the base,
- * modulo 2^128 if the top is below the base.
+ * Returns the number of bytes in the bounds of any word: the top minus the base, modulo 2^128 if the
+ * top is below the base.
  */
 CHERI_CAP_NODISCARD CHERI_CAP_CONST
 cheri_cap_u128 cheri_cap_word_length(uint64_t high, uint64_t low) CHERI_CAP_NOEXCEPT;
 
 /*
- * Returns the granule of a word in bytes, for every word: the unit in which its bounds fields store
- * the ends of bounds. It is 1 if IE is clear, otherwise 2^(exponent + 3).
+ * Returns the granule of any word in bytes: the unit in which its bounds fields store the ends of
+ * bounds. It is 1 if IE is clear, otherwise 2^(exponent + 3).
  */
 CHERI_CAP_NODISCARD CHERI_CAP_CONST
 uint64_t cheri_cap_word_granule(uint64_t high, uint64_t low) CHERI_CAP_NOEXCEPT;
@@ -317,8 +317,8 @@ CHERI_CAP_NODISCARD CHERI_CAP_CONST
 cheri_cap_granted cheri_cap_set_bounds(uint64_t base, uint64_t length_high, uint64_t length_low) CHERI_CAP_NOEXCEPT;
 
 /*
- * Returns how many bytes the bounds of cheri_cap_set_bounds have before and after those of the
- * request, which are lost to other objects: less than a granule at each end.
+ * Returns the numbers of bytes that the bounds of cheri_cap_set_bounds have before and after the
+ * requested ones. They are lost to other objects, and are less than a granule at each end.
  *
  * If base + length is above 2^64, `in_range` is false and the numbers are 0.
  */
@@ -342,7 +342,7 @@ bool cheri_cap_represents(uint64_t high, uint64_t low, uint64_t address) CHERI_C
  *
  * It does if and only if the address is in the window of the decoded bounds, as every address is at
  * exponents of at least 50. For a word that stores its bounds as setting bounds stores them, such as
- * a canonical one, the result is that of cheri_cap_represents.
+ * a canonical one, it returns the same as cheri_cap_represents.
  */
 CHERI_CAP_NODISCARD CHERI_CAP_CONST
 bool cheri_cap_keeps_bounds(uint64_t high, uint64_t low, uint64_t address) CHERI_CAP_NOEXCEPT;
@@ -362,9 +362,9 @@ cheri_cap_ends cheri_cap_window(uint64_t high, uint64_t low) CHERI_CAP_NOEXCEPT;
  * cheri_cap_represents for each word, at the same position as the word, and returns the number of
  * words for which it did so.
  *
- * cheri_cap_represents_many uses the address at that position. Yes is a byte of 1, and no a byte of
- * 0. Each array has its own count: if they differ, the smallest of them applies, and the results
- * past it do not change.
+ * cheri_cap_represents_many uses the address at that position. Each yes or no is a byte, 1 for true
+ * and 0 for false. Each array has its own count: if they differ, the smallest of them applies, and
+ * the results past it do not change.
  *
  * Pointers: the pointer to an array of count 0 may be null, and no other. Words, bounds and
  * addresses must be aligned to 8 bytes. The results must not overlap what is read, but words and
@@ -382,7 +382,7 @@ size_t cheri_cap_represents_many(
 /*
  * Batch functions on memory. Each does the same for the words of memory, 16 bytes each and one
  * after the other, in the byte order of the memory: the low half first unless `big_endian`. Each
- * word is that of cheri_cap_word_from_bytes.
+ * word is read like cheri_cap_word_from_bytes reads it.
  *
  * Pointers: as above, but `memory` may have any alignment. It has 16 * word_count bytes.
  */
@@ -448,15 +448,15 @@ void cheri_cap_write_word(uint64_t high, uint64_t low, char *text /* 32 bytes */
  * Writes the one-line form of a word and a terminating NUL, and returns the number of bytes before
  * that NUL.
  *
- * The form is that of `%#p` in CheriBSD, such as "0x10070 [rwxRW,0x10070-0x12070]": the address,
+ * The form is CheriBSD's `%#p`, such as "0x10070 [rwxRW,0x10070-0x12070]": the address,
  * then in brackets the letters of the permissions, the base and the top. LOAD is r, STORE w,
  * EXECUTE x, LOAD_CAP R, STORE_CAP W; the other permissions have no letter. " (sentry)" follows for
  * a sentry, and " (sealed)" for any other type except unsealed, including reserved ones. If
  * `tagged` is false, " (invalid)", " (invalid,sentry)" or " (invalid,sealed)" follows.
  *
  * Every word has a line, canonical or not, by the bounds that it decodes to. The top may be
- * 0x10000000000000000 (2^64), and that of a word that is not canonical may be above that, or below
- * the base. Null without its tag is "0x0 [,0x0-0x10000000000000000] (invalid)".
+ * 0x10000000000000000 (2^64). The top of a word that is not canonical may be above 2^64, or below the
+ * base. Null without its tag is "0x0 [,0x0-0x10000000000000000] (invalid)".
  *
  * Pointers: `text` must not be null. All CHERI_CAP_LINE_SIZE bytes of it are written: from the end
  * of the line on they are zero bytes.
@@ -467,22 +467,23 @@ size_t cheri_cap_format(
 /* ---- The rules of derivation, on words */
 
 /*
- * Each rule accepts any words, and returns the word that it gives for the capabilities of these
- * words, with refusal 0. If it refuses, it returns no word and the first refusal of those listed,
- * which are in the order of the checks. CANONICAL comes first if a word is not that of a
- * capability, and so for every sentry. (cheri_cap_rebuild checks the authority before the word.)
+ * Each rule accepts any words, and returns the derived word, with refusal 0. If it refuses, it
+ * returns no word, and the first of the listed refusals that applies: they are in the order of the
+ * checks. CANONICAL comes first if a word is not canonical, and so for every sentry.
+ * (cheri_cap_rebuild checks the authority before the word.)
  *
- * A word that a rule returns is canonical, and a subset of the word that it was made of, as
- * cheri_cap_is_subset compares words. For cheri_cap_rebuild, that is the authority's word. So the
- * word after any number of rules is a subset of the one that they began with.
+ * A word that a rule returns is canonical, and a subset of the word that it was derived from, as
+ * cheri_cap_is_subset compares words. For cheri_cap_rebuild, this is the authority's word. So the
+ * word after any number of rules is a subset of the first one.
  *
  * Tags: no function takes or returns one, except the mark of cheri_cap_format. The part after
  * "Tags:" says which tags must be set for the result to have one. If one of them is not set, or if
  * the rule refuses, the result has no tag.
  *
- * Without the checks: if a rule refuses, an instruction may still write a word, with its tag
- * cleared. The part after "Without the checks:" names the word with the field changed although a check fails.
- * Whether an instruction writes this word, another one, or traps is for its ISA text to say.
+ * Without the checks: if a rule refuses, an instruction may still write a word, without its tag. The
+ * part after "Without the checks:" names the function that returns the word with the field changed,
+ * whatever the checks say. The ISA text says whether an instruction writes this word, writes another
+ * one, or traps.
  *
  * The name of an instruction says which function is for it. Agreement with any instruction is
  * neither proved nor tested here: docs/EMBEDDING.md, "Where an instruction may write something
@@ -620,8 +621,8 @@ bool cheri_cap_is_subset(uint64_t high, uint64_t low, uint64_t outer_high, uint6
 /* ---- Plain C over the library, which no proof covers */
 
 /*
- * The upper half of the null mask: the upper half of a word is that of the layout of its fields,
- * exclusive-or this.
+ * The upper half of the null mask: the upper half of a word is the upper half of the layout of its
+ * fields, exclusive-or this mask.
  */
 #define CHERI_CAP_NULL_MASK_HIGH UINT64_C(0x00001ffffc018004)
 
@@ -665,7 +666,7 @@ static inline bool cheri_cap_is_sealed(uint64_t high) CHERI_CAP_NOEXCEPT
     return cheri_cap_otype_of(high) != CHERI_CAP_OTYPE_UNSEALED;
 }
 
-/* Returns whether the type is that of a sentry. */
+/* Returns whether the type is CHERI_CAP_OTYPE_SENTRY. */
 CHERI_CAP_NODISCARD
 static inline bool cheri_cap_is_sentry(uint64_t high) CHERI_CAP_NOEXCEPT
 {
@@ -857,7 +858,7 @@ static inline cheri_cap_u128 cheri_cap_with_flag(uint64_t high, uint64_t low, bo
     return word;
 }
 
-/* Returns the word with this object type. Only its low 18 bits count. */
+/* Returns the word with this object type. Bits above the low 18 are ignored. */
 CHERI_CAP_NODISCARD
 static inline cheri_cap_u128 cheri_cap_with_type(uint64_t high, uint64_t low, uint64_t otype) CHERI_CAP_NOEXCEPT
 {

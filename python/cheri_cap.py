@@ -435,7 +435,7 @@ class Capability:
         made = cls(halves.high << 64 | halves.low)
         for name, value in numbers.items():
             if not value == getattr(given, name) == getattr(made.fields, name):
-                raise ValueError(f"the field {name} is too wide for the number {value:#x}")
+                raise ValueError(f"{value:#x} does not fit the field {name}")
         return made
 
     def to_bytes(self, byteorder: ByteOrder = "little") -> bytes:
@@ -815,7 +815,7 @@ class ManyBounds(Sequence[Bounds]):
 
     def __array__(self, *_arguments: object, **_named: object) -> object:
         """Raises TypeError: numpy would read the bounds of one word after the other, which takes minutes for millions."""
-        raise TypeError("the columns have arrays, and not the bounds: numpy.asarray(BOUNDS.base)")
+        raise TypeError("pass one column, such as numpy.asarray(BOUNDS.base)")
 
 
 # The marks of a byte order in a buffer's format.

@@ -62,10 +62,15 @@ RULES = [
     ("cpu-time", r"\bof processor\b|\bprocessor time\b|\bon the clock\b", "CPU time, wall-clock time"),
     ("anew", r"\banew\b", "again"),
     ("may-not", r"\bmay not\b", "must not; might not"),
+    ("gets-error", r"\bgets? (?:`x`|.?error\b)", "prints, replies, returns"),
+    ("is-nothing", r"\b(is|are) nothing\b", "is ignored"),
+    ("is-that-of", r"\b(is|are) (that|those) of\b", "repeat the noun; equals, is the result of"),
     ("british", r"\b(colours?|behaviour|spelt|grey|licence|initialis\w+|recognis\w+)\b", "American spelling"),
 ]
 # what a rule may have at most, by the kind of prose: in all other comments a tenth of what there was before the pages were plain
-LIMITS = {"pages": 0, "help": 0, "public": 0, "other": 4}
+LIMITS = {"pages": 0, "help": 0, "header": 0, "public": 0, "other": 4}
+# kinds of prose in which a rule has no limit yet
+LATER = {name: ("pages", "public", "other") for name in ("gets-error", "is-nothing", "is-that-of")}
 # a line that the program prints, in the help
 PRINTED = "lost      0x8 bytes before the request, and 0x9 behind it"
 
@@ -142,7 +147,9 @@ def prose():
     return {
         "pages": all_of(markdown, "*.md", "docs/*.md"),
         "help": all_of(strings, "crates/*/src/help.rt") | all_of(manual, "man/*"),
-        "public": all_of(lambda text: rattle(text, True), sources) | all_of(c, "include/*.h", "include/*.hpp") | all_of(antt, "crates/*/specs/**/*.antt")
+        "header": all_of(c, "include/*.h", "include/*.hpp"),
+        "public": all_of(lambda text: rattle(text, True), sources)
+        | all_of(antt, "crates/*/specs/**/*.antt")
         | all_of(mistakes, "mutants/*/*.edit", "crates/*/must-fail/*.edit"),
         "other": all_of(lambda text: rattle(text, False), sources)
         | all_of(antt, "crates/*/proofs/**/*.antt")
@@ -168,7 +175,7 @@ def faults():
     for name, pattern, instead in RULES:
         for kind, files in found.items():
             count = {file: len(rule_of(pattern).findall(text)) for file, text in files.items()}
-            if sum(count.values()) > LIMITS[kind]:
+            if kind not in LATER.get(name, ()) and sum(count.values()) > LIMITS[kind]:
                 places = ", ".join(file for file, number in count.items() if number)
                 yield f"style: {kind}: {sum(count.values())} of {name} (at most {LIMITS[kind]}; write: {instead}): {places}"
 

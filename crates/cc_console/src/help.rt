@@ -13,8 +13,8 @@ A first plan: 100 bytes from a pool of the 65536 bytes from 0x10000
 The last line of its output has the word of the capability for them:
   cheri-cap show ffff0000041880040000000000010000
 
-The exit status is 0, or 1 if a reply is an error, 2 for a command line that is not understood,
-and 3 if the program ran out of memory, a file cannot be opened, or its input or output failed.";
+The exit status is 0, or 1 if a reply is an error, 2 for an invalid command line, and 3 if the
+program ran out of memory, a file cannot be opened, or its input or output failed.";
 
 pub(crate) const SHOW_ABOUT: &str = "Shows the fields of a capability word, one on each line";
 
@@ -26,11 +26,11 @@ pub(crate) const LINE_HELP: &str =
 
 pub(crate) const SHOW_AFTER_HELP: &str = "\
 The word is in its memory form, in which the null capability is all zeros. Any 32 digits are a word,
-without 0x before them; with --line, they may have it. Any other input gets `error 1 syntax`, with
-exit status 1.
+without 0x before them; with --line, they may have it. For any other input, prints `error 1 syntax`,
+with exit status 1.
 
-The line shows a word as a tagged one: LOAD is r, STORE w, EXECUTE x, LOAD_CAP R and STORE_CAP W,
-and (sentry) or (sealed) follows the bounds for a type that is not unsealed.
+The line shows a word as a tagged one: LOAD is r, STORE w, EXECUTE x, LOAD_CAP R and STORE_CAP W.
+(sentry) or (sealed) follows the bounds for a type that is not unsealed.
 
 Example:
   cheri-cap show --line ffff0000048190040000000000001000
@@ -48,7 +48,7 @@ pub const EXPLAIN_CHOICE: &str =
     "give either WORD and optionally `--svg`, or `--length N` and optionally `--base B`";
 
 pub(crate) const WINDOW_SVG_HELP: &str =
-    "Draw the window of WORD, with its bounds and address, as an SVG document in place of the lines";
+    "Draw the window of WORD, with its bounds and address, as an SVG document, and print no lines";
 
 pub(crate) const REQUEST_LENGTH_HELP: &str = "\
 Explain bounds of N bytes, at most 2^64: decimal digits, or 0x and hexadecimal digits of either case.
@@ -58,19 +58,19 @@ pub(crate) const REQUEST_BASE_HELP: &str =
     "The first address of the N bytes, in the form of N [default: 0]";
 
 pub(crate) const EXPLAIN_AFTER_HELP: &str = "\
-For a WORD the output has its fields, its exponent, granule and mantissas, its window, its base and
-top, whether it is canonical, and if not the reason. A word from setting bounds keeps its bounds
-wherever in the window its address is. A picture of the window in 64 cells follows, eight for each
-of its eight sections: `#` marks the cells with bytes of the bounds, and B, T and A those of the
-base, of the top and of the address. A WORD may have 0x before its digits. Input that is not a word
-gets `error 1 syntax`, with exit status 1. With --svg the output is an SVG document instead: a
-drawing of the window, with its sections, the bounds and the address.
+For a WORD, prints its fields, its exponent, granule and mantissas, its window, its base and top, and
+whether it is canonical, and if not the reason. At every address in the window, a canonical word has
+the same bounds. A picture of the window follows: 64 cells, eight for each of its eight sections. `#`
+marks the cells with bytes of the bounds, and B, T and A mark the cells of the base, top and address.
+A WORD may have 0x before its digits. For input that is not a word, prints `error 1 syntax`, with exit
+status 1. With --svg, prints only a drawing of the window, with its sections, the bounds and the
+address.
 
-For N bytes from B it has the granule in which their bounds are stored, and why half of it is not
-enough, the granted bounds, the bytes that they contain in addition to the N, the length and the
-alignment of the base that lose none, and the word of the root capability with these bounds. It is
-`error 1 syntax` if N or B is not a number, `error 4 range` if one is too large, and `error 9
-bounds` if the bytes end past 2^64, with exit status 1.
+For N bytes at B, prints: the granule, the unit in which their bounds are stored, and why half of it
+is too small; the granted bounds; the bytes lost before and after; the length and the alignment of
+the base that lose none; the word of the root capability with these bounds. Prints `error 1 syntax`
+if N or B is not a number, `error 4 range` if one is too large, and `error 9 bounds` if B + N is
+above 2^64, with exit status 1.
 
 Example:
   cheri-cap explain --length 8191 --base 0x10068
@@ -107,17 +107,16 @@ The output is one line, `round LENGTH GRANULE MASK`, with each number in hexadec
   LENGTH   the number of bytes to reserve: N rounded up for exact bounds
   GRANULE  their alignment: they begin at an address that is a multiple of this
   MASK     rounds an address down to such a multiple, as `address & MASK`
-A capability for bytes that are placed so grants them, and no others.
+A capability for bytes placed this way grants exactly these bytes.
 
-With --base, two more numbers follow, BASE and TOP: the bounds that are granted to N bytes from B.
+With --base, two more numbers follow, BASE and TOP: the bounds that are granted to N bytes at B.
 They are exact if and only if BASE is B and TOP is B + N.
 
-For a list the output has such a line for each line of the list, in their order. A line of more than
-128 bytes gets `error 3 long`, and an unterminated last line `error 2 unfinished`.
+With --list, prints one line for each line of FILE, in order. For a line of more than 128 bytes,
+prints `error 3 long`, and for an unterminated last line `error 2 unfinished`.
 
-Input that is not a number gets `error 1 syntax`, and a number above 2^64 gets `error 4 range`, each
-with exit status 1. Bytes from B on that end past 2^64 get `error 9 bounds`, also with exit status 1.
-If B is refused, that is the only line.
+For input that is not a number, prints `error 1 syntax`, for a number above 2^64 `error 4 range`, and
+if B + N is above 2^64 `error 9 bounds`, each with exit status 1. If B is refused, prints only that.
 
 Examples:
   cheri-cap round 8191
@@ -137,20 +136,23 @@ pub(crate) const RUN_AFTER_HELP: &str = "\
 Slot 0 of the machine holds the capability for the whole address space. Each command that derives
 a capability puts it into the next slot:
   addr S V, inc S V            another address, or V more
-  bounds S N, exact S N        N bytes from the address, rounded or refused if they are not exact
-  perms S NAMES, flag S F      fewer permissions, another flag
+  bounds S N, exact S N        bounds of N bytes at the address; if these are inexact, `bounds`
+                               rounds them and `exact` is refused
+  perms S NAMES, flag S F      keep only the permissions NAMES; set the flag to F
   seal S A, unseal S A         sealed or unsealed by the authority in slot A
-  rebuild A WORD               a word again, as far as slot A grants it
-  pool S [16], alloc N         a pool, of alignment 16 or 1, and an object of N bytes in it
-  free J                       marks an object as freed; it holds its bytes until the next sweep
-  sweep                        releases freed bytes, and revokes every slot from a freed object
+  rebuild A WORD               the capability of WORD, if slot A grants at least as much
+Other commands:
+  pool S [16]                  makes the bounds of slot S the pool, with alignment 16 or 1
+  alloc N                      allocates an object of N bytes in the pool
+  free J                       marks object J as freed; it holds its bytes until the next sweep
+  sweep                        releases freed bytes, and revokes every slot of a freed object
   show S, round N              shows a slot, or the rounded length
-A line that is not a command, or whose command is refused, gets the reply `error CODE NAME`, and the
-next line runs. Slots and objects are numbered permanently, in the order in which they are made, and
-a refused command, such as an `alloc`, uses no number: take the numbers from the replies.
+For a line that is not a command, or whose command is refused, the reply is `error CODE NAME`, and
+the next line runs. Slots and objects are numbered permanently, in order. A refused command uses no
+number: take the numbers from the replies.
 
-The exit status is 0, or 1 if a reply is an error, 2 for a command line that is not understood,
-and 3 if the program ran out of memory, FILE cannot be opened, or its input or output failed.
+The exit status is 0, or 1 if a reply is an error, 2 for an invalid command line, and 3 if the
+program ran out of memory, FILE cannot be opened, or its input or output failed.
 
 Example:
   printf 'addr 0 0x1000\\nbounds 1 512\\n' | cheri-cap run
@@ -170,11 +172,11 @@ pub(crate) const PLAN_AFTER_HELP: &str = "\
 The machine is set up by `addr 0 BASE`, `exact 1 LENGTH` and `pool 2` (or `pool 2 16`), whose three
 replies come first. They are errors if no capability has exactly these bounds, and the machine then
 has no pool; `cheri-cap round LENGTH` shows a length and an alignment that are exact. The script
-then runs as by `cheri-cap run`. Slots and objects are numbered permanently, in the order in which
-they are made, and a refused `alloc` uses no number: take the numbers from the replies.
+then runs, as with `cheri-cap run`. Slots and objects are numbered permanently, in order. A refused
+`alloc` uses no number: take the numbers from the replies.
 
-A BASE or LENGTH that is not a number gets `error 1 syntax`, and one that is too large gets
-`error 4 range`, both with exit status 1, and no script runs.
+If BASE or LENGTH is not a number, prints `error 1 syntax`, and if one is too large `error 4 range`,
+both with exit status 1. Then no script runs.
 
 Example:
   printf 'alloc 100\\nfree 1\\nsweep\\n' | cheri-cap plan 0x10000 65536
@@ -189,16 +191,16 @@ pub(crate) const MAP_ABOUT: &str =
     "Runs a script on a machine with a pool, as plan does, and prints a map of the pool at its end";
 
 pub(crate) const MAP_AFTER_HELP: &str = "\
-Instead of the replies the output has a line with the size of a cell, at most 16 rows of 64 cells
-that cover the pool, each after the address of its first cell, and the summary of the run that
-`cheri-cap plan --stats` writes. A cell is `#` if some of its bytes are live, `~` if some are freed
-and not swept yet, `*` if there are both, and `.` if no object holds one.
+Prints no replies, but: the size of a cell; up to 16 rows of 64 cells that cover the pool, each row
+after the address of its first cell; and the summary of `cheri-cap plan --stats`. A cell is `#` if
+some of its bytes are live, `~` if some are freed and not swept yet, `*` if there are both, and `.`
+if no object holds one.
 
-With --svg the output is only a picture of the pool: an SVG document in which each held object is a
+With --svg, prints only a picture of the pool: an SVG document in which each held object is a
 rectangle over the cells that hold a byte of it, at most 16 rows of 1024 cells. Live objects are
 filled and freed ones striped, so they differ even without color.
 
-BASE, LENGTH, the machine and the script are those of `cheri-cap plan`, and so is the exit status.
+BASE, LENGTH, the machine, the script and the exit status are the same as for `cheri-cap plan`.
 
 Examples:
   printf 'alloc 20\\nalloc 9\\nfree 1\\n' | cheri-cap map 0x1000 64 | head -n 2
@@ -216,13 +218,13 @@ Format of the trace: `own`, or that of another recorder: `mtrace` of the GNU C l
 (the raw file of `heaptrack -r`), or `ltrace` [default: own]";
 
 pub(crate) const REALLOC_HELP: &str = "\
-Effect of a realloc: `move` (the new object is made while the old one is held), or `keep` (an object
-whose padded size and alignment stay right keeps its bytes) [default: move]";
+Effect of a realloc: `move` (the new object is placed while the old one is held), or `keep` (an
+object whose padded size and alignment stay right keeps its bytes) [default: move]";
 
 pub(crate) const SWEEP_HELP: &str = "\
-When the quarantine is swept: `none` (there is no quarantine), `never`, `trace` (at each event `s`),
-N% (if more bytes are quarantined than N percent of the held ones), N%:live or N%:high (of the live
-ones, or of those up to the highest end), bytes:N or frees:N (from N bytes or N objects on)
+When the quarantine is swept: `none` (there is no quarantine), `never`, `trace` (at each event `s`);
+N%, N%:live or N%:high (if more than N percent of the held bytes, of the live bytes, or of the
+high-water mark are quarantined); bytes:N or frees:N (if at least N bytes or objects are)
 [default: 25%]";
 
 pub(crate) const LEAST_HELP: &str =
@@ -232,24 +234,24 @@ pub(crate) const POOL_HELP: &str = "\
 Bytes in which objects are placed: the first address and the length, each in decimal or with 0x
 [default: 2^44 and all above]";
 
-pub(crate) const STRICT_HELP: &str = "Take no further line after one that is refused";
+pub(crate) const STRICT_HELP: &str = "Stop at the first refused line";
 
 pub(crate) const SUMMARY_HELP: &str = "Format of the summary [default: text]";
 
 pub(crate) const EACH_HELP: &str = "\
-Print a series in place of the summary, as comma-separated values: a sample at every N-th event, at
+Print a series instead of the summary, as comma-separated values: a sample at every N-th event, at
 each event that sweeps, and at the end";
 
 pub(crate) const SIZES_HELP: &str = "\
-Print a table of the objects that were made in place of the summary, in its format: a row for each
-power of two of their sizes; not with --each, --svg or --script";
+Print a table of the placed objects instead of the summary, in its format: a row for each power of
+two of their sizes; not with --each, --svg or --script";
 
 pub(crate) const CHART_HELP: &str = "\
-Print a chart of the heap over the events in place of the summary, as SVG for a page: the live,
+Print a chart of the heap over the events instead of the summary, as SVG for a page: the live,
 quarantined and held bytes, and the high-water mark; not with --each, --sizes or --script";
 
 pub(crate) const SCRIPT_HELP: &str = "\
-Print the changes of the heap as a script in place of the summary: `plan --slots 65536` with this
+Print the changes of the heap as a script instead of the summary: `plan --slots 65536` with this
 alignment and this pool, if its bounds are exact, places each object at the same bytes; not with
 --each, --sizes, --svg or --realloc keep";
 
@@ -257,35 +259,38 @@ pub(crate) const TRACE_FILE_HELP: &str = "Trace file; standard input if `-` or o
 
 pub(crate) const REPLAY_AFTER_HELP: &str = "\
 Each line of the trace is an event:
-  a ID SIZE [ALIGN]  makes an object, as malloc and aligned_alloc do
-  c ID SIZE          makes an object, as calloc does
-  r OLD NEW SIZE     makes an object in place of another, as realloc does; NEW may be OLD
+  a ID SIZE [ALIGN]  allocates an object, like malloc and aligned_alloc
+  c ID SIZE          allocates an object, like calloc
+  r OLD NEW SIZE     allocates an object to replace OLD, like realloc; NEW may be OLD
   f ID               frees an object; its bytes stay held until the next sweep
-  s, t NUMBER        asks for a sweep, gives the time
-An empty line, and one that begins with `#`, is nothing. Numbers are below 2^64: decimal digits, or
-0x and hexadecimal ones. ID names an object from its making to its free, and can be used again after
+  s, t NUMBER        requests a sweep; sets the time
+Empty lines and lines that begin with `#` are ignored. Numbers are below 2^64: decimal digits, or 0x
+and hexadecimal ones. ID names an object from its allocation to its free, and can be used again after
 that. An object of SIZE bytes, or of one byte if SIZE is 0, takes its representable length at the
 lowest place with the alignment that exact bounds need, or with ALIGN if that is larger. The policy
 is examined after each free, and after each realloc that does not keep its object. If an object has
 no place, the quarantine is swept once for it.
 
 A line of `mtrace` is an event after the words `@ CALLER`, if it has them:
-  + PTR SIZE             makes an object; if PTR is (nil), none was made, which counts as `failed`
+  + PTR SIZE             allocates an object; if PTR is (nil), it failed, and is counted as `failed`
   - PTR                  frees an object
-  < PTR, > PTR SIZE      makes an object in place of another: the old one, and the new one
-  ! PTR SIZE             could not make an object in place of another, which counts as `failed`
-One that begins with `=` is nothing. A pointer is an ID. For `heaptrack` the lines are those of a raw
-file, `+ SIZE TRACE PTR`, `- PTR` and `c TIME` in hexadecimal, and for `ltrace` the calls of malloc,
-calloc, realloc and free with their results. Their other lines are nothing.
+  < PTR, > PTR SIZE      allocates an object to replace another: the old one, and the new one
+  ! PTR SIZE             could not allocate an object to replace another; is counted as `failed`
+Lines that begin with `=` are ignored. A pointer is an ID. A line of `heaptrack` is `+ SIZE TRACE
+PTR`, `- PTR` or `c TIME` of a raw file, in hexadecimal. A line of `ltrace` is a call of malloc,
+calloc, realloc or free with its result. All other lines are ignored.
 
-The summary has counts of lines and events, sums over all objects that were made, peaks of the bytes
-that are held, the sweeps, and what is held at the end. It counts each kind of refused line and has
-the first of each: `syntax`, `range`, `unfinished`; `unknown` for an ID that is not live, `live` for
-a new object under one that is, `noroom` and `full` for an object that is not made, and `lost` for an
-event on such an object.
+The summary has counts of lines and events, sums over all placed objects, peaks of the held bytes,
+the sweeps, and the heap at the end. It counts the refused lines by kind, and has the number of the
+first line of each kind:
+  syntax, range, unfinished   a line that is not an event
+  unknown                     a free or a realloc of an ID that is not live
+  live                        an allocation under a live ID, whose object is freed first
+  noroom, full                an object that could not be placed
+  lost                        an event on such an object
 
-The exit status is 0, or 1 if a line is refused, 2 for a command line that is not understood,
-and 3 if the program ran out of memory, FILE cannot be opened, or its input or output failed.
+The exit status is 0, or 1 if a line is refused, 2 for an invalid command line, and 3 if the
+program ran out of memory, FILE cannot be opened, or its input or output failed.
 
 Example:
   printf 'a 1 100\\na 2 8191\\nf 1\\n' | cheri-cap replay --each 2
@@ -296,8 +301,8 @@ Example:
 pub(crate) const DECODE_ABOUT: &str = "Decodes words, one on each line";
 
 pub(crate) const FORMAT_HELP: &str = "\
-Format of the line for a word: its values in columns, the line that debuggers show, its values in
-columns of one width each, or with commas [default: columns]";
+Output format: `columns`; `text`, the one-line form of debuggers; `fixed`, columns of fixed width; or
+`csv`, comma-separated values [default: columns]";
 
 pub(crate) const BYTES_HELP: &str = "\
 Read raw words of 16 bytes, the lowest byte first or the highest
@@ -307,7 +312,7 @@ pub(crate) const SKIP_HELP: &str =
     "Number of bytes at the start of the input that are not decoded [default: 0]";
 
 pub(crate) const AT_HELP: &str =
-    "Print the address of each word, which is START for the first and 16 more for each further one";
+    "Print the address of each word; the first is at START";
 
 pub(crate) const HOLDS_HELP: &str = "List only words that could be capabilities to ADDRESS";
 
@@ -319,25 +324,28 @@ pub(crate) const WORDS_FILE_HELP: &str = "File of words; standard input if `-` o
 pub(crate) const DECODE_AFTER_HELP: &str = "\
 Each line is a word: 32 hexadecimal digits of either case, with or without 0x in front of them. With
 --bytes each 16 bytes are a word, as memory holds them: `little` for the order of CHERI-RISC-V.
-The output has a line for each word, in their order:
+Prints a line for each word, in order:
   columns   WORD BASE TOP PERMS FLAG TYPE EXPONENT CANONICAL, as `cheri-cap show` prints them
   text      ADDRESS [LETTERS,BASE-TOP], and `(sealed)` or `(sentry)`
-  fixed     the columns in one width each, so that `sort` and `awk` compare them as numbers: BASE and
-            TOP have 17 digits, EXPONENT 2 hexadecimal digits, and CANONICAL is 1 or 0
+  fixed     columns of fixed width, so that `sort` and `awk` compare them as numbers: BASE and TOP
+            have 17 digits, EXPONENT has 2 hexadecimal digits, and CANONICAL is 1 or 0
   csv       a header, and then the values of the columns, ADDRESS and NAMES with commas between
-A line that is not a word gets `error 1 syntax`. An unterminated last line, or fewer than 16 trailing
-bytes, get `error 2 unfinished`. Each word is decoded independently, so parts of the input can be
-decoded separately; but with `--format csv` the output of each part begins with the header.
+For a line that is not a word, prints `error 1 syntax`. For an unterminated last line, or fewer than
+16 trailing bytes, prints `error 2 unfinished`. Each word is decoded independently, so parts of the
+input can be decoded separately; but with `--format csv` the output of each part begins with the
+header.
 
-With --at the address of a word comes first, as a separate column. START is the address of the
-first word after those N bytes that --skip omits. In a core file, a segment need not begin at a
-multiple of 16: `readelf -lW` prints the Offset of each, for --skip, and its VirtAddr, for --at.
-With --holds or --perms only words that could be capabilities get a line: they are canonical, their
-bounds contain ADDRESS, and they have a permission, and all those of NAMES. Null has none. A line
-that is not a word then gets no line, but the exit status is 1.
+With --at, the address of each word comes first, as a separate column: START for the first word after
+the skipped bytes, and 16 more for each further word. In a core file, a segment may begin at an
+offset that is not a multiple of 16: `readelf -lW` prints the Offset of each, for --skip, and its
+VirtAddr, for --at.
 
-The exit status is 0, or 1 if a line of output is an error, 2 for a command line that is not
-understood, and 3 if FILE cannot be opened, or the input or output failed.
+With --holds or --perms, lists only words that could be capabilities: they are canonical, their bounds
+contain ADDRESS, and they have at least one permission, and all of NAMES. Null has no permission, so
+it is never listed. For a line that is not a word, prints nothing, but the exit status is 1.
+
+The exit status is 0, or 1 if a line of output is an error, 2 for an invalid command line, and 3 if
+FILE cannot be opened, or the input or output failed.
 
 Examples:
   printf 'ffff0000000f803d0000000000010070\\n02001fffc48190040000000000001000\\n' | cheri-cap decode
@@ -354,19 +362,20 @@ Examples:
   printf 'no word\\n\\0\\0\\0\\0\\0\\0\\0\\0\\0\\0\\0\\0\\0\\0\\0\\0p\\0\\1\\0\\0\\0\\0\\0=\\200\\17\\0\\0\\0\\377\\377' | cheri-cap decode --bytes little --skip 8 --at 0x4000 --holds 0x10100
   0x4010 ffff0000000f803d0000000000010070 0x10070 0x12070 ffff 0 3ffff 1 yes";
 
-pub(crate) const ANNOTATE_ABOUT: &str = "Copies a text, with the line of each word after the word";
+pub(crate) const ANNOTATE_ABOUT: &str =
+    "Copies text, and inserts the one-line form of each capability word after it";
 
 pub(crate) const TEXT_FILE_HELP: &str = "File of text; standard input if `-` or omitted";
 
 pub(crate) const ANNOTATE_AFTER_HELP: &str = "\
-The output is the input, byte for byte, and after each word in it a space and the word's line, as
-`cheri-cap show --line` prints it. A word is 32 hexadecimal digits of either case, or two halves of
-16 digits with `_` or `:` between, with or without 0x before. No letter, digit or underscore comes
-right before it or right after it. Lines may have any length, and the input any bytes. Each line is
-that of a tagged word, and any 32 digits are a word: a checksum of 128 bits gets a line too.
+Prints the input, byte for byte, and after each word in it a space and the word's one-line form, like
+`cheri-cap show --line`. A word is 32 hexadecimal digits of either case, or two halves of 16 digits
+with `_` or `:` between, with or without 0x before. Digits next to a letter, another digit or an
+underscore are not a word. Lines may have any length, and the input any bytes. Each word is shown as
+a tagged one. Any 32 digits are a word, and so is a checksum of 128 bits.
 
-The exit status is 0, 2 for a command line that is not understood, and 3 if FILE cannot be opened,
-or the input or output failed.
+The exit status is 0, 2 for an invalid command line, and 3 if FILE cannot be opened, or the input or
+output failed.
 
 Example:
   echo 'csp=0xffff0000000f803d0000000000010070 ok' | cheri-cap annotate
@@ -376,7 +385,7 @@ pub(crate) const SLOTS_HELP: &str = "\
 Maximum number of slots, and of objects, from 1 to 65536 [default: 4096]";
 
 pub(crate) const STATS_HELP: &str =
-    "Print a summary, and the hints that a terminal gets, on standard error when the script ends";
+    "Print a summary, and the hints for a terminal, on standard error when the script ends";
 
 pub(crate) const SVG_HELP: &str = "Draw a picture for a page or a paper, as an SVG document";
 
