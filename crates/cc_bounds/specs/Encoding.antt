@@ -23,7 +23,8 @@ pub record HasBoundsFields (span : Span) (ie : Bool) (t b : ℕ) : Type 0 where
   pub is_b : b ≡ span.base / 2 ^ exponent % 2 ^ 14 + exponent % 8
 
 -- `StoresSpan` holds if the fields store the span: it is sound, they have its bounds fields, and
--- their address is representable for it.
+-- their address is representable for it. Example: the fields of `ffff0000000000010000000000000000`,
+-- with exponent 53, store no span.
 pub record StoresSpan (fields : Fields) (span : Span) : Type 0 where
   pub is_span : IsSpan span
   pub sound : IsSound span

@@ -22,7 +22,8 @@ pub record IsWithin (inner outer : Span) : Type 0 where
   pub from_base : outer.base ≤ inner.base
   pub to_top : inner.top ≤ outer.top
 
--- `SharesByte` holds if some byte is in both spans.
+-- `SharesByte` holds if some byte is in both spans. An empty span shares none, and neither do spans
+-- that only touch.
 pub record SharesByte (one other : Span) : Type 0 where
   pub byte : ℕ
   pub in_one : HasByte one byte

@@ -3,7 +3,7 @@ use Rattle.std.specs.Prelude.{ℕ, ◌+◌, ◌-◌, ◌*◌, ◌/◌, ◌^◌, 
 use Rattle.cc_bounds.specs.declared.span.Span.{Span}
 use Rattle.cc_bounds.specs.Granule.{IsExponent}
 
--- An eighth of the window, in bytes.
+-- The size of a section, an eighth of the window: 2^(exponent + 11) bytes.
 abbrev pub section_of : ℕ → ℕ
 section_of exponent = 2 ^ (exponent + 11)
 

@@ -23,7 +23,9 @@ pub record IsWordOf (cap : Capability) (word : ℕ) : Type 0 where
   pub is_fields : IsFieldsOf cap fields
   pub is_word : word ≡ word_of fields
 
--- `IsCanonical` holds if the word is the word of some capability.
+-- `IsCanonical` holds if the word is the word of some capability. Example:
+-- `ffff0000000000010000000000000000`, with exponent field 53, has the bounds of the root and is not
+-- canonical.
 abbrev pub IsCanonical : ℕ → Type 0
 IsCanonical word = (cap : Capability) × IsWordOf cap word
 

@@ -20,8 +20,8 @@ pub record Capability : Type 0 where
   pub otype : ℕ
 
 -- `IsCapability` holds of every capability that exists: its span is sound, its address is
--- representable for the span, its permissions are among the sixteen, and its type is unsealed or
--- one that sealing gives.
+-- representable for the span, its permissions are among the sixteen, and its type is unsealed or one
+-- that sealing gives. Each is either unsealed or sealed, and not both.
 pub record IsCapability (cap : Capability) : Type 0 where
   pub is_span : IsSpan cap.span
   pub sound : IsSound cap.span
@@ -30,11 +30,11 @@ pub record IsCapability (cap : Capability) : Type 0 where
   pub permissions_fit : cap.permissions < 2 ^ 16
   pub is_type : IsObjType cap.otype
 
--- `IsUnsealed` holds if the type is that of an unsealed capability.
+-- `IsUnsealed` holds if the type is 0x3ffff, that of an unsealed capability.
 abbrev pub IsUnsealed : Capability → Type 0
 IsUnsealed cap = cap.otype ≡ unsealed_type
 
--- `IsSealed` holds if the type is one that sealing gives.
+-- `IsSealed` holds if the type is one that sealing gives: at most 0x3ffef.
 abbrev pub IsSealed : Capability → Type 0
 IsSealed cap = cap.otype ≤ last_sealing_type
 
@@ -42,8 +42,8 @@ IsSealed cap = cap.otype ≤ last_sealing_type
 abbrev pub Grants : Capability → ℕ → Type 0
 Grants cap byte = HasByte cap.span byte
 
--- `GrantsNoMore` holds if the child's span is within the parent's, and its permissions are among
--- the parent's.
+-- `GrantsNoMore` holds if the child's span is within the parent's, and its permissions are among the
+-- parent's. Flag and type do not count.
 pub record GrantsNoMore (child parent : Capability) : Type 0 where
   pub bytes : IsWithin child.span parent.span
   pub permissions : HasAll parent.permissions child.permissions
@@ -79,7 +79,8 @@ abbrev pub sealed_with : Capability → ℕ → Capability
 sealed_with cap otype = record cap { otype = otype }
 
 -- The permissions that unsealing leaves of a capability's permissions: GLOBAL stays only if the
--- authority has it too.
+-- authority has it too. Example: of 0xffff, an authority with 0x200 alone leaves 0xfffe, and one
+-- with 0x201 leaves 0xffff.
 abbrev pub unsealed_permissions : (permissions authority : ℕ) → ℕ
 unsealed_permissions permissions authority =
     if bit_and authority global_permission == global_permission then permissions

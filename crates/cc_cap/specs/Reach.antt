@@ -1,4 +1,6 @@
 -- The capabilities that are reached from a capability by the functions that derive one.
+--
+-- From the root, every unsealed capability is reachable.
 use Rattle.std.specs.Prelude.{Ok}
 use Rattle.cc_bounds.specs.Span.{length_of}
 use Rattle.cc_cap.specs.Capability.{Capability}

@@ -26,29 +26,29 @@ pub record MakesWord (rule : Result Capability Refusal → Type 0) (result : Res
   pub is_made : rule made
   pub in_words : InWords made result
 
--- `OnWord` holds if `result` is that of a rule on a word: `NotCanonical` if no capability has the
--- word, otherwise the result of the rule for its capability, in words.
+-- `OnWord` holds if no capability has the word and `result` is `NotCanonical`, or one has it and
+-- `result` is the rule's result for it, in words.
 abbrev pub OnWord : (rule : Capability → Result Capability Refusal → Type 0) (word : ℕ) (result : Result ℕ Refusal) → Type 0
 OnWord rule word result =
     RefusedUnless (IsCanonical word) (result ≡ Err NotCanonical) (
     (cap : Capability) × IsWordOf cap word × MakesWord (rule cap) result)
 
--- `OnWords` holds if `result` is that of a rule on a word and the word of an authority:
--- `NotCanonical` for the one, then for the other, and then the result of the rule.
+-- `OnWords` holds if `word`, or else the word of the authority, is not canonical and `result` is
+-- `NotCanonical`, or if `result` is the rule's result for their capabilities, in words.
 abbrev pub OnWords : (rule : Capability → Capability → Result Capability Refusal → Type 0) (word authority : ℕ) (result : Result ℕ Refusal) → Type 0
 OnWords rule word authority result =
     RefusedUnless (IsCanonical word) (result ≡ Err NotCanonical) (
     (cap : Capability) × IsWordOf cap word × OnWord (rule cap) authority result)
 
--- `IsLikeCalls` holds if, for a capability that has the word, the result on the word is that of the
--- rule for the capability, in words.
+-- `IsLikeCalls` holds if, for a capability that has the word, each result of the rule on the word
+-- is, in words, the rule's result for the capability.
 abbrev pub IsLikeCalls : (rule : Capability → Result Capability Refusal → Type 0) (word : ℕ) → Type 0
 IsLikeCalls rule word =
     (result : Result ℕ Refusal) → OnWord rule word result
     → (cap : Capability) → IsWordOf cap word → (made : Result Capability Refusal) → rule cap made → InWords made result
 
--- `AreLikeCalls` holds if, for capabilities that have the two words, the result on the words is
--- that of the rule for the capabilities, in words.
+-- `AreLikeCalls` holds if, for capabilities that have the two words, each result of the rule on the
+-- words is, in words, the rule's result for the capabilities.
 abbrev pub AreLikeCalls : (rule : Capability → Capability → Result Capability Refusal → Type 0) (word authority : ℕ) → Type 0
 AreLikeCalls rule word authority =
     (result : Result ℕ Refusal) → OnWords rule word authority result

@@ -17,10 +17,11 @@ abbrev pub second_of : {A B : Type 0} → Result (A × B) Refusal → Result B R
 second_of (Ok values) = Ok values.1
 second_of (Err refusal) = Err refusal
 
--- The bytes before the first space, and those after it.
+-- The bytes before the first space.
 abbrev pub head_of : (text : List ℕ) → List ℕ
 head_of text = before_first (λ byte. byte == 32) text
 
+-- The bytes after the first space.
 abbrev pub tail_of : (text : List ℕ) → List ℕ
 tail_of text = after_first (λ byte. byte == 32) text
 

@@ -48,10 +48,11 @@ assigned_in text = spaced_address (after_first (λ byte. byte == 61) text)
 abbrev pub result_in : (call : List ℕ) → Result ℕ Refusal
 result_in call = assigned_in (after_first (λ byte. byte == 41) call)
 
--- The first argument, and the further ones.
+-- The first argument: the bytes before the first comma.
 abbrev pub first_of : (arguments : List ℕ) → List ℕ
 first_of arguments = before_first (λ byte. byte == 44) arguments
 
+-- The further arguments: the bytes after the first comma.
 abbrev pub further_of : (arguments : List ℕ) → List ℕ
 further_of arguments = after_first (λ byte. byte == 44) arguments
 

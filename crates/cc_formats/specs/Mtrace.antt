@@ -55,10 +55,11 @@ mtrace_in (first ∷ rest) =
 abbrev pub IsCaller : (caller : List ℕ) → Type 0
 IsCaller caller = AllByRecursion (λ byte. byte ≢ 93) caller
 
--- The line of an object that a caller makes, and that of one that it frees, with numbers in hexadecimal.
+-- The line of an object that a caller makes, with numbers in hexadecimal.
 abbrev pub allocation_line : (caller : List ℕ) → (pointer size : ℕ) → List ℕ
 allocation_line caller pointer size =
     codes "@ " ++ (caller ++ (codes "] + " ++ (hexadecimal pointer ++ (codes " " ++ hexadecimal size))))
 
+-- The line of an object that a caller frees.
 abbrev pub free_line : (caller : List ℕ) → (pointer : ℕ) → List ℕ
 free_line caller pointer = codes "@ " ++ (caller ++ (codes "] - " ++ hexadecimal pointer))

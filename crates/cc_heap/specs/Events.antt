@@ -1,8 +1,8 @@
 -- The effect of an event on a heap.
 --
--- An object that has no place gets one sweep and one more attempt. A reallocation that moves an object
--- holds both objects at once, before it frees the old one. One that keeps an object in its place
--- quarantines and sweeps nothing, and its state counts in the peaks.
+-- An object without a place, or beyond the limit, gets one sweep and one more attempt. A reallocation
+-- that moves an object holds both objects at once, before it frees the old one. One that keeps an
+-- object in its place quarantines and sweeps nothing, and its state counts in the peaks.
 use Rattle.std.specs.Prelude.{ℕ, Bool, true, false, ◌≡◌, ◌≢◌, ◌⊎◌, ◌≤◌, max, Option, Some, None, IsSome, IsNone, MatchOption, length, if◌then◌else◌}
 use Rattle.cc_placer.specs.Placement.{HasNoPlace}
 use Rattle.cc_placer.specs.declared.event.Event.{Event}

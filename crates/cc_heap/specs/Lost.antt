@@ -1,4 +1,5 @@
--- A heap over a trace, and the ids whose objects were not made: the lost ones.
+-- A heap over a trace, and the ids whose objects were not made: the lost ones. An id is lost until the
+-- next event that frees it, or makes an object under it.
 use Rattle.std.specs.Prelude.{ℕ, Bool, true, false, not, ◌≡◌, ◌<◌, ◌&&◌, cond, get_or, nat_eq, List, [], ◌∷◌, Option, Some, None}
 use Rattle.std.specs.List.{list_any}
 use Rattle.cc_placer.specs.declared.event.Event.{Event}

@@ -1,4 +1,4 @@
--- When a quarantine is swept.
+-- When a quarantine is swept. A policy is examined after each object that is freed or replaced.
 use Rattle.std.specs.Prelude.{ℕ, Bool, true, false, ◌+◌, ◌*◌, ◌<◌, ◌≤◌}
 use Rattle.cc_heap.specs.declared.policy.Policy.{Policy}
 use Rattle.cc_heap.specs.declared.policy.Policy.TheVariants.{Immediate, Never, Percent, Bytes, Frees, Trace}

@@ -27,8 +27,7 @@ pub record Moment : Type 0 where
   pub made : Option Object
   pub swept : Option ℕ
 
--- IsMaking holds if an object is made, IsFreeing if one is freed, IsSweeping if the quarantine is swept, and
--- IsKeeping if an object keeps its bytes and has another size.
+-- IsMaking holds if an object is made, and the moment has it.
 pub record IsMaking (old : Heap) (moment : Moment) (new : Heap) : Type 0 where
   pub id : ℕ
   pub requested : ℕ
@@ -40,16 +39,19 @@ pub record IsMaking (old : Heap) (moment : Moment) (new : Heap) : Type 0 where
     swept = None;
   }
 
+-- IsFreeing holds if an object is freed.
 pub record IsFreeing (old : Heap) (moment : Moment) (new : Heap) : Type 0 where
   pub id : ℕ
   pub object : Object
   pub frees : FreesObject old id object new
   pub is : moment ≡ record { memory = new.memory; made = None; swept = None }
 
+-- IsSweeping holds if the quarantine is swept, and the moment has the number of its bytes.
 pub record IsSweeping (old : Heap) (moment : Moment) (new : Heap) : Type 0 where
   pub sweeps : new ≡ swept old
   pub is : moment ≡ record { memory = new.memory; made = None; swept = Some (usage_of old.memory).quarantine }
 
+-- IsKeeping holds if an object keeps its bytes and has another size.
 pub record IsKeeping (old : Heap) (moment : Moment) (new : Heap) : Type 0 where
   pub from : ℕ
   pub to : ℕ
@@ -89,10 +91,11 @@ abbrev pub or_zero : {A : Type 0} → (A → ℕ) → Option A → ℕ
 or_zero value (Some x) = value x
 or_zero value None = 0
 
--- A number of the object whose making led to a state, or of the bytes whose sweep did, and otherwise 0.
+-- A number of the object whose making led to the state, and otherwise 0.
 abbrev pub of_made : (Object → ℕ) → Moment → ℕ
 of_made value moment = or_zero value moment.made
 
+-- A number of the bytes whose sweep led to the state, and otherwise 0.
 abbrev pub of_swept : (ℕ → ℕ) → Moment → ℕ
 of_swept value moment = or_zero value moment.swept
 

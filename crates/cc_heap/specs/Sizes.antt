@@ -32,10 +32,11 @@ with_size power size padded [] = []
 with_size power size padded (row ∷ rows) =
     (if is_of_power power size then with_object size padded row else row) ∷ with_size (power + 1) size padded rows
 
--- The numbers of no objects, and the rows of them: one for each power of two below 2^64.
+-- The numbers of no objects.
 abbrev pub no_objects : SizeTotals
 no_objects = record { made = 0; inexact = 0; asked = 0; padded = 0 }
 
+-- The rows of no objects, one for each power of two below 2^64.
 abbrev pub no_sizes : List SizeTotals
 no_sizes = replicate 64 no_objects
 

@@ -5,10 +5,11 @@ use Rattle.cc_heap.specs.declared.object.Object.{Object}
 use Rattle.cc_heap.specs.declared.totals.Totals.{Totals}
 use Rattle.cc_heap.specs.declared.usage.Usage.{Usage}
 
--- A count that stays at 2^64 - 1 once it reaches it, and a sum of bytes that stays at 2^128 - 1.
+-- A count, which stays at 2^64 - 1 once it reaches it.
 abbrev pub capped_count : ℕ → ℕ
 capped_count count = min count (2 ^ 64 - 1)
 
+-- A sum of bytes, which stays at 2^128 - 1 once it reaches it.
 abbrev pub capped_sum : ℕ → ℕ
 capped_sum bytes = min bytes (2 ^ 128 - 1)
 

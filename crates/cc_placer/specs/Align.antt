@@ -24,7 +24,9 @@ rounded_up size unit = div_ceil size unit * unit
 abbrev pub unit_of : Align → (size : ℕ) → ℕ
 unit_of align size = max (granule_of (from_zero size)) (align_bytes align)
 
--- The padded size of an object, computed: `size` rounded up to a multiple of its unit.
+-- The padded size of an object, computed: `size` rounded up to a multiple of its unit. Example: with
+-- alignment 1, of 5,000 bytes the unit is 8 and the padded size 5,000, and of 8,185 they are 16 and
+-- 8,192. With alignment 16, 100 bytes are padded to 112, 5,000 to 5,008, and 8,184 to 8,192.
 abbrev pub padded_size_for : Align → (size : ℕ) → ℕ
 padded_size_for align size = rounded_up size (unit_of align size)
 

@@ -3,12 +3,13 @@ use Rattle.std.specs.Prelude.{ℕ, Option, Some, None}
 use Rattle.cc_placer.specs.declared.event.Event.{Event}
 use Rattle.cc_placer.specs.declared.event.Event.TheVariants.{Allocate, Clear, Reallocate, Free}
 
--- The id that an event frees, and the id under which it makes an object.
+-- The id that an event frees.
 abbrev pub freed_id : Event → Option ℕ
 freed_id (Reallocate old new size) = Some old
 freed_id (Free id) = Some id
 freed_id _ = None
 
+-- The id under which an event makes an object.
 abbrev pub made_id : Event → Option ℕ
 made_id (Allocate id size align) = Some id
 made_id (Clear id size) = Some id

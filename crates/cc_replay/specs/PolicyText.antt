@@ -10,17 +10,19 @@ use Rattle.cc_heap.specs.declared.policy.Policy.TheVariants.{Immediate, Never, P
 use Rattle.cc_heap.specs.declared.policy.Share.{Share}
 use Rattle.cc_heap.specs.declared.policy.Share.TheVariants.{Held, Live, High}
 
--- Whether a string begins with another, and the string after it.
+-- Whether a string begins with another.
 abbrev pub has_prefix : (prefix text : List ℕ) → Bool
 has_prefix prefix text = bytes_eq (take (length prefix) text) prefix
 
+-- The string after a prefix.
 abbrev pub after : (prefix text : List ℕ) → List ℕ
 after prefix text = drop (length prefix) text
 
--- Whether a string ends with another, and the string before it.
+-- Whether a string ends with another.
 abbrev pub has_suffix : (suffix text : List ℕ) → Bool
 has_suffix suffix text = bytes_eq (drop (length text - length suffix) text) suffix
 
+-- The string before a suffix.
 abbrev pub before : (suffix text : List ℕ) → List ℕ
 before suffix text = take (length text - length suffix) text
 

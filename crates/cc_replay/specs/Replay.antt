@@ -161,20 +161,24 @@ abbrev pub TakesNext : (old : ReplayState) → (line text : List ℕ) → (is_er
 TakesNext old line text is_error new =
     TakesEntry (at_entry (next_entry old line) old) (next_entry old line).event text is_error new
 
--- TakesLine holds if a line is counted and taken, unless no further line is.
+-- TakesLineIn holds if a line is counted and taken by a replay with this progress, unless no further
+-- line is taken.
 abbrev pub TakesLineIn : Progress → (old : ReplayState) → (line text : List ℕ) → (is_error : Bool) → (new : ReplayState) → Type 0
 TakesLineIn Running old line text is_error new = TakesNext old line text is_error new
 TakesLineIn _ old line text is_error new = Passes old text is_error new
 
+-- TakesLine holds if a line is counted and taken, unless no further line is.
 abbrev pub TakesLine : (old : ReplayState) → (line text : List ℕ) → (is_error : Bool) → (new : ReplayState) → Type 0
 TakesLine old = TakesLineIn old.progress old
 
--- TakesRest holds if trailing bytes are counted as a line that is refused, unless no further line is
--- taken.
+-- TakesRestIn holds if trailing bytes are counted as a refused line by a replay with this progress,
+-- unless no further line is taken.
 abbrev pub TakesRestIn : Progress → (old : ReplayState) → (rest text : List ℕ) → (is_error : Bool) → (new : ReplayState) → Type 0
 TakesRestIn Running old rest text is_error new = Refuses (at_line old) Unfinished text is_error new
 TakesRestIn _ old rest text is_error new = Passes old text is_error new
 
+-- TakesRest holds if trailing bytes are counted as a line that is refused, unless no further line is
+-- taken.
 abbrev pub TakesRest : (old : ReplayState) → (rest text : List ℕ) → (is_error : Bool) → (new : ReplayState) → Type 0
 TakesRest old = TakesRestIn old.progress old
 

@@ -63,10 +63,11 @@ abbrev pub items_text : Part → List Row → List ℕ
 items_text part [] = []
 items_text part (row ∷ rows) = item_text part row ++ more_items part rows
 
--- The names of the rows, and the values of the rows, with commas between, in one line each.
+-- The names of the rows on one line, with commas between.
 unfoldable pub names_line : List Row → List ℕ
 names_line rows = with_line_feed (items_text Name rows)
 
+-- The values of the rows on one line, with commas between.
 unfoldable pub values_line : List Row → List ℕ
 values_line rows = with_line_feed (items_text Quantity rows)
 

@@ -35,8 +35,8 @@ pub record WritesOutput (opening : List Op) (text : List ℕ) (before : IoState)
 
 -- Main holds if a run took the setup operations and then the lines of the bytes that the source
 -- gave, and wrote the whole output unless it failed. In any case it ends in a state between two
--- commands, and every such state is safe. If the source does not say which bytes are unread, the
--- lines are those of some text.
+-- commands, and every such state is safe. If the source or the sink does not say its bytes, as a
+-- file, a pipe and a terminal do not, nothing ties the text or the output to these bytes.
 pub record Main (opening : List Op) (before : IoState) (result : Result Summary IoError) (after : IoState) : Type 0 where
   pub text : List ℕ
   pub given : Consumes before.unread after.unread text

@@ -17,7 +17,8 @@ layout_of perms reserved flag otype ie t b address =
     + t * 2 ^ 78 + b * 2 ^ 64 + address
 
 -- The word of fields: their layout with the type replaced by 0x3ffff - type, IE by 1 - IE, and bits
--- 1 and 2 of the T field and bit 2 of the B field inverted.
+-- 1 and 2 of the T field and bit 2 of the B field inverted. So the word of null is 0: its fields are
+-- type 0x3ffff, IE 1, T field 6, B field 4, and 0 otherwise.
 abbrev pub word_of : Fields → ℕ
 word_of fields =
     layout_of fields.perms fields.reserved (bit_of fields.flag) (0x3ffff - fields.otype)
