@@ -12,7 +12,7 @@ use Rattle.cc_bounds.proofs.StandingLemmas.{mantissa_length, base_mantissa-fits,
 use Rattle.cc_bounds.proofs.DecodedSpanLemmas.{top-above, length-fits}
 use Rattle.cc_bounds.proofs.ExactlyOneLemmas.{one-span}
 
--- from exponent 51 up the window is so large that 65 bits of a place are those of its mantissa
+-- from exponent 51 up the window is so large that a place has 65 bits of its mantissa
 pub mantissa_kept : (exponent mantissa sum place : ℕ) → 51 ≤ exponent → exponent ≤ 52
     → place % (8 * 2 ^ (exponent + 11)) ≡ mantissa * 2 ^ exponent → mantissa ≡ sum % 2 ^ 14
     → place % 2 ^ 65 ≡ sum * 2 ^ exponent % 2 ^ 65
@@ -49,7 +49,7 @@ module _ (fields : Fields) (base length : ℕ) (is_base : IsDecodedBase fields b
       bytes_fit decoded.is_base.kept (rw length_is at beside) in
       rw (above, base_is) at decoded.is_top
 
-  -- from exponent 51 up the top's 65 bits are those of the mantissa
+  -- from exponent 51 up the top has 65 bits of the mantissa
   pub large_top : 51 ≤ stored_exponent fields
       → IsDecodedTop fields base ((base_mantissa fields + length) * 2 ^ stored_exponent fields % 2 ^ 65)
   large_top large =

@@ -307,14 +307,14 @@ length-before request power order least k three less =
     let many = granule_count-many request (2 ^ k) 1024 (pow_pos k) order (omega (arith, least, p, q)) in
     omega (arith, many)
 
--- the power of the length is that of the granule if the request touches few enough
+-- the length and the granule have one power if the request touches few enough
 pub length_granule : (request : Span) (size power : ℕ) → 512 * 2 ^ power ≤ size → size ≡ length_of request
     → 4096 ≤ length_of request → 3 ≤ power → granule_count request (2 ^ power) ≤ 1023 → IsGranule request (2 ^ power)
 length_granule request size power least is long three few =
     let least' : 512 * 2 ^ power ≤ length_of request = omega (arith, least, is) in
     first_granule request power long three few (length-before request power (omega arith) least')
 
--- if the request touches more, the next power is that of the granule
+-- if the request touches more, the granule has the next power
 pub grown_granule : (request : Span) (size power : ℕ) → 512 * 2 ^ power ≤ size → size < 1024 * 2 ^ power
     → size ≡ length_of request → 4096 ≤ length_of request → 3 ≤ power → 1023 < granule_count request (2 ^ power)
     → IsGranule request (2 ^ (power + 1))

@@ -19,7 +19,7 @@ same_span one other base top = λ i. record { base = base i; top = top i }
 pub rounded_to-one : (span : Span) → rounded_to 1 span ≡ span
 rounded_to-one span = same_span (rounded_to 1 span) span (omega arith) (omega arith)
 
--- a coarse enough granule is that of some exponent
+-- a coarse enough granule has an exponent
 pub record HasExponent (granule : ℕ) : Type 0 where
   pub exponent : ℕ
   pub is : granule ≡ 2 ^ (exponent + 3)
@@ -118,7 +118,7 @@ granted-short request granted short h =
 
 -- ---- the granted span is sound
 
--- the exponent of the granted span is that of the request
+-- the granted span has the exponent of the request
 pub long-least : (request granted : Span) (h : IsLongGranted request granted) → IsLeastExponent granted h.exponent
 long-least request granted h =
     let e : ℕ = h.exponent in

@@ -65,8 +65,8 @@ impl Model for Set {
 }
 
 impl Set {
-    /// Returns the encoding that these fields store: `Some` if and only if their bounds fields are
-    /// those of a sound span for which their address is representable.
+    /// Returns the encoding that these fields store: `Some` if and only if they have the bounds
+    /// fields of a sound span for which their address is representable.
     ///
     /// The encoding grants that span, and is exact. The permissions, the reserved bits, the flag
     /// and the type are not examined.
@@ -170,7 +170,7 @@ impl Set {
     }
 }
 
-/// Returns whether a base and a top are those of a span of the address space.
+/// Returns whether a base and a top form a span of the address space.
 fn is_span(span: &Span) -> bool
     ensures { IsTrue result ↔ IsSpan span.now }
 {
@@ -291,7 +291,7 @@ pub fn set_bounds(base: u64, len: u128) -> Set
     ensures granted { IsGranted (span_from base len) result.granted }
     // `exact` says whether the request is granted unchanged.
     ensures exact { IsTrue result.exact ↔ IsSound (span_from base len) }
-    // The stored fields are those of the granted span.
+    // The stored fields encode the granted span.
     ensures fields { HasBoundsFields result.granted (ie_of result.granted) (t_of result.granted) (b_of result.granted) }
     // Fields with this encoding, at any representable address, decode to the granted span.
     ensures decodes { DecodesBack result.granted }

@@ -75,8 +75,9 @@ fn last_byte(request: &Span) -> u64
 
 /// Returns the power of two of the granule of a request of at least 4,096 bytes.
 ///
-/// It is that of the distance from the first byte to the last, or one more if the request touches
-/// more than 1,023 granules of that size. It has no branch, and some result for a shorter request.
+/// This is the power for the distance from the first byte to the last, or one more if the request
+/// touches more than 1,023 granules of that size. Branch-free. For a shorter request the result is
+/// unspecified.
 fn coarse_power(request: &Span) -> u32
     requires { IsSpan request.now }
     ensures granule { 4096 ≤ length_of request.now → IsGranule request.now (2 ^ result) }

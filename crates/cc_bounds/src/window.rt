@@ -45,8 +45,8 @@ pub fn represents(set: &Set, address: u64) -> bool
 /// Returns whether a word with these bounds fields decodes to the same bounds at `address` as at its
 /// own address.
 ///
-/// The fields can be those of any word, canonical or not, and only the address is replaced. At
-/// exponents of at least 50, the result is true. If the fields store a sound span, it is that of
+/// The word can be any, canonical or not, and only the address is replaced. At exponents of at
+/// least 50, the result is true. If the fields store a sound span, the result equals that of
 /// [`represents`] for this span.
 ///
 /// Source: UCAM-CL-TR-987, the representable region; Woodruff et al. 2019.

@@ -42,7 +42,7 @@ IsWordOf-word_of_capability cap word is_word_of =
 
 -- ---- the capability of a word
 
--- fields are those of one capability
+-- only one capability has these fields
 IsFieldsOf-same : (one other : Capability) (fields : Fields) → IsCapability one → IsCapability other
     → IsFieldsOf one fields → IsFieldsOf other fields → one ≡ other
 IsFieldsOf-same one other fields is_one is_other own also =
@@ -59,7 +59,7 @@ IsFieldsOf-same one other fields is_one is_other own also =
       otype = (sym own.otype ∙ also.otype) i;
     }
 
--- a word is that of one capability
+-- only one capability has this word
 pub IsWordOf-same : (one other : Capability) (word : ℕ) → IsWordOf one word → IsWordOf other word → one ≡ other
 IsWordOf-same one other word own also =
     let same = word_of-same own.fields also.fields word (sym own.is_word) (sym also.is_word) in

@@ -39,7 +39,7 @@ pub words_refused : (rule : Capability → Capability → Result Capability Refu
     → IsWordOf cap word → (¬ IsCanonical authority) → result ≡ Err NotCanonical → OnWords rule word authority result
 words_refused rule word authority cap result has not e = inl ((cap, has), (cap, has, inr (not, e)))
 
--- the result of a rule with one result is that of each capability with the word
+-- a rule with one result has it for each capability with the word
 pub OnWord-same : (rule : Capability → Result Capability Refusal → Type 0)
     → ((cap : Capability) (one other : Result Capability Refusal) → rule cap one → rule cap other → one ≡ other)
     → (word : ℕ) (result : Result ℕ Refusal) → OnWord rule word result

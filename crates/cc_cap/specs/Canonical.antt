@@ -5,8 +5,8 @@ use Rattle.cc_word.specs.Word.{bit_of, turned, layout_of, word_of}
 use Rattle.cc_bounds.specs.Encoding.{HasBoundsFields, ie_of, t_of, b_of}
 use Rattle.cc_cap.specs.Capability.{Capability, IsCapability}
 
--- `IsFieldsOf` holds if `fields` are those of the capability: its bounds as they are encoded, zeros
--- in the reserved bits, and its permissions, flag, type and address as they are.
+-- `IsFieldsOf` holds if `fields` encode the capability: its bounds as they are stored, zeros in the
+-- reserved bits, and its permissions, flag, type and address as they are.
 pub record IsFieldsOf (cap : Capability) (fields : Fields) : Type 0 where
   pub permissions : fields.perms ≡ cap.permissions
   pub reserved : fields.reserved ≡ 0

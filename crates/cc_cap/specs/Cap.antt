@@ -59,23 +59,23 @@ pub record IsEncodingFor (cap : Capability) (length : ℕ) (set : Encoding) : Ty
   pub within : IsWithin set.granted cap.span
   pub holds_address : Represents set.granted cap.address
 
--- `IsRefusedBounds` holds if `refusal` is that of bounds of this length: `Sealed` for a sealed
--- capability, otherwise `OutOfBounds` if the request is not within its span.
+-- `IsRefusedBounds` holds if bounds of this length are refused with `refusal`: `Sealed` for a
+-- sealed capability, otherwise `OutOfBounds` if the request is not within its span.
 abbrev pub IsRefusedBounds : Capability → ℕ → Refusal → Type 0
 IsRefusedBounds cap length refusal =
     ((¬ IsUnsealed cap) × (refusal ≡ Sealed))
     ⊎ (IsUnsealed cap × (¬ IsWithin (request_of cap length) cap.span) × (refusal ≡ OutOfBounds))
 
--- `ChecksAuthority` holds if `result` is that of the two checks of an authority, in order: it has
--- the permission, and it grants its own address.
+-- `ChecksAuthority` holds if the two checks of an authority give `result`, in order: it has the
+-- permission, and it grants its own address.
 abbrev pub ChecksAuthority : Capability → ℕ → Result Unit Refusal → Type 0
 ChecksAuthority authority permission result =
     RefusedUnless (HasAll authority.permissions permission) (result ≡ Err MissingPermission) (
     RefusedUnless (Grants authority authority.address) (result ≡ Err OutOfBounds) (
     IsOk result))
 
--- `IsReadFrom` holds if `result` is that of reading the word: its capability, or `NotCanonical` if
--- no capability has the word.
+-- `IsReadFrom` holds if `result` is the word's capability, or `NotCanonical` if no capability has
+-- the word.
 abbrev pub IsReadFrom : ℕ → Result Capability Refusal → Type 0
 IsReadFrom word result =
     MatchResult result (λ cap. IsWordOf cap word) (λ refusal. (¬ IsCanonical word) × (refusal ≡ NotCanonical))

@@ -6,9 +6,9 @@ use crate::cap::Cap;
 
 /// Returns whether the word is canonical: the word of some capability, sealed or not.
 ///
-/// It is not canonical if a reserved bit is set, if the type is reserved, or if the bounds fields
-/// and the address are those of no sound span: another exponent field or other mantissas may decode
-/// to the same bounds.
+/// It is not canonical if a reserved bit is set, if the type is reserved, or if no sound span has
+/// these bounds fields at this address: another exponent field or other mantissas may decode to the
+/// same bounds.
 #[inline(always)]
 pub fn is_canonical(word: u128) -> bool
     ensures { IsTrue result ↔ IsCanonical word }

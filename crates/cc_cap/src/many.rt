@@ -1,6 +1,6 @@
 //! Batch functions on words: a result for each word, at its index.
 //!
-//! Each result is that of the function for a single word. The slice for the results has as many
+//! Each result equals that of the function for a single word. The slice for the results has as many
 //! elements as there are words.
 ghost use Rattle.std.specs.Prelude.{◌≡◌, ◌↔◌, IsTrue, length, slice_index};
 ghost use Rattle.cc_cap.specs.Canonical.{IsCanonical};
@@ -36,7 +36,7 @@ pub fn is_canonical(words: &[u128], answers: &mut [bool])
 /// Writes whether each word stores a sound span for which the address at its index is
 /// representable.
 ///
-/// Each result is that of [`Set::of_fields`] and [`cc_bounds::represents`].
+/// Each result equals that of [`Set::of_fields`] and [`cc_bounds::represents`].
 ///
 /// Requires: `words`, `addresses` and `answers` have the same length.
 pub fn represents(words: &[u128], addresses: &[u64], answers: &mut [bool])

@@ -8,7 +8,7 @@ use Rattle.std.proofs.lemmas.List.Sorted.{sum_by-IsPermutation}
 use Rattle.cc_heap.specs.declared.object.Object.{Object}
 use Rattle.cc_changes.specs.Kept.{id_weight}
 
--- the entries of one list are those of another and one more
+-- one list has the entries of another and one more
 abbrev pub HasOneMore : List (ℕ × Object) → ℕ × Object → List (ℕ × Object) → Type 0
 HasOneMore entries entry more =
     (weight : ℕ × Object → ℕ) → sum_by weight more ≡ weight entry + sum_by weight entries

@@ -44,7 +44,7 @@ abbrev pub Changes : Heap → List Change → Heap → Type 0
 Changes old [] new = new ≡ old
 Changes old (change ∷ changes) new = (next : Heap) × IsChange old change next × Changes next changes new
 
--- AreChangesOf holds if the changes are those of the events: each event has changes that lead from the heap
+-- AreChangesOf holds if the events make these changes: each event has changes that lead from the heap
 -- before it to the heap after it.
 abbrev pub AreChangesOf : Heap → List Event → List Change → Heap → Type 0
 AreChangesOf old [] changes new = (changes ≡ []) × (new ≡ old)

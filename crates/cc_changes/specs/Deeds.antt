@@ -108,7 +108,7 @@ abbrev pub numbers_with : Numbers → Option Entry → Numbers
 numbers_with numbers (Some entry) = with_number numbers entry.id
 numbers_with numbers None = numbers
 
--- DoesDeeds holds if the deeds are those of changes that turn the heap `old` into `new`.
+-- DoesDeeds holds if changes with these deeds turn the heap `old` into `new`.
 pub record DoesDeeds (old : Heap) (deeds : Deeds) (new : Heap) : Type 0 where
   pub few : deeds.sweeps ≤ 2
   pub changes : List Change

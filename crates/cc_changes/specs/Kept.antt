@@ -10,7 +10,7 @@ use Rattle.cc_heap.specs.Memory.{span_of}
 abbrev pub id_weight : (id : ℕ) → ℕ × Object → ℕ
 id_weight id entry = cond (nat_eq id entry.0) 1 0
 
--- AreOnce holds if each id is that of one entry at most.
+-- AreOnce holds if each id has one entry at most.
 abbrev pub AreOnce : Heap → Type 0
 AreOnce heap = (id : ℕ) → sum_by (id_weight id) heap.memory.live ≤ 1
 
@@ -18,7 +18,7 @@ AreOnce heap = (id : ℕ) → sum_by (id_weight id) heap.memory.live ≤ 1
 abbrev pub HasBytes : ℕ × Object → Type 0
 HasBytes entry = 0 < length_of (span_of entry)
 
--- IsKept holds if each id is that of one entry at most, each object has bytes, and reallocations move objects.
+-- IsKept holds if each id has one entry at most, each object has bytes, and reallocations move objects.
 pub record IsKept (heap : Heap) : Type 0 where
   pub once : AreOnce heap
   pub some : All HasBytes heap.memory.live

@@ -1,5 +1,5 @@
--- The output of `round` for a list of lengths: a line for each line of the list. `base` is that of
--- each request, if there is one.
+-- The output of `round` for a list of lengths: a line for each line of the list. `base` is the base
+-- of each request, if there is one.
 use Rattle.std.specs.Prelude.{◌≡◌, ◌≤◌, ◌<◌, ◌⊎◌, ◌↔◌, ℕ, Bool, not, ◌||◌, ◌==◌, IsTrue, List, [], ◌∷◌, ◌++◌, length, take, ⊤, Option, Result, Ok, Err, OnOk}
 use Rattle.std.specs.List.{list_any}
 use Rattle.std.specs.Io.KnownBytes.{Appends, Consumes, IsAtEnd}

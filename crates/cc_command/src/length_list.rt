@@ -63,9 +63,9 @@ impl Answerer<ROOM> for Rounder {
 /// - `error 4 range`: the number is above 2^64
 /// - `error 9 bounds`: the request from `base` on ends past 2^64
 ///
-/// Bytes after the last line feed get `error 2 unfinished`, unless there are none. The source is
-/// read in chunks of up to 16 KiB. Before each read, the output for all earlier lines is written.
-/// The sink is flushed once, at the end. Allocates nothing.
+/// For bytes after the last line feed, unless there are none, the output is `error 2 unfinished`.
+/// The source is read in chunks of up to 16 KiB. Before each read, the output for all earlier lines
+/// is written. The sink is flushed once, at the end. Allocates nothing.
 ///
 /// At `Ok`, `bare` is whether a line is 8 or 16 decimal digits that begin with 0, as [`is_bare`] says.
 ///

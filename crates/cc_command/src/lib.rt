@@ -5,8 +5,8 @@
 //! - for a length, or for each of a list, its rounding, and for a request the bounds that it is granted
 //! - after a script a summary and hints
 //!
-//! The replies to a script are those of cc_session, and a map or a drawing is one of cc_draw. The
-//! command line, the files and the standard streams belong to the program.
+//! cc_session has the replies to a script, and cc_draw maps and drawings. The command line, the
+//! files and the standard streams belong to the program.
 #![tactic(auto)]
 
 mod bare_digits;

@@ -45,8 +45,8 @@ pub fn show_round<W: Sink>(text: &[u8], sink: &mut W) -> Result<Summary, IoError
 /// sink once after it.
 ///
 /// BASE and TOP are the bounds that the request of this length from this base is granted. If the base is
-/// not an address, the output is its refusal. Otherwise it is that of [`show_round`], or
-/// `error 9 bounds` if the request ends past 2^64.
+/// not an address, the output is its refusal. Otherwise it is the output of [`show_round`] with BASE and
+/// TOP, or `error 9 bounds` if the request ends past 2^64.
 ///
 /// Requires: the sink has not failed.
 /// Errors: `Write` if and only if the sink fails. A prefix of the output is then written.

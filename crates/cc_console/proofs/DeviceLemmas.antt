@@ -37,7 +37,7 @@ on_devices-map Holds Also so (Err fault.Open) holds = tt
 
 -- ---- inputs
 
--- The known bytes of a source are those of a source with the same bytes.
+-- Sources with the same bytes have the same known bytes.
 known_too : (known one other : Option (List ℕ)) → one ≡ other → IfSome known (λ bytes. other ≡ Some bytes) → IfSome known (λ bytes. one ≡ Some bytes)
 known_too None one other same told = tt
 known_too (Some bytes) one other same told = same ∙ told

@@ -45,14 +45,14 @@ traffic_of console unread = record {
   errors_failed = console.errors_failed;
 }
 
--- FromInput holds if the claim holds of a run that reads this input: its unread bytes at first are those of the input, if these are
+-- FromInput holds if the claim holds of a run that reads this input: at first, all bytes of the input are unread, if they are
 -- known.
 pub record FromInput (input : InputName) (console : Console) (Does : Traffic → Result Summary IoError → Type 0) (result : Result Summary IoError) : Type 0 where
   pub unread : Option (List ℕ)
   pub known : IfSome (console.input input) (λ bytes. unread ≡ Some bytes)
   pub does : Does (traffic_of console unread) result
 
--- OnDevices holds if the result is that of the devices, and the claim holds of it. It holds if memory ran out or the input was not
+-- OnDevices holds if the devices gave the result, and the claim holds of it. It holds if memory ran out or the input was not
 -- opened.
 abbrev pub OnDevices : (Holds : Result Summary IoError → Type 0) → Result Summary Fault → Type 0
 OnDevices Holds (Ok summary) = Holds (Ok summary)

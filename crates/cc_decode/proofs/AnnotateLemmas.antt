@@ -329,7 +329,7 @@ module _ (old : Before) (before run : List ℕ) (d : ℕ) (knows : Knows old bef
   moved : (u : List ℕ) → (before ++ (run ++ d ∷ [])) ++ u ≡ start ++ d ∷ u
   moved u = ap (λ (l : List ℕ). l ++ u) (sym (append_assoc before run (d ∷ []))) ∙ append_assoc start (d ∷ []) u
 
-  -- the halves after a byte that is not a word character are those of the run alone
+  -- after a byte that is not a word character, the run alone has the halves
   halves_now : (u high : List ℕ) → IsRun u → EndsHalf ((before ++ (run ++ d ∷ [])) ++ u) high ↔ IsHalf u high
   halves_now u high ru = (
     λ e. half_after start d u nd ru high (subst (λ (l : List ℕ). EndsHalf l high) (moved u) e),
@@ -385,7 +385,7 @@ marked state before run added after knows rr (inr m) closes = inr ((λ w e. m.0 
 joined_long : (high low : List ℕ) (word : ℕ) → IsJoined high low word → length low ≡ 16
 joined_long high low word j = omega (arith, j.0, j.1.0, length-append high low)
 
--- without a run it is nothing
+-- without a run there is none
 empty_none : (state : Before) (word : ℕ) → RunIs state [] word → ⊥
 empty_none Outside word s = omega (arith, texted_long [] word (alone_text [] word s))
 empty_none (Half high) word (inl s) = omega (arith, texted_long [] word (alone_text [] word s))

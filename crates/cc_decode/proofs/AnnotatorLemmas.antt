@@ -34,7 +34,7 @@ after_none start text (Some x) s = tt
 
 -- ---- words of a run
 
--- the bytes without a prefix are those of any text of a word
+-- without the prefix these are the bytes of any text of a word
 alone_digits : (run digits : List ℕ) (word : ℕ) → (length run ≤ 33 → digits ≡ run) → (33 < length run → (rest : List ℕ) → run ≡ codes "0x" ++ rest → digits ≡ rest)
     → (a : IsAlone run word) → digits ≡ a.digits
 alone_digits run digits word short long a = by a.is_prefix where

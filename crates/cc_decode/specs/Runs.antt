@@ -25,8 +25,8 @@ run_rest_from begun (byte ∷ text) =
 abbrev pub runs : Frame
 runs = record { entries = runs_from; left = run_rest_from }
 
--- The entries of two parts are those of the first, and then those of the second after the bytes
--- left.
+-- The entries of two parts are the entries of the first, and then those of the second after the
+-- bytes left.
 runs_further : (begun xs ys : List ℕ) → runs_from begun (xs ++ ys) ≡ runs_from begun xs ++ runs_from (run_rest_from begun xs) ys
 runs_further begun [] ys = refl
 runs_further begun (x ∷ xs) ys = go (ends_entry begun x) (runs_further [] xs ys) (runs_further (begun ++ x ∷ []) xs ys) where

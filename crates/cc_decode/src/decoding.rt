@@ -22,10 +22,10 @@ use cc_io::{
 /// The reply to a word is its row in the format, with its address in front if the options have the
 /// address of the first entry. In a search, only the words that it finds get a reply. The reply to a
 /// line that is not 32 hexadecimal digits, with or without `0x` before them, is `error 1 syntax`, or
-/// nothing in a search; it is an error in both cases. Bytes after the last entry get the reply
-/// `error 2 unfinished`, unless there are none. The source is read in chunks of up to 16 KiB. Before
-/// each read, all replies to earlier entries are written. The sink is flushed once, at the end.
-/// Allocates nothing.
+/// nothing in a search; it is an error in both cases. The reply to bytes after the last entry,
+/// unless there are none, is `error 2 unfinished`. The source is read in chunks of up to 16 KiB.
+/// Before each read, all replies to earlier entries are written. The sink is flushed once, at the
+/// end. Allocates nothing.
 ///
 /// Requires: neither the source nor the sink has failed.
 /// Errors: `Read` if and only if the source failed. The header and the replies to all entries
@@ -40,7 +40,7 @@ pub fn decode_words<R: Source, W: Sink>(
     requires sink { W.has_failed sink.old ≡ false }
     ensures whole { IfSome (R.to_come source.old) (λ text.
         ListsWhole options text (R.to_come source.new) (W.taken_bytes sink.old) (W.taken_bytes sink.new) result) }
-    // If the source does not say which bytes it has, the listing is that of some input.
+    // If the source does not say which bytes it has, some input has the listing.
     ensures lists { Lists options (R.to_come source.old) (R.to_come source.new) (W.taken_bytes sink.old) (W.taken_bytes sink.new) result }
     ensures read { (result ≡ Err IoError.Read) ↔ (R.has_failed source.new ≡ true) }
     ensures write { (result ≡ Err IoError.Write) ↔ (W.has_failed sink.new ≡ true) }

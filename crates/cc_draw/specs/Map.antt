@@ -21,7 +21,7 @@ pub record HoldsByte (objects : List PlannedObject) (state : ObjectState) (span 
   pub in_state : object.state ≡ state
   pub shares : SharesByte object.span span
 
--- TellsCell holds if the mark of the cell is that of its bytes:
+-- TellsCell holds if the cell has the mark for its bytes:
 --
 -- - `#` if some are live and none is quarantined
 -- - `~` if some are quarantined and none is live

@@ -58,7 +58,7 @@ pub record HasHoles (pool : Span) (held : List Span) (usage : Usage) : Type 0 wh
   pub count : usage.holes ≡ length (holes pool.base pool.top order)
   pub largest : usage.largest ≡ greatest (holes pool.base pool.top order)
 
--- UsesOf holds if the usage is that of a plan: of its pool, its objects and its limit.
+-- UsesOf holds if a plan has this usage: of its pool, its objects and its limit.
 pub record UsesOf (plan : Plan) (usage : Usage) : Type 0 where
   pub limit : usage.limit ≡ plan.limit
   pub made : usage.made ≡ length plan.objects
@@ -71,7 +71,7 @@ pub record UsesOf (plan : Plan) (usage : Usage) : Type 0 where
   pub holes : HasHoles (pool_span plan) (held_spans plan.objects) usage
   pub end : usage.end ≡ highest_top plan.objects
 
--- IsUsage holds if the usage is that of a machine with this number of slots, and with this plan.
+-- IsUsage holds if a machine with this number of slots and this plan has this usage.
 pub record IsUsage (slots : ℕ) (plan : Plan) (usage : Usage) : Type 0 where
   pub slots_is : usage.slots ≡ slots
   pub uses : UsesOf plan usage

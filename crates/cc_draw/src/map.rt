@@ -19,8 +19,8 @@ const MOST_CELLS: u128 = 1024;
 ///
 /// The map is a line with the size of a cell, and then at most 16 rows of up to 64 cells. Each row
 /// begins with the address of its first cell. At most 1,024 cells, as small as that allows, cover
-/// the pool, and their marks are those of [`map_row`]. The last cell may reach past the pool's top.
-/// Without a pool there is no row.
+/// the pool, with the marks of [`map_row`]. The last cell may reach past the pool's top. Without a
+/// pool there is no row.
 ///
 /// Requires: the sink has not failed.
 /// Errors: `Write` if and only if the sink fails. A prefix of the map is then written.

@@ -40,8 +40,7 @@ bounds_lines_of fields bounds canonical =
 abbrev pub listing_of : (word : ℕ) (fields : Fields) (bounds : Span) (canonical : Bool) → List ℕ
 listing_of word fields bounds canonical = field_lines_of word fields ++ bounds_lines_of fields bounds canonical
 
--- IsWordListing holds if the listing is that of the word, by its fields and the bounds that they
--- decode to.
+-- IsWordListing holds if `listing` lists the word, its fields and the bounds that they decode to.
 abbrev pub IsWordListing : (word : ℕ) (listing : List ℕ) → Type 0
 IsWordListing = TellsWord listing_of
 

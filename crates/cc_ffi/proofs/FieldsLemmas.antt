@@ -52,7 +52,7 @@ moved_layout : (p r f o i t b a address high low : ℕ) → a < 2 ^ 64 → low <
     → layout_of p r f o i t b address ≡ number_of_halves high address
 moved_layout p r f o i t b a address high low fits low_fits is = omega arith
 
--- the bounds fields of a word with another address are those of the word
+-- a word keeps its bounds fields at another address
 pub moved_fields : (span : Span) (fields moved : Fields) (high low address : ℕ) → low < 2 ^ 64 → address < 2 ^ 64
     → word_of fields ≡ number_of_halves high low → word_of moved ≡ number_of_halves high address → HasBoundsFields span fields.ie fields.t fields.b
     → HasBoundsFields span moved.ie moved.t moved.b × (moved.address ≡ address)

@@ -18,7 +18,7 @@ use Rattle.cc_ffi.specs.Measures.{stored_granule, IsExcess}
 
 -- ---- the length
 
--- the length of the found span is that of the span
+-- the found span has the length of the span
 pub found_length : (span found : Span) (fields : Fields) (base n : ℕ) → DecodesTo fields span → span ≡ found → base ≡ found.base
     → n ≡ (found.top + (2 ^ 128 - base)) % 2 ^ 128 → n ≡ (span.top + 2 ^ 128 - span.base) % 2 ^ 128
 found_length span found fields base n decodes same is_base is =

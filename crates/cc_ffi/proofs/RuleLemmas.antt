@@ -79,7 +79,7 @@ told_subset_under rule grants word authority told is =
 
 -- ---- bounds
 
--- the fields of a capability's word are those of the capability
+-- a capability's word has the fields of the capability
 own_fields : (cap : Capability) (word : ℕ) (fields : Fields) → IsWordOf cap word → word_of fields ≡ word → IsFieldsOf cap fields
 own_fields cap word fields has is = subst (IsFieldsOf cap) (word_of-same has.fields fields word (sym has.is_word) is) has.is_fields
 

@@ -112,7 +112,7 @@ pub extern "C" fn cheri_cap_represents(high: u64, low: u64, address: u64) -> boo
 /// word.
 ///
 /// At exponents of at least 50, the result is true. If the word stores its bounds as setting bounds
-/// stores them, it is that of [`cheri_cap_represents`].
+/// stores them, the result equals that of [`cheri_cap_represents`].
 #[unsafe(no_mangle)]
 pub extern "C" fn cheri_cap_keeps_bounds(high: u64, low: u64, address: u64) -> bool
     ensures decodes { OfFields (number_of_halves high low) (λ fields.

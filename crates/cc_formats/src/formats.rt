@@ -47,7 +47,8 @@ impl TraceFormat {
     }
 }
 
-/// Parses a line of a trace in a format, without its line feed. `pending` is that of the line before.
+/// Parses a line of a trace in a format, without its line feed. `pending` is the half that was
+/// pending after the line before.
 ///
 /// Only the first 129 bytes of a line matter.
 ///

@@ -47,7 +47,7 @@ index_most [] (suc k) = omega arith
 index_most (x ∷ xs) (suc k) =
     let rest = index_most xs k in omega (arith, rest, length-append x (gaps_of (take k xs)), length-append x (gaps_of xs))
 
--- the index of a place is that of a gap, or the end
+-- the index of a place has a gap, or is the end
 pub index_inside : (blocks : List (List Span)) (k at : ℕ) (d : List Span) → k < length blocks → at < length (get_or blocks k d)
     → index_at blocks k at < length (gaps_of blocks)
 index_inside blocks k at d within inside =
@@ -478,7 +478,7 @@ index_mono (x ∷ xs) (suc i) (suc j) less =
     let rest = index_mono xs i j (omega (arith, less)) in
     omega (arith, rest, length-append x (gaps_of (take i xs)), length-append x (gaps_of (take j xs)))
 
--- a place before the end is that of a gap
+-- a place before the end has a gap
 pub place_within : (blocks : List (List Span)) (k at : ℕ) → IsPlaceAt blocks k at
     → index_at blocks k at < length (gaps_of blocks) → k < length blocks
 place_within blocks k at place inside =

@@ -26,7 +26,7 @@ pub record MayHold (placer : GapPlacerState) (held : List Span) : Type 0 where
   pub counted : placer.count ≡ length held
   pub free : AreFreeIn placer.pool held placer.gaps
 
--- IsGapPlacer holds if the limit, count, pool and row are those of one placer.
+-- IsGapPlacer holds if one placer has this limit, count, pool and row.
 pub record IsGapPlacer (limit count : ℕ) (pool : Option Span) (row : GapRowState) : Type 0 where
   pub at_most : count ≤ limit
   pub few : limit ≤ 2 ^ 24

@@ -26,8 +26,8 @@ AreHeaded blocks heads = AllZip IsHead blocks heads
 abbrev pub gap_block_count : ℕ → ℕ
 gap_block_count most = most / 24 + 2
 
--- IsGapRow holds if the blocks and heads are those of a row of at most `most` gaps, with `block_room`
--- blocks reserved.
+-- IsGapRow holds if a row of at most `most` gaps has these blocks and heads, with `block_room` blocks
+-- reserved.
 pub record IsGapRow (blocks : List (List Span)) (heads : List Head) (most block_room head_room : ℕ) : Type 0 where
   pub are_gaps : AreGaps (gaps_of blocks)
   pub at_most : length (gaps_of blocks) ≤ most

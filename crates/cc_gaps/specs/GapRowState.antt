@@ -25,12 +25,12 @@ index_at blocks block at = length (gaps_of (take block blocks)) + at
 abbrev pub index_of : GapRowState → Place → ℕ
 index_of row place = index_at row.blocks place.block place.at
 
--- IsPlaceAt holds if the position in a block is that of a gap, or the end of the blocks.
+-- IsPlaceAt holds if the position in a block has a gap, or is the end of the blocks.
 pub record IsPlaceAt (blocks : List (List Span)) (block at : ℕ) : Type 0 where
   pub within : block ≤ length blocks
   pub inside : block < length blocks → at < length (slice_index_or blocks block [])
   pub end : length blocks ≤ block → at ≡ 0
 
--- IsPlaceIn holds if the place is that of a gap of the row, or its end.
+-- IsPlaceIn holds if the place has a gap of the row, or is its end.
 abbrev pub IsPlaceIn : GapRowState → Place → Type 0
 IsPlaceIn row place = IsPlaceAt row.blocks place.block place.at

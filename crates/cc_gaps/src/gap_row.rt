@@ -96,7 +96,7 @@ impl GapRow {
         Some(self.blocks.at(place.block).at(place.at))
     }
 
-    /// Returns whether a place is that of a gap.
+    /// Returns whether a place has a gap.
     #[inline(always)]
     pub(crate) fn has(&self, place: Place) -> bool
         ensures { IsTrue result → IsPlaceIn self.now place }

@@ -187,7 +187,7 @@ no_place_for pool spans align requested size len at len_is at_is unplaced =
     subst (λ (n : ℕ). IfSome pool (λ pool. HasNoPlace pool spans n (start_unit align requested size))) len_is
     (subst (λ (n : ℕ). IfSome pool (λ pool. HasNoPlace pool spans len n)) at_is unplaced)
 
--- its place for the padded size is that of the object
+-- the place for the padded size is the object's
 pub place_for : (pool : Option Span) (spans : List Span) (align : Align) (requested size len at start top : ℕ)
     → len ≡ padded_size_for align size → at ≡ start_unit align requested size → top ≡ start + len
     → IfSome pool (λ pool. IsPlacement pool spans len at start)

@@ -14,8 +14,8 @@ abbrev pub is_full : Option Making → Bool
 is_full (Some Full) = true
 is_full _ = false
 
--- Whether an event is refused: the id of its object is not live or is lost, or is that of a live one, or
--- the object cannot be made.
+-- Whether an event is refused: the id that it frees is not live or is lost, the id of a new object is
+-- live, or the object cannot be made.
 abbrev pub is_refused : Outcome → Bool
 is_refused outcome =
     outcome.unknown || outcome.was_live || outcome.lost || is_no_room outcome.making || is_full outcome.making

@@ -21,8 +21,8 @@ pub struct Outcome {
 }
 
 impl Outcome {
-    /// Returns whether the event is refused: the id of its object is not live or is lost, or is that
-    /// of a live one, or the object cannot be made.
+    /// Returns whether the event is refused: the id that it frees is not live or is lost, the id of
+    /// a new object is live, or the object cannot be made.
     pub fn is_refused(self) -> bool
         ensures { result ≡ is_refused self }
     {

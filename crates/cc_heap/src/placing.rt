@@ -11,8 +11,8 @@ use cc_placer::{Placer, round_up};
 /// Returns the span of an object of `size` bytes at its placement, including padding, or `None` if
 /// there is no place for it.
 ///
-/// The padded size is that of a plan whose pool has this alignment. The span also begins at a
-/// multiple of the requested alignment.
+/// In a plan whose pool has this alignment, the object has the same padded size. The span also
+/// begins at a multiple of the requested alignment.
 pub(crate) fn place<P: Placer>(placer: &P, align: Align, requested: u64, size: u64) -> Option<Span>
     requires pool { IsSome (P.pool placer.now) }
     requires some { 0 < size }

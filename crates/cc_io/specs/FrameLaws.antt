@@ -4,7 +4,8 @@ use Rattle.cc_io.specs.Lines.{lines_from, rest_from}
 use Rattle.cc_io.specs.Blocks.{blocks_from, block_rest_from}
 use Rattle.cc_io.specs.Frames.{IsFrame, lines, blocks}
 
--- The lines of two parts are those of the first, and then those of the second after the bytes left.
+-- The lines of two parts are the lines of the first, and then those of the second after the bytes
+-- left.
 pub lines_further : (begun xs ys : List ℕ) → lines_from begun (xs ++ ys) ≡ lines_from begun xs ++ lines_from (rest_from begun xs) ys
 lines_further begun [] ys = refl
 lines_further begun (x ∷ xs) ys = by_feed (x == 10) (lines_further [] xs ys) (lines_further (begun ++ x ∷ []) xs ys) where
@@ -28,7 +29,7 @@ rest_further begun (x ∷ xs) ys = by_feed (x == 10) (rest_further [] xs ys) (re
   by_feed true p q = p
   by_feed false p q = q
 
--- The blocks of two parts are those of the first, and then those of the second after the bytes
+-- The blocks of two parts are the blocks of the first, and then those of the second after the bytes
 -- left.
 blocks_further : (begun xs ys : List ℕ) → blocks_from begun (xs ++ ys) ≡ blocks_from begun xs ++ blocks_from (block_rest_from begun xs) ys
 blocks_further begun [] ys = refl

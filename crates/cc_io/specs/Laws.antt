@@ -4,8 +4,8 @@ use Rattle.std.specs.Io.KnownBytes.{Appends}
 use Rattle.cc_io.specs.Frames.{Frame}
 use Rattle.cc_io.specs.Answers.{Relation, Output}
 
--- `InParts` holds if the output is that of the first part, and then that of the second part from
--- the state reached.
+-- `InParts` holds if the output is the first part's, followed by the second part's from the state
+-- reached.
 pub record InParts {S : Type 0} (Answered Ended : Relation S) (frame : Frame) (old : S) (first second output : List ℕ) (any_error : Bool) (new : S) : Type 0 where
   pub mid : S
   pub output_1 : List ℕ

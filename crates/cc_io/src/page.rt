@@ -365,7 +365,7 @@ fn digits_of_pair(number: u32) -> (u8, u8)
 
 /// Returns the two decimal digits before the last two, as a number.
 ///
-/// One quotient is that of the digits before these, so that the compiler divides once for both.
+/// One quotient also gives the digits before these, so that the compiler divides once for both.
 #[inline(always)]
 fn second_pair(number: u32) -> u32
     ensures value { result ≡ number / 100 % 100 }

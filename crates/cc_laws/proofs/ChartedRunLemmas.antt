@@ -52,7 +52,7 @@ Steps (Ok (Some event)) old new =
     (outcome : Outcome) × IsEvent old.run.heap event outcome new.run.heap × (new.counts.events ≡ capped_count (old.counts.events + 1))
 Steps _ old new = (new.run.heap ≡ old.run.heap) × (new.counts.events ≡ old.counts.events)
 
--- the trace is read as before, and the half of a reallocation that is pending is that of the entry
+-- the trace is read as before, and the entry has the half of a reallocation that is pending
 abbrev ReadsOn : Entry → ReplayState → ReplayState → Type 0
 ReadsOn entry old new = (new.reading ≡ old.reading) × (new.pending ≡ entry.pending)
 

@@ -100,7 +100,7 @@ found_one id object entries found weight =
       sum_by-cons weight (id, object) (remove_entry (nat_eq id) entries),
     )
 
--- each id is that of one entry at most
+-- each id has one entry at most
 abbrev pub AreOnceIn : List Entry → Type 0
 AreOnceIn entries = (id : ℕ) → sum_by (id_weight id) entries ≤ 1
 

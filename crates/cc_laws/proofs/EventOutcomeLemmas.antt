@@ -1,4 +1,4 @@
--- From a heap in which each id is that of one object at most every event has an outcome.
+-- From a heap in which each id has one object at most, every event has an outcome.
 use Rattle.std.proofs.Common.{◌≡◌, ◌⊎◌, ℕ, Bool, true, false, ◌*◌, ◌<◌, ◌≤◌, length, List, ◌∷◌, nat_eq, Option, Some, None, IsSome, refl, sym, ◌∙◌, ap, subst, inl, inr, arith, sum_by, if◌then◌else◌, cond, IsPermutation}
 use Rattle.std.specs.Map.{lookup, remove_entry}
 use Rattle.std.specs.Prelude.{IsNone, MatchOption, option_and_then}

@@ -1,4 +1,4 @@
--- The held bytes at the end of a trace's script are those of the replay.
+-- At the end of a trace's script, as many bytes are held as at the end of its replay.
 use Rattle.std.proofs.Common.{ℕ, Bool, ◌≡◌, ◌≢◌, ◌+◌, ◌≤◌, List, [], ◌∷◌, ◌++◌, map, None, Result, Ok, arith, refl, sym, ap, subst, ◌∙◌, append-nil}
 use Rattle.std.specs.List.{AllByRecursion}
 use Rattle.std.proofs.lemmas.List.Sorted.{sum_by-IsPermutation}

@@ -1,4 +1,4 @@
--- Every event is a number of changes, and the totals are those of the states after each.
+-- Every event is a number of changes, and the totals count the states after each.
 use Rattle.std.proofs.Common.{ℕ, max, min, Bool, true, false, ◌≡◌, ◌⊎◌, ◌+◌, ◌-◌, ◌≤◌, ◌^◌, if◌then◌else◌, List, [], ◌∷◌, ◌++◌, Option, Some, None, sum_by, arith, refl, subst, ◌∙◌, sym, ap, inl, inr}
 use Rattle.std.specs.Option.{MatchOption}
 use Rattle.std.proofs.lemmas.List.Sums.{sum_by-cons}

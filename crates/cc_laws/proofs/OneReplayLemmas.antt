@@ -34,7 +34,7 @@ use Rattle.cc_laws.proofs.OneSummaryLemmas.{alike_run_event, run_leads}
 abbrev re : RunState → ReplayState → ReplayState
 re run state = record state { run = run }
 
--- each id is that of one object at most
+-- each id has one object at most
 abbrev pub IsOnce : ReplayState → Type 0
 IsOnce state = AreOnceIn state.run.heap.memory.live
 

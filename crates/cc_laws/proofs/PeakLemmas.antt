@@ -18,7 +18,7 @@ record IsPeak (value : Usage → ℕ) (peak : Totals → ℕ) : Type 0 where
   sweeps : (old : Heap) (moment : Moment) (next : Heap) → IsSweeping old moment next → peak next.totals ≡ max (peak old.totals) (value (usage_of next.memory))
   keeps : (old : Heap) (moment : Moment) (next : Heap) → IsKeeping old moment next → peak next.totals ≡ max (peak old.totals) (value (usage_of next.memory))
 
--- the state after a change is that of the heap after it
+-- the heap after a change has the state after it
 memory_is : (old : Heap) (moment : Moment) (next : Heap)
     → IsMaking old moment next ⊎ (IsFreeing old moment next ⊎ (IsSweeping old moment next ⊎ IsKeeping old moment next)) → usage_of next.memory ≡ usage_in moment
 memory_is old moment next (inl is) = sym (ap usage_in is.is)

@@ -86,7 +86,7 @@ dec-IsObjType otype = by_order (dec_le otype last_sealing_type) (ℕ_discrete ot
     by_order (no not) (yes unsealed) = yes (inr unsealed)
     by_order (no not) (no neither) = no (λ h. elim h [ inl sealed ↦ not sealed | inr unsealed ↦ neither unsealed ])
 
--- the fields are those of some capability
+-- some capability has the fields
 record AreOfCapability (fields : Fields) : Type 0 where
   reserved : fields.reserved ≡ 0
   is_type : IsObjType fields.otype
@@ -97,7 +97,7 @@ dec-AreOfCapability fields =
     map_dec (λ h. record { reserved = h.0; is_type = h.1.0; stores = h.1.1 }) (λ h. (h.reserved, (h.is_type, h.stores)))
     (dec_both (ℕ_discrete fields.reserved 0) (dec_both (dec-IsObjType fields.otype) (dec-StoreSome fields)))
 
--- the fields of a canonical word are those of some capability
+-- some capability has the fields of a canonical word
 canonical-are : (cap : Capability) (word : ℕ) (is : IsWordOf cap word) → AreOfCapability is.fields
 canonical-are cap word is = record {
   reserved = is.is_fields.reserved;

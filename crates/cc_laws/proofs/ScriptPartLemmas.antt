@@ -98,7 +98,7 @@ module _ (opening : List Op) (text more : List ℕ) (ends : EndsLine text) where
             ∙ error parts.first parts.second;
       }
 
--- The output of both is that of the first and then that of the second.
+-- The output of both is the first one's, followed by the second one's.
 pub in_parts : (old new : State) (opening : List Op) (text more output : List ℕ) (any_error : Bool) → EndsLine text
     → ScriptOutput old opening (text ++ more) output any_error new ↔ OutputInParts old opening text more output any_error new
 in_parts old new opening text more output any_error ends =

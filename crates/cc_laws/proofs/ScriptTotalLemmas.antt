@@ -39,7 +39,7 @@ one-Fits : {A : Type 0} (make : A → Op) (value : Result A Refusal) → ((a : A
 one-Fits make (Ok value) fits = fits value refl
 one-Fits make (Err fault) fits = tt
 
--- both values are those of the two
+-- the two have both values
 both-second : {A B : Type 0} (first : Result A Refusal) (second : Result B Refusal) (values : A × B) → both first second ≡ Ok values → second ≡ Ok values.1
 both-second (Ok first) (Ok second) values e = let same : (first, second) ≡ values = cc in ap (λ v. Ok v.1) same
 both-second (Ok first) (Err fault) values e = cc

@@ -20,7 +20,7 @@ abbrev EventRuns : Result (Option Event) Refusal → RunState → RunState → T
 EventRuns (Ok (Some event)) old new = (outcome : Outcome) × IsRunEvent old event outcome new
 EventRuns _ old new = new ≡ old
 
--- the trace is read as before, and the half of a reallocation that is pending is that of the entry
+-- the trace is read as before, and the entry has the half of a reallocation that is pending
 abbrev ReadsOn : Entry → ReplayState → ReplayState → Type 0
 ReadsOn entry old new = (new.reading ≡ old.reading) × (new.pending ≡ entry.pending)
 

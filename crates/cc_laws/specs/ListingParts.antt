@@ -17,9 +17,9 @@ pub record AreListingRows (options : Options) (text rows : List ℕ) (any_error 
   pub rows_are : rows ≡ answers_text answers ++ rest_text (left_of options.input text)
   pub error_is : any_error ≡ (list_any (λ answer. answer.is_error) answers || not (length (left_of options.input text) == 0))
 
--- RowsInParts holds if the rows are those of `text`, and then those of `more`, whose first entry has
--- the address after those of the entries of `text`. `any_error` says
--- whether either part has an error.
+-- RowsInParts holds if `rows` is the rows of `text`, followed by those of `more`. The first entry of
+-- `more` has the address after the entries of `text`. `any_error` says whether either part has an
+-- error.
 pub record RowsInParts (options : Options) (text more rows : List ℕ) (any_error : Bool) : Type 0 where
   pub first : List ℕ
   pub second : List ℕ

@@ -9,9 +9,9 @@ use Rattle.cc_session.specs.Output.{ScriptOutput}
 abbrev pub EndsLine : List ℕ → Type 0
 EndsLine text = rest_of text ≡ []
 
--- OutputInParts holds if the output is that of the setup operations and the text, and then that of
--- `more`, without setup operations, from the state that the first part leads to. `any_error` says
--- whether either part has an error.
+-- OutputInParts holds if `output` is the output of the setup operations and the text, followed by
+-- the output of `more`, without setup operations, from the state that the first part leads to.
+-- `any_error` says whether either part has an error.
 pub record OutputInParts (old : State) (opening : List Op) (text more output : List ℕ) (any_error : Bool) (new : State) : Type 0 where
   pub mid : State
   pub first : List ℕ

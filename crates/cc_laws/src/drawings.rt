@@ -12,8 +12,8 @@ ghost use Rattle.cc_draw.specs.Drawing.{layout_for};
 ghost use Rattle.cc_laws.specs.DrawnObjects.{ArePlaced, CountsFreeBytes, IsDrawnExactly};
 
 /// Proves that, in every plan whose objects are placed, a byte of the pool is in exactly one hole if
-/// and only if no held object has it. The number of the holes and the largest are those of the
-/// usage, and the held bytes and the lengths of the holes add up to the length of the pool.
+/// and only if no held object has it. The usage has the number of the holes and the largest, and the
+/// held bytes and the lengths of the holes add up to the length of the pool.
 ///
 /// The holes are as long as possible: between each and the next lies at least one held byte.
 pub fn holes_are_the_free_bytes()

@@ -43,7 +43,7 @@ fn rows_of_other_input()
     ensures error { (options : Options) → options.input ≡ Lines → ¬ RowsInParts options [] [] [] true }
 {}
 
-/// A plan with an object, which is that of a worked state, and its usage.
+/// The plan of a worked state, with an object, and its usage.
 fn a_plan_with_its_usage()
     ensures placed { ArePlaced (pool_span (plan_of with_first_object)) (plan_of with_first_object).objects }
     ensures usage { (usage : Usage) × IsUsage 2 (plan_of with_first_object) usage }

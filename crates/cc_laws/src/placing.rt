@@ -29,10 +29,10 @@ ghost use Rattle.cc_laws.specs.Translation.{IsAccepted, IsFollowed, IsReadAs, Is
 /// Proves that a machine that takes the changes of a heap as operations places each object at the bytes
 /// at which the heap placed it, and holds the same spans in the end.
 ///
-/// The pool of the machine is that of the heap, made by [`plan_opening`](cc_syntax::plan_opening),
-/// with the heap's alignment. The machine has to have a slot for each object that is made, next to
-/// the three of its pool. No object may be requested with a larger alignment than the unit of its
-/// size. Each object has a byte or more, and no setup operation is refused.
+/// The machine has the pool of the heap, made by [`plan_opening`](cc_syntax::plan_opening), with
+/// the heap's alignment. The machine has to have a slot for each object that is made, next to the
+/// three of its pool. No object may be requested with a larger alignment than the unit of its size.
+/// Each object has a byte or more, and no setup operation is refused.
 pub fn machines_place_like_heaps()
     ensures { (limit base size : ℕ) (settings : Settings) (changes : List Change) (heap : Heap)
         (opening replies : List Reply) (opened state : State)
@@ -74,11 +74,10 @@ pub fn traces_are_placed_alike()
 /// [`script_trace`](cc_changes::script_trace) states by `Pumps`. The output is the script of the
 /// trace's own events, as [`outputs_are_scripts`](crate::scripting::outputs_are_scripts) says. Its
 /// lines are read by [`parse_line`](cc_syntax::parse_line) as the operations of the changes of
-/// these events, and the machine has a run of these. The pool of the machine is that of the heap,
-/// made by [`plan_opening`](cc_syntax::plan_opening), with the heap's alignment. A script makes at
-/// most 65,533 objects, so that 65,536 slots are enough. It holds for every trace. No setup
-/// operation is refused. If the script ends before its trace does, the heap is that of the events
-/// before.
+/// these events, and the machine has a run of these. The machine has the pool of the heap, made by
+/// [`plan_opening`](cc_syntax::plan_opening), with the heap's alignment. A script makes at most
+/// 65,533 objects, so that 65,536 slots are enough. It holds for every trace. No setup operation is
+/// refused. If the script ends before its trace does, the heap has taken the events before.
 pub fn scripts_are_placed_alike()
     ensures { (limit base size : ℕ) (settings : Settings) (reading : Reading) (new : ScriptState) (text output : List ℕ)
         (any_error : Bool) (opening : List Reply) (opened : State)
@@ -94,8 +93,8 @@ pub fn scripts_are_placed_alike()
 /// replay: its live and its quarantined ones, including padding.
 ///
 /// Both outputs are for all lines of one trace: lines are still taken at the end. The machine has
-/// run the operations as which the script is read, in a pool that is that of the heap. It has
-/// 65,536 slots or more, and refuses no setup operation.
+/// run the operations as which the script is read, in the pool of the heap. It has 65,536 slots or
+/// more, and refuses no setup operation.
 pub fn scripts_hold_the_bytes_of_replays()
     ensures { (limit base size : ℕ) (settings : Settings) (reading : Reading) (text script series : List ℕ) (any_error is_error : Bool)
         (scripted : ScriptState) (replayed : ReplayState) (opening replies : List Reply) (opened state : State) (ops : List Op)

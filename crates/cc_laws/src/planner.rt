@@ -24,8 +24,8 @@ pub fn order_of_held_spans_says_nothing()
 {}
 
 /// Proves that every size has exactly one unit, which is the computed one for sizes of at most 2^64.
-/// With alignment 1 the unit of an object is the granule of its size, and its padded size is that of
-/// cc_bounds. With alignment 16, each multiple of a unit is a multiple of 16, for sizes of at most
+/// With alignment 1 the unit of an object is the granule of its size, and cc_bounds has the same
+/// padded size. With alignment 16, each multiple of a unit is a multiple of 16, for sizes of at most
 /// 2^64.
 pub fn units_of_alignments()
     ensures exactly_one { (align : Align) (size : ℕ) → ExactlyOne (IsUnit align size) }

@@ -30,13 +30,13 @@ fn a_trace_that_has_a_script()
         × (new.progress ≡ Running) }
 {}
 
-/// A machine with enough slots for each script, whose pool is that of the trace.
+/// A machine with enough slots for each script, and the pool of the trace.
 fn a_machine_that_has_the_pool()
     ensures { (opening : List Reply) × (opened : State)
         × Run (initial_state 65536) (plan_opening 0x10000 65536 One) opening opened × AllByRecursion IsAccepted opening }
 {}
 
-/// The events of this trace, and their changes, whose operations are those of the script.
+/// The events of this trace, and their changes, which have the operations of the script.
 fn a_heap_that_takes_the_events()
     ensures events { (heap : Heap) × Runs (empty_heap worked_settings) (Allocate 1 16 1 ∷ Free 1 ∷ Sweep ∷ []) heap
         × (heap.totals.made ≡ 1) }

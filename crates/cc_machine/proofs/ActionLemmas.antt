@@ -89,7 +89,7 @@ module _ (limit : ℕ) (slots : List SlotState) (pool : Option ℕ) (plan : Plan
   objects : KeepsObjects state
   objects = KeepsObjects-reached state reached
 
-  -- the planner's pool is that of the slot
+  -- the planner has the slot's pool
   pool-of : (number : ℕ) (slot : SlotState) → pool ≡ Some number → IsSlot state number slot → plan.pool ≡ Some slot.capability
   pool-of number slot is at = ap (λ (p : Plan). p.pool) planned ∙ pool_capability-is state number slot is at
 

@@ -196,7 +196,7 @@ impl Machine {
     /// an object comes after `Full`.
     #[inline(always)]
     pub fn step(&mut self, op: &Op) -> Reply
-        // The step is that of the model, with the first reason if it is refused.
+        // The step of the model, with the first reason if it is refused.
         ensures step { Step self.old op.now result self.new }
         ensures refused { IsRefused result → self.new ≡ self.old }
         // No slot, tagged or revoked, grants a byte or a permission that an ancestor does not.

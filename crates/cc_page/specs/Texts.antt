@@ -13,7 +13,7 @@ pub record Holds (IsText : List ℕ → Type 0) (bytes : List ℕ) (count : ℕ)
   pub fits : count ≤ length bytes
   pub is_text : IsText (take count bytes)
 
--- IsLineOfCode holds if the line is that of a refusal with this code.
+-- IsLineOfCode holds if a refusal with this code has this line.
 pub record IsLineOfCode (code : ℕ) (line : List ℕ) : Type 0 where
   pub refusal : Refusal
   pub has_code : code_of refusal ≡ code

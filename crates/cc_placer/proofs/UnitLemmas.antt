@@ -81,7 +81,7 @@ one-granule size unit = (
       record { granule = unit; is_granule = is; is_larger = omega (arith, some) },
 )
 
--- and the padded size is that of cc_bounds
+-- and cc_bounds has the same padded size
 pub one-padded : (size unit granule : ℕ) → IsUnit One size unit → IsGranule (from_zero size) granule
     → rounded_up size unit ≡ div_ceil size granule * granule
 one-padded size unit granule is is_granule =

@@ -17,7 +17,7 @@ pub enum Event {
         /// The requested alignment in bytes, a power of two: 1 if the event has none.
         align: u64,
     },
-    /// An object is made and cleared, as by `calloc`. Its place is that of an `Allocate` with
+    /// An object is made and cleared, as by `calloc`. It is placed like an `Allocate` with
     /// alignment 1.
     Clear {
         /// The id of the object.

@@ -81,7 +81,7 @@ event_entry old entry event counts out out_now is_error new is counts_is taken =
       takes = subst (λ (e : Result (Option Event) Refusal). TakesEntry (at_entry entry old) e here.text is_error new) (sym is) here.takes;
     }
 
--- the entry of a line is nothing
+-- the entry of a line has no event
 pub passed_entry : (old : ReplayState) (entry : Entry) (counts : Counts) (out : List ℕ)
     → entry.event ≡ Ok None
     → counts ≡ with_failure entry.is_failure (with_line old.counts)

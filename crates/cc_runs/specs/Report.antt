@@ -17,7 +17,7 @@ use Rattle.cc_runs.specs.declared.report.Terminals.{Terminals}
 abbrev pub report_of : (stats : Bool) → Terminals → Report
 report_of stats terminals = record { stats = stats; hints = stats || terminals.errors }
 
--- IsMachineUsage holds if the usage is that of a machine in this state: of its slots and of its plan.
+-- IsMachineUsage holds if a machine in this state has this usage: of its slots and of its plan.
 abbrev pub IsMachineUsage : State → Usage → Type 0
 IsMachineUsage state usage = IsUsage (length state.slots) (plan_of state) usage
 

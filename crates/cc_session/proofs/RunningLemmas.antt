@@ -114,7 +114,7 @@ stops_waiting room start tally opening pending t u v error new tally_now later o
 abbrev pub io : State → (unread taken : Option (List ℕ)) → IoState
 io machine unread taken = record { machine = machine; unread = unread; taken = taken }
 
--- RepliesAll holds if the replies of an answerer are those of the machine.
+-- RepliesAll holds if the machine gives the replies of an answerer.
 pub record RepliesAll (old : State) (entries : List (List ℕ)) (answers : List Answer) (new : State) : Type 0 where
   pub replies : List Reply
   pub takes : TakesAll old (map operation_of entries) replies new

@@ -69,7 +69,7 @@ pub record CountsRun (old : State) (opening : List Op) (text : List ℕ) (tally 
   pub exchanges_are : exchanges ≡ exchanges_of (lines_of text) replies ++ rest_exchange (rest_of text)
   pub is_tally : IsTally first exchanges tally
 
--- RunsSession holds if a run is that of the script, on a page of `room` bytes. If the run succeeds,
+-- RunsSession holds if a run executed the script, on a page of `room` bytes. If the run succeeds,
 -- the tally at the end has counted the replies of this run.
 pub record RunsSession (room : ℕ) (opening : List Op) (before : IoState) (result : Result Summary IoError) (tally : Tally) (after : IoState) : Type 0 where
   pub main : Main opening before result after

@@ -132,7 +132,7 @@ same_count : (refusal : Refusal) (times first times' first' : ℕ) → times ≡
     → ◌≡◌ {A = Count} (record { refusal = refusal; times = times; first = first }) (record { refusal = refusal; times = times'; first = first' })
 same_count refusal times first times' first' p q = λ i. record { refusal = refusal; times = p i; first = q i }
 
--- The first line that got a refusal, with one more line that got it.
+-- The first line that has a refusal, with one more line that has it.
 first_new : (some : Bool) (before during times found number : ℕ) → HasSome some before → (during ≡ 0 → found ≡ 0) → (0 < during → 0 < found)
     → times ≡ counted (before + during)
     → (if times == 0 then counted number else (if some then 0 else counted found)) ≡ (if some then 0 else counted (first_after found true number))

@@ -19,8 +19,8 @@ pub fn plan_numbers(base: &[u8], length: &[u8]) -> Result<(u64, Len), Refusal>
 
 /// Returns the operations that make a pool of `length` bytes from `base` on, with this alignment.
 ///
-/// They are those of `addr 0 BASE`, `exact 1 LENGTH` and `pool 2` (`pool 2 16` if the alignment is
-/// 16), which number the slots as in a new machine.
+/// They are the operations of `addr 0 BASE`, `exact 1 LENGTH` and `pool 2` (`pool 2 16` if the
+/// alignment is 16), which number the slots as in a new machine.
 pub fn plan_opening(base: u64, length: Len, align: Align) -> [Op; 3]
     ensures { result ≡ plan_opening base length align }
 {

@@ -21,7 +21,7 @@ use Rattle.cc_console.specs.declared.invocation.ReplayTexts.{ReplayTexts}
 use Rattle.cc_explain.specs.Refused.{changed}
 use Rattle.cc_traces.specs.ReplayTexts.{are_two, each_in, format_in, least_in, not_zero, realloc_in, replay_in, span_given, span_in, sweep_in}
 
--- Both values are those of the two results.
+-- The two results have both values.
 pub parts_of_both : {A B : Type 0} (first : Result A Refusal) (second : Result B Refusal) (found : A × B) → both first second ≡ Ok found
     → (first ≡ Ok found.0) × (second ≡ Ok found.1)
 parts_of_both (Ok a) (Ok b) found e = let same : (a, b) ≡ found = cc e in (ap (λ pair. Ok pair.0) same, ap (λ pair. Ok pair.1) same)

@@ -53,7 +53,7 @@ digits_of-join (suc c) d (suc total) n e =
     let place : n / 16 ^ total ≡ n / 16 ^ d / 16 ^ c = ap (λ (t : ℕ). n / 16 ^ t) order ∙ ap (λ (p : ℕ). n / p) (pow-add 16 d c) ∙ sym (div-div-eq-div-mul n (16 ^ d) (16 ^ c)) in
     rw (place, digits_of-join c d total n (omega arith)) refl
 
--- ---- the last digits are those of what is left of the number
+-- ---- the remaining number has the last digits
 
 digits_of-low : (d r h m : ℕ) → digits_of d (m + h * 16 ^ (d + r)) ≡ digits_of d m
 unfolding digits_of

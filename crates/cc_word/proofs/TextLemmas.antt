@@ -58,7 +58,7 @@ put_halves text first second whole one other =
 
 -- ---- reading
 
--- a digit's value is that of hex
+-- a digit has the value of hex
 pub digit_value-hex : (digit value : ℕ) → hex_digit_value digit ≡ Some value → digit_value digit ≡ value
 digit_value-hex digit value h = elim (cases_lt digit 58) [
   | inl below_58 ↦ decimal below_58 h

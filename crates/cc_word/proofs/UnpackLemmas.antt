@@ -50,7 +50,7 @@ pub record OfWord (word : ℕ) : Type 0 where
   pub fields : Fields
   pub is_word : word_of fields ≡ word
 
--- every word of 128 bits is that of some fields
+-- some fields have each word of 128 bits
 pub of_word : (word : ℕ) → word < 2 ^ 128 → OfWord word
 of_word word fits =
     let plain = of_layout (bit_xor word null_layout) (xor_lt 128 word null_layout fits (omega arith)) in

@@ -1,5 +1,5 @@
 //! The digits of words by vectors and tables, for callers that read or write words by the million.
-//! The contracts are those of `text`.
+//! The contracts are the same as in `text`.
 ghost use Rattle.std.specs.Prelude.{◌≡◌, ◌↔◌, ◌*◌, ◌<◌, ◌^◌, ◌++◌, length, map, slice_index, if◌then◌else◌, IsSome, IfSome};
 ghost use Rattle.std.specs.Char.{digit_value};
 ghost use Rattle.std.specs.List.{AllPass};
@@ -150,8 +150,8 @@ fn write_halves(high: u64, low: u64, text: &mut [u8; 32])
 
 /// Returns the word of 32 hexadecimal digits of either case, or `None` for any other input.
 ///
-/// The contract is that of [`read_word`](crate::read_word). Reads all 32 digits at once, by vectors
-/// of bytes.
+/// Has the contract of [`read_word`](crate::read_word). Reads all 32 digits at once, by vectors of
+/// bytes.
 pub fn read_word_fast(text: &[u8]) -> Option<u128>
     ensures found { IsSome result ↔ IsWordText text.now }
     ensures value { IfSome result (λ word. word ≡ digits_value 16 text.now) }
@@ -184,7 +184,7 @@ pub fn read_quarter(digits: &[u8; 8]) -> Option<u32>
 
 /// Returns the 32 hexadecimal digits of a word, in lower case, the highest first.
 ///
-/// The contract is that of [`write_word`](crate::write_word).
+/// Has the contract of [`write_word`](crate::write_word).
 #[inline(always)]
 pub fn write_word_fast(word: u128) -> [u8; 32]
     ensures { result ≡ digits_of 32 word }

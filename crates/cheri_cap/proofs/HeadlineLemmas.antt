@@ -97,7 +97,7 @@ starved script bytes taken console report has had (inr all) =
 
 -- ---- the command's own input
 
--- The input of a script is that of its command.
+-- A script has the input of its command.
 abbrev asked_for : InputName → Asked
 asked_for input = record { input = input; content = content.Script }
 

@@ -76,7 +76,7 @@ pub record ExecutesCommand (found : Option (Text × List Row)) (terminals : Term
 -- AnswersScript holds if the result is an error of a device if and only if that device failed, and is the end of the program. After a
 -- summary or a failed read or write, the main theorem holds of a run on a new machine that read these bytes and wrote after the bytes
 -- `taken`. After a failed opening nothing was written, and after a failed allocation nothing was, or the whole output. An opening or a
--- read failed only if the last input that was asked for is that of the script.
+-- read failed only if the last input that was asked for is the script's.
 pub record AnswersScript (script : Script) (bytes taken : List ℕ) (left taken_now : Option (List ℕ)) (failures : Failures) (ending : Ending) : Type 0 where
   pub result : Result Summary Fault
   pub main : OnDevices (MeetsFrom script.opening (initial_state script.limit) (Some bytes) left (Some taken) taken_now) result

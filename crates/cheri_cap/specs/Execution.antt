@@ -13,7 +13,8 @@ use Rattle.cc_runs.specs.Report.{report_of}
 use Rattle.cc_runs.specs.Runs.{MapsFile, PlansFile, ReportsRun, StarvesPlan, StarvesRun}
 use Rattle.cc_runs.specs.declared.report.Terminals.{Terminals}
 
--- Executes holds if the bytes written and the summary are those of the command for its input, up to a failure.
+-- Executes holds if the bytes written and the summary are what the command defines for its input, up to a
+-- failure.
 abbrev pub Executes : Invocation → Terminals → Console → Result Summary IoError → Type 0
 Executes (Ask question) terminals console result = AnswersQuestion question console.output console.output_now result
 Executes (Run limit stats file) terminals console result =

@@ -92,7 +92,7 @@ pub record Script : Type 0 where
   pub opening : List Op
   pub input : InputName
 
--- The script on a pool, if BASE and LENGTH are those of one.
+-- The script on a pool, if BASE and LENGTH describe one.
 abbrev pub pool_script : (found : Result (ℕ × ℕ) Refusal) (limit : ℕ) → Align → InputName → Option Script
 pool_script (Ok numbers) limit align input = Some (record { limit = limit; opening = plan_opening numbers.0 numbers.1 align; input = input })
 pool_script (Err refusal) limit align input = None

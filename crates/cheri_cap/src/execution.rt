@@ -42,7 +42,7 @@ pub fn execute<M: RunMemory + TraceMemory, I: Inputs, W: Sink, E: Sink>(
     requires inputs { I.has_refused inputs.old ≡ false }
     requires sink { W.has_failed sink.old ≡ false }
     requires errors { E.has_failed errors.old ≡ false }
-    // The bytes written are those of the command, and the summary says whether there is an error.
+    // The command's bytes are written, and the summary says whether there is an error.
     ensures executes { OnDevices (Executes invocation.entry terminals (record {
       input = I.bytes_of inputs.old;
       left = I.Opened.to_come source.new;
@@ -55,8 +55,8 @@ pub fn execute<M: RunMemory + TraceMemory, I: Inputs, W: Sink, E: Sink>(
     ensures memory { result ≡ Err Fault.Memory → RunsMachine invocation.entry }
     // Opening fails only for a FILE that is given and is not `-`.
     ensures open { result ≡ Err Fault.Open → IfSome (input_of invocation.entry) (λ asked. IsFile asked.input) }
-    // Unless the last input that was asked for is that of the command, neither inputs nor source
-    // were used.
+    // Unless the last input that was asked for is the command's, neither inputs nor source were
+    // used.
     ensures asked { IsUnasked (input_of invocation.entry) (I.last_asked inputs.new) → (inputs.new ≡ inputs.old) × (source.new ≡ source.old) }
     // A command without an input, or with refused arguments, uses neither inputs nor source.
     ensures unused { ¬ ReadsInput invocation.entry → (inputs.new ≡ inputs.old) × (source.new ≡ source.old) }

@@ -35,7 +35,7 @@ raised heads groups changed z within grouped bounded large at d e inside =
       | inr other ↦ rw (get_or-set_other groups (changed / 16) (at / 16) bound e other) (bounded at d e inside (λ from. later from other))
     ]
 
--- The bound of the changed head's group is that of all its heads.
+-- The changed head's group has the bound of all its heads.
 recomputed : (heads : List Head) (groups : List ℕ) (changed bound : ℕ)
     → changed < length heads → length heads ≤ 16 * length groups → AreBoundedBut changed (changed + 1) heads groups
     → ((at : ℕ) (d : Head) → 16 * (changed / 16) ≤ at → at < 16 * (changed / 16) + 16 → at < length heads → (slice_index_or heads at d).bound ≤ bound)

@@ -50,8 +50,8 @@ returns-else-is g c command is =
       ),
     ))
 
--- In each arm the line is the command's name and its values, and the operation is that of the values. `search` finds all of it
--- too, and takes most of the time of this proof. It does so for `exact` and `seal`, whose mutants are to leave an open goal.
+-- In each arm the line is the command's name and its values, which have the operation. `search` finds all of it too, and takes
+-- most of the time of this proof. It does so for `exact` and `seal`, whose mutants are to leave an open goal.
 pub returns-in-Some : goal.returns-in-Some
 returns-in-Some g c command is =
     let made : c.map.result ≡ one op.Show c.read.result = search rules in
