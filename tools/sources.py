@@ -1,6 +1,8 @@
-"""The definitions of specs/ and the items of src/, with the text of each, and what the names in it mean by the imports of its file.
+"""The definitions of specs/ and the items of src/, with the text and the comment of each, and what the names in it mean by the imports
+of its file.
 
-`Sources(top)` reads all crates, by the layout of `rt fmt`, and is not a compiler.
+`Sources(top)` reads all crates, by the layout of `rt fmt`, and is not a compiler. `Sources(top, toolchain)` also reads the definitions
+of the toolchain's library that these name.
 """
 import hashlib
 import re
@@ -37,7 +39,10 @@ def imports_of(line):
 
 
 class Target:
-    """What a name can mean: `name` and `kind`, its `text` without comments, and the file `scope`, by whose imports its names are read."""
+    """What a name can mean: `name` and `kind`, its `text` without comments, its `code` as it is laid out, its `comment`, and the file
+    `scope`, by whose imports its names are read."""
+
+    comment, code, line = "", "", 0
 
     @property
     def place(self):
@@ -61,8 +66,8 @@ class Target:
 
 
 class Definition(Target):
-    def __init__(self, module, kind, name):
-        self.scope, self.kind, self.name, self.lines = module, kind, name, []
+    def __init__(self, module, kind, name, comment, line, section):
+        self.scope, self.kind, self.name, self.comment, self.line, self.section, self.lines = module, kind, name, comment, line, section, []
 
     @property
     def path(self):
@@ -71,6 +76,10 @@ class Definition(Target):
     @cached_property
     def text(self):
         return without_comments("\n".join(self.lines), "--")
+
+    @property
+    def code(self):
+        return "\n".join(self.lines).rstrip()
 
     @property
     def count(self):
@@ -89,24 +98,41 @@ class Scope:
                 found[name] = it
         return found
 
+    def places(self, text):
+        """Yields each place in a text of a name that means a definition or an item."""
+        for it in re.finditer(r"(?<![.\w])[^\W\d]\w*", text):
+            found = self.find(it[0])
+            # a field may have the name of a function
+            if isinstance(found, Target) and not (found.kind == "fn" and re.match(r":(?!:)", text[it.end() :])):
+                yield it, found
+
 
 class Module(Scope):
     """A file of specs/: its imports, and its definitions in order."""
 
     def __init__(self, sources, crate, name, path):
-        self.sources, self.crate, self.name, self.imports, self.definitions = sources, crate, name, {}, {}
-        current = None
-        for line in path.read_text(encoding="utf-8").splitlines():
-            if USE.match(line):
+        self.sources, self.crate, self.name, self.path, self.imports, self.definitions = sources, crate, name, path, {}, {}
+        self.comment, current, comment, section = "", None, [], ""
+        for at, line in enumerate(path.read_text(encoding="utf-8").splitlines(), 1):
+            if is_use := USE.match(line):
                 self.imports |= imports_of(line)
-            elif re.match(r"--|(?:pub )?(?:use|mod) ", line):
+            if is_use or not line.strip():
+                if comment and comment[0].startswith("---- "):
+                    section = "\n".join(comment)[5:]
+                elif comment and not self.comment and not self.definitions:
+                    self.comment = "\n".join(comment)
+                comment = []
+            if line.startswith("--"):
+                comment.append(line[2:].removeprefix(" "))
+            elif is_use or re.match(r"(?:pub )?(?:use|mod) ", line):
                 pass
             elif new := not line.startswith((" ", "}")) and NEW.match(line):
                 # the lines of a definition after the one with its type begin with its name again
                 if not current or current.name != new[2]:
-                    current = Definition(self, new[1].replace("pub ", "").strip() or "def", new[2])
+                    current = Definition(self, new[1].replace("pub ", "").strip() or "def", new[2], "\n".join(comment), at, section)
                     self.definitions[new[2]] = current
                 current.lines.append(line)
+                comment = []
             elif current:
                 current.lines.append(line)
 
@@ -117,9 +143,11 @@ class Module(Scope):
 class Item(Target):
     """A function, a type, a trait, a constant, a ghost member of a trait, or an impl of a trait. `owner` is the type or the trait that has it."""
 
-    def __init__(self, file, kind, name, owner, is_public, text):
+    def __init__(self, file, kind, name, owner, is_public, text, code, comment, line):
         self.scope, self.kind, self.name, self.owner, self.is_public, self.text = file, kind, name, owner, is_public, text
-        self.clauses, self.signature, self.is_for_c = [], "", 'extern "C"' in text
+        self.code, self.comment, self.line = code, comment, line
+        # `said` has the comment above each clause, by its number
+        self.clauses, self.said, self.head, self.signature, self.is_for_c = [], {}, "", "", 'extern "C"' in text
 
     @property
     def path(self):
@@ -148,11 +176,13 @@ class File(Scope):
 
     def __init__(self, sources, crate, path):
         self.sources, self.crate, self.name, self.source = sources, crate, path.stem, path
-        self.imports, self.paths, self.exports, self.open, self.items = {}, {}, {}, set(), []
-        self.read(path.read_text(encoding="utf-8").splitlines(), "")
+        self.imports, self.paths, self.exports, self.open, self.items, self.impls = {}, {}, {}, set(), [], {}
+        lines = path.read_text(encoding="utf-8").splitlines()
+        self.comment = "\n".join(it[3:].removeprefix(" ") for it in lines if it.startswith("//!"))
+        self.read(lines, 0, "")
 
-    def read(self, lines, owner, is_trait=False):
-        at = 0
+    def read(self, lines, before, owner, line=1, is_trait=False):
+        at, comment = 0, []
         while at < len(lines):
             first, depth, is_open = at, 0, True
             while is_open and at < len(lines):
@@ -162,9 +192,15 @@ class File(Scope):
                 is_open, at = depth != 0 or not is_end or bare.startswith(" ") and not bare.endswith(";"), at + 1
             text = without_comments("\n".join(lines[first:at])).strip()
             if text and not text.startswith("#"):
-                self.take(text, lines[first:at], owner, is_trait)
+                self.take(text, lines[first:at], owner, is_trait, "\n".join(comment), line + before + first)
+            if text.startswith("#"):
+                continue
+            if lines[first].startswith("///") or is_trait and lines[first].startswith("// "):
+                comment.append(lines[first].lstrip("/").removeprefix(" "))
+            elif not lines[first].startswith("//"):
+                comment = []
 
-    def take(self, text, lines, owner, is_trait):
+    def take(self, text, lines, owner, is_trait, comment, line):
         if text.startswith("ghost use "):
             self.imports |= imports_of(text)
         elif used := re.match(r"(pub )?use (.*);", text, re.S):
@@ -178,17 +214,19 @@ class File(Scope):
             head = re.sub(r"^<(?:[^<>]|<[^<>]*>)*>", "", block[1].strip()).strip()
             trait, _, name = head.rpartition(" for ")
             name = re.match(r"&?(?:'\w+ )?(?:mut )?(\w+)|", name)[1] or ""
-            self.read(inside(lines), f"{name}: {one_line(trait)}" if trait else name)
+            owner = f"{name}: {one_line(trait)}" if trait else name
+            self.impls[owner] = text[: text.index("{")].strip()
+            self.read(*inside(lines), owner, line)
         elif found := ITEM.match(text):
-            item = Item(self, found["kind"], found["name"], owner, is_trait or (found["pub"] or "").strip() == "pub", text)
+            item = Item(self, found["kind"], found["name"], owner, is_trait or (found["pub"] or "").strip() == "pub", text, "\n".join(lines), comment, line)
             self.items.append(item)
             if item.kind == "fn":
                 read_function(item)
             elif item.kind == "trait":
-                item.text = text[: text.index("{")].strip()
-                self.read(inside(lines), item.name, True)
+                item.text = item.code = text[: text.index("{")].strip()
+                self.read(*inside(lines), item.name, line, True)
         elif owner and (found := re.match(r"ghost (\w+)", text)):
-            self.items.append(Item(self, "ghost", found[1], owner, True, text))
+            self.items.append(Item(self, "ghost", found[1], owner, True, text, "\n".join(lines), comment, line))
 
     @cached_property
     def own(self):
@@ -201,9 +239,9 @@ class File(Scope):
 
 
 def inside(lines):
-    """Returns the lines in the braces of an item, without their margin."""
+    """Returns the lines in the braces of an item, without their margin, and the number of lines before them."""
     first = next(at for at, line in enumerate(lines) if line.rstrip().endswith("{"))
-    return [it.removeprefix("    ") for it in lines[first + 1 : -1]]
+    return [it.removeprefix("    ") for it in lines[first + 1 : -1]], first + 1
 
 
 def paths(text):
@@ -218,31 +256,36 @@ def paths(text):
 
 
 def read_function(item):
-    """Reads the signature of a function, and its clauses: the kind with the name, and the text."""
-    lines, at = item.text.splitlines(), 0
+    """Reads the signature of a function, and its clauses: the kind with the name, the text, and the comment above it."""
+    lines, at, comment = item.code.splitlines(), 0, []
     while at < len(lines) and not CLAUSE.match(lines[at].strip()) and not lines[at].strip() == "{":
         at += 1
-    head = re.sub(r"\s*(\{.*|;)$", "", "\n".join(lines[:at]), flags=re.S) if at == len(lines) else "\n".join(lines[:at])
-    item.signature = one_line(head[head.index("fn ") :])
+    head = without_comments("\n".join(lines[:at]))
+    head = re.sub(r"\s*(\{.*|;)$", "", head, flags=re.S) if at == len(lines) else head
+    item.head, item.signature = head, one_line(head[head.index("fn ") :])
     while at < len(lines):
-        found = CLAUSE.match(lines[at].strip())
-        if not found:
-            if lines[at].strip():
-                break
+        line = lines[at].strip()
+        if line.startswith("//"):
+            comment.append(line[2:].removeprefix(" "))
+        elif not CLAUSE.match(line) and line:
+            break
+        if not CLAUSE.match(line):
             at += 1
             continue
         first, depth = at, 0
         while at == first or depth and at < len(lines):
             depth += depth_of(lines[at])
             at += 1
-        text = "\n".join(lines[first:at])
-        item.clauses.append((" ".join(filter(None, found.groups())), text[text.index("{") + 1 : text.rindex("}")]))
+        text = without_comments("\n".join(lines[first:at]))
+        if comment:
+            item.said[len(item.clauses)], comment = "\n".join(comment), []
+        item.clauses.append((" ".join(filter(None, CLAUSE.match(line).groups())), text[text.index("{") + 1 : text.rindex("}")]))
     item.text = "\n".join([item.signature, *(text for _, text in item.clauses)])
 
 
 class Sources:
-    def __init__(self, top):
-        self.modules, self.files, self.kept = {}, {}, {}
+    def __init__(self, top, toolchain=None):
+        self.modules, self.files, self.kept, self.toolchain, self.library_of_toolchain = {}, {}, {}, toolchain, {}
         self.order = re.findall(r"(?m)^(\w+)(?: \w+)?:", (top / "crates.txt").read_text(encoding="utf-8"))
         for crate in self.order:
             folder = top / "crates" / crate
@@ -301,6 +344,8 @@ class Sources:
             parts = path.split(".")
             if parts[0] == "Rattle" and parts[1] in self.order and parts[2] == "specs":
                 self.kept[path, name] = self.meaning_here(parts[1], parts[3:], name) or f"{path}.{name}"
+            elif self.toolchain and NAME.fullmatch(name):
+                self.kept[path, name] = self.meaning_there(parts, name) or f"{path}.{name}"
         return self.kept[path, name]
 
     def meaning_here(self, crate, parts, name):
@@ -312,6 +357,24 @@ class Sources:
         # a constructor of a type of definitions
         data = self.modules.get((crate, ".".join(parts[:-1])))
         return data and data.find(parts[-1])
+
+    def meaning_there(self, parts, name):
+        """Returns a definition of the toolchain's library, or None."""
+        if parts[0] == "lib":
+            crate, parts, folder = "lib", parts[1:], self.toolchain / "logic/Lib"
+        elif parts[0] == "Rattle" and parts[2:3] == ["specs"]:
+            crate, parts, folder = parts[1], parts[3:], self.toolchain / parts[1] / "specs"
+        else:
+            return None
+        path, passes = folder.joinpath(*parts).with_suffix(".antt"), folder / "Lib.antt"
+        if path.exists():
+            module = self.library_of_toolchain.setdefault((crate, *parts), None)
+            if not module:
+                module = self.library_of_toolchain[crate, *parts] = Module(self, crate, ".".join(parts), path)
+            return module.find(name)
+        # a module of another library that this one has too
+        passed = passes.exists() and re.search(rf"(?m)^pub use (Rattle\.[\w.]*\.{parts[0]})$", passes.read_text(encoding="utf-8"))
+        return self.meaning_there([*passed[1].split("."), *parts[1:]], name) if passed else None
 
 
 def closure(roots, kind=Target):

@@ -11,13 +11,15 @@ use Rattle.cc_machine.specs.Objects.{with_object}
 abbrev pub with_pool : State
 with_pool = record (initial_state 8) { pool = Some 0 }
 
--- An object of 16 bytes, its capability, and the state with it, in slot 1.
+-- An object of 16 bytes, in slot 1.
 abbrev pub first_object : Object
 first_object = record { size = 16; slot = 1; state = Live }
 
+-- The capability of the first 16 bytes.
 abbrev pub sixteen_capability : Capability
 sixteen_capability = with_span root_capability (span_from 0 16)
 
+-- The state with the object.
 abbrev pub with_first_object : State
 with_first_object = with_object with_pool sixteen_capability 0 16
 
