@@ -322,7 +322,7 @@ CHERI_ISA9_INLINE_ cheri_isa9_cap cheri_isa9_csetoffset(cheri_isa9_cap cs1, uint
 
 /*
  * Returns the bounds fields for [base, base + length), also if that ends above 2^64. Only `t`, `b`, `ie` and `exponent`
- * count. Up to 2^64 they are those of cheri_cap_set_bounds. Compare: those of longer requests.
+ * count. Up to 2^64 they equal those of cheri_cap_set_bounds. Compare: those of longer requests.
  *
  * A short request has the same fields 2^63 bytes further down. For a long one, all numbers are divided by 2.
  */
@@ -357,7 +357,7 @@ CHERI_ISA9_INLINE_ cheri_isa9_cap cheri_isa9_csetbounds(cheri_isa9_cap cs1, uint
     return cheri_isa9_bounded(cs1, cheri_cap_set_bounds_on(cs1.word.high, cs1.word.low, 0, rs2), rs2);
 }
 
-/* CSetBoundsExact: the word of CSetBounds. Tag: that of CSetBounds, if the bounds are those of the request. */
+/* CSetBoundsExact: the word of CSetBounds. Tag: that of CSetBounds, if the bounds equal the request. */
 CHERI_ISA9_INLINE_ cheri_isa9_cap cheri_isa9_csetboundsexact(cheri_isa9_cap cs1, uint64_t rs2) CHERI_CAP_NOEXCEPT
 {
     return cheri_isa9_bounded(cs1, cheri_cap_set_bounds_exact_on(cs1.word.high, cs1.word.low, 0, rs2), rs2);
