@@ -12,11 +12,11 @@ use Rattle.cc_bounds.specs.Window.{section_of}
 abbrev pub exponent_digits : Fields → ℕ
 exponent_digits fields = 8 * (fields.t % 8) + fields.b % 8
 
--- The exponent: 0 without IE, and with IE its digits, of which more than 52 counts as 52.
+-- The exponent: 0 without IE, and with IE its digits, or 52 if they are more.
 abbrev pub stored_exponent : Fields → ℕ
 stored_exponent fields = if fields.ie then min 52 (exponent_digits fields) else 0
 
--- A stored field without the exponent's bits: with IE its low three bits count as zero.
+-- A stored field without the exponent's bits: with IE its low three bits are treated as zero.
 abbrev pub without_exponent : (ie : Bool) (field : ℕ) → ℕ
 without_exponent ie field = if ie then field - field % 8 else field
 

@@ -7,7 +7,7 @@ ghost use Rattle.cc_bounds.specs.declared.span.Span.{Span as SpanSpec};
 use crate::span::Span;
 use cc_word::Fields;
 
-/// The largest exponent of decoded bounds. A larger exponent field counts as this.
+/// The largest exponent of decoded bounds. A larger exponent field is treated as this.
 const MAX_EXPONENT: u8 = 52;
 
 /// At this exponent and above, T reaches bit 64, so that T alone gives all 65 bits of the top.

@@ -27,7 +27,7 @@ fn low_bits(power: u32) -> u64
     (1 << power) - 1
 }
 
-/// Returns how far a number is above another one, if it is not below it.
+/// Returns `high - low`, if `low` is not above `high`.
 fn distance(low: u64, high: u64) -> u64
     ensures { low ≤ high → result ≡ high - low }
 {

@@ -323,7 +323,7 @@ impl Cap {
         self.set.granted()
     }
 
-    /// Returns the capability's own address, in its bounds or not.
+    /// Returns the capability's own address, which may be outside its bounds.
     ///
     /// Instruction: CGetAddr.
     pub fn address(&self) -> u64

@@ -32,7 +32,7 @@ impl Model for WordLine {
 }
 
 impl WordLine {
-    /// Returns the one-line form of a word, for every word, in the format of `%#p` in CheriBSD.
+    /// Returns the one-line form of any word, in the format of `%#p` in CheriBSD.
     ///
     /// It is the word's address, and in brackets the letters of its permissions, and its base and
     /// its top as the word decodes. Then comes ` (sealed)` or ` (sentry)`, by its type,

@@ -18,7 +18,7 @@ pub fn percent_of(done: u64, length: u64) -> Option<u64>
 
 /// Writes the percentage of the trace that has been read, over what was written before. Errors of the sink are ignored.
 ///
-/// The cursor is at the start of the line then, so that other output takes the place of the text.
+/// The cursor is at the start of the line then, so that other output takes the place of the text. Only tests show when it is called.
 pub fn show_progress<E: Sink>(percent: u64, errors: &mut E)
     requires { E.has_failed errors.old ≡ false }
     ensures { E.has_failed errors.new ≡ false → Appends (E.taken_bytes errors.old) (E.taken_bytes errors.new) (progress_text percent) }
@@ -38,7 +38,7 @@ pub fn clear_progress<E: Sink>(errors: &mut E)
     let _ = write_all(errors, b"            \r");
 }
 
-/// Writes that the script is read from the terminal. Errors of the sink are ignored.
+/// Writes that the script is read from the terminal. Errors of the sink are ignored. Only tests show when it is called.
 pub fn announce<E: Sink>(errors: &mut E)
     requires { E.has_failed errors.old ≡ false }
     ensures { E.has_failed errors.new ≡ false → Appends (E.taken_bytes errors.old) (E.taken_bytes errors.new) waiting_text }

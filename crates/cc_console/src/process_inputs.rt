@@ -106,6 +106,8 @@ fn limit_of(content: Content) -> usize {
 /// Opens an input of the process: a file of this name, or standard input.
 ///
 /// Errors: `Open` if a file cannot be opened.
+///
+/// That the file is the one of this name is tested, and not proved.
 fn open_input<'a, R: Files + Input + Eprint>(
     rt: &'a R,
     is_typed: bool,

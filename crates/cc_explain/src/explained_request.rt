@@ -12,6 +12,8 @@ use cc_io::{ROOM, Text, end_with_decimal, end_with_hexadecimal, push_hexadecimal
 /// Puts the explanation of a request for bounds into an empty text: the granule, and why half of it is not enough; the
 /// granted bounds, and the number of their bytes below and above the request; the length with exact bounds, and its bases;
 /// and the word of the root capability with the granted bounds.
+///
+/// Requires: the request is a span of the address space.
 pub fn push_explained_request(text: &mut Text, request: &Span)
     requires is_span { IsSpan request.now }
     requires empty { text.old ≡ [] }

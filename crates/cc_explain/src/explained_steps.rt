@@ -165,7 +165,7 @@ fn push_top_mantissa(text: &mut Text, fields: &Fields, steps: &Steps)
 }
 
 /// Returns the phrase for the part of its mantissa that the T or the B field is. With IE its low
-/// three bits count as 0.
+/// three bits are treated as 0.
 fn stored(fields: &Fields) -> &'static [u8]
     ensures value { result.now ≡ stored_text fields.now }
     ensures fits { length result.now ≤ 35 }

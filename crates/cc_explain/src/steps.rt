@@ -61,7 +61,7 @@ pub fn section(exponent: u8) -> u128
     1 << (u32::from(exponent) + 11)
 }
 
-/// Returns the base mantissa: the B field, whose low three bits count as 0 with IE.
+/// Returns the base mantissa: the B field, whose low three bits are treated as 0 with IE.
 fn base_mantissa(fields: &Fields) -> u16
     ensures value { result ≡ base_mantissa fields.now }
     ensures fits { result < 2 ^ 14 }
@@ -69,8 +69,8 @@ fn base_mantissa(fields: &Fields) -> u16
     if fields.ie { fields.b & !0x7 } else { fields.b }
 }
 
-/// Returns the top mantissa: the T field, whose low three bits count as 0 with IE, and above it the
-/// two implied bits.
+/// Returns the top mantissa: the T field, whose low three bits are treated as 0 with IE, and above
+/// it the two implied bits.
 fn top_mantissa(fields: &Fields) -> u16
     ensures value { IsTopMantissa fields.now result }
     ensures fits { result < 2 ^ 14 }

@@ -16,7 +16,7 @@ use crate::structs::{Bounds, GrantedBounds};
 use cc_bounds::{ADDRESS_SPACE, Set, decode, exponent, keeps_bounds, represents, set_bounds};
 use cc_word::unpack;
 
-/// Returns the base, the top and the exponent of a word, for every word.
+/// Returns the base, the top and the exponent of any word.
 #[unsafe(no_mangle)]
 pub extern "C" fn cheri_cap_decode(high: u64, low: u64) -> Bounds
     ensures { OfFields (number_of_halves high low) (λ fields. AreDecoded fields result) }
@@ -32,7 +32,7 @@ pub extern "C" fn cheri_cap_decode(high: u64, low: u64) -> Bounds
     }
 }
 
-/// Returns the exponent of a word, from 0 to 52, for every word.
+/// Returns the exponent of any word, from 0 to 52.
 #[unsafe(no_mangle)]
 pub extern "C" fn cheri_cap_exponent(high: u64, low: u64) -> u8
     ensures { OfFields (number_of_halves high low) (λ fields. result ≡ stored_exponent fields) }

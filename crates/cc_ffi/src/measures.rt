@@ -14,8 +14,8 @@ use crate::structs::{Excess, Halves};
 use cc_bounds::{ADDRESS_SPACE, decode, exponent, set_bounds};
 use cc_word::unpack;
 
-/// Returns the number of bytes of the bounds of a word, for every word: the top minus the base,
-/// modulo 2^128 if the top is below the base.
+/// Returns the number of bytes of the bounds of any word: the top minus the base, modulo 2^128 if
+/// the top is below the base.
 #[unsafe(no_mangle)]
 pub extern "C" fn cheri_cap_word_length(high: u64, low: u64) -> Halves
     ensures { OfFields (number_of_halves high low) (λ fields. (span : SpanSpec) → DecodesTo fields span
@@ -25,7 +25,7 @@ pub extern "C" fn cheri_cap_word_length(high: u64, low: u64) -> Halves
     halves(span.top.wrapping_sub(u128::from(span.base)))
 }
 
-/// Returns the granule of a word in bytes, for every word: 1 without IE, and with IE 2^(E+3).
+/// Returns the granule of any word in bytes: 1 without IE, and with IE 2^(E+3).
 ///
 /// It is the unit of the bounds that the word stores, if it stores them as setting bounds does.
 #[unsafe(no_mangle)]

@@ -38,8 +38,8 @@ fn window_of(base: u64, exponent: u8) -> Window
     }
 }
 
-/// Returns the first and the last address of the window of a word, for every word: of the addresses
-/// at which a word with its bounds fields decodes to the same bounds.
+/// Returns the first and the last address of the window of any word: of the addresses at which a
+/// word with its bounds fields decodes to the same bounds.
 ///
 /// The window goes up from the first address to the last. If the last is below the first, it goes
 /// through 2^64 - 1 and on from 0. At exponents of at least 50, it is from 0 to 2^64 - 1.

@@ -10,7 +10,7 @@ use crate::halves::{halves, number};
 use crate::structs::{Halves, WordFields};
 use cc_word::{Fields, pack, unpack};
 
-/// Returns the fields of a word, for every word.
+/// Returns the fields of a word. Every word has fields.
 #[unsafe(no_mangle)]
 pub extern "C" fn cheri_cap_unpack(high: u64, low: u64) -> WordFields
     ensures { OfFields (number_of_halves high low) (λ fields. IsSame result fields) }
@@ -68,7 +68,7 @@ fn cut(given: WordFields) -> Fields
     }
 }
 
-/// Returns the word of fields. If a number is wider than its field, its lowest bits count.
+/// Returns the word of fields. Bits beyond the width of a field are ignored.
 ///
 /// For the fields that `cheri_cap_unpack` returned for a word, that is this word again.
 #[unsafe(no_mangle)]

@@ -16,7 +16,7 @@ use Rattle.cc_heap.specs.Memory.{held_spans, start_unit}
 use Rattle.cc_heap.specs.Policy.{is_of_the_trace}
 use Rattle.cc_heap.specs.Heap.{Attempts, FreesObject, Heap, KeepsObject, MakesObject, MustSweep, kept_object, object_under, swept}
 
--- The size of an object: a requested size of 0 counts as 1.
+-- The size of an object: a requested size of 0 is treated as 1.
 abbrev pub size_of : (requested : ℕ) → ℕ
 size_of requested = max requested 1
 

@@ -5,7 +5,7 @@ ghost use Rattle.cc_placer.specs.Ids.{freed_id, made_id};
 /// An event of a trace of an allocator.
 ///
 /// An id names an object from the event that makes it to the event that frees it, and can be used
-/// again after that. A size of 0 counts as 1.
+/// again after that. A size of 0 is treated as 1.
 #[derive(Clone, Copy)]
 pub enum Event {
     /// An object is made, as by `malloc` and `aligned_alloc`.

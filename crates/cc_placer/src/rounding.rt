@@ -3,6 +3,8 @@ ghost use Rattle.std.specs.Prelude.{◌≡◌, ◌+◌, ◌*◌, ◌%◌, ◌^�
 ghost use Rattle.std.specs.Int.{div_ceil};
 
 /// Returns the smallest multiple of `align` that is at least `n`.
+///
+/// Requires: `align > 0`; `n <= 2^65`.
 pub fn round_up(n: u128, align: u64) -> u128
     requires some { 0 < align }
     requires fits { n ≤ 2 ^ 65 }

@@ -21,7 +21,7 @@ value_text (Number number) = decimal number
 value_text (Percent parts) = percent_text parts
 
 -- The part in ten-thousandths of a percent of the whole, rounded down, or 0 if the whole is 0. A
--- part above 2^100 counts as 2^100.
+-- part above 2^100 is treated as 2^100.
 abbrev pub parts_of : (part whole : ℕ) → ℕ
 parts_of part zero = 0
 parts_of part (suc less) = min part (2 ^ 100) * 1000000 / suc less

@@ -9,7 +9,7 @@ use cc_io::{Line, Page};
 const MOST_PART: u128 = 1 << 100;
 
 /// Returns the part in ten-thousandths of a percent of the whole, rounded down, or 0 if the whole
-/// is 0. A part above 2^100 counts as 2^100.
+/// is 0. A part above 2^100 is treated as 2^100.
 pub(crate) fn parts_of(part: u128, whole: u128) -> u128
     ensures { result ≡ parts_of part whole }
 {

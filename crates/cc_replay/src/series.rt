@@ -14,6 +14,8 @@ pub const MOST_SAMPLE: usize = 1301;
 
 /// Appends the header of a series: the names of the columns, with commas between. They do not
 /// depend on the figures.
+///
+/// Requires: 1,301 bytes of the page are free.
 pub fn push_series_header<const N: usize>(page: &mut Page<N>, figures: &Figures)
     requires { length page.old + 1301 ≤ N }
     ensures value { page.new ≡ page.old ++ names_line (sample_rows 0 figures.now) }
@@ -23,6 +25,8 @@ pub fn push_series_header<const N: usize>(page: &mut Page<N>, figures: &Figures)
 }
 
 /// Appends a sample: the numbers of a replay after a line, with the time that the trace gave last.
+///
+/// Requires: 1,301 bytes of the page are free.
 pub fn push_sample<const N: usize>(page: &mut Page<N>, time: u64, figures: &Figures)
     requires { length page.old + 1301 ≤ N }
     ensures value { page.new ≡ page.old ++ values_line (sample_rows time figures.now) }

@@ -16,6 +16,7 @@ use std::alloc::AllocError;
 pub trait RunMemory: Memory {
     /// Creates the session of a new machine with at most `limit` slots and objects.
     ///
+    /// Requires: `1 <= limit <= 65536`.
     /// Errors: an allocation fails.
     fn session(&mut self, limit: u32) -> Result<Session, AllocError>
         requires from_one { 1 ≤ limit }

@@ -21,6 +21,8 @@ pub fn reply_line(reply: &Reply) -> Line
 
 /// Appends the line of a reply whose kind the compiler does not know. Not inlined, so that this
 /// code exists once.
+///
+/// Requires: 192 bytes of the page are free.
 #[inline(never)]
 pub fn push_any_reply<const N: usize>(line: &mut Page<N>, reply: &Reply)
     requires { length line.old + 192 ≤ N }

@@ -53,6 +53,10 @@ pub fn hint_elf<E: Sink>(start: &[u8], errors: &mut E)
 }
 
 /// Writes the hint on the file whose first bytes a command decoded as a raw word. Errors of the sink are ignored.
+///
+/// Only `tests/program` shows when it writes: no clause says so.
+///
+/// Requires: standard error has not failed.
 pub fn hint_on_file<I: Inputs, E: Sink>(inputs: &I, invocation: Invocation<'_>, errors: &mut E)
     requires { E.has_failed errors.old ≡ false }
 {

@@ -26,6 +26,7 @@ use std::alloc::AllocError;
 pub trait TraceMemory: Memory {
     /// Begins a replay with a heap that holds nothing, before the first line of a trace.
     ///
+    /// Requires: the limit is from 1 to 2^24, and the pool in the address space.
     /// Errors: an allocation fails.
     fn begin_replay(
         &mut self,
@@ -79,6 +80,7 @@ pub trait TraceMemory: Memory {
 
     /// Begins the script of a trace, as [`TraceMemory::begin_replay`] does. A machine can follow its heap.
     ///
+    /// Requires: each realloc moves its object.
     /// Errors: an allocation fails.
     fn begin_script(
         &mut self,

@@ -48,7 +48,8 @@ pub fn answer_arguments<R: Env + AllocGlobal + Files + Input + Print + Eprint>(
     }
 }
 
-/// Executes a command line, and returns the program's end. The first argument is the program's name.
+/// Executes a command line, and returns the program's end. The first argument is the program's name. Only `tests/program` shows that
+/// these arguments are executed: no clause says so.
 fn answer_strings<R: AllocGlobal + Files + Input + Print + Eprint>(
     rt: &R,
     terminals: Terminals,
@@ -182,6 +183,8 @@ pub fn answer_words<M: RunMemory + TraceMemory, I: Inputs, W: Sink, E: Sink>(
 }
 
 /// Executes a command on these devices, and returns the program's end.
+///
+/// Requires: the command is one that clap can find; no device has failed.
 fn answer_invocation<M: RunMemory + TraceMemory, I: Inputs, W: Sink, E: Sink>(
     memory: &mut M,
     terminals: Terminals,
