@@ -2,8 +2,8 @@
 ghost use Rattle.std.specs.Prelude.{◌≡◌};
 ghost use Rattle.cc_changes.specs.Changes.{asks_for_unit};
 
-use cc_bounds::{Align, granule};
-use cc_placer::Event;
+use cc_bounds::Align;
+use cc_placer::{Event, unit};
 
 /// Returns whether the alignment that an event asks for is at most the unit of its size.
 pub(crate) fn asks_for_unit(align: Align, event: Event) -> bool
@@ -14,7 +14,7 @@ pub(crate) fn asks_for_unit(align: Align, event: Event) -> bool
             size,
             align: requested,
             ..
-        } => requested <= granule(u128::from(size.max(1))).max(align.bytes()),
+        } => requested <= unit(align, u128::from(size.max(1))),
         _ => true,
     }
 }

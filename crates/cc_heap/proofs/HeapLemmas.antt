@@ -1,5 +1,6 @@
 -- What a heap keeps when an object is made, when one is freed and when a span is released.
-use Rattle.std.proofs.Common.{ℕ, false, max, ◌≡◌, ◌+◌, ◌-◌, ◌<◌, ◌≤◌, ◌^◌, nat_eq, List, [], ◌∷◌, ◌++◌, Option, Some, None, All, Contains, map, sum_by, length, arith, refl, subst, ◌∙◌, sym, ap, IsPermutation}
+use Rattle.std.proofs.Common.{ℕ, false, max, ◌≡◌, ◌+◌, ◌-◌, ◌<◌, ◌≤◌, ◌^◌, nat_eq, List, [], ◌∷◌, ◌++◌, Option, Some, None, IfSome, All, Contains, map, sum_by, length, arith, refl, subst, ◌∙◌, sym, ap, IsPermutation}
+use Rattle.std.specs.Int.{IsPowerOfTwo}
 use Rattle.std.specs.List.{IsDistinct}
 use Rattle.std.specs.Map.{keys_of, lookup, remove_entry, set_value}
 use Rattle.std.specs.Option.{MatchOption, IsNone, option_to_list}
@@ -12,15 +13,16 @@ use Rattle.cc_bounds.specs.declared.align.Align.{Align}
 use Rattle.cc_bounds.specs.declared.span.Span.{Span}
 use Rattle.cc_bounds.specs.Span.{IsSpan, length_of}
 use Rattle.cc_placer.specs.PlacerState.{IsPoolSpan}
-use Rattle.cc_placer.specs.Placement.{AddsSpan, IsApartFrom, RemovesSpan}
+use Rattle.cc_placer.specs.Align.{padded_size_for}
+use Rattle.cc_placer.specs.Placement.{AddsSpan, HasNoPlace, IsApartFrom, RemovesSpan}
 use Rattle.cc_heap.specs.declared.object.Object.{Object}
 use Rattle.cc_heap.specs.declared.settings.Settings.{Settings}
 use Rattle.cc_heap.specs.declared.totals.Totals.{Totals}
 use Rattle.cc_heap.specs.declared.usage.Usage.{Usage}
-use Rattle.cc_heap.specs.Memory.{IsExact, IsExactEntry, IsSound, Memory, ShareNoByte, held_spans, span_of, usage_of}
+use Rattle.cc_heap.specs.Memory.{IsExact, IsExactEntry, IsSound, Memory, ShareNoByte, held_spans, span_of, start_unit, usage_of}
 use Rattle.cc_heap.specs.Heap.{Heap}
-use Rattle.cc_heap.specs.HeapState.{HoldsSpans, IsHeap}
-use Rattle.cc_heap.proofs.PlaceLemmas.{IsFound}
+use Rattle.cc_heap.specs.HeapState.{HoldsSpans, IsHeap, IsRoomFor}
+use Rattle.cc_heap.proofs.PlaceLemmas.{IsFound, found, no_room}
 use Rattle.cc_heap.proofs.MemoryLemmas.{found_first, held_made, held_retired, held_swapped, held_swept, once_along, once_fewer, once_more, set_first}
 
 -- a memory and a heap of these parts
@@ -213,6 +215,26 @@ pub below_limit : (heap : Heap) (usage : Usage) (capacity placer_limit : ℕ) (p
     → length (held_spans heap.memory) < placer_limit
 below_limit heap usage capacity placer_limit placer_pool holds kept below =
     omega (arith, kept.limit_is, held_length heap.memory)
+
+-- the bytes of an object that its placer finds
+pub placed : {heap : Heap} {usage : Usage} {capacity placer_limit : ℕ} {placer_pool : Option Span} {holds : List Span → Type 0}
+    → IsHeap heap usage capacity placer_limit placer_pool holds → (requested size : ℕ) (result : Option Span) (span : Span)
+    → ((spans : List Span) → holds spans → IfSome placer_pool (λ pool. IsRoomFor heap.settings.align requested pool spans size result))
+    → result ≡ Some span → IsPowerOfTwo requested → 0 < size → size < 2 ^ 64
+    → IsFound heap.settings.align heap.settings.pool (held_spans heap.memory) requested size span
+placed {heap} {usage} {capacity} {placer_limit} {placer_pool} {holds} kept requested size result span finds is power some fits =
+    found placer_pool heap.settings.align heap.settings.pool (held_spans heap.memory) requested size result span kept.pool_is kept.is_pool is
+    (finds (held_spans heap.memory) (kept.held_is (held_spans heap.memory) (IsPermutation-refl (held_spans heap.memory)))) power some fits
+
+-- and none
+pub unplaced : {heap : Heap} {usage : Usage} {capacity placer_limit : ℕ} {placer_pool : Option Span} {holds : List Span → Type 0}
+    → IsHeap heap usage capacity placer_limit placer_pool holds → (requested size : ℕ) (result : Option Span)
+    → ((spans : List Span) → holds spans → IfSome placer_pool (λ pool. IsRoomFor heap.settings.align requested pool spans size result))
+    → result ≡ None
+    → HasNoPlace heap.settings.pool (held_spans heap.memory) (padded_size_for heap.settings.align size) (start_unit heap.settings.align requested size)
+unplaced {heap} {usage} {capacity} {placer_limit} {placer_pool} {holds} kept requested size result finds is =
+    no_room placer_pool heap.settings.align heap.settings.pool (held_spans heap.memory) requested size result kept.pool_is is
+    (finds (held_spans heap.memory) (kept.held_is (held_spans heap.memory) (IsPermutation-refl (held_spans heap.memory))))
 
 -- ---- what a memory is except for its ids
 

@@ -176,25 +176,3 @@ pub takes_parts : (align : Align) (requested size : ℕ) (span : Span) → can_t
 takes_parts align requested size span takes =
     let parts = both_true (nat_eq (length_of span) (padded_size_for align size)) (nat_eq (span.base % start_unit align requested size) 0) takes in
     (same_number (length_of span) (padded_size_for align size) parts.0, same_number (span.base % start_unit align requested size) 0 parts.1)
-
--- ---- the place that a placer finds
-
--- if it has none for the padded size, then it has none for the object
-pub no_place_for : (pool : Option Span) (spans : List Span) (align : Align) (requested size len at : ℕ)
-    → len ≡ padded_size_for align size → at ≡ start_unit align requested size
-    → IfSome pool (λ pool. HasNoPlace pool spans len at) → IfSome pool (λ pool. IsRoomFor align requested pool spans size None)
-no_place_for pool spans align requested size len at len_is at_is unplaced =
-    subst (λ (n : ℕ). IfSome pool (λ pool. HasNoPlace pool spans n (start_unit align requested size))) len_is
-    (subst (λ (n : ℕ). IfSome pool (λ pool. HasNoPlace pool spans len n)) at_is unplaced)
-
--- the place for the padded size is the object's
-pub place_for : (pool : Option Span) (spans : List Span) (align : Align) (requested size len at start top : ℕ)
-    → len ≡ padded_size_for align size → at ≡ start_unit align requested size → top ≡ start + len
-    → IfSome pool (λ pool. IsPlacement pool spans len at start)
-    → IfSome pool (λ pool. IsRoomFor align requested pool spans size (Some (record { base = start; top = top })))
-place_for (Some pool) spans align requested size len at start top len_is at_is top_is place = (
-  subst (λ (n : ℕ). IsPlacement pool spans n (start_unit align requested size) start) len_is
-      (subst (λ (n : ℕ). IsPlacement pool spans len n start) at_is place),
-  top_is ∙ ap (λ (n : ℕ). start + n) len_is,
-)
-place_for None spans align requested size len at start top len_is at_is top_is place = tt

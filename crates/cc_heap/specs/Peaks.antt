@@ -1,5 +1,5 @@
 -- The peaks of an event alone: those of a heap whose peaks were forgotten before it.
-use Rattle.std.specs.Prelude.{ℕ, ◌≡◌, ◌+◌, List}
+use Rattle.std.specs.Prelude.{◌≡◌, ◌+◌, List}
 use Rattle.cc_heap.specs.declared.totals.Totals.{Totals}
 use Rattle.cc_heap.specs.Heap.{Heap}
 use Rattle.cc_heap.specs.Run.{Moment, Passes, greatest, usage_in}

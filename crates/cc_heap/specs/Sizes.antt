@@ -1,5 +1,5 @@
 -- The numbers of the objects that were made, by the powers of two of their sizes.
-use Rattle.std.specs.Prelude.{ℕ, Bool, ◌≡◌, ◌+◌, ◌*◌, ◌^◌, ◌&&◌, nat_eq, nat_le, nat_lt, List, [], ◌∷◌, replicate, Option, Some, None, if◌then◌else◌, sum_by}
+use Rattle.std.specs.Prelude.{ℕ, Bool, ◌+◌, ◌*◌, ◌^◌, ◌&&◌, nat_eq, nat_le, nat_lt, List, [], ◌∷◌, replicate, Option, Some, None, if◌then◌else◌, sum_by}
 use Rattle.cc_bounds.specs.declared.align.Align.{Align}
 use Rattle.cc_bounds.specs.Span.{length_of}
 use Rattle.cc_placer.specs.Align.{padded_size_for}

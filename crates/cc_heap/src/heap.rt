@@ -153,6 +153,7 @@ impl<P: Placer> Heap<P> {
         // allocation.
         ensures sound { IsSound self.new.settings.align self.new.memory }
     {
+        // the use of a field tells the prover that the heap is sound, also where nothing changes
         let _ = &self.settings;
         match event {
             Event::Allocate { id, size, align } => self.allocate(id, align, size.max(1)),
@@ -179,6 +180,7 @@ impl<P: Placer> Heap<P> {
         // Of a run that a failed allocation stopped, this is all that is promised.
         ensures sound { IsSound self.new.settings.align self.new.memory }
     {
+        // the use of a field tells the prover that the heap is sound, also where nothing changes
         let _ = &self.settings;
         for i in 0..events.len() {
             self.event(events[i])?;
@@ -314,6 +316,7 @@ impl<P: Placer> Heap<P> {
         ensures settings { self.new.settings ≡ self.old.settings }
         ensures sound { IsSound self.new.settings.align self.new.memory }
     {
+        // the use of a field tells the prover that the heap is sound, also where nothing changes
         let _ = &self.settings;
         if from == to {
             return false;
@@ -458,34 +461,6 @@ impl<P: Placer> Heap<P> {
         self.replace(id, align, size)
     }
 
-    /// Makes an object under an id that is not live, at the lowest place of the pool.
-    ///
-    /// On `Err` nothing changes.
-    fn make(&mut self, id: u64, align: u64, size: u64) -> Result<Making, AllocError>
-        requires some { 0 < size }
-        requires aligned { IsPowerOfTwo align }
-        requires fresh { IsNone (object_under self.old id) }
-        ensures attempts { IfOk result (λ making. Attempts self.old id align size making self.new) }
-        ensures refused { OnErr result (self.new ≡ self.old) }
-        ensures others { (other : ℕ) → nat_eq id other ≡ false → object_under self.new other ≡ object_under self.old other }
-        ensures sound { IsSound self.new.settings.align self.new.memory }
-    {
-        if self.objects.len() + self.quarantine.len() >= self.settings.limit as usize {
-            return Ok(Making::Full);
-        }
-        self.quarantine.reserve(self.objects.len() + 1)?;
-        let Some(span) = place(&self.placer, self.settings.align, align, size) else {
-            return Ok(Making::NoRoom);
-        };
-        let object = Object { size, align, span };
-        self.objects.insert(id, object)?;
-        self.placer.hold(span);
-        self.usage = self.usage.with_made(object);
-        let end = span.top - u128::from(self.settings.pool.base);
-        self.totals = self.totals.with_made(object, end, self.usage);
-        Ok(Making::Made)
-    }
-
     /// Makes an object under a live id, and frees the one that was under it.
     ///
     /// On `Err` nothing changes.
@@ -498,7 +473,7 @@ impl<P: Placer> Heap<P> {
         ensures live { IsSome (object_under self.new id) }
         ensures sound { IsSound self.new.settings.align self.new.memory }
     {
-        let making = self.put_over(id, align, size)?;
+        let making = self.make(id, align, size)?;
         if !making.is_made() {
             return Ok(making);
         }
@@ -506,33 +481,37 @@ impl<P: Placer> Heap<P> {
         Ok(making)
     }
 
-    /// Makes an object under a live id, and moves the one that was under it to the quarantine.
+    /// Makes an object under an id, at the lowest place of the pool, and moves the object that was live under
+    /// the id, if one was, to the quarantine.
     ///
     /// On `Err` nothing changes.
-    fn put_over(&mut self, id: u64, align: u64, size: u64) -> Result<Making, AllocError>
+    fn make(&mut self, id: u64, align: u64, size: u64) -> Result<Making, AllocError>
         requires some { 0 < size }
         requires aligned { IsPowerOfTwo align }
-        requires live { IsSome (object_under self.old id) }
-        ensures attempts { IfOk result (λ making. PutsOver self.old id align size making self.new) }
+        ensures attempts { IsNone (object_under self.old id) → IfOk result (λ making. Attempts self.old id align size making self.new) }
+        ensures replaces { IsSome (object_under self.old id) → IfOk result (λ making. PutsOver self.old id align size making self.new) }
         ensures refused { OnErr result (self.new ≡ self.old) }
-        ensures live { IsSome (object_under self.new id) }
+        ensures live { IsSome (object_under self.old id) → IsSome (object_under self.new id) }
+        ensures others { (other : ℕ) → nat_eq id other ≡ false → object_under self.new other ≡ object_under self.old other }
         ensures sound { IsSound self.new.settings.align self.new.memory }
     {
         if self.objects.len() + self.quarantine.len() >= self.settings.limit as usize {
             return Ok(Making::Full);
         }
         self.quarantine.reserve(self.objects.len() + 1)?;
-        let Some(span) = place(&self.placer, self.settings.align, align, size) else {
+        let Some((span, hint)) = place(&self.placer, self.settings.align, align, size) else {
             return Ok(Making::NoRoom);
         };
         let object = Object { size, align, span };
-        let Some(before) = self.objects.insert(id, object)? else {
-            unreachable!()
-        };
-        self.placer.hold(span);
+        let before = self.objects.insert(id, object)?;
+        self.placer.hold_at(span, hint);
         let usage = self.usage.with_made(object);
         let end = span.top - u128::from(self.settings.pool.base);
         self.totals = self.totals.with_made(object, end, usage);
+        let Some(before) = before else {
+            self.usage = usage;
+            return Ok(Making::Made);
+        };
         self.quarantine.push_reserved(before.span);
         self.usage = usage.with_quarantined(before);
         Ok(Making::Made)
@@ -601,6 +580,7 @@ impl<P: Placer> Heap<P> {
         ensures objects { (id : ℕ) → object_under self.new id ≡ object_under self.old id }
         ensures sound { IsSound self.new.settings.align self.new.memory }
     {
+        // the use of a field tells the prover that the heap is sound, also where nothing changes
         let _ = &self.settings;
         if self.must_sweep() {
             self.sweep();

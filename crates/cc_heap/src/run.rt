@@ -9,13 +9,12 @@ ghost use Rattle.cc_heap.specs.Sizes.{no_sizes, with_made_size};
 use crate::heap::Heap;
 use crate::making::Making;
 use crate::outcome::Outcome;
-use crate::placing::padded_size;
 use crate::settings::Settings;
 use crate::sizes::{NO_OBJECTS, SizeTotals, count_size, made_size};
 use crate::totals::Totals;
 use crate::usage::Usage;
 use cc_bounds::Align;
-use cc_placer::{Event, Placer};
+use cc_placer::{Event, Placer, padded_size};
 use std::alloc::{AllocError, Global};
 use std::collections::HashSet;
 use std::marker::Model;
@@ -145,7 +144,7 @@ fn count_made(sizes: &mut [SizeTotals; 64], align: Align, size: Option<u64>)
     ensures { sizes.new ≡ with_made_size align size sizes.old }
 {
     if let Some(size) = size {
-        count_size(sizes, size, padded_size(align, size));
+        count_size(sizes, size, padded_size(align, u128::from(size)));
     }
 }
 

@@ -10,4 +10,4 @@ mod rounding;
 pub use event::Event;
 pub use hint::Hint;
 pub use placer::Placer;
-pub use rounding::round_up;
+pub use rounding::{padded_size, round_up, unit};

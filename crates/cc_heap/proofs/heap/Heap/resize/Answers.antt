@@ -1,4 +1,4 @@
-use Rattle.std.proofs.Common.{◌≡◌, ◌∙◌, ◌∷◌, Some, arith, refl, ap, nat_eq, true, IsPermutation}
+use Rattle.std.proofs.Common.{◌≡◌, ◌∙◌, Some, arith, refl, ap, nat_eq, true}
 use Rattle.std.specs.Map.{lookup}
 use Rattle.cc_heap.specs.Heap.{Heap, object_under, resized}
 use Rattle.cc_heap.specs.Reallocation.{can_take}

@@ -1,5 +1,4 @@
-use Rattle.std.proofs.Common.{◌≡◌, ◌∙◌, List, ap, false, rules}
-use Rattle.cc_heap.specs.declared.sizes.SizeTotals.{SizeTotals}
+use Rattle.std.proofs.Common.{◌≡◌, ◌∙◌, ap, false, rules}
 use Rattle.cc_heap.specs.Lost.{RunState, is_lost, noted}
 use Rattle.cc_heap.specs.Sizes.{with_made_size}
 use Rattle.cc_heap.proofs.run.Run.event.Goals as goal
