@@ -29,7 +29,7 @@ pub record SharesByte (one other : Span) : Type 0 where
   pub in_one : HasByte one byte
   pub in_other : HasByte other byte
 
--- The span of `size` bytes from `base` on.
+-- The span of `size` bytes from `base`.
 abbrev pub span_from : (base size : ℕ) → Span
 span_from base size = record { base = base; top = base + size }
 

@@ -69,12 +69,12 @@ pub record CanBePlanned (align : Align) (object : Object) : Type 0 where
   pub some : 0 < object.size
   pub aligned : object.align ≤ unit_of align object.size
 
--- AsksForUnit holds if the alignment that an event asks for is at most the unit of its size.
+-- AsksForUnit holds if the alignment that an event requests is at most the unit of its size.
 abbrev pub AsksForUnit : Align → Event → Type 0
 AsksForUnit align (Allocate id size requested) = requested ≤ unit_of align (size_of size)
 AsksForUnit align _ = Unit {0}
 
--- Whether the alignment that an event asks for is at most the unit of its size.
+-- Whether the alignment that an event requests is at most the unit of its size.
 abbrev pub asks_for_unit : Align → Event → Bool
 asks_for_unit align (Allocate id size requested) = nat_le requested (unit_of align (size_of size))
 asks_for_unit align _ = true

@@ -20,7 +20,7 @@ use Rattle.cc_changes.specs.declared.deeds.Entry.{Entry}
 use Rattle.cc_changes.specs.Changes.{CanBePlanned, Change, Changes, objects_made}
 use Rattle.cc_changes.specs.Operations.{Numbers, freeing, numbers_after, operations_of, with_number}
 
--- The id and the size of the object that an event asks for, or none.
+-- The id and the size of the object that an event requests, or none.
 abbrev pub asked_entry : Event → Option Entry
 asked_entry (Allocate id size align) = Some (record { id = id; size = size_of size })
 asked_entry (Clear id size) = Some (record { id = id; size = size_of size })

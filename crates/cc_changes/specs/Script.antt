@@ -41,7 +41,7 @@ script_begun settings reading = record {
 abbrev pub most_objects : ℕ
 most_objects = 65533
 
--- Whether a script can have the changes of an event: an alignment that it asks for is at most the unit of its size, the
+-- Whether a script can have the changes of an event: an alignment that it requests is at most the unit of its size, the
 -- machine can make its object, and sweeps are still counted.
 abbrev pub can_have : ScriptState → Event → Bool
 can_have state event =

@@ -41,7 +41,7 @@ pub(crate) fn as_number(flag: bool) -> u64
     if flag { 1 } else { 0 }
 }
 
-/// Returns the id and the size of the object that an event asks for, or `None` if it asks for none.
+/// Returns the id and the size of the object that an event requests, or `None` if it requests none.
 pub(crate) fn asked_entry(event: Event) -> Option<Entry>
     ensures { result ≡ asked_entry event }
 {

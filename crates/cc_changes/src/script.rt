@@ -250,7 +250,7 @@ impl<P: Placer, const N: usize> Answerer<N> for Script<P> {
 /// Takes the lines of the trace that the source gives, and writes the script to the sink.
 ///
 /// The script has the operations of all changes of the heap, a line each. It ends before the first event
-/// that no script can have: one that asks for a larger alignment than the unit of its object, or for one
+/// that no script can have: one that requests a larger alignment than the unit of its object, or one
 /// object more than 65,533, or that comes after 2^64 - 4 sweeps. That line is refused.
 ///
 /// If an allocation fails, [`Script::progress`] says so, and no further line is taken. The source is read

@@ -56,7 +56,7 @@ byte_label power units step =
     ++ with_decimal (codes "<text x='-100' dy='42' text-anchor='end' y='") units
     ++ with_decimal (codes "'>") (step * 2 ^ (power % 10)) ++ byte_unit (power / 10)
 
--- The labels of the vertical axis from 0 up to a number of steps.
+-- The labels of the vertical axis from 0 to a number of steps.
 abbrev pub byte_labels : Scale → (power steps : ℕ) → List ℕ
 byte_labels scale power zero = byte_label power (down_to scale 0) 0
 byte_labels scale power (suc steps) =
@@ -81,7 +81,7 @@ event_label scale step event =
     ++ with_decimal (codes "<text y='3400' text-anchor='middle' x='") (right_to scale event)
     ++ with_decimal (codes "'>") (event / event_unit step) ++ event_letter step
 
--- The labels of the horizontal axis from 0 up to a number of steps.
+-- The labels of the horizontal axis from 0 to a number of steps.
 abbrev pub event_labels : Scale → (step steps : ℕ) → List ℕ
 event_labels scale step zero = event_label scale step 0
 event_labels scale step (suc steps) = event_labels scale step steps ++ event_label scale step (suc steps * step)

@@ -55,13 +55,13 @@ impl Answerer<ROOM> for Rounder {
 ///
 /// LENGTH is the number of bytes that bounds of this length take. Their base must be a multiple of
 /// GRANULE. MASK rounds an address down to such a multiple. BASE and TOP are the bounds that a request of
-/// this length from `base` on is granted. For any other line, the output is the first of these refusals
-/// that applies:
+/// this length from `base` is granted. For any other line, the output is the first of these refusals that
+/// applies:
 ///
 /// - `error 3 long`: the line has more than 128 bytes
 /// - `error 1 syntax`: the line is not a number
 /// - `error 4 range`: the number is above 2^64
-/// - `error 9 bounds`: the request from `base` on ends past 2^64
+/// - `error 9 bounds`: the request from `base` ends past 2^64
 ///
 /// For bytes after the last line feed, unless there are none, the output is `error 2 unfinished`.
 /// The source is read in chunks of up to 16 KiB. Before each read, the output for all earlier lines

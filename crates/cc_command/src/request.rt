@@ -21,7 +21,7 @@ pub fn read_request(base: &str, length: &str) -> Result<Span, Refusal>
     }
 }
 
-/// Returns the request for `length` bytes from `base` on.
+/// Returns the request for `length` bytes from `base`.
 ///
 /// Errors: `OutOfBounds` if it ends past 2^64.
 pub(crate) fn request_from(base: u64, length: u128) -> Result<Span, Refusal>

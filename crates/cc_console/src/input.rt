@@ -39,10 +39,10 @@ pub trait Inputs {
     // The bytes of an input, if they are known.
     ghost bytes_of: { Self → InputNameSpec → Option (List ℕ) };
 
-    // Whether the last input that was asked for is this one, with this content.
+    // Whether the last input that was requested is this one, with this content.
     ghost last_asked: { Self → InputNameSpec → ContentSpec → Bool };
 
-    // The last input that was asked for was not opened.
+    // The last input that was requested was not opened.
     ghost has_refused: { Self → Bool };
 
     /// Has a source read an input from its start. A failure of the source before that is forgotten.

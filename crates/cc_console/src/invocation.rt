@@ -1,4 +1,4 @@
-//! The command that a command line asks for.
+//! The command that a command line requests.
 use crate::question::Question;
 use cc_bounds::Align;
 use cc_io::{Format, InputForm};

@@ -85,7 +85,7 @@ pub fn decode_words_after<R: Source, W: Sink>(
     decode_words(options, source, sink)
 }
 
-/// Returns the decoder of all words without addresses, if that is what the options ask for.
+/// Returns the decoder of all words without addresses, if that is what the options request.
 fn plain_decoder(options: Options) -> Option<PlainDecoder>
     ensures { IfSome result (λ decoder. plain_options decoder ≡ options) }
 {

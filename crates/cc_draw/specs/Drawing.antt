@@ -35,8 +35,8 @@ layout_for pool = record {
 abbrev pub row_count : Layout → ℕ
 row_count layout = div_ceil layout.cells 1024
 
--- AreCellsOf holds if the cells from `first` up to, and without, `end` are exactly those that hold
--- a byte of the span. Cells of this size follow one another from `start` on.
+-- AreCellsOf holds if the cells from `first` to before `end` are exactly those that hold a byte of
+-- the span. Cells of this size follow one another from `start`.
 pub record AreCellsOf (start size : ℕ) (span : Span) (first end : ℕ) : Type 0 where
   pub hold : (index : ℕ) → first ≤ index → index < end → SharesByte (cell_of start size index) span
   pub from_first : (index : ℕ) → SharesByte (cell_of start size index) span → first ≤ index
@@ -52,8 +52,8 @@ end_cell start size span = div_ceil (span.top - start) size
 
 -- ---- the rectangles of objects
 
--- The rectangle over a row's cells from `from` up to, and without, `to`. Its title is the object's
--- number and bounds.
+-- The rectangle over a row's cells from `from` to before `to`. Its title is the object's number and
+-- bounds.
 unfoldable pub rectangle_text : (width row from to number : ℕ) → Span → List ℕ
 rectangle_text width row from to number span =
     with_line_feed
@@ -74,8 +74,8 @@ parts_text width first end number span zero row = []
 parts_text width first end number span (suc rows) row =
     part_text width row first end number span ++ parts_text width first end number span rows (row + 1)
 
--- The rectangles of an object over its cells, from `first_cell` up to, and without, `end_cell`: one
--- in each row that has such cells.
+-- The rectangles of an object over its cells, from `first_cell` to before `end_cell`: one in each
+-- row that has such cells.
 abbrev pub object_text : Layout → (number : ℕ) → Span → List ℕ
 object_text layout number span =
     parts_text layout.width (first_cell layout.start layout.size span) (end_cell layout.start layout.size span) number span (row_count layout) 0

@@ -34,7 +34,7 @@ pub record TellsCell (objects : List PlannedObject) (cell : Span) (mark : ℕ) :
   pub free : (¬ HoldsByte objects Live cell) → (¬ HoldsByte objects Freed cell) → mark ≡ 46
 
 -- IsMapRow holds if the row has the marks of 64 cells of this size, which follow one another from
--- `start` on.
+-- `start`.
 pub record IsMapRow (objects : List PlannedObject) (start size : ℕ) (row : List ℕ) : Type 0 where
   pub tells : (index : ℕ) → index < 64 → TellsCell objects (cell_of start size index) (slice_index row index)
 
@@ -43,7 +43,7 @@ abbrev pub map_row_text : (start : ℕ) (cells : List ℕ) → List ℕ
 map_row_text start cells = with_line_feed (hexadecimal start ++ codes " " ++ cells)
 
 -- AreMapRows holds if `text` is `rows` rows of cells of this size, which follow one another from
--- `start` on. A row has 64 cells, and the last one those that are left.
+-- `start`. A row has 64 cells, and the last one those that are left.
 abbrev pub AreMapRows : (objects : List PlannedObject) (size rows start cells : ℕ) (text : List ℕ) → Type 0
 AreMapRows objects size zero start cells text = text ≡ []
 AreMapRows objects size (suc rows) start cells text =

@@ -39,7 +39,7 @@ highest_top objects = greatest (map (λ object. object.span.top) objects)
 abbrev pub hole : ℕ → List ℕ
 hole bytes = filter (λ number. nat_lt 0 number) (bytes ∷ [])
 
--- The lengths of the holes that spans leave from `from` up to `to`: before the first span, between
+-- The lengths of the holes that spans leave from `from` to `to`: before the first span, between
 -- each and the next, and after the last. The spans are in the order of their addresses.
 abbrev pub holes : (from to : ℕ) → List Span → List ℕ
 holes from to [] = hole (to - from)

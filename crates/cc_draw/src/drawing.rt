@@ -402,7 +402,7 @@ fn write_object<W: Sink>(
     Ok(())
 }
 
-/// Writes the rectangle over the cells of one row from `from` up to, and without, `to`.
+/// Writes the rectangle over the cells of one row from `from` to before `to`.
 fn write_rectangle<W: Sink>(
     width: u32,
     row: u32,

@@ -89,8 +89,8 @@ fn cell_width(cells: u32) -> u32
 }
 
 /// Returns the numbers of the first cell that holds a byte of a span, and of the cell after the
-/// last one that does. Cells of `size` bytes follow one another from `start` on, and are numbered
-/// from 0.
+/// last one that does. Cells of `size` bytes follow one another from `start`, and are numbered from
+/// 0.
 ///
 /// For a span with bytes, none of them below `start`, exactly these cells hold a byte of it: from
 /// the first number up to, and without, the second. A base or a top below `start` is treated as

@@ -89,7 +89,7 @@ fn cell_count(bytes: u128, size: u128) -> usize
     bytes.div_ceil(size) as usize
 }
 
-/// Appends the rows of these cells, which follow one another from `start` on.
+/// Appends the rows of these cells, which follow one another from `start`.
 fn push_rows(text: &mut Text, objects: &[PlannedObject], start: u128, size: u128, cells: usize)
     requires start { start ≤ 2 ^ 64 }
     requires size { size ≤ 2 ^ 54 }

@@ -8,8 +8,8 @@ use Rattle.cc_bounds.specs.Span.{SharesByte, span_from}
 abbrev pub blank : ℕ
 blank = 46
 
--- The bytes of the cell with this index, from 0. Cells of this size follow one another from `start`
--- on.
+-- The bytes of the cell with this index, from 0. Cells of this size follow one another from
+-- `start`.
 abbrev pub cell_of : (start size index : ℕ) → Span
 cell_of start size index = span_from (start + index * size) size
 

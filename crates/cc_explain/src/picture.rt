@@ -11,7 +11,7 @@ use cc_word::Fields;
 /// The number of cells in a row: eight for each section of the window.
 pub const CELLS: usize = 64;
 
-/// Consecutive bytes, at any position: from `first` up to, and without, `end`.
+/// Consecutive bytes, at any position: from `first` to before `end`.
 #[derive(Clone, Copy)]
 pub struct Stretch {
     /// The first byte.

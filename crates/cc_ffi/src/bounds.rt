@@ -59,7 +59,7 @@ fn granted(set: &Set) -> GrantedBounds
     }
 }
 
-/// Returns the bounds that a request for `length` bytes from `base` on is granted.
+/// Returns the bounds that a request for `length` bytes from `base` is granted.
 ///
 /// If the request ends above 2^64, `in_range` is false and every other field is zero.
 #[unsafe(no_mangle)]

@@ -42,7 +42,7 @@ pub extern "C" fn cheri_cap_word_granule(high: u64, low: u64) -> u64
     }
 }
 
-/// Returns the numbers of bytes before and after a request that it is granted and did not ask for.
+/// Returns the numbers of granted bytes before and after a request.
 ///
 /// If the request ends above 2^64, `in_range` is false and the numbers are 0.
 #[unsafe(no_mangle)]

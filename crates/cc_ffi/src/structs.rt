@@ -38,7 +38,7 @@ pub struct WordFields {
 pub struct Bounds {
     /// The first byte's address.
     pub base: u64,
-    /// The top's bits from 64 up: 0 or 1.
+    /// The top's bits above bit 63: 0 or 1.
     pub top_high: u64,
     /// The top's lower 64 bits.
     pub top_low: u64,
@@ -52,7 +52,7 @@ pub struct Bounds {
 pub struct GrantedBounds {
     /// The granted base.
     pub base: u64,
-    /// The granted top's bits from 64 up: 0 or 1.
+    /// The granted top's bits above bit 63: 0 or 1.
     pub top_high: u64,
     /// The granted top's lower 64 bits.
     pub top_low: u64,
@@ -95,7 +95,7 @@ pub struct MadeWord {
     pub refusal: u8,
 }
 
-/// The window of a word: the addresses from `first` up to `last`, through 2^64 - 1 to 0 if `last` is
+/// The window of a word: the addresses from `first` to `last`, through 2^64 - 1 to 0 if `last` is
 /// below `first`.
 #[derive(Clone, Copy)]
 #[repr(C)]
@@ -106,7 +106,7 @@ pub struct Window {
     pub last: u64,
 }
 
-/// The bytes that a request is granted and did not ask for.
+/// The granted bytes before and after a request.
 #[derive(Clone, Copy)]
 #[repr(C)]
 pub struct Excess {

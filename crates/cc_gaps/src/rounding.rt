@@ -14,8 +14,7 @@ fn remainder(n: u64, align: u64) -> u64
     }
 }
 
-/// Returns the number of bytes from `n` up to the smallest multiple of `align` that is at least
-/// `n`.
+/// Returns the number of bytes from `n` to the smallest multiple of `align` that is at least `n`.
 pub(crate) fn padding(n: u64, align: u64) -> u64
     requires { 0 < align }
     ensures multiple { (n + result) % align ≡ 0 }

@@ -158,7 +158,7 @@ pub record FreesOrNot (old : Heap) (id : ℕ) (outcome : Outcome) (new : Heap) :
   pub frees : FreesIfLive old id is_live new
   pub is_told : outcome ≡ outcome_of false (if is_live then false else true) None
 
--- The heap after an event that asks for a sweep: swept if the policy is the trace's.
+-- The heap after an event that requests a sweep: swept if the policy is the trace's.
 abbrev pub swept_if_asked : Heap → Heap
 swept_if_asked heap = if is_of_the_trace heap.settings.policy then swept heap else heap
 

@@ -157,8 +157,8 @@ gauge_of heap = record {
   waiting = length heap.memory.quarantined;
 }
 
--- MustSweep holds if the policy of a heap sweeps: it asks for it, and as many bytes are quarantined as
--- have to be.
+-- MustSweep holds if the policy of a heap sweeps: it requests a sweep, and as many bytes are
+-- quarantined as have to be.
 pub record MustSweep (heap : Heap) : Type 0 where
   pub enough : heap.settings.least_quarantine ≤ (usage_of heap.memory).quarantine
   pub asks : AsksForSweep heap.settings.policy (gauge_of heap)

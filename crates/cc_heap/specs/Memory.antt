@@ -13,7 +13,7 @@ use Rattle.cc_heap.specs.declared.usage.Usage.{Usage}
 -- ---- An object and its span.
 
 -- The number of bytes of which an object's start is a multiple: the larger of the unit of its size
--- and the alignment that its event asks for. So a larger alignment moves an object, and does not pad
+-- and the alignment that its event requests. So a larger alignment moves an object, and does not pad
 -- it.
 abbrev pub start_unit : Align → (requested size : ℕ) → ℕ
 start_unit align requested size = max (unit_of align size) requested

@@ -10,7 +10,7 @@ abbrev pub is_immediate : Policy → Bool
 is_immediate Immediate = true
 is_immediate _ = false
 
--- Whether a sweep is done when the trace asks for one.
+-- Whether a sweep is done when the trace requests one.
 abbrev pub is_of_the_trace : Policy → Bool
 is_of_the_trace Trace = true
 is_of_the_trace _ = false
@@ -29,7 +29,7 @@ share_of Held gauge = gauge.live + gauge.quarantine
 share_of Live gauge = gauge.live
 share_of High gauge = gauge.high
 
--- AsksForSweep holds if the policy asks for a sweep.
+-- AsksForSweep holds if the policy requests a sweep.
 abbrev pub AsksForSweep : Policy → Gauge → Type 0
 AsksForSweep Immediate gauge = ⊥
 AsksForSweep Never gauge = ⊥

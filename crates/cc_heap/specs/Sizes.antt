@@ -40,7 +40,7 @@ no_objects = record { made = 0; inexact = 0; asked = 0; padded = 0 }
 abbrev pub no_sizes : List SizeTotals
 no_sizes = replicate 64 no_objects
 
--- The size of the object that an event asks for, or none.
+-- The size of the object that an event requests, or none.
 abbrev pub asked_size : Event → Option ℕ
 asked_size (Allocate id size align) = Some (size_of size)
 asked_size (Clear id size) = Some (size_of size)

@@ -141,7 +141,7 @@ impl<P: Placer> Heap<P> {
 
     /// Takes one event.
     ///
-    /// Requires: an alignment that the event asks for is a power of two.
+    /// Requires: an alignment that the event requests is a power of two.
     /// Errors: `AllocError` if an allocation fails, which it does only in an event that makes an object or
     /// gives one another id. The heap stays sound then, and makes no object. It may have freed the object
     /// under that id, and swept the quarantine.
@@ -153,7 +153,7 @@ impl<P: Placer> Heap<P> {
         // allocation.
         ensures sound { IsSound self.new.settings.align self.new.memory }
     {
-        // the use of a field tells the prover that the heap is sound, also where nothing changes
+        // the use of a field shows the prover that the heap is sound, also if nothing changes
         let _ = &self.settings;
         match event {
             Event::Allocate { id, size, align } => self.allocate(id, align, size.max(1)),
@@ -172,7 +172,7 @@ impl<P: Placer> Heap<P> {
 
     /// Takes events in order, up to the first for which an allocation fails.
     ///
-    /// Requires: each alignment that an event asks for is a power of two.
+    /// Requires: each alignment that an event requests is a power of two.
     /// Errors: `AllocError` if an allocation fails. The events before that one have been taken.
     pub fn run(&mut self, events: &[Event]) -> Result<(), AllocError>
         requires aligned { All HasAlignment events.now }
@@ -180,7 +180,7 @@ impl<P: Placer> Heap<P> {
         // Of a run that a failed allocation stopped, this is all that is promised.
         ensures sound { IsSound self.new.settings.align self.new.memory }
     {
-        // the use of a field tells the prover that the heap is sound, also where nothing changes
+        // the use of a field shows the prover that the heap is sound, also if nothing changes
         let _ = &self.settings;
         for i in 0..events.len() {
             self.event(events[i])?;
@@ -316,7 +316,7 @@ impl<P: Placer> Heap<P> {
         ensures settings { self.new.settings ≡ self.old.settings }
         ensures sound { IsSound self.new.settings.align self.new.memory }
     {
-        // the use of a field tells the prover that the heap is sound, also where nothing changes
+        // the use of a field shows the prover that the heap is sound, also if nothing changes
         let _ = &self.settings;
         if from == to {
             return false;
@@ -580,7 +580,7 @@ impl<P: Placer> Heap<P> {
         ensures objects { (id : ℕ) → object_under self.new id ≡ object_under self.old id }
         ensures sound { IsSound self.new.settings.align self.new.memory }
     {
-        // the use of a field tells the prover that the heap is sound, also where nothing changes
+        // the use of a field shows the prover that the heap is sound, also if nothing changes
         let _ = &self.settings;
         if self.must_sweep() {
             self.sweep();

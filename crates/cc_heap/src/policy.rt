@@ -36,7 +36,7 @@ pub enum Policy {
     Bytes(u64),
     /// Sweeps when at least this number of objects is quarantined.
     Frees(u64),
-    /// Sweeps when the trace asks for it.
+    /// Sweeps when the trace requests it.
     Trace,
 }
 
@@ -48,14 +48,14 @@ impl Policy {
         matches!(self, Policy::Immediate)
     }
 
-    /// Returns whether a sweep is done when the trace asks for one.
+    /// Returns whether a sweep is done when the trace requests one.
     pub fn is_of_the_trace(self) -> bool
         ensures { result ≡ is_of_the_trace self }
     {
         matches!(self, Policy::Trace)
     }
 
-    /// Returns whether the policy asks for a sweep of a heap of this usage, with this number of bytes up to the
+    /// Returns whether the policy requests a sweep of a heap of this usage, with this number of bytes up to the
     /// highest end of an object, and this number of quarantined objects.
     pub(crate) fn asks_for_sweep(self, usage: Usage, high: u128, waiting: usize) -> bool
         requires usage_fits { usage.live + usage.quarantine ≤ 2 ^ 90 }

@@ -51,7 +51,7 @@ impl<P: Placer> Run<P> {
 
     /// Takes one event, and also returns whether an id that it frees is lost.
     ///
-    /// Requires: an alignment that the event asks for is a power of two.
+    /// Requires: an alignment that the event requests is a power of two.
     /// Errors: `AllocError` if an allocation fails.
     pub fn event(&mut self, event: Event) -> Result<Outcome, AllocError>
         requires aligned { HasAlignment event }

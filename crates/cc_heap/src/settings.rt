@@ -10,7 +10,7 @@ pub struct Settings {
     pub limit: u32,
     /// The bytes in which objects are placed.
     pub pool: Span,
-    /// The alignment of each object, if its event does not ask for a larger one.
+    /// The alignment of each object, if its event does not request a larger one.
     pub align: Align,
     /// When the quarantine is swept.
     pub policy: Policy,

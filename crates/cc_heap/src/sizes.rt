@@ -62,7 +62,7 @@ pub(crate) fn made_size(event: Event, making: Option<Making>) -> Option<u64>
     }
 }
 
-/// Returns the size of the object that an event asks for, or `None` if it asks for none.
+/// Returns the size of the object that an event requests, or `None` if it requests none.
 fn asked_size(event: Event) -> Option<u64>
     ensures value { result ≡ asked_size event }
     ensures some { IfSome result (λ size. 0 < size) }

@@ -41,9 +41,9 @@ pub record CountsFreeBytes (pool : Span) (held : List Span) (usage : Usage) : Ty
   pub largest : usage.largest ≡ greatest (map length_of gaps)
   pub adds_up : usage.held + sum_by length_of gaps ≡ usage.pool
 
--- IsDrawnExactly holds if the cells of the layout from `first_cell` up to, and without, `end_cell`
--- are exactly those that hold a byte of the span. There is at least one, and all of them are cells
--- of the layout.
+-- IsDrawnExactly holds if the cells of the layout from `first_cell` to before `end_cell` are
+-- exactly those that hold a byte of the span. There is at least one, and all of them are cells of
+-- the layout.
 pub record IsDrawnExactly (layout : Layout) (span : Span) : Type 0 where
   pub exactly :
       AreCellsOf layout.start layout.size span (first_cell layout.start layout.size span) (end_cell layout.start layout.size span)

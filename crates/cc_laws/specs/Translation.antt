@@ -62,9 +62,8 @@ pub record IsTranslated (settings : Settings) (events : List Event) (heap : Heap
 
 -- HasScript holds if the output is the script of the first of the events, which lead from a heap that held nothing to
 -- this one. Each of them has changes that lead from the heap before it to the heap after it, and the output is the
--- lines of the operations of all these changes, in order, with the numbers of objects from 1 on. If lines are still
--- taken, no event is left. A machine can make each object of the changes, of which there are no more than it has slots
--- for.
+-- lines of the operations of all these changes, in order, with objects numbered from 1. If lines are still taken, no
+-- event is left. A machine can make each object of the changes, of which there are no more than it has slots for.
 pub record HasScript (settings : Settings) (events : List Event) (progress : Progress) (output : List ℕ) (heap : Heap) : Type 0 where
   pub taken : List Event
   pub left : List Event

@@ -7,7 +7,7 @@ abbrev pub text_of : List (List ℕ) → List ℕ
 text_of [] = []
 text_of (line ∷ lines) = with_line_feed line ++ text_of lines
 
--- The script, whose pool is 64 KiB from 0x10000 on.
+-- The script, whose pool is 64 KiB from 0x10000.
 abbrev pub readme_script : List ℕ
 readme_script = text_of (codes "alloc 100" ∷ codes "alloc 8191" ∷ codes "free 1" ∷ codes "sweep" ∷ codes "show 3" ∷ [])
 

@@ -9,7 +9,7 @@ use Rattle.cc_heap.specs.declared.reallocation.Reallocation.TheVariants.{Move}
 use Rattle.cc_heap.specs.declared.settings.Settings.{Settings}
 use Rattle.cc_laws.specs.WorkedScript.{text_of}
 
--- A pool of 64 KiB from 0x10000 on, which is swept when the trace asks for it.
+-- A pool of 64 KiB from 0x10000, which is swept when the trace requests it.
 abbrev pub worked_settings : Settings
 worked_settings = record {
   limit = 4096;

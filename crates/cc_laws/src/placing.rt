@@ -51,7 +51,7 @@ pub fn machines_place_like_heaps()
 /// It holds for every run of events from a heap that held nothing, whatever its policy, and whatever ids
 /// are unknown or live. An object that has no place is not made by the heap, and has no operation.
 /// Reallocations move objects, since no operation of a machine changes the size of an object in its
-/// place. No event may ask for a larger alignment than the unit of its size, and the objects that are
+/// place. No event may request a larger alignment than the unit of its size, and the objects that are
 /// made must have slots. [`machines_place_like_heaps`] says it of the changes alone, and by
 /// [`every_run_has_an_outcome`](crate::machine::every_run_has_an_outcome) the machine has such a run. No
 /// setup operation is refused. The machine has at most 65,536 slots, and at least three more than objects

@@ -39,7 +39,7 @@ pub enum Event {
         /// The id of the object.
         id: u64,
     },
-    /// The trace asks for a sweep.
+    /// The trace requests a sweep.
     Sweep,
     /// The trace gives the time.
     Clock(u64),

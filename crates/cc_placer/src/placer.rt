@@ -52,8 +52,8 @@ pub trait Placer: Drop {
     /// Returns the lowest place for `len` bytes at a multiple of `align`, or `None` if there is
     /// none.
     ///
-    /// A place is a start from which on the bytes lie in the pool and share no byte with a held
-    /// span. `align` need not be a power of two, and `len` may exceed the length of the pool.
+    /// A place is a start: the bytes from it lie in the pool and share no byte with a held span.
+    /// `align` need not be a power of two, and `len` may exceed the length of the pool.
     ///
     /// Requires: a pool is set; `len > 0`; `align > 0`.
     fn room(&self, len: u128, align: u64) -> Option<u64>

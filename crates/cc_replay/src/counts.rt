@@ -30,9 +30,9 @@ pub struct Counts {
     pub reallocs: u64,
     /// The number of events that free an object.
     pub frees: u64,
-    /// The number of events that ask for an alignment above 1.
+    /// The number of events that request an alignment above 1.
     pub aligned: u64,
-    /// The number of events that ask for 0 bytes.
+    /// The number of events that request 0 bytes.
     pub zero: u64,
     /// The number of lines that report that the program could not make an object.
     pub failed: u64,

@@ -40,8 +40,8 @@ pub fn run_script<R: Source, W: Sink>(
     run_script_after(&[], machine, source, sink)
 }
 
-/// Makes the pool of `length` bytes from `base` on, with this alignment, and runs the script that
-/// the source gives.
+/// Makes the pool of `length` bytes from `base`, with this alignment, and runs the script that the
+/// source gives.
 ///
 /// The machine takes the operations of [`plan_opening`](cc_syntax::plan_opening) first. Their replies are written, including
 /// refusals, and then the script is run whatever they are. Each reply is written before the next

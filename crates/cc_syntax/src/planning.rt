@@ -17,7 +17,7 @@ pub fn plan_numbers(base: &[u8], length: &[u8]) -> Result<(u64, Len), Refusal>
     both(read_address(base), read_length(length))
 }
 
-/// Returns the operations that make a pool of `length` bytes from `base` on, with this alignment.
+/// Returns the operations that make a pool of `length` bytes from `base`, with this alignment.
 ///
 /// They are the operations of `addr 0 BASE`, `exact 1 LENGTH` and `pool 2` (`pool 2 16` if the
 /// alignment is 16), which number the slots as in a new machine.

@@ -1,4 +1,4 @@
--- The listing that the arguments of `decode` ask for.
+-- The listing that the arguments of `decode` request.
 use Rattle.std.specs.Prelude.{ℕ, Option, Some, None, Result, Ok}
 use Rattle.std.specs.Borrow.{Bor}
 use Rattle.clap.specs.Words.{Text}

@@ -1,4 +1,4 @@
-//! The listing that the arguments of `decode` ask for.
+//! The listing that the arguments of `decode` request.
 ghost use Rattle.std.specs.Prelude.{◌≡◌};
 ghost use Rattle.cc_tasks.specs.Listing.{listing_in, named_in, place_in, search_in, skipped_in};
 

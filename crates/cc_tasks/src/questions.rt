@@ -15,7 +15,7 @@ use cc_command::{
 use cc_console::{Fault, Question};
 use cc_io::{IoError, Sink, Summary};
 
-/// Writes the listing, line, rounding, explanation or drawing that a question asks for. Then writes the hint on the question to
+/// Writes the listing, line, rounding, explanation or drawing that a question requests. Then writes the hint on the question to
 /// `errors`, if hints are given: for `show` that a word has no `0x` before it, and otherwise that a number may be meant as
 /// hexadecimal digits.
 ///
@@ -50,7 +50,7 @@ pub fn ask<W: Sink, E: Sink>(
     result
 }
 
-/// Writes the listing, line, rounding, explanation or drawing that a question asks for.
+/// Writes the listing, line, rounding, explanation or drawing that a question requests.
 fn answer<W: Sink>(question: Question<'_>, sink: &mut W) -> Result<Summary, Fault>
     requires { W.has_failed sink.old ≡ false }
     ensures answers { OnDevices (AnswersQuestion question.entry (W.taken_bytes sink.old) (W.taken_bytes sink.new)) result }
@@ -82,7 +82,7 @@ fn hint_question<E: Sink>(hints: bool, question: Question<'_>, errors: &mut E)
     }
 }
 
-/// Writes the listing, line, rounding, explanation or drawing that a question asks for.
+/// Writes the listing, line, rounding, explanation or drawing that a question requests.
 fn answer_question<W: Sink>(question: Question<'_>, sink: &mut W) -> Result<Summary, IoError>
     requires { W.has_failed sink.old ≡ false }
     ensures answered { WritesAnswer (IsAnswerTo question.entry) (W.taken_bytes sink.old) (W.taken_bytes sink.new) result }

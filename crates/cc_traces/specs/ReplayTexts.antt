@@ -1,4 +1,4 @@
--- The heap and the reading that the arguments of `replay` ask for.
+-- The heap and the reading that the arguments of `replay` request.
 use Rattle.std.specs.Prelude.{ℕ, Bool, true, ◌^◌, ◌==◌, ◌&&◌, ◌||◌, nat_lt, codes, length, List, Option, Some, None, Result, Ok, Err, zero, suc, if◌then◌else◌}
 use Rattle.std.specs.Borrow.{Bor}
 use Rattle.std.specs.Str.{bytes_eq}
@@ -56,7 +56,7 @@ span_in text =
     then request_in (before_first (λ byte. byte == 58) text) (after_first (λ byte. byte == 58) text)
     else Err Syntax
 
--- The pool that `--pool` gives, or all bytes from 2^44 on.
+-- The pool that `--pool` gives, or all bytes at or above 2^44.
 abbrev pub span_given : Option (Bor Text) → Result Span Refusal
 span_given None = Ok (record { base = 2 ^ 44; top = 2 ^ 64 })
 span_given (Some text) = span_in text.now

@@ -37,7 +37,7 @@ table_format summary.Json = Json
 abbrev pub summary_text : SummaryFormat → ReplayState → List ℕ
 summary_text format state = table_text (table_format format) (summary_rows (figures_of state))
 
--- The text of the end of a replay: the table of sizes if it is asked for, and otherwise the summary.
+-- The text of the end of a replay: the table of sizes if it is requested, and otherwise the summary.
 abbrev pub end_text : (sizes : Bool) → SummaryFormat → ReplayState → List ℕ
 end_text true format state = sizes_text (table_format format) state.run.sizes
 end_text false format state = summary_text format state
@@ -98,7 +98,7 @@ Samples old traffic (Ok summary) = SamplesAll old traffic summary
 Samples old traffic (Err Read) = StopsSampling old traffic Read
 Samples old traffic (Err Write) = StopsSampling old traffic Write ⊎ StopsInLast old traffic
 
--- WritesReplay holds if the text of the end was written, or the series, if samples were asked for.
+-- WritesReplay holds if the text of the end was written, or the series, if samples were requested.
 abbrev pub WritesReplay : (each : ℕ) → (text_of : ReplayState → List ℕ) → (old : ReplayState) → Traffic → Result Summary IoError → Type 0
 WritesReplay zero text_of old traffic result = SumsUp text_of old traffic result
 WritesReplay (suc less) text_of old traffic result = Samples old traffic result
@@ -109,7 +109,7 @@ abbrev pub WritesTrace : (sizes : Bool) → SummaryFormat → Settings → Readi
 WritesTrace sizes format settings reading traffic result =
     WritesReplay reading.each (end_text sizes format) (begun (empty_run settings) reading) traffic result
 
--- ReplaysTrace holds if the trace was replayed, and its script or its chart was written, if it is asked for, or otherwise the text or
+-- ReplaysTrace holds if the trace was replayed, and its script or its chart was written, if it is requested, or otherwise the text or
 -- the series.
 abbrev pub ReplaysTrace : (sizes svg script : Bool) → SummaryFormat → Settings → Reading → Traffic → Result Summary IoError → Type 0
 ReplaysTrace sizes svg true format settings reading traffic result = ScriptsTrace settings reading traffic result

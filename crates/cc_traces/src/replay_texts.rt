@@ -1,4 +1,4 @@
-//! The heap and the reading that the arguments of `replay` ask for.
+//! The heap and the reading that the arguments of `replay` request.
 ghost use Rattle.std.specs.Prelude.{◌≡◌, ◌^◌, true, IfOk};
 ghost use Rattle.cc_bounds.specs.Span.{IsSpan};
 ghost use Rattle.cc_heap.specs.declared.reallocation.Reallocation.TheVariants.{Move};
@@ -176,7 +176,7 @@ fn read_realloc(name: &[u8]) -> Result<Reallocation, Refusal>
     }
 }
 
-/// Returns the pool that `--pool` gives, or all bytes from 2^44 on.
+/// Returns the pool that `--pool` gives, or all bytes at or above 2^44.
 fn pool_of(text: Option<&str>) -> Result<Span, Refusal>
     ensures value { result ≡ span_given text.entry }
     ensures pool { IfOk result IsSpan }

@@ -91,7 +91,7 @@ pub fn replay_file<M: TraceMemory, I: Inputs, W: Sink>(
 }
 
 /// Replays a trace on a heap of these settings, and writes the summary or the table of sizes, or the series if
-/// samples are asked for.
+/// samples are requested.
 // not inlined, so that other commands do not touch the pages of its buffers on the stack
 #[inline(never)]
 fn replay<M: TraceMemory, I: Inputs, W: Sink>(
@@ -137,7 +137,7 @@ fn replay<M: TraceMemory, I: Inputs, W: Sink>(
     )
 }
 
-/// Replays the trace of an input, and writes the summary or the table of sizes, or the series if samples are asked for.
+/// Replays the trace of an input, and writes the summary or the table of sizes, or the series if samples are requested.
 fn replay_input<M: TraceMemory, I: Inputs, W: Sink>(
     memory: &mut M,
     each: u64,
@@ -268,7 +268,7 @@ fn sum_up<M: TraceMemory, S: Source, W: Sink>(
     Ok(summary)
 }
 
-/// Writes the table of sizes of a replay if it is asked for, and otherwise the summary.
+/// Writes the table of sizes of a replay if it is requested, and otherwise the summary.
 fn write_end<P: Placer, W: Sink>(
     sizes: bool,
     format: SummaryFormat,

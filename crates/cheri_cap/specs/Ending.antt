@@ -22,7 +22,7 @@ use Rattle.cc_console.specs.declared.fault.Fault.TheVariants as fault
 use Rattle.cc_runs.specs.declared.report.Terminals.{Terminals}
 
 -- The devices after the program: whether an input was not opened, a read failed, a write failed, and an allocation failed; whether the
--- output is flushed; and whether the last input that was asked for is this one.
+-- output is flushed; and whether the last input that was requested is this one.
 pub record Failures : Type 0 where
   pub open_failed : Bool
   pub read_failed : Bool
@@ -38,14 +38,14 @@ pub record TellsFailures (failures : Failures) (result : Result Summary Fault) :
   pub writes : (result ≡ Err fault.Write) ↔ (failures.write_failed ≡ true)
   pub allocates : (result ≡ Err fault.Memory) ↔ (failures.memory_failed ≡ true)
 
--- ReadsAsked holds if an opening or a read failed only if the last input that was asked for is this one. If there is none, neither
+-- ReadsAsked holds if an opening or a read failed only if the last input that was requested is this one. If there is none, neither
 -- failed.
 abbrev pub ReadsAsked : Option Asked → Failures → Type 0
 ReadsAsked asked failures = IsUnasked asked failures.last_asked → (failures.open_failed ≡ false) × (failures.read_failed ≡ false)
 
 -- EndsInvocation holds if the command was executed on devices in these states before and after it, and its result ends the program.
 -- The result is an error of a device if and only if that device failed. It also says what was written after a failed opening or
--- allocation, which input was asked for, and for `run` and `plan` the main theorem.
+-- allocation, which input was requested, and for `run` and `plan` the main theorem.
 pub record EndsInvocation (invocation : Invocation) (terminals : Terminals) (console : Console) (failures : Failures) (ending : Ending) : Type 0 where
   pub result : Result Summary Fault
   pub executes : OnDevices (Executes invocation terminals console) result
@@ -76,7 +76,7 @@ pub record ExecutesCommand (found : Option (Text × List Row)) (terminals : Term
 -- AnswersScript holds if the result is an error of a device if and only if that device failed, and is the end of the program. After a
 -- summary or a failed read or write, the main theorem holds of a run on a new machine that read these bytes and wrote after the bytes
 -- `taken`. After a failed opening nothing was written, and after a failed allocation nothing was, or the whole output. An opening or a
--- read failed only if the last input that was asked for is the script's.
+-- read failed only if the last input that was requested is the script's.
 pub record AnswersScript (script : Script) (bytes taken : List ℕ) (left taken_now : Option (List ℕ)) (failures : Failures) (ending : Ending) : Type 0 where
   pub result : Result Summary Fault
   pub main : OnDevices (MeetsFrom script.opening (initial_state script.limit) (Some bytes) left (Some taken) taken_now) result

@@ -65,7 +65,7 @@ IsReported terminals (RoundList base file) = IsTrue terminals.errors × IsOk (pl
 IsReported terminals (Decode input format texts file) = IsTrue terminals.errors
 IsReported terminals _ = ⊥
 
--- An input that is asked for, and its content.
+-- An input that is requested, and its content.
 pub record Asked : Type 0 where
   pub input : InputName
   pub content : Content
@@ -81,7 +81,7 @@ input_of (Annotate file) = Some (record { input = file_input file; content = con
 input_of (RoundList base file) = Some (record { input = file_input (Some file); content = content.Words })
 input_of _ = None
 
--- IsUnasked holds if the last input that was asked for is not this one.
+-- IsUnasked holds if the last input that was requested is not this one.
 abbrev pub IsUnasked : Option Asked → (last_asked : InputName → Content → Bool) → Type 0
 IsUnasked (Some asked) last_asked = last_asked asked.input asked.content ≡ false
 IsUnasked None last_asked = ⊤

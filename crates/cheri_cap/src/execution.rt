@@ -55,7 +55,7 @@ pub fn execute<M: RunMemory + TraceMemory, I: Inputs, W: Sink, E: Sink>(
     ensures memory { result ≡ Err Fault.Memory → RunsMachine invocation.entry }
     // Opening fails only for a FILE that is given and is not `-`.
     ensures open { result ≡ Err Fault.Open → IfSome (input_of invocation.entry) (λ asked. IsFile asked.input) }
-    // Unless the last input that was asked for is the command's, neither inputs nor source were
+    // Unless the last input that was requested is the command's, neither inputs nor source were
     // used.
     ensures asked { IsUnasked (input_of invocation.entry) (I.last_asked inputs.new) → (inputs.new ≡ inputs.old) × (source.new ≡ source.old) }
     // A command without an input, or with refused arguments, uses neither inputs nor source.
