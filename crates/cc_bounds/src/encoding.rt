@@ -278,8 +278,8 @@ fn encode(request: &Span) -> Set
 /// Returns the encoding of the tightest bounds that cover the request [base, base + len).
 ///
 /// A request of less than 4,096 bytes is granted as it is. Otherwise, its ends are rounded outward
-/// to the granule, and the granted bounds are within those of every word whose bounds cover the
-/// request.
+/// to the granule, and the granted bounds are within the bounds of every word whose bounds cover
+/// the request.
 ///
 /// Requires: `base + len <= 2^64`.
 /// Instruction: CSetBounds.

@@ -42,8 +42,8 @@ fn raised(number: u64) -> u64
     number.max(SHORTEST_DISTANCE)
 }
 
-/// Returns the power of two of which a number of at least 4,095 has at least 512 and less than
-/// 1,024.
+/// Returns the power of two that a number of at least 4,095 contains at least 512 and less than
+/// 1,024 times.
 ///
 /// It is 2, and one more for each bit from bit 12 to the highest that is set in the number.
 #[tactic(auto, using(crate::proofs::GranuleLemmas::leading_number))]
@@ -56,8 +56,8 @@ fn leading_power(number: u64) -> u32
     54 - number.leading_zeros()
 }
 
-/// Returns how much larger the power of a request's granule is, if `before` granules lie between that
-/// of its first byte and that of its last.
+/// Returns how much larger the power of a request's granule is, if `before` granules lie between the
+/// granules of its first and its last byte.
 fn growth(before: u64) -> u32
     ensures few { before < 1023 → result ≡ 0 }
     ensures many { 1023 ≤ before → result ≡ 1 }

@@ -157,7 +157,7 @@ pub fn is_subset(inner: u128, outer: u128) -> bool
     is_subset_of(&unpack(inner), &unpack(outer))
 }
 
-// Returns whether the bounds and the permissions of these fields are within those of others.
+// Returns whether the bounds and the permissions of these fields are within the others'.
 fn is_subset_of(inner: &Fields, outer: &Fields) -> bool
     ensures { IsTrue result ↔ IsSubset inner.now outer.now }
 {

@@ -93,7 +93,7 @@ unfoldable pub opening_text : List ℕ
 opening_text =
     codes "<svg xmlns='http://www.w3.org/2000/svg' width='800' height='440' viewBox='-1050 -700 8000 4400' font-family='sans-serif' font-size='120'>\n<title>The heap of a trace</title>\n"
 
--- The number of events, and that of the events in a column.
+-- The number of events, and the number of events in a column.
 abbrev pub counts_text : (events width : ℕ) → List ℕ
 counts_text events width =
     with_decimal (codes "<desc>Events: ") events ++ line_with_decimal (codes ", in each column: ") width (codes "</desc>")

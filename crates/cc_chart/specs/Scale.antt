@@ -3,8 +3,8 @@ use Rattle.std.specs.Prelude.{ℕ, ◌+◌, ◌-◌, ◌*◌, ◌/◌, ◌^◌, 
 use Rattle.std.specs.Int.Count.{count_leading_zeros}
 use Rattle.cc_chart.specs.declared.levels.Levels.{Levels}
 
--- The scales of a chart: the bytes at the upper end, the number of events, or 1 if there are none, and that of
--- the events in a column.
+-- The scales of a chart: the bytes at the upper end, the number of events, or 1 if there are none, and the
+-- number of events in a column.
 pub record Scale : Type 0 where
   pub top : ℕ
   pub events : ℕ
@@ -17,12 +17,11 @@ pub record Scale : Type 0 where
 abbrev pub reach_of : Levels → ℕ
 reach_of most = min (max most.held most.high) (2 ^ 64)
 
--- The exponent of the step between two labels: that of the least power of two of which eight reach the bytes.
+-- The exponent of the step between two labels: the smallest power of two of which eight reach the bytes.
 abbrev pub step_power : (reach : ℕ) → ℕ
 step_power reach = 64 - count_leading_zeros 64 ((reach - 1) / 8)
 
--- The number of steps: the least for which they reach the bytes, and at least 1. For at most 2^64 bytes it is at
--- most 8.
+-- The number of steps: as few as reach the bytes, and at least 1. For at most 2^64 bytes it is at most 8.
 abbrev pub step_count : (reach : ℕ) → ℕ
 step_count reach = min ((reach - 1) / 2 ^ step_power reach + 1) 8
 

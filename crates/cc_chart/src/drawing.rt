@@ -80,7 +80,7 @@ fn push_opening<const N: usize>(page: &mut Page<N>)
     );
 }
 
-/// Appends the number of events, and that of the events in a column.
+/// Appends the number of events, and the number of events in a column.
 fn push_counts<const N: usize>(page: &mut Page<N>, events: u128, width: u64)
     requires { length page.old + 200 ≤ N }
     ensures value { page.new ≡ page.old ++ counts_text events width }

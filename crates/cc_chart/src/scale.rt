@@ -11,8 +11,8 @@ const HEIGHT: u128 = 3200;
 /// The width of a chart in units.
 const WIDTH: u128 = 6400;
 
-/// The scales of a chart: the bytes at the upper end, the number of events, and that of the events in a
-/// column.
+/// The scales of a chart: the bytes at the upper end, the number of events, and the number of events in
+/// a column.
 #[derive(Drop)]
 pub(crate) struct Scale {
     top: u128,

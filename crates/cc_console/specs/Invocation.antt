@@ -214,7 +214,7 @@ abbrev pub kinds_in : Option ErrorKind → Kinds
 kinds_in None = []
 kinds_in (Some kind) = kind ∷ []
 
--- The kinds of error that the arguments can give: those of clap, or that of `explain` or `round` if clap has none.
+-- The kinds of error that the arguments can give: clap's, or the kind for `explain` or `round` if clap has none.
 abbrev pub faults_of : App → List Text → Kinds
 faults_of app words = or_else (fault_of app words) (kinds_in (choice_fault_in (subcommand_of app words)))
 

@@ -32,7 +32,7 @@ pub fn read_words<'a>(alloc: Global, words: &'a [&'a str]) -> Result<Invocation<
     }
 }
 
-/// Parses the program's arguments as those of one of its commands with the values that it needs.
+/// Parses the program's arguments as one of its commands with the values that it needs.
 fn parse_words<'a>(alloc: Global, words: &'a [&'a str]) -> Result<ArgMatches<'a>, Error>
     ensures read { IfOk result (λ matches.
         (app : App) × IsProgram app × (subcommand_rows_of matches ≡ subcommand_of app (texts words.now)) × HasItsTexts (subcommand_rows_of matches)) }

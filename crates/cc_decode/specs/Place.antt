@@ -6,7 +6,7 @@ use Rattle.cc_io.specs.declared.format.Format.{Format}
 use Rattle.cc_io.specs.declared.format.Format.TheVariants.{Columns, Csv, Fixed, Text}
 use Rattle.cc_decode.specs.declared.options.Options.{Options}
 
--- The address of the next word, after that of the last word of memory 0.
+-- The address of the next word. After the last word of memory it is 0.
 abbrev pub next_address : ℕ → ℕ
 next_address address = (address + 16) % 2 ^ 64
 
@@ -38,6 +38,6 @@ place_name Text = []
 place_name Fixed = []
 place_name Csv = codes "at,"
 
--- The header of a listing: that of the format, after the name of the column of the address.
+-- The header of a listing: the header of the format, after the name of the column of the address.
 abbrev pub header_of : Options → List ℕ
 header_of options = (if is_some options.at then place_name options.format else []) ++ header_text options.format

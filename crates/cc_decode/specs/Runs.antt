@@ -39,7 +39,7 @@ runs_further begun (x ∷ xs) ys = go (ends_entry begun x) (runs_further [] xs y
   go true p q = ap (λ (l : List (List ℕ)). (begun ++ x ∷ []) ∷ l) p
   go false p q = q
 
--- The bytes that two parts leave are those that the second leaves after those of the first.
+-- Two parts leave the bytes that the second leaves after the bytes left by the first.
 run_rest_further : (begun xs ys : List ℕ) → run_rest_from begun (xs ++ ys) ≡ run_rest_from (run_rest_from begun xs) ys
 run_rest_further begun [] ys = refl
 run_rest_further begun (x ∷ xs) ys = go (ends_entry begun x) (run_rest_further [] xs ys) (run_rest_further (begun ++ x ∷ []) xs ys) where
@@ -55,7 +55,7 @@ run_rest_further begun (x ∷ xs) ys = go (ends_entry begun x) (run_rest_further
 pub runs_frame : IsFrame runs
 runs_frame = record { none = λ begun. refl; all = λ begun. refl; entries_further = runs_further; left_further = run_rest_further }
 
--- `EndsRun` holds if `end` ends an entry of which `begun` word characters came before: word
+-- `EndsRun` holds if `end` ends an entry whose first `begun` word characters came earlier: word
 -- characters, and then a byte that is not one, or the 64th byte.
 pub record EndsRun (begun : ℕ) (end : List ℕ) : Type 0 where
   pub run : List ℕ

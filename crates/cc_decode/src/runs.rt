@@ -37,8 +37,8 @@ pub(crate) fn is_word_character(byte: u8) -> bool
     byte.is_ascii_alphanumeric() || byte == b'_'
 }
 
-/// Splits `text` at the end of the entry of which `begun` bytes came before, or returns `None` if
-/// the entry does not end in `text`.
+/// Splits `text` at the end of the entry whose first `begun` bytes came earlier, or returns `None`
+/// if the entry does not end in `text`.
 #[inline(always)]
 fn split_run(begun: usize, text: &[u8]) -> Option<(&[u8], &[u8])>
     requires { begun < 64 }

@@ -269,8 +269,8 @@ fn push_rows(text: &mut Text, layout: &Layout)
     }
 }
 
-/// Appends the ground of one row. `y` is its height on the page, and `address` that of its first
-/// cell.
+/// Appends the ground of one row. `y` is its height on the page, and `address` the address of its
+/// first cell.
 #[tactic(auto, unfolding(crate::specs::Drawing::ground_text))]
 fn push_row(text: &mut Text, width: u32, y: u32, cells: u32, address: u128)
     requires room { length text.old + 193 ≤ ROOM }
@@ -307,7 +307,7 @@ fn write_live<W: Sink>(sink: &mut W) -> Result<(), Failed>
     )
 }
 
-/// Ends the layer of live objects, and begins that of quarantined ones.
+/// Ends the layer of live objects, and begins the layer of quarantined ones.
 #[tactic(auto, unfolding(crate::specs::Drawing::quarantined_text))]
 fn write_quarantined<W: Sink>(sink: &mut W) -> Result<(), Failed>
     requires { W.has_failed sink.old ≡ false }

@@ -24,8 +24,8 @@ pub record GivesResult (rule : Result ℕ Refusal → Type 0) (told : MadeWord) 
   pub is_told : IsTold answer told
 
 -- StoresRequest holds if the fields `made` store the span that a request for `length` bytes from the
--- address of `fields` is granted, and are otherwise those of `fields`. The granted span covers the
--- request, and is within the span that `fields` decode to.
+-- address of `fields` is granted, and otherwise equal `fields`. The granted span covers the request,
+-- and is within the span that `fields` decode to.
 pub record StoresRequest (fields : Fields) (length : ℕ) (made : Fields) : Type 0 where
   pub own : Span
   pub granted : Span

@@ -1,8 +1,8 @@
 //! Batch functions on words in memory: a result for each 16 bytes, at their position.
 //!
-//! A slice crosses as a pointer and a count, so each array has a separate count, and that of the
-//! memory is the number of words. If they differ, the smallest counts: that number of results is
-//! written, and returned.
+//! A slice crosses as a pointer and a count, so each array has a separate count, and the count of
+//! the memory is the number of words. If they differ, the smallest counts: that number of results
+//! is written, and returned.
 ghost use Rattle.std.specs.Prelude.{◌≡◌, length, min, slice_index};
 ghost use Rattle.std.specs.List.{SameFrom};
 ghost use Rattle.cc_cap.specs.Canonical.{IsCanonical};
@@ -17,8 +17,8 @@ use crate::halves::halves;
 use crate::many::{canonical, decoded, represented};
 use crate::structs::{Bounds, Halves};
 
-/// Writes the base, the top and the exponent of each word of memory, and returns the number of words
-/// for which it did.
+/// Writes the base, the top and the exponent of each word of memory, and returns the number of these
+/// words.
 #[unsafe(no_mangle)]
 pub extern "C" fn cheri_cap_decode_memory(
     memory: &[[u8; 16]],
@@ -36,8 +36,8 @@ pub extern "C" fn cheri_cap_decode_memory(
     count
 }
 
-/// Writes 1 for each canonical word of memory and 0 for each other, and returns the number of words
-/// for which it did.
+/// Writes 1 for each canonical word of memory and 0 for each other, and returns the number of these
+/// words.
 #[unsafe(no_mangle)]
 pub extern "C" fn cheri_cap_is_canonical_memory(
     memory: &[[u8; 16]],
@@ -57,7 +57,7 @@ pub extern "C" fn cheri_cap_is_canonical_memory(
 
 /// Writes 1 for each word of memory that stores its bounds as setting bounds stores them and for
 /// which the address at its position is representable, and 0 for each other. Returns the number of
-/// words for which it did.
+/// these words.
 #[unsafe(no_mangle)]
 pub extern "C" fn cheri_cap_represents_memory(
     memory: &[[u8; 16]],

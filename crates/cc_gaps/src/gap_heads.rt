@@ -198,7 +198,7 @@ fn greatest_of_all(heads: &[Head], groups: &[u64]) -> u64
     most
 }
 
-/// Recomputes the bounds of all groups from that of the head at a position on.
+/// Recomputes the bounds of all groups, starting with the group of the head at this position.
 fn renew_from(heads: &[Head], groups: &mut [u64], at: usize)
     requires grouped { length heads.now ≤ 16 * length groups.old }
     requires bounded { AreBoundedBut at (length heads.now) heads.now groups.old }

@@ -116,7 +116,7 @@ impl GapRow {
         gap_before_in(&self.blocks, &self.heads, place)
     }
 
-    /// Replaces the gap at a place. Each place stays that of its gap.
+    /// Replaces the gap at a place. Each place keeps its gap.
     #[inline(always)]
     pub(crate) fn set(&mut self, place: Place, gap: Span)
         requires place { IsPlaceIn self.old place }
@@ -201,7 +201,7 @@ impl GapRow {
         );
     }
 
-    /// Removes the gap at a place. Each lower place stays that of its gap.
+    /// Removes the gap at a place. Each lower place keeps its gap.
     #[inline(always)]
     pub(crate) fn remove(&mut self, place: Place)
         requires place { IsPlaceIn self.old place }

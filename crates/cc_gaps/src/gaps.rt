@@ -19,8 +19,8 @@ use std::marker::Model;
 /// A placer that keeps the gaps between its spans, and the number of the spans.
 ///
 /// Spans that touch leave one gap, so it cannot list the spans that it holds. It may be holding each
-/// list of as many spans as it counts next to which its gaps are the free space of the pool. `hold` and
-/// `give_back` take two binary searches, and mostly move an edge of a gap. `room` walks over bounds
+/// list of spans that has as many as it counts, and leaves exactly its gaps free in the pool. `hold`
+/// and `give_back` take two binary searches, and mostly move an edge of a gap. `room` walks over bounds
 /// of groups of gaps, and over the gaps where such a span may fit.
 #[derive(Drop)]
 pub struct GapPlacer {

@@ -102,8 +102,8 @@ impl<P: Placer> Run<P> {
         self.heap.settings()
     }
 
-    /// Returns the numbers of the objects that were made, with a row for each power of two: that of
-    /// objects whose sizes are at least the power, and below the next.
+    /// Returns the numbers of the objects that were made, with a row for each power of two: the row
+    /// of the objects whose sizes are at least the power, and below the next.
     pub fn sizes(&self) -> &[SizeTotals; 64]
         ensures { result.now ≡ self.now.sizes }
     {

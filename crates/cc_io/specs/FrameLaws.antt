@@ -17,7 +17,7 @@ lines_further begun (x ∷ xs) ys = by_feed (x == 10) (lines_further [] xs ys) (
   by_feed true p q = ap (λ (l : List (List ℕ)). begun ∷ l) p
   by_feed false p q = q
 
--- The bytes that two parts leave are those that the second leaves after those of the first.
+-- Two parts leave the bytes that the second leaves after the bytes left by the first.
 pub rest_further : (begun xs ys : List ℕ) → rest_from begun (xs ++ ys) ≡ rest_from (rest_from begun xs) ys
 rest_further begun [] ys = refl
 rest_further begun (x ∷ xs) ys = by_feed (x == 10) (rest_further [] xs ys) (rest_further (begun ++ x ∷ []) xs ys) where
@@ -43,7 +43,7 @@ blocks_further begun (x ∷ xs) ys = go (length begun == 15) (blocks_further [] 
   go true p q = ap (λ (l : List (List ℕ)). (begun ++ x ∷ []) ∷ l) p
   go false p q = q
 
--- The bytes that two parts leave are those that the second leaves after those of the first.
+-- Two parts leave the bytes that the second leaves after the bytes left by the first.
 block_rest_further : (begun xs ys : List ℕ) → block_rest_from begun (xs ++ ys) ≡ block_rest_from (block_rest_from begun xs) ys
 block_rest_further begun [] ys = refl
 block_rest_further begun (x ∷ xs) ys = go (length begun == 15) (block_rest_further [] xs ys) (block_rest_further (begun ++ x ∷ []) xs ys) where

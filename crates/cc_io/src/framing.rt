@@ -74,8 +74,8 @@ impl Framing for Blocks {
     ghost begins = { Prim.search rules };
 }
 
-/// Splits `text` at the end of the block of which `begun` bytes came before, or returns `None` if
-/// `text` is too short.
+/// Splits `text` at the end of the block whose first `begun` bytes came earlier, or returns `None`
+/// if `text` is too short.
 fn split_block(begun: usize, text: &[u8]) -> Option<(&[u8], &[u8])>
     requires { begun < 16 }
     ensures whole { IfSome result (λ parts. text.now ≡ parts.0.now ++ parts.1.now) }

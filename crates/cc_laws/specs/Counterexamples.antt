@@ -66,7 +66,7 @@ own_parent = of_slots (child_slot root_capability ∷ [])
 abbrev pub child_with_more_bytes : State
 child_with_more_bytes = of_slots (first_slot (bounded_root 0 16) ∷ child_slot (bounded_root 0 17) ∷ [])
 
--- A slot without permissions, and a revoked child with those of the root.
+-- A slot without permissions, and a revoked child with the root's permissions.
 abbrev pub revoked_child_with_more_permissions : State
 revoked_child_with_more_permissions =
     of_slots (first_slot powerless_root ∷ revoked_slot (child_slot root_capability) ∷ [])
@@ -220,7 +220,7 @@ live_after_sweep = record tagged_after_sweep { objects = object_in 1 Live ∷ []
 abbrev pub grown_object : State
 grown_object = record tagged_after_sweep { objects = record (object_in 1 Swept) { size = 2 } ∷ [] }
 
--- The slot without permissions, and a child with those of the root.
+-- The slot without permissions, and a child with the root's permissions.
 abbrev pub child_with_more_permissions : State
 child_with_more_permissions = record unsealed_alone { slots = unsealed_alone.slots ++ child_slot root_capability ∷ [] }
 

@@ -17,8 +17,8 @@ pub fn columns_are_of_all_events()
 
 /// Proves that the vertical axis of a chart reaches its bytes, so that no curve is cut at the upper end.
 ///
-/// The bytes are at most 2^64. The step between two labels is the least power of two of which eight reach
-/// them, and there are no more steps than reach them, but one at least.
+/// The bytes are at most 2^64. The step between two labels is the smallest power of two of which eight
+/// reach them. There are as few steps as reach them, and at least one.
 ///
 /// No curve is above the end of the axis: neither the live, quarantined and held bytes nor the
 /// high-water mark. The live and the quarantined bytes are at most the held ones, and these and the

@@ -24,7 +24,7 @@ fn numbers_of_other_states()
         → ¬ HasPeaks old (record (empty_heap settings) { totals = record no_totals { peak_live = 1 } }) }
 {}
 
-/// A sweep, and an id that was live, of which the event does not tell, and an id that no event lost.
+/// A sweep, and an id that was live, which the event does not report, and an id that no event lost.
 fn outcomes_of_another_event()
     ensures heap { (settings : Settings) (time : ℕ) (outcome : Outcome) → ¬ IgnoresPeaks (empty_heap settings) (Clock time) outcome
         (record (empty_heap settings) { totals = record no_totals { sweeps = 1 } }) }

@@ -43,8 +43,8 @@ pub record TellsOwners (owners : List ℕ) (state : State) : Type 0 where
       (slot number : ℕ) (object : Object) → slot < length state.slots → IsObject state number object
       → (slice_index owners slot ≡ number) ↔ BelongsTo state object slot
 
--- CountsSlots holds if `counts` has the number of slots of each owner, at 0 that of slots without
--- an object. `freed` is the number of slots that belong to freed objects.
+-- CountsSlots holds if `counts` has the number of slots of each owner, and at 0 the number of slots
+-- without an object. `freed` is the number of slots that belong to freed objects.
 pub record CountsSlots (objects : List PlannedObject) (slots : List Slot) (counts : List ℕ) (freed : ℕ) : Type 0 where
   pub as_many : length counts ≡ suc (length objects)
   pub each : (owner : ℕ) → owner < length counts → slice_index counts owner ≡ owned_count owner slots

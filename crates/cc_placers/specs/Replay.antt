@@ -7,7 +7,7 @@ use Rattle.cc_placers.specs.declared.replay.PlanReply.{PlanReply}
 use Rattle.cc_placers.specs.declared.replay.PlanReply.TheVariants.{Placed, Freed, Swept, Refused}
 use Rattle.cc_plan.specs.Plan.{Allocated, PlanAllocates, PlanFrees, Plan, PlanSweeps}
 
--- IsWithinLimit holds if a size is at most that of the address space.
+-- IsWithinLimit holds if a size is at most the size of the address space.
 abbrev pub IsWithinLimit : PlanCall → Type 0
 IsWithinLimit (Alloc size) = size ≤ 2 ^ 64
 IsWithinLimit (Free object) = Unit {0}

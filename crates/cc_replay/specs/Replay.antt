@@ -186,11 +186,12 @@ TakesRest old = TakesRestIn old.progress old
 abbrev pub series_header : ReplayState → List ℕ
 series_header state = if state.reading.each == 0 then [] else names_line (sample_rows 0 (figures_of state))
 
--- The last sample of the series: that of the end, if there was an event and the last has none.
+-- The last sample of the series: the sample of the end, if there was an event and the last has
+-- none.
 abbrev pub last_sample : ReplayState → List ℕ
 last_sample state = sample_text (not (state.reading.each == 0) && not state.is_sampled) state
 
--- The events, with that of a line before them, if the line is an event.
+-- The events, after the event of a line, if the line is an event.
 abbrev pub event_before : Result (Option Event) Refusal → List Event → List Event
 event_before (Ok (Some event)) events = event ∷ events
 event_before _ events = events

@@ -46,7 +46,7 @@ fn read_numbered(text: &[u8]) -> Result<Policy, Refusal>
     read_share(text)
 }
 
-/// Parses a percentage, and the bytes of which it is.
+/// Parses a percentage, and the name of its bytes.
 fn read_share(text: &[u8]) -> Result<Policy, Refusal>
     ensures { result ≡ percent_in text.now }
 {

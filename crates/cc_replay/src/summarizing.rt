@@ -10,7 +10,7 @@ use cc_formats::Progress;
 use cc_io::{Failed, Sink, Source, Summary};
 use cc_placer::Placer;
 
-/// The reason for which a trace has no summary.
+/// Why a trace has no summary.
 #[derive(Clone, Copy)]
 pub enum Failure {
     /// An allocation failed.

@@ -71,7 +71,7 @@ fn summary_rows(figures: &Figures) -> ArrayVec<Row, MOST_ROWS>
     rows
 }
 
-/// Appends rows to those of a summary.
+/// Appends rows to the rows of a summary.
 #[tactic(auto, using(crate::proofs::RowLemmas::rows_after))]
 fn append_rows(rows: &mut ArrayVec<Row, MOST_ROWS>, more: &[Row])
     requires { array_vec_len rows.old + length more.now ≤ 43 }

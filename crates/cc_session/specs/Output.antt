@@ -46,7 +46,7 @@ pub record ScriptOutput (old : State) (opening : List Op) (text output : List �
   pub output_is : output ≡ replies_text replies ++ rest_text (rest_of text)
   pub error_is : any_error ≡ (list_any is_error replies || not (length (rest_of text) == 0))
 
--- The operations, with that of the command before them if the command is one.
+-- The operations, after the command's, if the command is one.
 abbrev pub with_operation : (command : Result Op Refusal) → List Op → List Op
 with_operation (Ok op) ops = op ∷ ops
 with_operation (Err refusal) ops = ops

@@ -48,7 +48,7 @@ impl<const N: usize> Taker<N> for Parser {
 
 /// Parses a line, without its line feed, as an operation.
 ///
-/// Errors, in order: `TooLong` if the line has more than 128 bytes, of which then none is read;
+/// Errors, in order: `TooLong` if the line has more than 128 bytes, none of which is then read;
 /// `Syntax` if it is not a command; `OutOfRange` if a number is over its limit.
 #[tactic(auto, unfolding(crate::specs::Commands::operation_of))]
 pub fn parse_line(line: &[u8]) -> Result<Op, Refusal>

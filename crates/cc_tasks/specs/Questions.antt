@@ -24,8 +24,8 @@ IsAnswerTo (Explain word) answer = IsExplanation word.now answer
 IsAnswerTo (DrawWindow word) answer = IsWindowDrawing word.now answer
 IsAnswerTo (ExplainLength base size) answer = IsLengthExplanation base.now size.now answer
 
--- IsUnanswerable holds if the output is an error: the texts are not those of a word, of a length, or of bounds that can
--- be requested. `show` without `--line` accepts no `0x` before a word.
+-- IsUnanswerable holds if the output is an error: the texts are not a word, not a length, or not bounds that can be
+-- requested. `show` without `--line` accepts no `0x` before a word.
 abbrev pub IsUnanswerable : Question → Type 0
 IsUnanswerable (Show word false) = ¬ IsWordText word.now
 IsUnanswerable (Show word true) = ¬ IsTypedWord word.now

@@ -19,8 +19,8 @@ use cc_io::{IoError, Sink, Summary};
 /// `errors`, if hints are given: for `show` that a word has no `0x` before it, and otherwise that a number may be meant as
 /// hexadecimal digits.
 ///
-/// The output is an error, and the summary says so, if a text is not that of a word or of a number, if a number is too
-/// large, or if the requested bytes end past 2^64.
+/// The output is an error, and the summary says so, if a text is not a word or a number, if a number is too large, or
+/// if the requested bytes end past 2^64.
 ///
 /// Requires: neither sink has failed.
 /// Errors: `Write` if and only if the sink failed. No hint is written then.

@@ -22,9 +22,10 @@ const ALL_ABOVE: Span = Span {
 
 /// Returns the settings of the heap, and how the trace is read.
 ///
-/// Errors, in order: `Syntax` if a text is not a number, not a policy, not a pool or not one of the names,
-/// if two of `--sizes`, `--svg`, `--script` and `--each` are given, or `--script` with `--realloc keep`;
-/// `OutOfBounds` if the pool ends past 2^64; `OutOfRange` if a number is too large, or that of `--each` is 0.
+/// Errors, in order: `Syntax` if a text is not a number, not a policy, not a pool or not one of the names, if
+/// two of `--sizes`, `--svg`, `--script` and `--each` are given, or `--script` with `--realloc keep`;
+/// `OutOfBounds` if the pool ends past 2^64; `OutOfRange` if a number is too large, or the number of `--each`
+/// is 0.
 pub(crate) fn replay_of(
     align: Align,
     strict: bool,

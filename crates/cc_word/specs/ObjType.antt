@@ -13,6 +13,6 @@ sentry_type = 0x3fffe
 abbrev pub unsealed_type : ℕ
 unsealed_type = 0x3ffff
 
--- `IsObjType` holds if the type is one that sealing gives, or that of an unsealed capability.
+-- `IsObjType` holds if the type is one that sealing gives, or the type of an unsealed capability.
 abbrev pub IsObjType : ℕ → Type 0
 IsObjType otype = (otype ≤ last_sealing_type) ⊎ (otype ≡ unsealed_type)

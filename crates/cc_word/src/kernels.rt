@@ -54,7 +54,7 @@ const DIGIT_VALUES: [u64; 256] = [
 /// Entry of [`FIRST_DIGIT_VALUES`] for a byte that is not a hexadecimal digit.
 const MORE: u64 = 16 * NONE;
 
-/// The value of each byte as the first of two hexadecimal digits: 16 times that of
+/// The value of each byte as the first of two hexadecimal digits: 16 times the value in
 /// [`DIGIT_VALUES`].
 #[rattlefmt::skip]
 const FIRST_DIGIT_VALUES: [u64; 256] = [
