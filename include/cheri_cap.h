@@ -112,6 +112,15 @@ extern "C" {
 #endif
 #endif
 
+/* CHERI_CAP_CONSTEXPR: in C++17, the inline function can be evaluated by the compiler. */
+#ifndef CHERI_CAP_CONSTEXPR
+#if defined __cplusplus && __cplusplus >= 201703L
+#define CHERI_CAP_CONSTEXPR constexpr
+#else
+#define CHERI_CAP_CONSTEXPR
+#endif
+#endif
+
 /* The permissions, as bits of `perms`. */
 #define CHERI_CAP_PERM_GLOBAL 0x0001u
 #define CHERI_CAP_PERM_EXECUTE 0x0002u
@@ -627,7 +636,7 @@ bool cheri_cap_is_subset(uint64_t high, uint64_t low, uint64_t outer_high, uint6
 #define CHERI_CAP_NULL_MASK_HIGH UINT64_C(0x00001ffffc018004)
 
 /* Returns the null word, all zeros. */
-CHERI_CAP_NODISCARD
+CHERI_CAP_NODISCARD CHERI_CAP_CONSTEXPR
 static inline cheri_cap_u128 cheri_cap_null(void) CHERI_CAP_NOEXCEPT
 {
     cheri_cap_u128 word = {0, 0};
@@ -635,7 +644,7 @@ static inline cheri_cap_u128 cheri_cap_null(void) CHERI_CAP_NOEXCEPT
 }
 
 /* Returns the word of the root: every permission over every address, at address 0. */
-CHERI_CAP_NODISCARD
+CHERI_CAP_NODISCARD CHERI_CAP_CONSTEXPR
 static inline cheri_cap_u128 cheri_cap_root(void) CHERI_CAP_NOEXCEPT
 {
     cheri_cap_u128 word = {UINT64_C(0xffff000000000000), 0};
@@ -643,14 +652,14 @@ static inline cheri_cap_u128 cheri_cap_root(void) CHERI_CAP_NOEXCEPT
 }
 
 /* Returns the permissions of a word from its upper half, as cheri_cap_perms does, but inline. */
-CHERI_CAP_NODISCARD
+CHERI_CAP_NODISCARD CHERI_CAP_CONSTEXPR
 static inline uint16_t cheri_cap_perms_of(uint64_t high) CHERI_CAP_NOEXCEPT
 {
     return CHERI_CAP_CAST_(uint16_t, high >> 48);
 }
 
 /* Returns the object type of a word from its upper half, as cheri_cap_otype does, but inline. */
-CHERI_CAP_NODISCARD
+CHERI_CAP_NODISCARD CHERI_CAP_CONSTEXPR
 static inline uint32_t cheri_cap_otype_of(uint64_t high) CHERI_CAP_NOEXCEPT
 {
     return CHERI_CAP_CAST_(uint32_t, (high ^ CHERI_CAP_NULL_MASK_HIGH) >> 27) & 0x3ffffu;
@@ -660,14 +669,14 @@ static inline uint32_t cheri_cap_otype_of(uint64_t high) CHERI_CAP_NOEXCEPT
  * CGetSealed: returns whether the type is any but unsealed: sealed, a sentry, or another reserved
  * type.
  */
-CHERI_CAP_NODISCARD
+CHERI_CAP_NODISCARD CHERI_CAP_CONSTEXPR
 static inline bool cheri_cap_is_sealed(uint64_t high) CHERI_CAP_NOEXCEPT
 {
     return cheri_cap_otype_of(high) != CHERI_CAP_OTYPE_UNSEALED;
 }
 
 /* Returns whether the type is CHERI_CAP_OTYPE_SENTRY. */
-CHERI_CAP_NODISCARD
+CHERI_CAP_NODISCARD CHERI_CAP_CONSTEXPR
 static inline bool cheri_cap_is_sentry(uint64_t high) CHERI_CAP_NOEXCEPT
 {
     return cheri_cap_otype_of(high) == CHERI_CAP_OTYPE_SENTRY;
@@ -677,7 +686,7 @@ static inline bool cheri_cap_is_sentry(uint64_t high) CHERI_CAP_NOEXCEPT
  * Compares two numbers in halves, such as tops. Returns a negative number if the one is below the
  * other, 0 if they are equal, and a positive number if the one is above the other.
  */
-CHERI_CAP_NODISCARD
+CHERI_CAP_NODISCARD CHERI_CAP_CONSTEXPR
 static inline int cheri_cap_compare(cheri_cap_u128 one, cheri_cap_u128 other) CHERI_CAP_NOEXCEPT
 {
     if (one.high != other.high)
@@ -686,7 +695,7 @@ static inline int cheri_cap_compare(cheri_cap_u128 one, cheri_cap_u128 other) CH
 }
 
 /* Returns the top of bounds. `bounds` must not be null. */
-CHERI_CAP_NODISCARD
+CHERI_CAP_NODISCARD CHERI_CAP_CONSTEXPR
 static inline cheri_cap_u128 cheri_cap_top(const cheri_cap_bounds *bounds) CHERI_CAP_NOEXCEPT
 {
     cheri_cap_u128 top = {bounds->top_high, bounds->top_low};
@@ -700,7 +709,7 @@ static inline cheri_cap_u128 cheri_cap_top(const cheri_cap_bounds *bounds) CHERI
  * `bounds` must not be null. For a length of 2^64 the high half is 1 and the low half is 0, and what
  * CGetLen writes into a register of 64 bits is for its ISA text to say.
  */
-CHERI_CAP_NODISCARD
+CHERI_CAP_NODISCARD CHERI_CAP_CONSTEXPR
 static inline cheri_cap_u128 cheri_cap_length(const cheri_cap_bounds *bounds) CHERI_CAP_NOEXCEPT
 {
     cheri_cap_u128 length = {bounds->top_high - (bounds->top_low < bounds->base), bounds->top_low - bounds->base};
@@ -711,14 +720,14 @@ static inline cheri_cap_u128 cheri_cap_length(const cheri_cap_bounds *bounds) CH
  * CGetOffset: returns the offset of an address in bounds, in bytes, modulo 2^64. `bounds` must not
  * be null.
  */
-CHERI_CAP_NODISCARD
+CHERI_CAP_NODISCARD CHERI_CAP_CONSTEXPR
 static inline uint64_t cheri_cap_offset(const cheri_cap_bounds *bounds, uint64_t address) CHERI_CAP_NOEXCEPT
 {
     return address - bounds->base;
 }
 
 /* Returns a half with its bytes in reverse order. */
-CHERI_CAP_NODISCARD
+CHERI_CAP_NODISCARD CHERI_CAP_CONSTEXPR
 static inline uint64_t cheri_cap_swapped(uint64_t half) CHERI_CAP_NOEXCEPT
 {
     half = (half & UINT64_C(0x00ff00ff00ff00ff)) << 8 | (half >> 8 & UINT64_C(0x00ff00ff00ff00ff));
@@ -788,7 +797,7 @@ static inline const char *cheri_cap_refusal_name(uint8_t refusal) CHERI_CAP_NOEX
  *
  * For an access of several bytes, call cheri_cap_bounds_hold_bytes.
  */
-CHERI_CAP_NODISCARD
+CHERI_CAP_NODISCARD CHERI_CAP_CONSTEXPR
 static inline bool cheri_cap_bounds_hold(const cheri_cap_bounds *bounds, uint64_t address) CHERI_CAP_NOEXCEPT
 {
     return bounds->base <= address && (bounds->top_high != 0 || address < bounds->top_low);
@@ -801,7 +810,7 @@ static inline bool cheri_cap_bounds_hold(const cheri_cap_bounds *bounds, uint64_
  * Returns false if an access would wrap around past address 2^64 - 1, whatever the top is. With a
  * size of 0, the address may be the top. `bounds` must not be null.
  */
-CHERI_CAP_NODISCARD
+CHERI_CAP_NODISCARD CHERI_CAP_CONSTEXPR
 static inline bool cheri_cap_bounds_hold_bytes(
     const cheri_cap_bounds *bounds, uint64_t address, uint64_t size) CHERI_CAP_NOEXCEPT
 {
@@ -834,7 +843,7 @@ static inline cheri_cap_made cheri_cap_set_offset(uint64_t high, uint64_t low, u
  */
 
 /* Returns the word with this address. */
-CHERI_CAP_NODISCARD
+CHERI_CAP_NODISCARD CHERI_CAP_CONSTEXPR
 static inline cheri_cap_u128 cheri_cap_with_address(uint64_t high, uint64_t low, uint64_t address) CHERI_CAP_NOEXCEPT
 {
     cheri_cap_u128 word = {high, address};
@@ -843,7 +852,7 @@ static inline cheri_cap_u128 cheri_cap_with_address(uint64_t high, uint64_t low,
 }
 
 /* Returns the word with these permissions. */
-CHERI_CAP_NODISCARD
+CHERI_CAP_NODISCARD CHERI_CAP_CONSTEXPR
 static inline cheri_cap_u128 cheri_cap_with_perms(uint64_t high, uint64_t low, uint16_t perms) CHERI_CAP_NOEXCEPT
 {
     cheri_cap_u128 word = {(high & UINT64_C(0x0000ffffffffffff)) | CHERI_CAP_CAST_(uint64_t, perms) << 48, low};
@@ -851,7 +860,7 @@ static inline cheri_cap_u128 cheri_cap_with_perms(uint64_t high, uint64_t low, u
 }
 
 /* Returns the word with this flag. */
-CHERI_CAP_NODISCARD
+CHERI_CAP_NODISCARD CHERI_CAP_CONSTEXPR
 static inline cheri_cap_u128 cheri_cap_with_flag(uint64_t high, uint64_t low, bool flag) CHERI_CAP_NOEXCEPT
 {
     cheri_cap_u128 word = {(high & ~(UINT64_C(1) << 45)) | CHERI_CAP_CAST_(uint64_t, flag) << 45, low};
@@ -859,7 +868,7 @@ static inline cheri_cap_u128 cheri_cap_with_flag(uint64_t high, uint64_t low, bo
 }
 
 /* Returns the word with this object type. Bits above the low 18 are ignored. */
-CHERI_CAP_NODISCARD
+CHERI_CAP_NODISCARD CHERI_CAP_CONSTEXPR
 static inline cheri_cap_u128 cheri_cap_with_type(uint64_t high, uint64_t low, uint64_t otype) CHERI_CAP_NOEXCEPT
 {
     const uint64_t mask = UINT64_C(0x3ffff) << 27;
@@ -876,7 +885,7 @@ static inline cheri_cap_u128 cheri_cap_with_type(uint64_t high, uint64_t low, ui
  * ISA text has them for a request past 2^64 puts them into a cheri_cap_granted. `granted` must not
  * be null.
  */
-CHERI_CAP_NODISCARD
+CHERI_CAP_NODISCARD CHERI_CAP_CONSTEXPR
 static inline cheri_cap_u128 cheri_cap_with_bounds(
     uint64_t high, uint64_t low, const cheri_cap_granted *granted) CHERI_CAP_NOEXCEPT
 {

@@ -5,24 +5,36 @@
  * derivation. The comments of cheri_cap.h apply: each method names the function that it calls, if
  * it is not the one of its name. The code here is plain C++: it is tested, not proved.
  *
- * No function here allocates, and none has state. None throws, except what the function given to
- * and_then throws. Link with libcheri_cap, as for C.
+ * No function here allocates, and none has state. None throws, except what a function given to
+ * and_then or or_else throws, or a stream or std::format. Link with libcheri_cap, as for C.
  *
  * Tags are up to the caller, as in C: a word has none.
  */
 #ifndef CHERI_CAP_HPP
 #define CHERI_CAP_HPP
 
+#if __cplusplus < 201703L
+#error "cheri_cap.hpp needs C++17 or later, as by -std=c++17"
+#else
+
 #include "cheri_cap.h"
 
 #include <array>
 #include <cstddef>
 #include <cstdint>
+#include <exception>
 #include <functional>
+#include <iosfwd>
 #include <optional>
 #include <string_view>
 #include <type_traits>
 #include <utility>
+#if __cplusplus >= 202002L && __has_include(<compare>)
+#include <compare>
+#endif
+#if __cplusplus >= 202002L && __has_include(<format>)
+#include <format>
+#endif
 
 #ifdef __GNUC__
 #pragma GCC diagnostic push
@@ -101,20 +113,20 @@ public:
     [[nodiscard]] constexpr unsigned exponent() const noexcept { return decoded_.exponent; }
 
     /* Returns the top minus the base, modulo 2^128 if the top is below the base. */
-    [[nodiscard]] u128 length() const noexcept
+    [[nodiscard]] constexpr u128 length() const noexcept
     {
         const cheri_cap_u128 length = cheri_cap_length(&decoded_);
         return {length.high, length.low};
     }
 
     /* Returns whether the bounds contain the byte at the address. */
-    [[nodiscard]] bool contains(std::uint64_t address) const noexcept
+    [[nodiscard]] constexpr bool contains(std::uint64_t address) const noexcept
     {
         return cheri_cap_bounds_hold(&decoded_, address);
     }
 
     /* Returns whether the bounds contain an access: cheri_cap_bounds_hold_bytes. */
-    [[nodiscard]] bool contains(std::uint64_t address, std::uint64_t size) const noexcept
+    [[nodiscard]] constexpr bool contains(std::uint64_t address, std::uint64_t size) const noexcept
     {
         return cheri_cap_bounds_hold_bytes(&decoded_, address, size);
     }
@@ -182,7 +194,7 @@ public:
     explicit word(const cheri_cap_fields &fields) noexcept : halves_(cheri_cap_pack(fields)) {}
 
     /* Every permission over every address, at address 0. */
-    [[nodiscard]] static word root() noexcept { return word(cheri_cap_root()); }
+    [[nodiscard]] static constexpr word root() noexcept { return word(cheri_cap_root()); }
 
     /* Returns the word of 32 hexadecimal digits of either case, and nothing for any other text. */
     [[nodiscard]] static std::optional<word> parse(std::string_view text) noexcept
@@ -229,14 +241,14 @@ public:
     [[nodiscard]] constexpr std::uint64_t low() const noexcept { return halves_.low; }
     [[nodiscard]] constexpr const cheri_cap_u128 &raw() const noexcept { return halves_; }
     [[nodiscard]] constexpr std::uint64_t address() const noexcept { return halves_.low; }
-    [[nodiscard]] std::uint16_t perms() const noexcept { return cheri_cap_perms_of(high()); }
-    [[nodiscard]] std::uint32_t otype() const noexcept { return cheri_cap_otype_of(high()); }
-    [[nodiscard]] bool flag() const noexcept { return cheri_cap_flag(high(), low()); }
-    [[nodiscard]] bool is_sealed() const noexcept { return cheri_cap_is_sealed(high()); }
-    [[nodiscard]] bool is_sentry() const noexcept { return cheri_cap_is_sentry(high()); }
+    [[nodiscard]] constexpr std::uint16_t perms() const noexcept { return cheri_cap_perms_of(high()); }
+    [[nodiscard]] constexpr std::uint32_t otype() const noexcept { return cheri_cap_otype_of(high()); }
+    [[nodiscard]] constexpr bool flag() const noexcept { return (high() >> 45 & 1) != 0; }
+    [[nodiscard]] constexpr bool is_sealed() const noexcept { return cheri_cap_is_sealed(high()); }
+    [[nodiscard]] constexpr bool is_sentry() const noexcept { return cheri_cap_is_sentry(high()); }
 
     /* Returns whether the word has all permissions of the mask, such as CHERI_CAP_PERM_LOAD. */
-    [[nodiscard]] bool has_perms(unsigned mask) const noexcept { return (perms() & mask) == mask; }
+    [[nodiscard]] constexpr bool has_perms(unsigned mask) const noexcept { return (perms() & mask) == mask; }
 
     /* Returns all fields: cheri_cap_unpack. */
     [[nodiscard]] cheri_cap_fields fields() const noexcept { return cheri_cap_unpack(high(), low()); }
@@ -281,20 +293,23 @@ public:
     }
 
     /* The words with one field changed and nothing checked: cheri_cap_with_*. They have no tag. */
-    [[nodiscard]] word with_address(std::uint64_t address) const noexcept
+    [[nodiscard]] constexpr word with_address(std::uint64_t address) const noexcept
     {
         return word(cheri_cap_with_address(high(), low(), address));
     }
-    [[nodiscard]] word with_perms(std::uint16_t perms) const noexcept
+    [[nodiscard]] constexpr word with_perms(std::uint16_t perms) const noexcept
     {
         return word(cheri_cap_with_perms(high(), low(), perms));
     }
-    [[nodiscard]] word with_flag(bool flag) const noexcept { return word(cheri_cap_with_flag(high(), low(), flag)); }
-    [[nodiscard]] word with_type(std::uint64_t otype) const noexcept
+    [[nodiscard]] constexpr word with_flag(bool flag) const noexcept
+    {
+        return word(cheri_cap_with_flag(high(), low(), flag));
+    }
+    [[nodiscard]] constexpr word with_type(std::uint64_t otype) const noexcept
     {
         return word(cheri_cap_with_type(high(), low(), otype));
     }
-    [[nodiscard]] word with_bounds(const cheri_cap_granted &granted) const noexcept
+    [[nodiscard]] constexpr word with_bounds(const cheri_cap_granted &granted) const noexcept
     {
         return word(cheri_cap_with_bounds(high(), low(), &granted));
     }
@@ -318,6 +333,29 @@ public:
         return one.high() == other.high() && one.low() == other.low();
     }
     friend constexpr bool operator!=(word one, word other) noexcept { return !(one == other); }
+
+    /* The order of the numbers, for sorted containers. It does not compare what words grant: that is is_subset_of. */
+#ifdef __cpp_lib_three_way_comparison
+    friend constexpr std::strong_ordering operator<=>(word one, word other) noexcept
+    {
+        return one.high() != other.high() ? one.high() <=> other.high() : one.low() <=> other.low();
+    }
+#else
+    friend constexpr bool operator<(word one, word other) noexcept
+    {
+        return cheri_cap_compare(one.halves_, other.halves_) < 0;
+    }
+    friend constexpr bool operator>(word one, word other) noexcept { return other < one; }
+    friend constexpr bool operator<=(word one, word other) noexcept { return !(other < one); }
+    friend constexpr bool operator>=(word one, word other) noexcept { return !(one < other); }
+#endif
+
+    /* Writes the one-line form. The caller includes <ostream>. */
+    template <class Traits>
+    friend std::basic_ostream<char, Traits> &operator<<(std::basic_ostream<char, Traits> &out, word it)
+    {
+        return out << it.line().view();
+    }
 
 private:
     cheri_cap_u128 halves_{0, 0};
@@ -345,6 +383,14 @@ public:
     [[nodiscard]] constexpr const word &operator*() const noexcept { return word_; }
     [[nodiscard]] constexpr const word *operator->() const noexcept { return &word_; }
 
+    /* Returns the word. After a refusal, it calls std::terminate. */
+    [[nodiscard]] constexpr const word &value() const noexcept
+    {
+        if (!has_value())
+            std::terminate();
+        return word_;
+    }
+
     [[nodiscard]] constexpr word value_or(word other) const noexcept { return has_value() ? word_ : other; }
 
     /* Returns the word as an optional, without the refusal. */
@@ -359,6 +405,14 @@ public:
     constexpr result and_then(Function &&next) const
     {
         return has_value() ? result(std::forward<Function>(next)(word_)) : *this;
+    }
+
+    /* Calls a function that takes a refusal and returns a result, and returns that. If there is a word, it
+     * returns this result, and the function is not called. */
+    template <class Function>
+    constexpr result or_else(Function &&next) const
+    {
+        return has_value() ? *this : result(std::forward<Function>(next)(refusal_));
     }
 
     friend constexpr bool operator==(const result &one, const result &other) noexcept
@@ -500,8 +554,21 @@ struct std::hash<cheri::word> {
     }
 };
 
+#ifdef __cpp_lib_format
+/* The one-line form of a word, with the width and the alignment of a text, for std::format. */
+template <>
+struct std::formatter<cheri::word, char> : std::formatter<std::string_view, char> {
+    template <class Context>
+    auto format(cheri::word word, Context &context) const
+    {
+        return std::formatter<std::string_view, char>::format(word.line().view(), context);
+    }
+};
+#endif
+
 #ifdef __GNUC__
 #pragma GCC diagnostic pop
 #endif
 
+#endif
 #endif

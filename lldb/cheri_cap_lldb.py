@@ -2,10 +2,13 @@
 
     (lldb) command script import .../cheri_cap_lldb.py
     (lldb) capdump ADDRESS [COUNT]       the words from an address, 16 bytes each [default: a whole array, or 1]
-    (lldb) capfind ADDRESS START END [PERMS]    the words in memory that could be capabilities to an address
-    (lldb) capinfo EXPRESSION            the fields and bounds of a value of 16 bytes
+    (lldb) capfind ADDRESS [START END] [PERMS]  the words in memory that could be capabilities to an address
+    (lldb) capinfo EXPRESSION            the fields and bounds of a value of 16 bytes, or of a struct with one word
     (lldb) capinfo WORD                  the fields and bounds of a word in hexadecimal digits
-    (lldb) capprint TYPE                 show values of this type, which has 16 bytes, as capabilities
+    (lldb) capprint TYPE                 show values of this type as capabilities, as those of cheri::word are
+
+A struct with the members `high` and then `low`, such as cheri_cap_u128, is read by these. Any other value of 16 bytes
+is read as memory. Any other struct has the word of its one member that has a word, and its tag from a member `tag`.
 
 Bytes are read in the byte order of the target. The modules cheri_cap.py and cheri_cap_memory.py must be in the
 directory of this file, as ./install puts them, or in the directory python/ of a checkout.
@@ -19,8 +22,21 @@ import lldb
 
 HERE = os.path.dirname(os.path.realpath(__file__))
 sys.path[1:1] = [HERE, os.path.join(os.path.dirname(HERE), "python")]
-from cheri_cap import Capability  # noqa: E402
-from cheri_cap_memory import BYTES, Refused, Unreadable, dumped, found, mask_in, word_in  # noqa: E402
+from cheri_cap import Capability, Refusal  # noqa: E402
+from cheri_cap_memory import (  # noqa: E402
+    BYTES,
+    KNOWN,
+    Refused,
+    Unreadable,
+    disjoint,
+    dumped,
+    found,
+    found_everywhere,
+    mask_in,
+    path_to_word,
+    text_of,
+    word_in,
+)
 
 
 def evaluate(context, text):
@@ -75,15 +91,66 @@ def count_of(context, text):
     return count
 
 
+def members_of(kind):
+    """Returns the names and the types of the members of a struct."""
+    kind = kind.GetCanonicalType().GetDereferencedType() if kind.IsReferenceType() else kind.GetCanonicalType()
+    if kind.IsArrayType() or kind.IsPointerType():
+        return []
+    fields = [kind.GetFieldAtIndex(i) for i in range(kind.GetNumberOfFields())]
+    return [(it.GetName(), it.GetType()) for it in fields if it.GetName()]
+
+
+def path_in(kind):
+    return path_to_word(kind, members_of, lambda it: it.GetByteSize())
+
+
 def of_value(value):
-    """Returns a value of 16 bytes as a capability."""
-    if value.GetByteSize() != BYTES:
+    """Returns a value as a capability and whether it has its tag. It has 16 bytes, or is a struct with one word."""
+    if value.GetType().IsReferenceType():
+        value = value.Dereference()
+    value, tagged = value.GetNonSyntheticValue(), True
+    path = path_in(value.GetType())
+    if path is None:
         raise Refused(f"a capability has {BYTES} bytes, and this value has {value.GetByteSize()}")
+    names, by_members = path
+    for name in [*names, None]:
+        member = value.GetChildMemberWithName("tag")
+        tagged = tagged and (not member.IsValid() or member.GetValueAsUnsigned() != 0)
+        for it in "refusal", "refusal_":
+            code = value.GetChildMemberWithName(it).GetValueAsUnsigned(0)
+            if code:
+                raise Refused(f"refused: {Refusal(code).name}")
+        value = value.GetChildMemberWithName(name).GetNonSyntheticValue() if name else value
+    if by_members:
+        high, low = (value.GetChildMemberWithName(it).GetValueAsUnsigned() for it in ("high", "low"))
+        return Capability(high << 64 | low), tagged
     error = lldb.SBError()
     data = value.GetData().ReadRawData(error, 0, BYTES)
     if error.Fail():
         raise Refused(str(error))
-    return Capability.from_bytes(bytes(data), order_of(value.GetTarget()))
+    return Capability.from_bytes(bytes(data), order_of(value.GetTarget())), tagged
+
+
+def mapped(context):
+    """Returns the ranges of memory that can be read, or None if they are not known.
+
+    They are those of a process or of a core file, and otherwise the sections of the program's file."""
+    target, process, ranges = context.GetTarget(), context.GetProcess(), []
+    if process.IsValid():
+        regions, region = process.GetMemoryRegions(), lldb.SBMemoryRegionInfo()
+        for i in range(regions.GetSize()):
+            if regions.GetMemoryRegionAtIndex(i, region) and region.IsMapped() and region.IsReadable():
+                ranges.append((region.GetRegionBase(), region.GetRegionEnd()))
+    else:
+        sections = list(target.GetModuleAtIndex(0).section_iter())
+        while sections:
+            it = sections.pop()
+            parts = [it.GetSubSectionAtIndex(i) for i in range(it.GetNumSubSections())]
+            sections += parts
+            if not parts and it.GetFileAddress() not in (0, lldb.LLDB_INVALID_ADDRESS):
+                ranges.append((it.GetFileAddress(), it.GetFileAddress() + it.GetByteSize()))
+        return sorted(ranges) or None  # LLDB reads one section at a time
+    return disjoint(ranges) or None
 
 
 def capdump(debugger, command, context, result, _):
@@ -104,56 +171,68 @@ def capdump(debugger, command, context, result, _):
 
 
 def capfind(debugger, command, context, result, _):
-    """Find the words that could be capabilities to an address: capfind ADDRESS START END [PERMS]. The words from START
-    to below END are read, at multiples of 16. A word is shown if it is canonical, its bounds contain ADDRESS, and it
-    has permissions, among them PERMS: names joined by +, as in LOAD+STORE. So null and integers are omitted."""
+    """Find the words that could be capabilities to an address: capfind ADDRESS [START END] [PERMS]. The words from
+    START to below END are read, at multiples of 16; without these, those of all mapped memory of the process, of the
+    core file, or of the program's file. A word is shown if it is canonical, or a sentry that is canonical once it is
+    unsealed, its bounds contain ADDRESS, and it has permissions, among them PERMS: names joined by +, as in
+    LOAD+STORE. So null and integers are omitted."""
     try:
         words = shlex.split(command)
-        if len(words) not in (3, 4):
-            raise Refused("usage: capfind ADDRESS START END [PERMS]")
-        address, start, end = (address_of(context, it)[0] for it in words[:3])
-        perms = mask_in(words[3]) if len(words) == 4 else 0
-        for line in found(reader_of(context), order_of(context.GetTarget()), address, start, end, perms):
+        if len(words) not in (1, 2, 3, 4):
+            raise Refused("usage: capfind ADDRESS [START END] [PERMS]")
+        places = [address_of(context, it)[0] for it in (words[:1] if len(words) < 3 else words[:3])]
+        perms = mask_in(words[-1]) if len(words) in (2, 4) else 0
+        read, order = reader_of(context), order_of(context.GetTarget())
+        if len(words) < 3:
+            lines = found_everywhere(read, order, *places, mapped(context), perms)
+        else:
+            lines = found(read, order, *places, perms, mapped(context))
+        for line in lines:
             result.AppendMessage(line)
     except Refused as why:
         result.SetError(str(why))
 
 
 def capinfo(debugger, command, context, result, _):
-    """Show the fields and the bounds of a capability: capinfo EXPRESSION, a value of 16 bytes, or capinfo WORD, 32
-    hexadecimal digits, with or without 0x, or two halves of 16 digits joined by _ or :, the high one first. The lines
-    are those of `cheri-cap show`."""
+    """Show the fields and the bounds of a capability: capinfo EXPRESSION, a value of 16 bytes or a struct with one
+    word, or capinfo WORD, 32 hexadecimal digits, with or without 0x, or two halves of 16 digits joined by _ or :, the
+    high one first. The lines are those of `cheri-cap show`."""
     try:
         text = command.strip()
         if not text:
             raise Refused("usage: capinfo EXPRESSION, or capinfo WORD")
         cap = word_in(text)
-        cap = of_value(evaluate(context, text)) if cap is None else cap
+        cap = of_value(evaluate(context, text))[0] if cap is None else cap
         result.AppendMessage(cap.listing().rstrip("\n"))
     except Refused as why:
         result.SetError(str(why))
 
 
 def summary_of(value, _):
-    """Returns the summary of a value of a type that capprint named."""
+    """Returns the summary of a value of a type that is known, or that capprint named."""
     try:
-        return str(of_value(value.GetNonSyntheticValue()))
+        return text_of(*of_value(value))
     except Refused as why:
         return f"<{why}>"
 
 
+def add_summary(debugger, name):
+    debugger.HandleCommand(f"type summary add --no-value --python-function {__name__}.summary_of '{name}'")
+
+
 def capprint(debugger, command, context, result, _):
     """Show the values of a type as capabilities: capprint TYPE. TYPE has 16 bytes, such as `capability` or `struct
-    capability`. This adds a type summary, which `type summary delete TYPE` removes."""
+    capability`, or is a struct with one word. The types of the library that are words are shown so without it. This
+    adds a type summary, which `type summary delete TYPE` removes."""
     try:
         # LLDB's names of types are without this word
         name = command.strip().partition("struct ")[2] or command.strip()
         if not name:
             raise Refused("usage: capprint TYPE")
         size = evaluate(context, f"sizeof({command.strip()})").GetValueAsUnsigned()
-        if size != BYTES:
+        if path_in(evaluate(context, f"({command.strip()} *)0").GetType().GetPointeeType()) is None:
             raise Refused(f"a capability has {BYTES} bytes, and the type {name} has {size}")
-        debugger.HandleCommand(f"type summary add --no-value --python-function {__name__}.summary_of '{name}'")
+        add_summary(debugger, name)
     except Refused as why:
         result.SetError(str(why))
 
@@ -161,3 +240,5 @@ def capprint(debugger, command, context, result, _):
 def __lldb_init_module(debugger, _):
     for name in "capdump", "capfind", "capinfo", "capprint":
         debugger.HandleCommand(f"command script add -f {__name__}.{name} {name}")
+    for name in KNOWN:
+        add_summary(debugger, name)

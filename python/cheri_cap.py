@@ -944,7 +944,11 @@ def _addresses_of(addresses: Union["ReadableBuffer", SupportsIndex], count: int)
 
 
 def find_holding(
-    words: "ReadableBuffer", address: SupportsIndex, perms: SupportsIndex = 0, byteorder: ByteOrder = "little"
+    words: "ReadableBuffer",
+    address: SupportsIndex,
+    perms: SupportsIndex = 0,
+    byteorder: ByteOrder = "little",
+    sentries: bool = False,
 ) -> List[int]:
     """Returns the positions of the words of a buffer that could be capabilities to the byte at an address.
 
@@ -952,13 +956,16 @@ def find_holding(
     mask `perms`, which `mask_of` makes from names. Null, and every integer below 2**64, is a canonical word whose
     bounds contain each address, but it has no permission. The word at position N begins at byte 16 * N.
 
+    If `sentries`, a sentry is one of them if it would be after it is unsealed, as a return address of CheriBSD is.
+
     Errors: ValueError for a buffer whose size is not a multiple of 16 bytes, or whose items are neither bytes nor
     integers in that byte order."""
     at, mask = _address(address), _halves(perms, 0xFFFF, "a mask")[1]
     bounds, canonical = _empty_bounds(_PIECE), bytearray(_PIECE)
     found: List[int] = []
     for start, count, piece in _pieces(_words_of(words, byteorder)):
-        _is_canonical_into(canonical, 0, count, piece, byteorder == "big")
+        plain = _without_sentries(piece, byteorder) if sentries else piece
+        _is_canonical_into(canonical, 0, count, plain, byteorder == "big")
         held = _perms_in(piece, byteorder)
         likely = [i for i in compress(range(count), canonical) if held[i] and held[i] & mask == mask]
         if likely:
@@ -967,6 +974,26 @@ def find_holding(
             if bounds[4 * i] <= at and (bounds[4 * i + 1] or at < bounds[4 * i + 2]):
                 found.append(start + i)
     return found
+
+
+# For the bytes with bits 24 to 47 of an upper half, which have the type at 27 to 44: 1 if a sentry has these bits.
+_TYPE_OF_SENTRY = [
+    bytes(it & 0xF8 == 0x08 for it in range(256)),
+    bytes(it == 0 for it in range(256)),
+    bytes(it & 0x1F == 0 for it in range(256)),
+]
+
+
+def _without_sentries(piece: bytes, byteorder: ByteOrder) -> bytes:
+    """Returns a piece with each sentry unsealed. In memory the type of a sentry is 1, and that of an unsealed word 0."""
+    places = (11, 12, 13) if byteorder == "little" else (4, 3, 2)
+    marks = (int.from_bytes(piece[at::16].translate(table), "big") for at, table in zip(places, _TYPE_OF_SENTRY))
+    sentries = next(marks) & next(marks) & next(marks)
+    if not sentries:
+        return piece
+    plain, lowest = bytearray(piece), piece[places[0] :: 16]
+    plain[places[0] :: 16] = (int.from_bytes(lowest, "big") ^ sentries << 3).to_bytes(len(lowest), "big")
+    return bytes(plain)
 
 
 def _perms_in(piece: bytes, byteorder: str) -> "array[int]":

@@ -5,17 +5,22 @@ read in blocks. If a block cannot be read, its pages are read one by one.
 """
 
 import re
-from typing import Callable, Iterator, Optional, Tuple
+from typing import Any, Callable, Iterator, List, Optional, Sequence, Tuple
 
-from cheri_cap import ByteOrder, Capability, find_holding, is_canonical_many, mask_of
+from cheri_cap import ByteOrder, Capability, find_holding, mask_of
 
 BYTES = 16
 PAGE = 1 << 12
 BLOCK = 1 << 20
 ADDRESSES = 1 << 64
 
-Read = Callable[[int, int], bytes]
+# the types of cheri_cap.h, cheri_cap.hpp and cheri_cap_isa9.h that are words; cheri_cap_u128 may be a length
+KNOWN = "cheri::word", "cheri::result", "cheri_cap_made", "cheri_cap_read", "cheri_isa9_cap"
 
+Read = Callable[[int, int], bytes]
+Ranges = Sequence[Tuple[int, int]]
+
+_UNSEALED = 0x3FFFF
 _HALF = "(?:0[xX])?([0-9a-fA-F]{16})"
 _WORD = re.compile(f"(?:0[xX])?([0-9a-fA-F]{{32}})|0[xX]([0-9a-fA-F]{{17,32}})|{_HALF}[_:]{_HALF}")
 
@@ -45,9 +50,41 @@ def mask_in(names: str) -> int:
         raise Refused(f"PERMS must be names joined by +: {error}")
 
 
-def line_of(address: int, cap: Capability, canonical: bool = True) -> str:
+def could_be(cap: Capability) -> bool:
+    """Returns whether a word can be that of a capability: it is canonical, or a sentry of one that is."""
+    return cap.is_canonical or cap.is_sentry and Capability.from_fields(cap.fields._replace(otype=_UNSEALED)).is_canonical
+
+
+def text_of(cap: Capability, tagged: bool = True) -> str:
+    """Returns the one-line form of a word, marked if it cannot be that of a capability."""
+    return cap.line(tagged) + ("" if could_be(cap) else " (not canonical)")
+
+
+def line_of(address: int, cap: Capability) -> str:
     """Returns the line of a word at an address."""
-    return f"{address:#x}: {cap:032x} {cap}" + ("" if canonical else " (not canonical)")
+    return f"{address:#x}: {cap:032x} {text_of(cap)}"
+
+
+def path_to_word(
+    kind: Any, members_of: Callable[[Any], List[Tuple[str, Any]]], size_of: Callable[[Any], int]
+) -> Optional[Tuple[List[str], bool]]:
+    """Returns the names of the members that lead from a type to its word, and whether the word is read by its members
+    `high` and `low`; or None if the type has no word, or several.
+
+    `members_of` returns the names and the types of a type's members, in the order of memory, and none for other types
+    than structs. A struct with the members `high` and then `low`, as cheri_cap_u128 has them, is read by these. A type
+    of 16 bytes without such a member is read as 16 bytes of memory. Any other struct has the word of its one member
+    that has a word."""
+    members = members_of(kind)
+    names = [name for name, _ in members]
+    if "high" in names and "low" in names:
+        return [], size_of(kind) != BYTES or names.index("high") < names.index("low")
+    inner = [(name, path_to_word(it, members_of, size_of)) for name, it in members if members_of(it)]
+    found = [(name, path) for name, path in inner if path]
+    if len(found) == 1:
+        name, (rest, by_members) = found[0]
+        return [name, *rest], by_members
+    return ([], False) if size_of(kind) == BYTES and not found else None
 
 
 def dumped(read: Read, order: ByteOrder, start: int, count: int) -> Iterator[str]:
@@ -57,9 +94,8 @@ def dumped(read: Read, order: ByteOrder, start: int, count: int) -> Iterator[str
     end = start + BYTES * count
     while start < end:
         data = _readable(read, start, min(end - start, BLOCK))
-        words = [data[at : at + BYTES] for at in range(0, len(data), BYTES)]
-        for word, canonical in zip(words, is_canonical_many(data, order)):
-            yield line_of(start, Capability.from_bytes(word, order), bool(canonical))
+        for at in range(0, len(data), BYTES):
+            yield line_of(start, Capability.from_bytes(data[at : at + BYTES], order))
             start += BYTES
 
 
@@ -77,24 +113,62 @@ def _readable(read: Read, start: int, size: int) -> bytes:
     raise Refused(f"cannot read {BYTES} bytes at {start:#x}")
 
 
-def found(read: Read, order: ByteOrder, address: int, start: int, end: int, perms: int = 0) -> Iterator[str]:
+def found(
+    read: Read, order: ByteOrder, address: int, start: int, end: int, perms: int = 0, mapped: Optional[Ranges] = None
+) -> Iterator[str]:
     """Yields the lines of the words from `start` to below `end` that could be capabilities to an address, and a summary.
 
     A word begins at a multiple of 16. Those without permissions, as null, are omitted. The last line has the number of
-    the words, and that of the bytes that could not be read."""
-    if not 0 <= address < ADDRESSES:
-        raise Refused("ADDRESS must be from 0 to 2^64 - 1")
+    the words, and that of the bytes that could not be read. If `mapped` has ranges, no other memory is read."""
     if not 0 <= start <= end <= ADDRESSES:
         raise Refused("START must not be above END")
-    count = unread = 0
-    for at, size, data in _blocks(read, -(-start // BYTES) * BYTES, end // BYTES * BYTES):
-        if data is None:
-            unread += size
-            continue
-        for position in find_holding(data, address, perms, order):
-            word = data[position * BYTES : (position + 1) * BYTES]
-            yield line_of(at + position * BYTES, Capability.from_bytes(word, order))
-            count += 1
+    first, last = _whole_words(start, end)
+    ranges = [(first, last)] if mapped is None else [(max(low, first), min(high, last)) for low, high in mapped]
+    yield from _found(read, order, address, ranges, perms, _size([(first, last)]))
+
+
+def found_everywhere(
+    read: Read, order: ByteOrder, address: int, mapped: Optional[Ranges], perms: int = 0
+) -> Iterator[str]:
+    """Yields the same for all words of the ranges of `mapped`."""
+    if not mapped:
+        raise Refused("the ranges of memory are not known: give START and END")
+    ranges = [_whole_words(*it) for it in mapped]
+    yield from _found(read, order, address, ranges, perms, _size(ranges))
+
+
+def disjoint(ranges: Ranges) -> Ranges:
+    """Returns ranges in order, with those that touch or overlap as one."""
+    merged: List[Tuple[int, int]] = []
+    for start, end in sorted(ranges):
+        if merged and start <= merged[-1][1]:
+            merged[-1] = merged[-1][0], max(merged[-1][1], end)
+        else:
+            merged.append((start, end))
+    return merged
+
+
+def _whole_words(start: int, end: int) -> Tuple[int, int]:
+    return -(-start // BYTES) * BYTES, end // BYTES * BYTES
+
+
+def _size(ranges: Ranges) -> int:
+    return sum(max(end - start, 0) for start, end in ranges)
+
+
+def _found(read: Read, order: ByteOrder, address: int, ranges: Ranges, perms: int, unread: int) -> Iterator[str]:
+    if not 0 <= address < ADDRESSES:
+        raise Refused("ADDRESS must be from 0 to 2^64 - 1")
+    count = 0
+    for start, end in ranges:
+        for at, size, data in _blocks(read, *_whole_words(start, end)):
+            if data is None:
+                continue
+            unread -= size
+            for position in find_holding(data, address, perms, order, sentries=True):
+                word = data[position * BYTES : (position + 1) * BYTES]
+                yield line_of(at + position * BYTES, Capability.from_bytes(word, order))
+                count += 1
     yield f"{count} found" + (f"; {unread:,} bytes could not be read" if unread else "")
 
 
