@@ -61,9 +61,12 @@ SetsFlag cap flag result =
     result ≡ Ok (with_flag cap flag))
 
 -- `Seals` holds if `result` is the capability sealed with the authority's address as the type, or a
--- refusal: `Sealed` unless both are unsealed; `MissingPermission` unless the authority has SEAL;
--- `OutOfBounds` unless the authority grants its own address; `ReservedType` for an address above
--- 0x3ffef.
+-- refusal:
+--
+-- - `Sealed` unless both are unsealed
+-- - `MissingPermission` unless the authority has SEAL
+-- - `OutOfBounds` unless the authority grants its own address
+-- - `ReservedType` for an address above 0x3ffef
 abbrev pub Seals : Capability → Capability → Result Capability Refusal → Type 0
 Seals cap authority result =
     RefusedUnless (IsUnsealed cap × IsUnsealed authority) (result ≡ Err Sealed) (
@@ -73,9 +76,13 @@ Seals cap authority result =
     result ≡ Ok (sealed_with cap authority.address)))))
 
 -- `Unseals` holds if `result` is the capability unsealed, with GLOBAL only if both have it, or a
--- refusal: `Unsealed` unless the capability is sealed; `Sealed` unless the authority is unsealed;
--- `MissingPermission` unless the authority has UNSEAL; `OutOfBounds` unless it grants its own
--- address; `TypeMismatch` unless this address is the type.
+-- refusal:
+--
+-- - `Unsealed` unless the capability is sealed
+-- - `Sealed` unless the authority is unsealed
+-- - `MissingPermission` unless the authority has UNSEAL
+-- - `OutOfBounds` unless the authority grants its own address
+-- - `TypeMismatch` unless this address is the type
 abbrev pub Unseals : Capability → Capability → Result Capability Refusal → Type 0
 Unseals cap authority result =
     RefusedUnless (IsSealed cap) (result ≡ Err Unsealed) (
@@ -85,10 +92,14 @@ Unseals cap authority result =
     RefusedUnless (authority.address ≡ cap.otype) (result ≡ Err TypeMismatch) (
     result ≡ Ok (unsealed_by cap authority))))))
 
--- `Rebuilds` holds if `result` is the capability of the word, or a refusal: `Sealed` unless the
--- authority is unsealed; `NotCanonical` unless the word is canonical; `ExceedsAuthority` unless the
--- word's capability is unsealed and grants no more than the authority. So the null word is rebuilt
--- from any unsealed authority over the whole address space.
+-- `Rebuilds` holds if `result` is the capability of the word, or a refusal:
+--
+-- - `Sealed` unless the authority is unsealed
+-- - `NotCanonical` unless the word is canonical
+-- - `ExceedsAuthority` unless the word's capability is unsealed and grants no more than the
+--   authority
+--
+-- So the null word is rebuilt from any unsealed authority over the whole address space.
 abbrev pub Rebuilds : Capability → ℕ → Result Capability Refusal → Type 0
 Rebuilds authority word result =
     RefusedUnless (IsUnsealed authority) (result ≡ Err Sealed) (

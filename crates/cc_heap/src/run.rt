@@ -19,9 +19,9 @@ use std::alloc::{AllocError, Global};
 use std::collections::HashSet;
 use std::marker::Model;
 
-/// A heap over a trace. It also has the ids whose objects were not made since there was no place for
-/// them, so that a free of such an id is not one of an id that names nothing, and the numbers of the
-/// objects that were made by the powers of two of their sizes.
+/// A heap over a trace. It also has the lost ids, whose objects had no place: a free of such an id
+/// does not name nothing. And it has the numbers of the objects that were made, by the powers of two
+/// of their sizes.
 #[derive(Drop)]
 pub struct Run<P: Placer> {
     heap: Heap<P>,

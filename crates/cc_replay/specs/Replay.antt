@@ -22,9 +22,9 @@ use Rattle.cc_formats.specs.Reading.{is_due, progress_after}
 use Rattle.cc_replay.specs.Rows.{names_line, values_line}
 use Rattle.cc_replay.specs.Summary.{sample_rows}
 
--- The state of a replay: the heap with the lost ids, how the trace is read, the counts of its lines, the
--- pointer of the first half of a reallocation whose second half has not come, the time that the trace gave
--- last, whether further lines are taken, and whether there was no event or the last has a sample.
+-- The state of a replay: the heap with the lost ids; how the trace is read; the counts of its lines; the
+-- pointer of a pending first half of a reallocation; the time that the trace gave last; whether further
+-- lines are taken; and whether the last event, if there was one, has a sample.
 pub record ReplayState : Type 0 where
   pub run : RunState
   pub reading : Reading

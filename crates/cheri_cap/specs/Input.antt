@@ -54,9 +54,13 @@ abbrev pub IsHinted : Invocation → Type 0
 IsHinted (Ask question) = ⊤
 IsHinted _ = ⊥
 
--- IsReported holds if the command can write to standard error: `run`, and `plan` if BASE and LENGTH are an address and a length, and
--- a command with a hint on its typed texts, and `round` of a list if standard error is a terminal
--- and the base is a number, and `decode` if standard error is a terminal.
+-- IsReported holds if the command can write to standard error:
+--
+-- - `run`
+-- - `plan`, if BASE and LENGTH are an address and a length
+-- - `show`, `round` and `explain`, if there is a hint on their texts
+-- - `round` of a list, if standard error is a terminal and the base is a number
+-- - `decode`, if standard error is a terminal
 abbrev pub IsReported : Terminals → Invocation → Type 0
 IsReported terminals (Run limit stats file) = ⊤
 IsReported terminals (Plan limit pool align stats file) = IsOk (pool_of pool.base.now pool.length.now)

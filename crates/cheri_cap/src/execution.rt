@@ -15,8 +15,9 @@ use cc_runs::{Report, RunMemory, Terminals, map_file, plan_file, run_file};
 use cc_tasks::{annotate_file, ask, decode_file, hint_on_file, round_file};
 use cc_traces::{TraceMemory, replay_file};
 
-/// Executes a command: reads its input, writes its output to `sink`, and reports a run on `errors`, or a hint on
-/// the word of `show`, and on the numbers of `round`, its list and `explain --length`, if standard error is a terminal.
+/// Executes a command: reads its input, writes its output to `sink`, and reports a run on `errors`. If standard error
+/// is a terminal, hints are written there too: on the word of `show`, and on the numbers of `round`, its list and
+/// `explain --length`.
 ///
 /// BASE and LENGTH of `plan` and `map`, the numbers and names of `decode`, the base of `round` and the texts of `replay`
 /// are read first. If one is refused, the output is that refusal, and nothing is read. The machine or the heap is
