@@ -72,7 +72,9 @@ impl Set {
     /// and the type are not examined.
     #[inline(always)]
     pub fn of_fields(fields: &Fields) -> Option<Set>
+        // The fields store the span.
         ensures found { IfSome result (λ set. StoresSpan fields.now set.granted) }
+        // If they store a span, the result is the encoding of that span.
         ensures only { (span : SpanSpec) → StoresSpan fields.now span
             → result ≡ Some (record { granted = span; exact = true }) }
     {

@@ -180,6 +180,8 @@ impl Cap {
         requires is_span { IsSpan span }
         requires sound { IsSound span }
         ensures made { result ≡ with_span (at_address self.now span.base) span }
+        // Setting the address to the start of the span, and then exact bounds of its length, gives
+        // this capability.
         ensures derived { SetsAddress self.now span.base (Ok (at_address self.now span.base))
             × SetsExactBounds (at_address self.now span.base) (length_of span) (Ok result) }
         ensures monotonic { GrantsNoMore result self.now }
@@ -307,7 +309,9 @@ impl Cap {
     pub fn word(&self) -> u128
         ensures word { IsWordOf self.now result }
         ensures computed { result ≡ word_of_capability self.now }
+        // The capability has no other word.
         ensures one_word { (word : ℕ) → IsWordOf self.now word → word ≡ result }
+        // No other capability has the word.
         ensures one_capability { (other : Capability) → IsWordOf other result → other ≡ self.now }
     {
         pack(&self.fields())

@@ -115,9 +115,12 @@ pub extern "C" fn cheri_cap_represents(high: u64, low: u64, address: u64) -> boo
 /// stores them, the result equals that of [`cheri_cap_represents`].
 #[unsafe(no_mangle)]
 pub extern "C" fn cheri_cap_keeps_bounds(high: u64, low: u64, address: u64) -> bool
+    // True if and only if a word with the same IE, T and B, at this address, decodes to the same
+    // bounds.
     ensures decodes { OfFields (number_of_halves high low) (λ fields.
         (other : FieldsSpec) (span : SpanSpec) → SharesBoundsFields fields other → other.address ≡ address
         → DecodesTo fields span → (IsTrue result ↔ DecodesTo other span)) }
+    // True if and only if the address is in the window of these bounds.
     ensures window { OfFields (number_of_halves high low) (λ fields.
         (span : SpanSpec) → DecodesTo fields span
         → (IsTrue result ↔ IsRepresentable span.base (stored_exponent fields) address)) }

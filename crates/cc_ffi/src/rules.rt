@@ -78,6 +78,8 @@ pub extern "C" fn cheri_cap_set_bounds_on(
 ) -> MadeWord
     ensures made { GivesResult (OnWord (λ cap. SetsBounds cap (number_of_halves length_high length_low)) (number_of_halves high low)) result }
     ensures monotonic { result.refusal ≡ 0 → IsCanonicalSubset (number_of_halves result.high result.low) (number_of_halves high low) }
+    // The word stores the granted span of the request from its address, which covers the request
+    // and is within the word's own bounds. Everything else stays.
     ensures stores { result.refusal ≡ 0 → OfFields (number_of_halves high low) (λ fields. OfFields (number_of_halves result.high result.low) (λ made.
         StoresRequest fields (number_of_halves length_high length_low) made)) }
 {
@@ -187,6 +189,8 @@ pub extern "C" fn cheri_cap_rebuild(
 pub extern "C" fn cheri_cap_is_subset(high: u64, low: u64, outer_high: u64, outer_low: u64) -> bool
     ensures words { OfFields (number_of_halves high low) (λ inner. OfFields (number_of_halves outer_high outer_low) (λ outer.
         IsTrue result ↔ IsSubset inner outer)) }
+    // For words of capabilities: true if and only if the inner capability grants no more than the
+    // outer one.
     ensures capabilities { (one other : Capability) → IsWordOf one (number_of_halves high low) → IsWordOf other (number_of_halves outer_high outer_low)
         → (IsTrue result ↔ GrantsNoMore one other) }
 {

@@ -45,6 +45,8 @@ fn window_of(base: u64, exponent: u8) -> Window
 /// through 2^64 - 1 and on from 0. At exponents of at least 50, it is from 0 to 2^64 - 1.
 #[unsafe(no_mangle)]
 pub extern "C" fn cheri_cap_window(high: u64, low: u64) -> Window
+    // Between the two are exactly the addresses at which the bounds fields decode to the same
+    // bounds.
     ensures window { OfFields (number_of_halves high low) (λ fields.
         (span : SpanSpec) (address : ℕ) → DecodesTo fields span → address < 2 ^ 64
         → (IsFromTo result.first result.last address ↔ IsRepresentable span.base (stored_exponent fields) address)) }

@@ -111,7 +111,10 @@ impl Machine {
     /// state is one that a run leads to, and so keeps the laws of every run.
     pub fn slots(&self) -> u32
         ensures count { result ≡ length self.now.slots }
+        // A run leads to the state.
         ensures reached { IsReached self.now }
+        // No slot grants more than an ancestor, and held objects have exact bounds and share no
+        // byte.
         ensures safe { IsSafe self.now }
     {
         self.slots.len() as u32
@@ -398,6 +401,8 @@ impl Machine {
         // ones.
         ensures confined { (given : ℕ → Bool)
             → RunsWithin given self.old self.old ops.now replies.new self.new → IsConfined given self.old self.new }
+        // If the operations are the path from an unsealed slot to a capability that grants no more,
+        // and five slots are left, none is refused, and the last slot has the capability.
         ensures reaches { ReachesAll self.old ops.now replies.new self.new }
     {
         self.tell_reached();

@@ -47,6 +47,7 @@ pub trait Placer: Drop {
         requires fits { span.top ≤ 2 ^ 64 }
         ensures limit { limit self.new ≡ limit self.old }
         ensures pool { pool self.new ≡ Some span }
+        // The lists that it may be holding stay.
         ensures held { (spans : List SpanSpec) → holds self.old spans → holds self.new spans };
 
     /// Returns the lowest place for `len` bytes at a multiple of `align`, or `None` if there is
@@ -89,6 +90,7 @@ pub trait Placer: Drop {
             × (length spans < limit self.old) }
         ensures limit { limit self.new ≡ limit self.old }
         ensures pool { pool self.new ≡ pool self.old }
+        // Each list that it may be holding has the span in addition.
         ensures held { (spans more : List SpanSpec) → holds self.old spans → IsApartFrom spans span
             → length spans < limit self.old → AddsSpan spans span more → holds self.new more };
 
@@ -103,6 +105,7 @@ pub trait Placer: Drop {
             × (length spans < limit self.old) }
         ensures limit { limit self.new ≡ limit self.old }
         ensures pool { pool self.new ≡ pool self.old }
+        // Each list that it may be holding has the span in addition, whatever the hint.
         ensures held { (spans more : List SpanSpec) → holds self.old spans → IsApartFrom spans span
             → length spans < limit self.old → AddsSpan spans span more → holds self.new more }
     {
@@ -117,6 +120,7 @@ pub trait Placer: Drop {
         requires is_held { (spans : List SpanSpec) × holds self.old spans × Contains spans span }
         ensures limit { limit self.new ≡ limit self.old }
         ensures pool { pool self.new ≡ pool self.old }
+        // Each list that it may be holding has the span once less.
         ensures held { (spans fewer : List SpanSpec) → holds self.old spans → Contains spans span
             → RemovesSpan spans span fewer → holds self.new fewer };
 

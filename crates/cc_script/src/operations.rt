@@ -21,6 +21,7 @@ use cc_values::Op;
 /// addresses and increments are hexadecimal.
 pub fn op_line(op: &Op) -> Option<Line>
     ensures text { SomeIff result (length (op_text op.now) ≤ 128) (op_text op.now) }
+    // The operation of the line is the operation that it was written for.
     ensures reads { IfSome result (λ line. operation_of line ≡ Ok op.now) }
 {
     let line = whole_line(*op);

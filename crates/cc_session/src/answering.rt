@@ -31,6 +31,8 @@ pub fn answer_line<const N: usize>(
     line: &[u8],
 ) -> Result<(), Refusal>
     requires { length text.old + 193 ≤ N }
+    // The machine takes the line. At `Ok` the reply is appended, and at an error the text is
+    // unchanged.
     ensures answers { IsAnswered machine.old (operation_of line.now) result text.old text.new machine.new }
     ensures fits { length text.new ≤ length text.old + 193 }
 {
