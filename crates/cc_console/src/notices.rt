@@ -18,7 +18,8 @@ pub fn percent_of(done: u64, length: u64) -> Option<u64>
 
 /// Writes the percentage of the trace that has been read, over what was written before. Errors of the sink are ignored.
 ///
-/// The cursor is at the start of the line then, so that other output takes the place of the text. Only tests show when it is called.
+/// The cursor is at the start of the line then, so that other output takes the place of the text. Only tests show when
+/// it is called.
 pub fn show_progress<E: Sink>(percent: u64, errors: &mut E)
     requires { E.has_failed errors.old ≡ false }
     ensures { E.has_failed errors.new ≡ false → Appends (E.taken_bytes errors.old) (E.taken_bytes errors.new) (progress_text percent) }

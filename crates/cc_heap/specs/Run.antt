@@ -124,8 +124,8 @@ totals_after pool totals moments = record {
   high = max totals.high (greatest (of_made (λ object. object.span.top - pool.base)) moments);
 }
 
--- HasTotals holds if the events lead to the heap from one that held nothing, and its totals count all states
--- that they pass.
+-- HasTotals holds if the events lead to the heap from one that held nothing, and its totals are the numbers
+-- of all states that they pass.
 pub record HasTotals (events : List Event) (heap : Heap) : Type 0 where
   pub moments : List Moment
   pub passed : ArePassedBy (empty_heap heap.settings) events moments heap

@@ -48,8 +48,8 @@ pub fn answer_arguments<R: Env + AllocGlobal + Files + Input + Print + Eprint>(
     }
 }
 
-/// Executes a command line, and returns the program's end. The first argument is the program's name. Only `tests/program` shows that
-/// these arguments are executed: no clause says so.
+/// Executes a command line, and returns the program's end. The first argument is the program's name. Only
+/// `tests/program` shows that these arguments are executed: no clause says so.
 fn answer_strings<R: AllocGlobal + Files + Input + Print + Eprint>(
     rt: &R,
     terminals: Terminals,
