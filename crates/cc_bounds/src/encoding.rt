@@ -78,11 +78,10 @@ impl Set {
         ensures only { (span : SpanSpec) → StoresSpan fields.now span
             → result ≡ Some (record { granted = span; exact = true }) }
     {
-        let span = decode(fields);
-        if is_stored(fields, &span) {
-            Some(stored_encoding(fields, span))
+        if exponent(fields) < FIRST_LARGE_EXPONENT {
+            stored_set(fields)
         } else {
-            None
+            large_stored_set(*fields)
         }
     }
 
@@ -179,20 +178,50 @@ fn is_span(span: &Span) -> bool
     u128::from(span.base) <= span.top && span.top <= ADDRESS_SPACE
 }
 
-/// Returns whether the fields store the span that they decode to.
+/// Returns whether the fields store the bounds that they decode to: a word with these bounds fields
+/// is canonical in all but its reserved bits and its type.
 ///
 /// Below exponent 51, only the top is tested: it is never below the base, and every bit of the
 /// bounds fields counts.
+///
+/// Requires: the fields decode to `bounds`.
 #[inline(always)]
-fn is_stored(fields: &Fields, span: &Span) -> bool
-    requires { DecodesTo fields.now span.now }
-    ensures { IsTrue result ↔ StoresSpan fields.now span.now }
+pub fn stores(fields: &Fields, bounds: &Span) -> bool
+    requires { DecodesTo fields.now bounds.now }
+    ensures { IsTrue result ↔ StoresSpan fields.now bounds.now }
 {
     if exponent(fields) < FIRST_LARGE_EXPONENT {
-        span.top <= ADDRESS_SPACE
+        bounds.top <= ADDRESS_SPACE
     } else {
-        is_span(span) && every_bit_counts(fields)
+        is_span(bounds) && every_bit_counts(fields)
     }
+}
+
+/// Returns the encoding that the fields store, as [`Set::of_fields`] does.
+#[inline(always)]
+fn stored_set(fields: &Fields) -> Option<Set>
+    ensures found { IfSome result (λ set. StoresSpan fields.now set.granted) }
+    ensures only { (span : SpanSpec) → StoresSpan fields.now span
+        → result ≡ Some (record { granted = span; exact = true }) }
+{
+    let span = decode(fields);
+    if stores(fields, &span) {
+        Some(stored_encoding(fields, span))
+    } else {
+        None
+    }
+}
+
+/// Returns the encoding that the fields store, apart from the code of smaller exponents: bounds of
+/// exponents from 51 up are rare.
+#[cold]
+#[inline(never)]
+fn large_stored_set(fields: Fields) -> Option<Set>
+    ensures found { IfSome result (λ set. StoresSpan fields set.granted) }
+    ensures only { (span : SpanSpec) → StoresSpan fields span
+        → result ≡ Some (record { granted = span; exact = true }) }
+{
+    stored_set(&fields)
 }
 
 /// Returns the encoding of the span that the fields store.

@@ -12,7 +12,7 @@ mod window;
 
 pub use align::Align;
 pub use decoding::{decode, exponent};
-pub use encoding::{Set, set_bounds};
+pub use encoding::{Set, set_bounds, stores};
 pub use len::Len;
 pub use rounding::{alignment_mask, granule, round_length};
 pub use span::{ADDRESS_SPACE, Span};

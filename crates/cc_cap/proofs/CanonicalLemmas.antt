@@ -1,5 +1,7 @@
 -- The word of a capability: there is one, and no other capability has it.
-use Rattle.std.proofs.Common.{ℕ, Bool, ◌≡◌, ◌∙◌, ◌-◌, ◌^◌, ◌<◌, sym, ap, subst}
+use Rattle.std.proofs.Common.{ℕ, Bool, true, false, ◌≡◌, ◌∙◌, ◌+◌, ◌-◌, ◌*◌, ◌/◌, ◌%◌, ◌^◌, ◌<◌, ◌≤◌, ◌==◌, ◌⊎◌, inl, inr, refl, sym, ap, subst, arith}
+use Rattle.std.proofs.lemmas.Bool.{cases_lt}
+use Rattle.std.specs.Prelude.{◌↔◌}
 use Rattle.cc_word.specs.declared.fields.Fields.{Fields}
 use Rattle.cc_word.specs.Word.{bit_of, turned, layout_of, word_of}
 use Rattle.cc_word.proofs.WordLemmas.{word_of-same}
@@ -8,7 +10,7 @@ use Rattle.cc_bounds.specs.Encoding.{StoresSpan, ie_of, t_of, b_of}
 use Rattle.cc_bounds.proofs.DecodingLemmas.{DecodesTo-same}
 use Rattle.cc_bounds.proofs.SoundDecodingLemmas.{sound-decodes}
 use Rattle.cc_bounds.proofs.ComputingLemmas.{bounds_fields-are}
-use Rattle.cc_word.specs.ObjType.{IsObjType}
+use Rattle.cc_word.specs.ObjType.{IsObjType, unsealed_type}
 use Rattle.cc_cap.specs.Capability.{Capability, IsCapability}
 use Rattle.cc_cap.specs.Canonical.{IsFieldsOf, IsWordOf, word_of_capability}
 
@@ -90,3 +92,63 @@ IsWordOf-read cap fields word bounds is_type perms reserved flag otype address i
   };
   is_word = sym is_word;
 }
+
+-- ---- the bits of the reserved bits, the flag and the type
+
+-- a number with a bit turned stays below a power of two above the bit
+turned-one : (number : ℕ) → number < 2 ^ 12 → turned 1 number < 2 ^ 12
+turned-one number fits = by (number / 2 ^ 1 % 2 == 1) refl
+  where
+    by : (set : Bool) → (number / 2 ^ 1 % 2 == 1) ≡ set → turned 1 number < 2 ^ 12
+    by true is = rw is (omega arith)
+    by false is = let clear : ¬ (number / 2 % 2 ≡ 1) = grind (arith, is) in rw is (omega (arith, clear))
+
+turned-two : (number : ℕ) → number < 2 ^ 12 → turned 2 number < 2 ^ 12
+turned-two number fits = by (number / 2 ^ 2 % 2 == 1) refl
+  where
+    by : (set : Bool) → (number / 2 ^ 2 % 2 == 1) ≡ set → turned 2 number < 2 ^ 12
+    by true is = rw is (omega arith)
+    by false is = let clear : ¬ (number / 4 % 2 ≡ 1) = grind (arith, is) in rw is (omega (arith, clear))
+
+turned-high : (number : ℕ) → number < 2 ^ 14 → turned 2 number < 2 ^ 14
+turned-high number fits = by (number / 2 ^ 2 % 2 == 1) refl
+  where
+    by : (set : Bool) → (number / 2 ^ 2 % 2 == 1) ≡ set → turned 2 number < 2 ^ 14
+    by true is = rw is (omega arith)
+    by false is = let clear : ¬ (number / 4 % 2 ≡ 1) = grind (arith, is) in rw is (omega (arith, clear))
+
+middle : (p r f o i t b a : ℕ) → r < 2 ^ 2 → f ≤ 1 → o < 2 ^ 18 → i ≤ 1 → t < 2 ^ 12 → b < 2 ^ 14 → a < 2 ^ 64
+    → layout_of p r f o i t b a / 2 ^ 91 % 2 ^ 21 ≡ r * 2 ^ 19 + f * 2 ^ 18 + o
+middle p r f o i t b a r_fits f_fits o_fits i_fits t_fits b_fits a_fits = omega arith
+
+bit-fits : (bit : Bool) → bit_of bit ≤ 1
+bit-fits true = omega arith
+bit-fits false = omega arith
+
+-- the 21 bits of a word from the type up to the reserved bits
+pub middle_bits : (fields : Fields) → word_of fields / 2 ^ 91 % 2 ^ 21 ≡ fields.reserved * 2 ^ 19 + bit_of fields.flag * 2 ^ 18 + (0x3ffff - fields.otype)
+middle_bits fields =
+    middle fields.perms fields.reserved (bit_of fields.flag) (0x3ffff - fields.otype) (1 - bit_of fields.ie) (turned 2 (turned 1 fields.t))
+    (turned 2 fields.b) fields.address fields.reserved_fits (bit-fits fields.flag) (omega arith) (omega arith)
+    (turned-two (turned 1 fields.t) (turned-one fields.t fields.t_fits)) (turned-high fields.b fields.b_fits) fields.address_fits
+
+-- whether the reserved bits are zero and the type is unsealed, by these bits
+pub plain-bits : (word rest : ℕ) → rest ≡ word / 2 ^ 91 % 2 ^ 21 → (fields : Fields) → word_of fields ≡ word
+    → ((rest ≡ 0) ⊎ (rest ≡ 0x40000)) ↔ ((fields.reserved ≡ 0) × (fields.otype ≡ unsealed_type))
+plain-bits word rest is fields has =
+    let bits : rest ≡ fields.reserved * 2 ^ 19 + bit_of fields.flag * 2 ^ 18 + (0x3ffff - fields.otype) =
+    is ∙ ap (λ (n : ℕ). n / 2 ^ 91 % 2 ^ 21) (sym has) ∙ middle_bits fields in
+    let flag = bit-fits fields.flag in
+    let type_fits = fields.otype_fits in (
+      λ either. elim either [
+        | inl zero ↦ (omega (arith, bits, zero), omega (arith, bits, zero, type_fits))
+        | inr set ↦ (omega (arith, bits, set, flag, type_fits), omega (arith, bits, set, flag, type_fits))
+      ],
+      λ both.
+          let reserved = both.0 in
+          let unsealed = both.1 in
+          elim (cases_lt (bit_of fields.flag) 1) [
+            | inl clear ↦ inl (omega (arith, bits, reserved, unsealed, clear))
+            | inr set ↦ inr (omega (arith, bits, reserved, unsealed, set, flag))
+          ],
+    )

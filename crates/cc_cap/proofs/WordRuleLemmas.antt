@@ -1,8 +1,8 @@
 -- The rules on words.
-use Rattle.std.proofs.Common.{ℕ, ◌≡◌, ◌+◌, ◌<◌, ◌^◌, Result, Ok, Err, sym, ap, subst, inl, inr, arith}
+use Rattle.std.proofs.Common.{ℕ, Bool, ◌≡◌, ◌+◌, ◌-◌, ◌*◌, ◌<◌, ◌^◌, Result, Ok, Err, bit_and, refl, sym, subst, inl, inr, arith}
 use Rattle.std.specs.Prelude.{IfOk}
 use Rattle.cc_word.specs.declared.fields.Fields.{Fields}
-use Rattle.cc_word.specs.Word.{word_of}
+use Rattle.cc_word.specs.Word.{bit_of, word_of}
 use Rattle.cc_word.proofs.WordLemmas.{word_of-same}
 use Rattle.cc_word.specs.declared.refusal.Refusal.{Refusal}
 use Rattle.cc_word.specs.declared.refusal.Refusal.TheVariants.{NotCanonical}
@@ -13,10 +13,9 @@ use Rattle.cc_bounds.specs.Window.{Represents}
 use Rattle.cc_bounds.proofs.DecodingLemmas.{DecodesTo-same}
 use Rattle.cc_bounds.proofs.SoundDecodingLemmas.{sound-decodes}
 use Rattle.cc_word.specs.Permissions.{HasAll}
-use Rattle.cc_cap.specs.Capability.{Capability, IsCapability, GrantsNoMore}
+use Rattle.cc_cap.specs.Capability.{Capability, IsCapability, GrantsNoMore, at_address, with_flag, with_permissions}
 use Rattle.cc_cap.specs.Canonical.{IsFieldsOf, IsWordOf, IsCanonical}
-use Rattle.cc_cap.specs.Cap.{IsRefusedBounds}
-use Rattle.cc_cap.specs.Derivation.{SetsBounds, SetsExactBounds, Rebuilds}
+use Rattle.cc_cap.specs.Derivation.{SetsAddress, SetsFlag, MasksPermissions, Rebuilds}
 use Rattle.cc_cap.specs.WordRules.{InWords, OnWord, OnWords, IsSubset}
 use Rattle.cc_cap.proofs.CanonicalLemmas.{IsWordOf-same}
 
@@ -67,13 +66,111 @@ pub too_long-outside : (cap : Capability) (len : ℕ) → IsCapability cap → 2
     → ¬ IsWithin (record { base = cap.address; top = cap.address + len }) cap.span
 too_long-outside cap len is long within = absurd (omega (arith, long, within.to_top, is.is_span.top_fits))
 
-pub SetsBounds-refused : (cap : Capability) (len : ℕ) (refusal : Refusal) → IsRefusedBounds cap len refusal → SetsBounds cap len (Err refusal)
-SetsBounds-refused cap len refusal (inl sealed) = inr (sealed.0, ap Err sealed.1)
-SetsBounds-refused cap len refusal (inr outside) = inl (outside.0, inr (outside.1, ap Err outside.2))
+-- ---- one field of a word replaced
 
-pub SetsExactBounds-refused : (cap : Capability) (len : ℕ) (refusal : Refusal) → IsRefusedBounds cap len refusal → SetsExactBounds cap len (Err refusal)
-SetsExactBounds-refused cap len refusal (inl sealed) = inr (sealed.0, ap Err sealed.1)
-SetsExactBounds-refused cap len refusal (inr outside) = inl (outside.0, inr (outside.1, ap Err outside.2))
+-- the address
+pub address-replaced : (cap : Capability) (word address : ℕ) (made : Result Capability Refusal) (result : ℕ) → IsWordOf cap word → address < 2 ^ 64
+    → SetsAddress cap address made → ((fields : Fields) → word_of fields ≡ word → result ≡ word - fields.address + address)
+    → IfOk made (λ new. IsWordOf new result)
+address-replaced cap word address (Err refusal) result has fits is replaced = tt
+address-replaced cap word address (Ok new) result has fits (inr sealed) replaced = absurd (cc sealed.1)
+address-replaced cap word address (Ok new) result has fits (inl (unsealed, inr outside)) replaced = absurd (cc outside.1)
+address-replaced cap word address (Ok new) result has fits (inl (unsealed, inl (represents, is))) replaced =
+    let same : at_address cap address ≡ new = cc is in
+    let fields : Fields = has.fields in
+    let own = has.is_fields in
+    let is_cap = has.is_capability in
+    let sum = replaced fields (sym has.is_word) in
+    let is_word = has.is_word in
+    subst (λ c. IsWordOf c result) same (record {
+      is_capability = record {
+        is_span = is_cap.is_span;
+        sound = is_cap.sound;
+        address_fits = fits;
+        representable = represents;
+        permissions_fit = is_cap.permissions_fit;
+        is_type = is_cap.is_type;
+      };
+      fields = record fields { address = address; address_fits = fits };
+      is_fields = record {
+        permissions = own.permissions;
+        reserved = own.reserved;
+        flag = own.flag;
+        otype = own.otype;
+        bounds = own.bounds;
+        address = refl;
+      };
+      is_word = omega (arith, sum, is_word);
+    })
+
+-- the flag
+pub flag-replaced : (cap : Capability) (word : ℕ) (flag : Bool) (made : Result Capability Refusal) (result : ℕ) → IsWordOf cap word
+    → SetsFlag cap flag made → ((fields : Fields) → word_of fields ≡ word → result ≡ word - bit_of fields.flag * 2 ^ 109 + bit_of flag * 2 ^ 109)
+    → IfOk made (λ new. IsWordOf new result)
+flag-replaced cap word flag (Err refusal) result has is replaced = tt
+flag-replaced cap word flag (Ok new) result has (inr sealed) replaced = absurd (cc sealed.1)
+flag-replaced cap word flag (Ok new) result has (inl (unsealed, is)) replaced =
+    let same : with_flag cap flag ≡ new = cc is in
+    let fields : Fields = has.fields in
+    let own = has.is_fields in
+    let is_cap = has.is_capability in
+    let sum = replaced fields (sym has.is_word) in
+    let is_word = has.is_word in
+    subst (λ c. IsWordOf c result) same (record {
+      is_capability = record {
+        is_span = is_cap.is_span;
+        sound = is_cap.sound;
+        address_fits = is_cap.address_fits;
+        representable = is_cap.representable;
+        permissions_fit = is_cap.permissions_fit;
+        is_type = is_cap.is_type;
+      };
+      fields = record fields { flag = flag };
+      is_fields = record {
+        permissions = own.permissions;
+        reserved = own.reserved;
+        flag = refl;
+        otype = own.otype;
+        bounds = own.bounds;
+        address = own.address;
+      };
+      is_word = omega (arith, sum, is_word);
+    })
+
+-- the permissions
+pub perms-replaced : (cap : Capability) (word mask perms : ℕ) (made : Result Capability Refusal) (result : ℕ) → IsWordOf cap word
+    → perms ≡ bit_and cap.permissions mask → perms < 2 ^ 16
+    → MasksPermissions cap mask made → ((fields : Fields) → word_of fields ≡ word → result ≡ word - fields.perms * 2 ^ 112 + perms * 2 ^ 112)
+    → IfOk made (λ new. IsWordOf new result)
+perms-replaced cap word mask perms (Err refusal) result has are fit is replaced = tt
+perms-replaced cap word mask perms (Ok new) result has are fit (inr sealed) replaced = absurd (cc sealed.1)
+perms-replaced cap word mask perms (Ok new) result has are fit (inl (unsealed, is)) replaced =
+    let same : with_permissions cap (bit_and cap.permissions mask) ≡ new = cc is in
+    let fields : Fields = has.fields in
+    let own = has.is_fields in
+    let is_cap = has.is_capability in
+    let sum = replaced fields (sym has.is_word) in
+    let is_word = has.is_word in
+    subst (λ c. IsWordOf c result) same (record {
+      is_capability = record {
+        is_span = is_cap.is_span;
+        sound = is_cap.sound;
+        address_fits = is_cap.address_fits;
+        representable = is_cap.representable;
+        permissions_fit = subst (λ (n : ℕ). n < 2 ^ 16) are fit;
+        is_type = is_cap.is_type;
+      };
+      fields = record fields { perms = perms; perms_fit = fit };
+      is_fields = record {
+        permissions = are;
+        reserved = own.reserved;
+        flag = own.flag;
+        otype = own.otype;
+        bounds = own.bounds;
+        address = own.address;
+      };
+      is_word = omega (arith, sum, is_word);
+    })
 
 -- ---- rebuilding
 

@@ -79,3 +79,16 @@ ChecksAuthority authority permission result =
 abbrev pub IsReadFrom : ℕ → Result Capability Refusal → Type 0
 IsReadFrom word result =
     MatchResult result (λ cap. IsWordOf cap word) (λ refusal. (¬ IsCanonical word) × (refusal ≡ NotCanonical))
+
+-- `IsRefusedWord` holds if `refusal` says why no unsealed capability has the word: `Sealed` if a
+-- sealed one has it, otherwise `NotCanonical`.
+abbrev pub IsRefusedWord : ℕ → Refusal → Type 0
+IsRefusedWord word refusal =
+    ((¬ IsCanonical word) × (refusal ≡ NotCanonical))
+    ⊎ ((cap : Capability) × IsWordOf cap word × (¬ IsUnsealed cap) × (refusal ≡ Sealed))
+
+-- `IsUnsealedFrom` holds if `result` is the unsealed capability that has the word, or the refusal of
+-- the word.
+abbrev pub IsUnsealedFrom : ℕ → Result Capability Refusal → Type 0
+IsUnsealedFrom word result =
+    MatchResult result (λ cap. IsWordOf cap word × IsUnsealed cap) (IsRefusedWord word)

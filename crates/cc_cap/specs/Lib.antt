@@ -1,6 +1,7 @@
 -- In reading order.
 pub mod Capability
 pub mod Canonical
+pub mod Defect
 pub mod Derivation
 pub mod Reach
 pub mod WordRules

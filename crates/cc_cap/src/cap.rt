@@ -1,7 +1,11 @@
 //! Capabilities, and the functions that derive them.
-ghost use Rattle.std.specs.Prelude.{◌≡◌};
+ghost use Rattle.std.specs.Prelude.{◌≡◌, ◌↔◌, IsTrue};
 ghost use Rattle.cc_word.specs.Permissions.{bits_of};
+ghost use Rattle.cc_word.specs.Word.{word_of};
+ghost use Rattle.cc_word.specs.ObjType.{unsealed_type};
+ghost use Rattle.cc_word.specs.declared.fields.Fields.{Fields as FieldsSpec};
 ghost use Rattle.cc_cap.specs.Capability.{unsealed_permissions};
+ghost use Rattle.cc_cap.specs.Cap.{IsRefusedWord};
 
 use bitflags::Flags;
 use cc_bounds::{ADDRESS_SPACE, Set, Span, represents};
@@ -72,7 +76,7 @@ impl Cap {
     ghost use Rattle.cc_bounds.specs.Granule.{IsSound};
     ghost use Rattle.cc_bounds.specs.Span.{IsSpan, IsWithin, length_of};
     ghost use Rattle.cc_bounds.specs.Encoding.{ie_of, t_of, b_of};
-    ghost use Rattle.cc_cap.specs.Cap.{IsEncodingFor, IsRefusedBounds, ChecksAuthority};
+    ghost use Rattle.cc_cap.specs.Cap.{IsEncodingFor, IsRefusedBounds, ChecksAuthority, IsUnsealedFrom};
     ghost use Rattle.cc_cap.specs.Capability.{Capability, IsCapability, IsSealed, IsUnsealed, GrantsNoMore, at_address, root_capability, with_span};
     ghost use Rattle.cc_cap.specs.Canonical.{IsWordOf, IsCanonical, word_of_capability};
     ghost use Rattle.cc_cap.specs.Reach.{IsReachable};
@@ -438,6 +442,28 @@ impl Cap {
             && !self.is_sealed()
     }
 
+    // Returns the capability of the word of an unsealed one, or the refusal of another word:
+    // `NotCanonical`, or `Sealed`.
+    #[inline(always)]
+    pub(crate) fn of_unsealed_word(word: u128) -> Result<Cap, Refusal>
+        ensures { IsUnsealedFrom word result }
+    {
+        if !is_plain(word) {
+            return Err(refusal_of(word));
+        }
+        let fields = unpack(word);
+        let Some(set) = Set::of_fields(&fields) else {
+            return Err(Refusal::NotCanonical);
+        };
+        Ok(Cap {
+            set,
+            address: fields.address,
+            perms: Perms::from_bits_retain(fields.perms),
+            flag: fields.flag,
+            otype: ObjType::UNSEALED,
+        })
+    }
+
     // Returns the capability of a word, or `None` for a word that is not canonical.
     #[inline(always)]
     pub(crate) fn of_word(word: u128) -> Option<Cap>
@@ -456,6 +482,31 @@ impl Cap {
             flag: fields.flag,
             otype,
         })
+    }
+}
+
+/// Returns whether no reserved bit of the word is set, and its type is unsealed, by one test.
+///
+/// A word has its type inverted, so the bits of both are then zero. The flag is between them.
+fn is_plain(word: u128) -> bool
+    ensures { (fields : FieldsSpec) → word_of fields ≡ word → (IsTrue result ↔ ((fields.reserved ≡ 0) × (fields.otype ≡ unsealed_type))) }
+{
+    let flag_between = (word >> 91) & 0x1f_ffff;
+    flag_between == 0 || flag_between == 0x4_0000
+}
+
+/// Returns the refusal of a word with a reserved bit or a type other than unsealed: `Sealed` if it is
+/// canonical, otherwise `NotCanonical`.
+#[cold]
+#[inline(never)]
+fn refusal_of(word: u128) -> Refusal
+    requires { (fields : FieldsSpec) → word_of fields ≡ word → ¬ ((fields.reserved ≡ 0) × (fields.otype ≡ unsealed_type)) }
+    ensures { IsRefusedWord word result }
+{
+    if Cap::of_word(word).is_some() {
+        Refusal::Sealed
+    } else {
+        Refusal::NotCanonical
     }
 }
 

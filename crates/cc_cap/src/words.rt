@@ -10,17 +10,18 @@
 //! Each word that a rule returns is canonical, and a subset of the word that it is made of, as
 //! [`is_subset`] compares words. This is the law
 //! `rules_on_words_are_monotonic` of `cc_laws`.
-ghost use Rattle.std.specs.Prelude.{◌≡◌, ◌↔◌, ◌<◌, ◌^◌, IsTrue, IfOk};
-ghost use Rattle.cc_word.specs.Word.{word_of};
+ghost use Rattle.std.specs.Prelude.{◌≡◌, ◌+◌, ◌-◌, ◌*◌, ◌^◌, ◌↔◌, IsTrue, IfOk};
+ghost use Rattle.cc_word.specs.Word.{bit_of, word_of};
 ghost use Rattle.cc_word.specs.declared.fields.Fields.{Fields as FieldsSpec};
 ghost use Rattle.cc_word.specs.Permissions.{bits_of};
-ghost use Rattle.cc_cap.specs.Capability.{Capability, IsCapability, GrantsNoMore};
+ghost use Rattle.cc_cap.specs.Capability.{Capability, GrantsNoMore};
 ghost use Rattle.cc_cap.specs.Canonical.{IsWordOf, IsCanonical};
-ghost use Rattle.cc_cap.specs.Cap.{IsReadFrom, IsRefusedBounds};
+ghost use Rattle.cc_cap.specs.Cap.{IsReadFrom};
 ghost use Rattle.cc_cap.specs.Derivation.{SetsAddress, Increments, SetsBounds, SetsExactBounds, MasksPermissions, SetsFlag, Seals, Unseals, Rebuilds};
 ghost use Rattle.cc_cap.specs.WordRules.{InWords, OnWord, OnWords, IsSubset};
 
 use crate::cap::Cap;
+use bitflags::Flags;
 use cc_bounds::{ADDRESS_SPACE, decode};
 use cc_word::{Fields, Perms, Refusal, unpack};
 
@@ -31,8 +32,8 @@ use cc_word::{Fields, Perms, Refusal, unpack};
 pub fn set_address(word: u128, address: u64) -> Result<u128, Refusal>
     ensures made { OnWord (λ cap. SetsAddress cap address) word result }
 {
-    let cap = read(word)?;
-    in_words(cap.set_address(address))
+    let cap = Cap::of_unsealed_word(word)?;
+    own_word(cap.set_address(address), with_address(word, address))
 }
 
 /// Returns the word with `amount` added to its address, modulo 2^64.
@@ -42,8 +43,9 @@ pub fn set_address(word: u128, address: u64) -> Result<u128, Refusal>
 pub fn increment(word: u128, amount: u64) -> Result<u128, Refusal>
     ensures made { OnWord (λ cap. Increments cap amount) word result }
 {
-    let cap = read(word)?;
-    in_words(cap.increment(amount))
+    let cap = Cap::of_unsealed_word(word)?;
+    let address = cap.address().wrapping_add(amount);
+    own_word(cap.increment(amount), with_address(word, address))
 }
 
 /// Returns the word with the bounds of `len` bytes from its address, rounded if they cannot be
@@ -56,9 +58,9 @@ pub fn increment(word: u128, amount: u64) -> Result<u128, Refusal>
 pub fn set_bounds(word: u128, len: u128) -> Result<u128, Refusal>
     ensures made { OnWord (λ cap. SetsBounds cap len) word result }
 {
-    let cap = read(word)?;
+    let cap = Cap::of_unsealed_word(word)?;
     if len > ADDRESS_SPACE {
-        return Err(too_long(&cap, len));
+        return Err(Refusal::OutOfBounds);
     }
     in_words(cap.set_bounds(len))
 }
@@ -72,9 +74,9 @@ pub fn set_bounds(word: u128, len: u128) -> Result<u128, Refusal>
 pub fn set_bounds_exact(word: u128, len: u128) -> Result<u128, Refusal>
     ensures made { OnWord (λ cap. SetsExactBounds cap len) word result }
 {
-    let cap = read(word)?;
+    let cap = Cap::of_unsealed_word(word)?;
     if len > ADDRESS_SPACE {
-        return Err(too_long(&cap, len));
+        return Err(Refusal::OutOfBounds);
     }
     in_words(cap.set_bounds_exact(len))
 }
@@ -86,8 +88,11 @@ pub fn set_bounds_exact(word: u128, len: u128) -> Result<u128, Refusal>
 pub fn and_perms(word: u128, mask: Perms) -> Result<u128, Refusal>
     ensures made { OnWord (λ cap. MasksPermissions cap (bits_of mask)) word result }
 {
-    let cap = read(word)?;
-    in_words(cap.and_perms(mask))
+    let cap = Cap::of_unsealed_word(word)?;
+    own_word(
+        cap.and_perms(mask),
+        with_perms(word, cap.perms().intersection(mask)),
+    )
 }
 
 /// Returns the word with its flag set to `flag`.
@@ -97,8 +102,8 @@ pub fn and_perms(word: u128, mask: Perms) -> Result<u128, Refusal>
 pub fn set_flag(word: u128, flag: bool) -> Result<u128, Refusal>
     ensures made { OnWord (λ cap. SetsFlag cap flag) word result }
 {
-    let cap = read(word)?;
-    in_words(cap.set_flag(flag))
+    let cap = Cap::of_unsealed_word(word)?;
+    own_word(cap.set_flag(flag), with_flag(word, flag))
 }
 
 /// Returns the word sealed with the authority's address as its type.
@@ -186,6 +191,27 @@ fn in_words(made: Result<Cap, Refusal>) -> Result<u128, Refusal>
     }
 }
 
+// Returns the word at another address.
+fn with_address(word: u128, address: u64) -> u128
+    ensures { (fields : FieldsSpec) → word_of fields ≡ word → result ≡ word - fields.address + address }
+{
+    word - u128::from(unpack(word).address) + u128::from(address)
+}
+
+// Returns the word with another flag.
+fn with_flag(word: u128, flag: bool) -> u128
+    ensures { (fields : FieldsSpec) → word_of fields ≡ word → result ≡ word - bit_of fields.flag * 2 ^ 109 + bit_of flag * 2 ^ 109 }
+{
+    word - (u128::from(unpack(word).flag) << 109) + (u128::from(flag) << 109)
+}
+
+// Returns the word with other permissions.
+fn with_perms(word: u128, perms: Perms) -> u128
+    ensures { (fields : FieldsSpec) → word_of fields ≡ word → result ≡ word - fields.perms * 2 ^ 112 + bits_of perms * 2 ^ 112 }
+{
+    word - (u128::from(unpack(word).perms) << 112) + (u128::from(perms.bits()) << 112)
+}
+
 // Returns `word` if its capability was made, without packing it again, or the same refusal.
 fn own_word(made: Result<Cap, Refusal>, word: u128) -> Result<u128, Refusal>
     requires { IfOk made (λ cap. IsWordOf cap word) }
@@ -194,19 +220,5 @@ fn own_word(made: Result<Cap, Refusal>, word: u128) -> Result<u128, Refusal>
     match made {
         Ok(_) => Ok(word),
         Err(refusal) => Err(refusal),
-    }
-}
-
-// Returns the refusal of bounds of more than 2^64 bytes: `Sealed` for a sealed capability,
-// otherwise `OutOfBounds`.
-fn too_long(cap: &Cap, len: u128) -> Refusal
-    requires capability { IsCapability cap.now }
-    requires long { 2 ^ 64 < len }
-    ensures { IsRefusedBounds cap.now len result }
-{
-    if cap.is_sealed() {
-        Refusal::Sealed
-    } else {
-        Refusal::OutOfBounds
     }
 }

@@ -12,11 +12,11 @@ use crate::writers::{
     Batch, push_byte, push_byte_if, push_decimal, push_digits, push_hexadecimal, push_padded,
 };
 use bitflags::Flags;
-use cc_bounds::{Span, decode, exponent};
-use cc_cap::is_canonical;
+use cc_bounds::{Span, exponent};
+use cc_cap::Decoded;
 use cc_explain::push_permissions;
 use cc_io::{Format, Line};
-use cc_word::{Fields, Perms, SENTRY_TYPE, UNSEALED_TYPE, unpack};
+use cc_word::{Fields, Perms, SENTRY_TYPE, UNSEALED_TYPE};
 
 /// Appends the reply to a word in this format, without a line feed: at most 450 bytes.
 pub(crate) fn push_row(batch: &mut Batch, format: Format, word: u128)
@@ -38,10 +38,16 @@ fn push_columns(batch: &mut Batch, word: u128)
     ensures row { AppendsRow Format.Columns word batch.old batch.new }
     ensures fits { length batch.new ≤ length batch.old + 450 }
 {
-    let fields = unpack(word);
-    let bounds = decode(&fields);
-    let canonical = is_canonical(word);
-    push_values(batch, b' ', word, &fields, &bounds, canonical);
+    let decoded = Decoded::of_word(word);
+    let canonical = decoded.is_canonical();
+    push_values(
+        batch,
+        b' ',
+        word,
+        &decoded.fields,
+        &decoded.bounds,
+        canonical,
+    );
 }
 
 /// Appends the line that a tagged word has.
@@ -50,9 +56,8 @@ fn push_line(batch: &mut Batch, word: u128)
     ensures row { AppendsRow Format.Text word batch.old batch.new }
     ensures fits { length batch.new ≤ length batch.old + 450 }
 {
-    let fields = unpack(word);
-    let bounds = decode(&fields);
-    push_line_of(batch, &fields, &bounds);
+    let decoded = Decoded::of_word(word);
+    push_line_of(batch, &decoded.fields, &decoded.bounds);
 }
 
 /// Appends the line of a tagged word with these fields and bounds.
@@ -131,10 +136,9 @@ fn push_fixed(batch: &mut Batch, word: u128)
     ensures row { AppendsRow Format.Fixed word batch.old batch.new }
     ensures fits { length batch.new ≤ length batch.old + 450 }
 {
-    let fields = unpack(word);
-    let bounds = decode(&fields);
-    let canonical = is_canonical(word);
-    push_fixed_values(batch, word, &fields, &bounds, canonical);
+    let decoded = Decoded::of_word(word);
+    let canonical = decoded.is_canonical();
+    push_fixed_values(batch, word, &decoded.fields, &decoded.bounds, canonical);
 }
 
 /// Appends the columns in one width each of a word with these fields and bounds.
@@ -180,10 +184,9 @@ fn push_csv(batch: &mut Batch, word: u128)
     ensures row { AppendsRow Format.Csv word batch.old batch.new }
     ensures fits { length batch.new ≤ length batch.old + 450 }
 {
-    let fields = unpack(word);
-    let bounds = decode(&fields);
-    let canonical = is_canonical(word);
-    push_csv_values(batch, word, &fields, &bounds, canonical);
+    let decoded = Decoded::of_word(word);
+    let canonical = decoded.is_canonical();
+    push_csv_values(batch, word, &decoded.fields, &decoded.bounds, canonical);
 }
 
 /// Appends the comma-separated values of a word with these fields and bounds.

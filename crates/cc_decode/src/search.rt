@@ -5,9 +5,9 @@ ghost use Rattle.cc_decode.specs.Search.{Grants, IsFound, IsListed};
 
 use crate::options::Search;
 use bitflags::Flags;
-use cc_bounds::{Span, decode};
-use cc_cap::is_canonical;
-use cc_word::{Fields, Perms, unpack};
+use cc_bounds::Span;
+use cc_cap::Decoded;
+use cc_word::{Fields, Perms};
 
 /// Returns whether a word is listed: every word is without a search.
 pub(crate) fn is_listed(search: Option<Search>, word: u128) -> bool
@@ -23,13 +23,8 @@ pub(crate) fn is_listed(search: Option<Search>, word: u128) -> bool
 fn is_found(search: Search, word: u128) -> bool
     ensures { IsTrue result ↔ IsFound search word }
 {
-    if is_canonical(word) {
-        let fields = unpack(word);
-        let bounds = decode(&fields);
-        grants(search, &fields, &bounds)
-    } else {
-        false
-    }
+    let decoded = Decoded::of_word(word);
+    decoded.is_canonical() && grants(search, &decoded.fields, &decoded.bounds)
 }
 
 /// Returns whether these fields and bounds have the permissions and the address of a search.

@@ -1,5 +1,4 @@
 mod PermissionLemmas
 pub mod StepLemmas
-mod StandingLemmas
 mod RequestLemmas
 mod TextLemmas

@@ -1,20 +1,22 @@
 -- The explanation of a word, and the output of `explain` for a string.
-use Rattle.std.specs.Prelude.{◌≡◌, ℕ, ◌+◌, ◌-◌, ◌*◌, ◌/◌, ◌%◌, ◌^◌, List, ◌++◌, codes, nat_le, if◌then◌else◌}
+use Rattle.std.specs.Prelude.{◌≡◌, ℕ, ◌+◌, ◌-◌, ◌*◌, ◌/◌, ◌%◌, ◌^◌, List, ◌++◌, Option, None, Some, MatchOption, codes, nat_le, if◌then◌else◌}
 use Rattle.cc_word.specs.Word.{word_of, bit_of}
 use Rattle.cc_word.specs.declared.fields.Fields.{Fields}
 use Rattle.cc_bounds.specs.declared.span.Span.{Span}
 use Rattle.cc_bounds.specs.Decoding.{DecodesTo, raised}
 use Rattle.cc_bounds.specs.Span.{span_from}
 use Rattle.cc_bounds.specs.Window.{section_of}
+use Rattle.cc_bounds.specs.Encoding.{ie_of, t_of, b_of}
+use Rattle.cc_cap.specs.Canonical.{IsCanonical}
+use Rattle.cc_cap.specs.Defect.{HasDefect}
+use Rattle.cc_cap.specs.declared.canonical.Defect.{Defect}
+use Rattle.cc_cap.specs.declared.canonical.Defect.TheVariants.{ReservedBits, ReservedType, TopBelowBase, TopPastEnd, OtherFields}
 use Rattle.cc_io.specs.Text.{with_line_feed}
 use Rattle.cc_io.specs.Numbered.{line_feed, line_with_decimal, line_with_hexadecimal, with_decimal, with_digits, with_hexadecimal}
 use Rattle.cc_explain.specs.Answer.{AnswersTyped}
 use Rattle.cc_explain.specs.Picture.{IsPictureRow}
-use Rattle.cc_explain.specs.Standing.{IsStanding}
 use Rattle.cc_explain.specs.Steps.{AreSteps}
 use Rattle.cc_explain.specs.declared.picture.Rows.{Rows}
-use Rattle.cc_explain.specs.declared.standing.Standing.{Standing}
-use Rattle.cc_explain.specs.declared.standing.Standing.TheVariants.{Canonical, ReservedBits, ReservedType, TopBelowBase, TopPastEnd, StoredAs}
 use Rattle.cc_explain.specs.declared.steps.Steps.{Steps}
 
 -- ---- the fields
@@ -122,20 +124,24 @@ bounds_lines bounds =
     line_with_hexadecimal (codes "base      ") bounds.base (codes ", where B * 2^E stands in the window")
     ++ line_with_hexadecimal (codes "top       ") bounds.top (codes ", where T * 2^E stands in the window")
 
+-- The line of a word whose bounds fields are not those that setting its bounds stores.
+abbrev pub other_fields_text : Span → List ℕ
+other_fields_text bounds =
+    bounds_fields_text (codes "canonical no: setting these bounds stores IE ") (bit_of (ie_of bounds)) (t_of bounds) (b_of bounds) ++ line_feed
+
 -- The line that says whether the word is canonical, or why not.
-abbrev pub standing_text : Standing → List ℕ
-standing_text Canonical = with_line_feed (codes "canonical yes")
-standing_text ReservedBits = with_line_feed (codes "canonical no: a reserved bit is set")
-standing_text ReservedType = with_line_feed (codes "canonical no: the type is reserved")
-standing_text TopBelowBase = with_line_feed (codes "canonical no: the top is below the base")
-standing_text TopPastEnd = with_line_feed (codes "canonical no: the top is above 2^64")
-standing_text (StoredAs ie t b) =
-    bounds_fields_text (codes "canonical no: setting these bounds stores IE ") (bit_of ie) t b ++ line_feed
+abbrev pub canonical_text : Option Defect → Span → List ℕ
+canonical_text None bounds = with_line_feed (codes "canonical yes")
+canonical_text (Some ReservedBits) bounds = with_line_feed (codes "canonical no: a reserved bit is set")
+canonical_text (Some ReservedType) bounds = with_line_feed (codes "canonical no: the type is reserved")
+canonical_text (Some TopBelowBase) bounds = with_line_feed (codes "canonical no: the top is below the base")
+canonical_text (Some TopPastEnd) bounds = with_line_feed (codes "canonical no: the top is above 2^64")
+canonical_text (Some OtherFields) bounds = other_fields_text bounds
 
 -- The lines of the window, of the bounds and of whether the word is canonical.
-abbrev pub window_lines_text : Fields → Steps → Span → Standing → List ℕ
-window_lines_text fields steps bounds standing =
-    section_text steps ++ sections_text fields steps ++ window_text steps ++ bounds_lines bounds ++ standing_text standing
+abbrev pub window_lines_text : Fields → Steps → Span → Option Defect → List ℕ
+window_lines_text fields steps bounds defect =
+    section_text steps ++ sections_text fields steps ++ window_text steps ++ bounds_lines bounds ++ canonical_text defect bounds
 
 -- ---- the picture
 
@@ -178,9 +184,9 @@ picture_text steps rows =
 -- ---- all of it
 
 -- All lines of an explanation.
-abbrev pub explanation_of : (word : ℕ) → Fields → Steps → Span → Standing → Rows → List ℕ
-explanation_of word fields steps bounds standing rows =
-    fields_text word fields ++ mantissas_text fields steps ++ window_lines_text fields steps bounds standing
+abbrev pub explanation_of : (word : ℕ) → Fields → Steps → Span → Option Defect → Rows → List ℕ
+explanation_of word fields steps bounds defect rows =
+    fields_text word fields ++ mantissas_text fields steps ++ window_lines_text fields steps bounds defect
     ++ picture_text steps rows
 
 -- IsWordExplanation holds if the lines are made of these parts: the word's fields, their decoding
@@ -190,16 +196,16 @@ pub record IsWordExplanation (word : ℕ) (explanation : List ℕ) : Type 0 wher
   pub fields : Fields
   pub steps : Steps
   pub bounds : Span
-  pub standing : Standing
+  pub defect : Option Defect
   pub rows : Rows
   pub of_word : word_of fields ≡ word
   pub only_fields : (other : Fields) → word_of other ≡ word → other ≡ fields
   pub are_steps : AreSteps fields steps
   pub decoded : DecodesTo fields bounds
   pub only_bounds : (other : Span) → DecodesTo fields other → other ≡ bounds
-  pub is_standing : IsStanding word fields bounds standing
+  pub is_defect : MatchOption defect (IsCanonical word) (λ reason. (¬ IsCanonical word) × HasDefect fields bounds reason)
   pub are_rows : AreRows fields steps rows
-  pub lines : explanation ≡ explanation_of word fields steps bounds standing rows
+  pub lines : explanation ≡ explanation_of word fields steps bounds defect rows
 
 -- `IsExplanation` holds if the output for a string is the explanation of the word that it is, or the
 -- line of the refusal.

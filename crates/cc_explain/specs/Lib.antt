@@ -6,7 +6,6 @@ pub mod WordTelling
 pub mod Listing
 pub mod LineAnswer
 pub mod Steps
-pub mod Standing
 pub mod Picture
 pub mod Explanation
 pub mod WindowDrawing

@@ -1,12 +1,15 @@
 //! The lines of an explanation: the fields of a word, and the steps of decoding them.
-ghost use Rattle.std.specs.Prelude.{◌≡◌, ◌+◌, ◌≤◌, ◌<◌, ◌^◌, ◌++◌, [], codes, length};
+ghost use Rattle.std.specs.Prelude.{◌≡◌, ◌+◌, ◌≤◌, ◌<◌, ◌^◌, ◌++◌, [], Some, codes, length};
+ghost use Rattle.cc_bounds.specs.Granule.{IsSound};
+ghost use Rattle.cc_bounds.specs.Span.{IsSpan};
+ghost use Rattle.cc_cap.specs.declared.canonical.Defect.TheVariants.{OtherFields};
 ghost use Rattle.cc_word.specs.Word.{bit_of};
-ghost use Rattle.cc_explain.specs.Explanation.{base_mantissa_text, bounds_fields_text, bounds_line_text, bounds_lines, exponent_text, fields_text, granule_text, length_text, mantissas_text, rights_text, section_text, sections_text, standing_text, stored_text, top_mantissa_text, window_addresses_text, window_lines_text, window_text, word_text};
+ghost use Rattle.cc_explain.specs.Explanation.{base_mantissa_text, bounds_fields_text, bounds_line_text, bounds_lines, canonical_text, other_fields_text, exponent_text, fields_text, granule_text, length_text, mantissas_text, rights_text, section_text, sections_text, stored_text, top_mantissa_text, window_addresses_text, window_lines_text, window_text, word_text};
 
 use crate::answers::push_word_digits;
-use crate::standing::Standing;
 use crate::steps::{Steps, section, unit};
-use cc_bounds::Span;
+use cc_bounds::{Set, Span};
+use cc_cap::Defect;
 use cc_io::{
     ROOM, Text, end_with_decimal, end_with_hexadecimal, push_decimal, push_digits, push_hexadecimal,
 };
@@ -199,25 +202,27 @@ fn push_length(text: &mut Text, fields: &Fields, steps: &Steps)
 
 /// Appends the lines of the window, of the bounds and of whether the word is canonical.
 ///
-/// Requires: `steps.exponent <= 52`; `steps.start < 2^67`; 900 bytes of `text` are free.
+/// Requires: `steps.exponent <= 52`; `steps.start < 2^67`; bounds with the defect `OtherFields` are a
+/// sound span; 900 bytes of `text` are free.
 pub fn push_window_lines(
     text: &mut Text,
     fields: &Fields,
     steps: &Steps,
     bounds: &Span,
-    standing: Standing,
+    defect: Option<Defect>,
 )
     requires exponent { steps.now.exponent ≤ 52 }
     requires start { steps.now.start < 2 ^ 67 }
+    requires other_fields { defect ≡ Some OtherFields → IsSpan bounds.now × IsSound bounds.now }
     requires room { length text.old + 900 ≤ ROOM }
-    ensures value { text.new ≡ text.old ++ window_lines_text fields.now steps.now bounds.now standing }
+    ensures value { text.new ≡ text.old ++ window_lines_text fields.now steps.now bounds.now defect }
     ensures fits { length text.new ≤ length text.old + 900 }
 {
     push_section(text, steps);
     push_sections(text, fields, steps);
     push_window(text, steps);
     push_bounds(text, bounds);
-    push_standing(text, standing);
+    push_canonical(text, defect, bounds);
 }
 
 /// Appends the line of the size of a section.
@@ -307,26 +312,37 @@ fn push_bounds(text: &mut Text, bounds: &Span)
 }
 
 /// Appends the line that says whether the word is canonical, or why not.
-fn push_standing(text: &mut Text, standing: Standing)
+fn push_canonical(text: &mut Text, defect: Option<Defect>, bounds: &Span)
+    requires other_fields { defect ≡ Some OtherFields → IsSpan bounds.now × IsSound bounds.now }
     requires room { length text.old + 135 ≤ ROOM }
-    ensures value { text.new ≡ text.old ++ standing_text standing }
+    ensures value { text.new ≡ text.old ++ canonical_text defect bounds.now }
     ensures fits { length text.new ≤ length text.old + 135 }
 {
-    match standing {
-        Standing::Canonical => text.push(b"canonical yes\n"),
-        Standing::ReservedBits => text.push(b"canonical no: a reserved bit is set\n"),
-        Standing::ReservedType => text.push(b"canonical no: the type is reserved\n"),
-        Standing::TopBelowBase => text.push(b"canonical no: the top is below the base\n"),
-        Standing::TopPastEnd => text.push(b"canonical no: the top is above 2^64\n"),
-        Standing::StoredAs { ie, t, b } => {
-            push_bounds_fields(
-                text,
-                b"canonical no: setting these bounds stores IE ",
-                ie,
-                t,
-                b,
-            );
-            text.push(b"\n");
-        }
+    match defect {
+        None => text.push(b"canonical yes\n"),
+        Some(Defect::ReservedBits) => text.push(b"canonical no: a reserved bit is set\n"),
+        Some(Defect::ReservedType) => text.push(b"canonical no: the type is reserved\n"),
+        Some(Defect::TopBelowBase) => text.push(b"canonical no: the top is below the base\n"),
+        Some(Defect::TopPastEnd) => text.push(b"canonical no: the top is above 2^64\n"),
+        Some(Defect::OtherFields) => push_other_fields(text, *bounds),
     }
+}
+
+/// Appends the line of a word whose bounds fields are not those that setting its bounds stores.
+fn push_other_fields(text: &mut Text, bounds: Span)
+    requires is_span { IsSpan bounds }
+    requires sound { IsSound bounds }
+    requires room { length text.old + 135 ≤ ROOM }
+    ensures value { text.new ≡ text.old ++ other_fields_text bounds }
+    ensures fits { length text.new ≤ length text.old + 135 }
+{
+    let set = Set::of_sound(bounds);
+    push_bounds_fields(
+        text,
+        b"canonical no: setting these bounds stores IE ",
+        set.ie(),
+        set.t(),
+        set.b(),
+    );
+    text.push(b"\n");
 }

@@ -7,11 +7,10 @@ ghost use Rattle.cc_explain.specs.Explanation.{IsExplanation, IsWordExplanation}
 use crate::answers::{push_refusal, read_typed_word, write_answer};
 use crate::explained_steps::{push_fields, push_mantissas, push_window_lines};
 use crate::picture::{push_picture, rows_of};
-use crate::standing::standing_of;
 use crate::steps::decoding_steps;
-use cc_bounds::decode;
+use cc_cap::Decoded;
 use cc_io::{IoError, Sink, Summary, Text};
-use cc_word::{Refusal, unpack};
+use cc_word::Refusal;
 
 /// Writes how a word is decoded: its fields, each step with its numbers, the bounds, whether the
 /// word is canonical and if not why, and a picture of its window. Flushes the sink once after the
@@ -61,13 +60,17 @@ pub fn push_explained_word(text: &mut Text, word: u128)
     requires { text.old ≡ [] }
     ensures { IsWordExplanation word text.new }
 {
-    let fields = unpack(word);
-    let steps = decoding_steps(&fields);
-    let bounds = decode(&fields);
-    let standing = standing_of(word, &fields, &bounds);
-    let rows = rows_of(&fields, &steps);
-    push_fields(text, word, &fields);
-    push_mantissas(text, &fields, &steps);
-    push_window_lines(text, &fields, &steps, &bounds, standing);
+    let decoded = Decoded::of_word(word);
+    let steps = decoding_steps(&decoded.fields);
+    let rows = rows_of(&decoded.fields, &steps);
+    push_fields(text, word, &decoded.fields);
+    push_mantissas(text, &decoded.fields, &steps);
+    push_window_lines(
+        text,
+        &decoded.fields,
+        &steps,
+        &decoded.bounds,
+        decoded.defect(),
+    );
     push_picture(text, &steps, &rows);
 }

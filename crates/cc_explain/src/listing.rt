@@ -9,10 +9,10 @@ ghost use Rattle.cc_explain.specs.Permissions.{permissions_text};
 use crate::answers::{push_refusal, write_answer};
 use crate::permissions::push_permissions;
 use bitflags::Flags;
-use cc_bounds::{Span, decode, exponent};
-use cc_cap::{Perms, is_canonical};
+use cc_bounds::{Span, exponent};
+use cc_cap::{Decoded, Perms};
 use cc_io::{IoError, Line, ROOM, Sink, Summary, Text};
-use cc_word::{Fields, Refusal, read_word, unpack, write_word};
+use cc_word::{Fields, Refusal, read_word, write_word};
 
 /// Writes the listing of a word, and flushes the sink once after the last line.
 ///
@@ -61,10 +61,9 @@ pub fn push_listing(text: &mut Text, word: u128)
     requires { text.old ≡ [] }
     ensures { IsWordListing word text.new }
 {
-    let fields = unpack(word);
-    let bounds = decode(&fields);
-    let canonical = is_canonical(word);
-    push_lines(text, word, &fields, &bounds, canonical);
+    let decoded = Decoded::of_word(word);
+    let canonical = decoded.is_canonical();
+    push_lines(text, word, &decoded.fields, &decoded.bounds, canonical);
 }
 
 /// Appends all thirteen lines of a word with these fields and bounds.

@@ -1,20 +1,26 @@
 -- Why a word is not canonical, as C has it.
-use Rattle.std.specs.Prelude.{ℕ, ◌≡◌, ◌≢◌, ◌<◌, ◌≤◌, ◌^◌}
+use Rattle.std.specs.Prelude.{ℕ, ◌≡◌, Option, None, Some}
 use Rattle.cc_word.specs.declared.fields.Fields.{Fields}
-use Rattle.cc_word.specs.ObjType.{IsObjType}
 use Rattle.cc_bounds.specs.declared.span.Span.{Span}
-use Rattle.cc_bounds.specs.Span.{IsSpan}
-use Rattle.cc_bounds.specs.Encoding.{HasBoundsFields}
+use Rattle.cc_cap.specs.Defect.{HasDefect}
+use Rattle.cc_cap.specs.declared.canonical.Defect.{Defect}
+use Rattle.cc_cap.specs.declared.canonical.Defect.TheVariants.{ReservedBits, ReservedType, TopBelowBase, TopPastEnd, OtherFields}
 
--- HasType holds if the reserved bits are zero and a capability may have the type.
-abbrev pub HasType : Fields → Type 0
-HasType fields = (fields.reserved ≡ 0) × IsObjType fields.otype
+-- `IsNumberOf` holds if `number` is the number of the reason: 0 for none, and otherwise its place
+-- among the reasons, from 1 to 5.
+abbrev pub IsNumberOf : Option Defect → ℕ → Type 0
+IsNumberOf None number = number ≡ 0
+IsNumberOf (Some ReservedBits) number = number ≡ 1
+IsNumberOf (Some ReservedType) number = number ≡ 2
+IsNumberOf (Some TopBelowBase) number = number ≡ 3
+IsNumberOf (Some TopPastEnd) number = number ≡ 4
+IsNumberOf (Some OtherFields) number = number ≡ 5
 
 -- IsFirstDefect holds if the reason with this number, from 1 to 5, applies to the fields and the span
 -- that they decode to, and none with a smaller number does.
 pub record IsFirstDefect (fields : Fields) (span : Span) (defect : ℕ) : Type 0 where
-  pub reserved_bits : defect ≡ 1 → fields.reserved ≢ 0
-  pub reserved_type : defect ≡ 2 → (fields.reserved ≡ 0) × (¬ IsObjType fields.otype)
-  pub top_below_base : defect ≡ 3 → HasType fields × (span.top < span.base)
-  pub top_past_end : defect ≡ 4 → HasType fields × (span.base ≤ span.top) × (2 ^ 64 < span.top)
-  pub other_fields : defect ≡ 5 → HasType fields × IsSpan span × (¬ HasBoundsFields span fields.ie fields.t fields.b)
+  pub reserved_bits : defect ≡ 1 → HasDefect fields span ReservedBits
+  pub reserved_type : defect ≡ 2 → HasDefect fields span ReservedType
+  pub top_below_base : defect ≡ 3 → HasDefect fields span TopBelowBase
+  pub top_past_end : defect ≡ 4 → HasDefect fields span TopPastEnd
+  pub other_fields : defect ≡ 5 → HasDefect fields span OtherFields

@@ -1,46 +1,27 @@
 //! Why a word is not canonical.
-ghost use Rattle.std.specs.Prelude.{◌≡◌, ◌≤◌, ◌↔◌, IsTrue};
+ghost use Rattle.std.specs.Prelude.{◌≡◌, ◌≤◌, ◌↔◌};
 ghost use Rattle.cc_ffi.specs.Numbers.{number_of_halves};
 ghost use Rattle.cc_ffi.specs.Words.{OfFields};
-ghost use Rattle.cc_ffi.specs.Defects.{IsFirstDefect};
-ghost use Rattle.cc_word.specs.Word.{word_of};
-ghost use Rattle.cc_word.specs.ObjType.{IsObjType};
+ghost use Rattle.cc_ffi.specs.Defects.{IsFirstDefect, IsNumberOf};
 ghost use Rattle.cc_bounds.specs.declared.span.Span.{Span as SpanSpec};
 ghost use Rattle.cc_bounds.specs.Decoding.{DecodesTo};
 ghost use Rattle.cc_cap.specs.Canonical.{IsCanonical};
 
 use crate::halves::number;
-use cc_bounds::{ADDRESS_SPACE, Span, decode};
-use cc_cap::{ObjType, is_canonical};
-use cc_word::{Fields, unpack};
+use cc_cap::{Decoded, Defect};
 
-/// Returns whether a capability may have the type.
-fn is_type(otype: u32) -> bool
-    ensures { IsTrue result ↔ IsObjType otype }
-{
-    ObjType::from_bits(otype).is_some()
-}
-
-/// Returns the defect of the word with these fields, which decode to this span.
-fn defect_of(word: u128, fields: &Fields, span: &Span) -> u8
-    requires word { word_of fields.now ≡ word }
-    requires decoded { DecodesTo fields.now span.now }
-    ensures canonical { (result ≡ 0) ↔ IsCanonical word }
-    ensures first { IsFirstDefect fields.now span.now result }
+/// Returns the number of a reason: 0 for none, and 1 to 5 in the order of the reasons.
+fn number_of(defect: Option<Defect>) -> u8
+    ensures number { IsNumberOf defect result }
     ensures fits { result ≤ 5 }
 {
-    if is_canonical(word) {
-        0
-    } else if fields.reserved != 0 {
-        1
-    } else if !is_type(fields.otype) {
-        2
-    } else if span.top < u128::from(span.base) {
-        3
-    } else if span.top > ADDRESS_SPACE {
-        4
-    } else {
-        5
+    match defect {
+        None => 0,
+        Some(Defect::ReservedBits) => 1,
+        Some(Defect::ReservedType) => 2,
+        Some(Defect::TopBelowBase) => 3,
+        Some(Defect::TopPastEnd) => 4,
+        Some(Defect::OtherFields) => 5,
     }
 }
 
@@ -55,7 +36,5 @@ pub extern "C" fn cheri_cap_defect(high: u64, low: u64) -> u8
         (span : SpanSpec) → DecodesTo fields span → IsFirstDefect fields span result) }
     ensures fits { result ≤ 5 }
 {
-    let word = number(high, low);
-    let fields = unpack(word);
-    defect_of(word, &fields, &decode(&fields))
+    number_of(Decoded::of_word(number(high, low)).defect())
 }

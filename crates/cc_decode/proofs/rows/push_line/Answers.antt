@@ -4,10 +4,10 @@ use Rattle.cc_decode.proofs.rows.push_line.Goals as goal
 
 pub returns-clause-row : goal.returns-clause-row
 returns-clause-row c = record {
-  row = word_line_of c.unpack-fields.result c.decode-bounds.result true;
+  row = word_line_of c.of_word-decoded.result.fields c.of_word-decoded.result.bounds true;
   is_row = record {
-    fields = c.unpack-fields.result;
-    bounds = c.decode-bounds.result;
+    fields = c.of_word-decoded.result.fields;
+    bounds = c.of_word-decoded.result.bounds;
     of_word = search rules;
     decoded = search rules;
     text = refl;

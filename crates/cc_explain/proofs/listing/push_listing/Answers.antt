@@ -1,14 +1,17 @@
+use Rattle.std.proofs.Common.{ℕ, subst}
+use Rattle.std.specs.Prelude.{IsTrue, ◌↔◌}
+use Rattle.cc_cap.specs.Canonical.{IsCanonical}
 use Rattle.cc_explain.proofs.listing.push_listing.Goals as goal
 
 pub returns : goal.returns
 returns c = record {
-  fields = c.unpack-fields.result;
-  bounds = c.decode-bounds.result;
+  fields = c.of_word-decoded.result.fields;
+  bounds = c.of_word-decoded.result.bounds;
   canonical = c.is_canonical-canonical.result;
-  of_word = c.unpack-fields.ensures.word;
-  only_fields = c.unpack-fields.ensures.only;
-  decoded = c.decode-bounds.ensures.decodes;
-  only_bounds = c.decode-bounds.ensures.only;
-  is_canonical = c.is_canonical-canonical.ensures;
+  of_word = c.of_word-decoded.ensures.word;
+  only_fields = c.of_word-decoded.ensures.only_fields;
+  decoded = c.of_word-decoded.ensures.decodes;
+  only_bounds = c.of_word-decoded.ensures.only_bounds;
+  is_canonical = subst (λ (word : ℕ). IsTrue c.is_canonical-canonical.result ↔ IsCanonical word) c.of_word-decoded.ensures.word c.is_canonical-canonical.ensures;
   is_text = c.push_lines.ensures;
 }
