@@ -264,13 +264,13 @@ pub fn script_trace<P: Placer, R: Source, W: Sink>(
     source: &mut R,
     sink: &mut W,
 ) -> Result<Summary, IoError>
-    requires source { R.has_failed source.old ≡ false }
-    requires sink { W.has_failed sink.old ≡ false }
+    requires source { (R.state source.old).has_failed ≡ false }
+    requires sink { (W.state sink.old).has_failed ≡ false }
     ensures scripts { Pumps ScriptsLine ScriptsRest lines 65536 128 script.old []
-        (R.to_come source.old) (R.to_come source.new) (W.taken_bytes sink.old) (W.taken_bytes sink.new) result script.new }
-    ensures read { (result ≡ Err IoError.Read) ↔ (R.has_failed source.new ≡ true) }
-    ensures write { (result ≡ Err IoError.Write) ↔ (W.has_failed sink.new ≡ true) }
-    ensures flushed { OnOk result (W.is_flushed sink.new ≡ true) }
+        (R.state source.old).unread (R.state source.new).unread (W.state sink.old).taken (W.state sink.new).taken result script.new }
+    ensures read { (result ≡ Err IoError.Read) ↔ ((R.state source.new).has_failed ≡ true) }
+    ensures write { (result ≡ Err IoError.Write) ↔ ((W.state sink.new).has_failed ≡ true) }
+    ensures flushed { OnOk result ((W.state sink.new).is_flushed ≡ true) }
 {
     let mut page = Waiting::new();
     pump(&Lines, script, source, sink, &mut page)

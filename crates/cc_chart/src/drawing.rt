@@ -22,11 +22,11 @@ const MOST_DRAWING: usize = 98304;
 /// Requires: the sink has not failed.
 /// Errors: `Write` if the sink fails. A prefix of the drawing is then written.
 pub fn write_chart<W: Sink>(chart: &Chart, sink: &mut W) -> Result<(), IoError>
-    requires { W.has_failed sink.old ≡ false }
-    ensures ok { OnOk result (Appends (W.taken_bytes sink.old) (W.taken_bytes sink.new) (chart_text chart.now)) }
-    ensures err { OnErr result (TakesBeginning (W.taken_bytes sink.old) (W.taken_bytes sink.new) (chart_text chart.now)) }
-    ensures flushed { OnOk result (W.is_flushed sink.new ≡ true) }
-    ensures fails { IsErr result ↔ (W.has_failed sink.new ≡ true) }
+    requires { (W.state sink.old).has_failed ≡ false }
+    ensures ok { OnOk result (Appends (W.state sink.old).taken (W.state sink.new).taken (chart_text chart.now)) }
+    ensures err { OnErr result (TakesBeginning (W.state sink.old).taken (W.state sink.new).taken (chart_text chart.now)) }
+    ensures flushed { OnOk result ((W.state sink.new).is_flushed ≡ true) }
+    ensures fails { IsErr result ↔ ((W.state sink.new).has_failed ≡ true) }
     ensures write { OnErr result (result ≡ Err IoError.Write) }
 {
     let mut page: Page<MOST_DRAWING> = Page::new();

@@ -79,12 +79,12 @@ pub fn round_list<R: Source, W: Sink>(
     sink: &mut W,
     bare: &mut bool,
 ) -> Result<Summary, IoError>
-    requires source { R.has_failed source.old ≡ false }
-    requires sink { W.has_failed sink.old ≡ false }
-    ensures rounds { RoundsList base bare.new (R.to_come source.old) (R.to_come source.new) (W.taken_bytes sink.old) (W.taken_bytes sink.new) result }
-    ensures read { (result ≡ Err IoError.Read) ↔ (R.has_failed source.new ≡ true) }
-    ensures write { (result ≡ Err IoError.Write) ↔ (W.has_failed sink.new ≡ true) }
-    ensures flushed { OnOk result (W.is_flushed sink.new ≡ true) }
+    requires source { (R.state source.old).has_failed ≡ false }
+    requires sink { (W.state sink.old).has_failed ≡ false }
+    ensures rounds { RoundsList base bare.new (R.state source.old).unread (R.state source.new).unread (W.state sink.old).taken (W.state sink.new).taken result }
+    ensures read { (result ≡ Err IoError.Read) ↔ ((R.state source.new).has_failed ≡ true) }
+    ensures write { (result ≡ Err IoError.Write) ↔ ((W.state sink.new).has_failed ≡ true) }
+    ensures flushed { OnOk result ((W.state sink.new).is_flushed ≡ true) }
 {
     let mut page = Page::<ROOM>::new();
     let mut rounder = Rounder { base, bare: false };

@@ -31,11 +31,11 @@ const MOST: usize = 264;
 /// Errors: `Write` if and only if the sink fails. A prefix of the output is then written.
 /// Instruction: CRRL, CRAM.
 pub fn show_round<W: Sink>(text: &[u8], sink: &mut W) -> Result<Summary, IoError>
-    requires { W.has_failed sink.old ≡ false }
-    ensures shown { WritesAnswer (IsRounding None text.now) (W.taken_bytes sink.old) (W.taken_bytes sink.new) result }
+    requires { (W.state sink.old).has_failed ≡ false }
+    ensures shown { WritesAnswer (IsRounding None text.now) (W.state sink.old).taken (W.state sink.new).taken result }
     ensures any_error { IfOk result (λ summary. IsTrue summary.any_error ↔ IsErr (length_in text.now)) }
-    ensures flushed { OnOk result (W.is_flushed sink.new ≡ true) }
-    ensures fails { IsErr result ↔ (W.has_failed sink.new ≡ true) }
+    ensures flushed { OnOk result ((W.state sink.new).is_flushed ≡ true) }
+    ensures fails { IsErr result ↔ ((W.state sink.new).has_failed ≡ true) }
     ensures write { OnErr result (result ≡ Err IoError.Write) }
 {
     write_round(None, text, sink)
@@ -51,11 +51,11 @@ pub fn show_round<W: Sink>(text: &[u8], sink: &mut W) -> Result<Summary, IoError
 /// Requires: the sink has not failed.
 /// Errors: `Write` if and only if the sink fails. A prefix of the output is then written.
 pub fn show_round_from<W: Sink>(base: &[u8], text: &[u8], sink: &mut W) -> Result<Summary, IoError>
-    requires { W.has_failed sink.old ≡ false }
-    ensures shown { WritesAnswer (IsRoundingAfter base.now text.now) (W.taken_bytes sink.old) (W.taken_bytes sink.new) result }
+    requires { (W.state sink.old).has_failed ≡ false }
+    ensures shown { WritesAnswer (IsRoundingAfter base.now text.now) (W.state sink.old).taken (W.state sink.new).taken result }
     ensures any_error { IfOk result (λ summary. IsTrue summary.any_error ↔ IsUnroundableAfter base.now text.now) }
-    ensures flushed { OnOk result (W.is_flushed sink.new ≡ true) }
-    ensures fails { IsErr result ↔ (W.has_failed sink.new ≡ true) }
+    ensures flushed { OnOk result ((W.state sink.new).is_flushed ≡ true) }
+    ensures fails { IsErr result ↔ ((W.state sink.new).has_failed ≡ true) }
     ensures write { OnErr result (result ≡ Err IoError.Write) }
 {
     match read_address(base) {
@@ -66,11 +66,11 @@ pub fn show_round_from<W: Sink>(base: &[u8], text: &[u8], sink: &mut W) -> Resul
 
 /// Writes the output for a length, and flushes the sink once after it.
 fn write_round<W: Sink>(base: Option<u64>, text: &[u8], sink: &mut W) -> Result<Summary, IoError>
-    requires { W.has_failed sink.old ≡ false }
-    ensures shown { WritesAnswer (IsRounding base text.now) (W.taken_bytes sink.old) (W.taken_bytes sink.new) result }
+    requires { (W.state sink.old).has_failed ≡ false }
+    ensures shown { WritesAnswer (IsRounding base text.now) (W.state sink.old).taken (W.state sink.new).taken result }
     ensures any_error { IfOk result (λ summary. IsTrue summary.any_error ↔ IsUnroundable base (length_in text.now)) }
-    ensures flushed { OnOk result (W.is_flushed sink.new ≡ true) }
-    ensures fails { IsErr result ↔ (W.has_failed sink.new ≡ true) }
+    ensures flushed { OnOk result ((W.state sink.new).is_flushed ≡ true) }
+    ensures fails { IsErr result ↔ ((W.state sink.new).has_failed ≡ true) }
     ensures write { OnErr result (result ≡ Err IoError.Write) }
 {
     let mut line = Page::<MOST>::new();

@@ -21,12 +21,12 @@ use cc_values::Usage;
 /// `usage_of` of cc_draw ensures.
 /// Errors: `Write` if the sink fails. A prefix of the summary is then written.
 pub fn show_statistics<W: Sink>(usage: &Usage, tally: &Tally, sink: &mut W) -> Result<(), IoError>
-    requires sink { W.has_failed sink.old ≡ false }
+    requires sink { (W.state sink.old).has_failed ≡ false }
     requires fits { usage.now.held ≤ 2 ^ 80 }
-    ensures ok { OnOk result (Appends (W.taken_bytes sink.old) (W.taken_bytes sink.new) (statistics_text usage.now tally.now)) }
-    ensures err { OnErr result (TakesBeginning (W.taken_bytes sink.old) (W.taken_bytes sink.new) (statistics_text usage.now tally.now)) }
-    ensures flushed { OnOk result (W.is_flushed sink.new ≡ true) }
-    ensures fails { IsErr result ↔ (W.has_failed sink.new ≡ true) }
+    ensures ok { OnOk result (Appends (W.state sink.old).taken (W.state sink.new).taken (statistics_text usage.now tally.now)) }
+    ensures err { OnErr result (TakesBeginning (W.state sink.old).taken (W.state sink.new).taken (statistics_text usage.now tally.now)) }
+    ensures flushed { OnOk result ((W.state sink.new).is_flushed ≡ true) }
+    ensures fails { IsErr result ↔ ((W.state sink.new).has_failed ≡ true) }
     ensures write { OnErr result (result ≡ Err IoError.Write) }
 {
     let mut text = Text::new();

@@ -1,5 +1,5 @@
 //! A sink that discards its bytes.
-ghost use Rattle.std.specs.Prelude.{false, None};
+ghost use Rattle.std.specs.Prelude.{false, true, None};
 
 use cc_io::{Failed, Sink};
 
@@ -8,9 +8,7 @@ use cc_io::{Failed, Sink};
 pub struct Discard;
 
 impl Sink for Discard {
-    ghost taken_bytes = { λ _. None };
-
-    ghost has_failed = { λ _. false };
+    ghost state = { λ _. record { taken = None; is_flushed = true; has_failed = false } };
 
     fn write(&mut self, piece: &[u8]) -> Result<usize, Failed> {
         Ok(piece.len())

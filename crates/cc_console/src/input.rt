@@ -54,11 +54,11 @@ pub trait Inputs {
         content: Content,
         source: &mut Self::Opened,
     ) -> Result<(), Fault>
-        ensures opened { OnOk result (IfSome (bytes_of self.old input.entry) (λ bytes. Self.Opened.to_come source.new ≡ Some bytes)) }
+        ensures opened { OnOk result (IfSome (bytes_of self.old input.entry) (λ bytes. (Self.Opened.state source.new).unread ≡ Some bytes)) }
         ensures fails { IfErr result (λ fault. (fault ≡ Fault.Open) × IsFile input.entry) }
         ensures asked { last_asked self.new input.entry content ≡ true }
         ensures refused { IsErr result ↔ (has_refused self.new ≡ true) }
-        ensures unfailed { Self.Opened.has_failed source.new ≡ false };
+        ensures unfailed { (Self.Opened.state source.new).has_failed ≡ false };
 
     /// Returns the first four bytes of the regular file of this name, or `None` if they cannot be read.
     fn start_of(&self, path: &str) -> Option<[u8; 4]>;

@@ -21,8 +21,8 @@ pub fn percent_of(done: u64, length: u64) -> Option<u64>
 /// The cursor is at the start of the line then, so that other output takes the place of the text. Only tests show when
 /// it is called.
 pub fn show_progress<E: Sink>(percent: u64, errors: &mut E)
-    requires { E.has_failed errors.old ≡ false }
-    ensures { E.has_failed errors.new ≡ false → Appends (E.taken_bytes errors.old) (E.taken_bytes errors.new) (progress_text percent) }
+    requires { (E.state errors.old).has_failed ≡ false }
+    ensures { (E.state errors.new).has_failed ≡ false → Appends (E.state errors.old).taken (E.state errors.new).taken (progress_text percent) }
 {
     let mut page: Page<64> = Page::new();
     page.push(b"replay: ");
@@ -33,16 +33,16 @@ pub fn show_progress<E: Sink>(percent: u64, errors: &mut E)
 
 /// Clears the line of [`show_progress`]. Errors of the sink are ignored.
 pub fn clear_progress<E: Sink>(errors: &mut E)
-    requires { E.has_failed errors.old ≡ false }
-    ensures { E.has_failed errors.new ≡ false → Appends (E.taken_bytes errors.old) (E.taken_bytes errors.new) clearing_text }
+    requires { (E.state errors.old).has_failed ≡ false }
+    ensures { (E.state errors.new).has_failed ≡ false → Appends (E.state errors.old).taken (E.state errors.new).taken clearing_text }
 {
     let _ = write_all(errors, b"            \r");
 }
 
 /// Writes that the script is read from the terminal. Errors of the sink are ignored. Only tests show when it is called.
 pub fn announce<E: Sink>(errors: &mut E)
-    requires { E.has_failed errors.old ≡ false }
-    ensures { E.has_failed errors.new ≡ false → Appends (E.taken_bytes errors.old) (E.taken_bytes errors.new) waiting_text }
+    requires { (E.state errors.old).has_failed ≡ false }
+    ensures { (E.state errors.new).has_failed ≡ false → Appends (E.state errors.old).taken (E.state errors.new).taken waiting_text }
 {
     let _ = write_all(
         errors,

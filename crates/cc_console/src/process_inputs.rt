@@ -40,7 +40,7 @@ impl<'a, R: Files + Input + Eprint> ProcessInputs<'a, R> {
 
 /// Creates a source of no input.
 pub fn no_input<R: Read>() -> FromReader<Either<R, Empty>>
-    ensures { ⟦<FromReader<Either<R, Empty>> as Source>⟧.has_failed result ≡ false }
+    ensures { (⟦<FromReader<Either<R, Empty>> as Source>⟧.state result).has_failed ≡ false }
 {
     FromReader::new(Right(io::empty()))
 }

@@ -36,15 +36,15 @@ pub fn decode_words<R: Source, W: Sink>(
     source: &mut R,
     sink: &mut W,
 ) -> Result<Summary, IoError>
-    requires source { R.has_failed source.old ≡ false }
-    requires sink { W.has_failed sink.old ≡ false }
-    ensures whole { IfSome (R.to_come source.old) (λ text.
-        ListsWhole options text (R.to_come source.new) (W.taken_bytes sink.old) (W.taken_bytes sink.new) result) }
+    requires source { (R.state source.old).has_failed ≡ false }
+    requires sink { (W.state sink.old).has_failed ≡ false }
+    ensures whole { IfSome (R.state source.old).unread (λ text.
+        ListsWhole options text (R.state source.new).unread (W.state sink.old).taken (W.state sink.new).taken result) }
     // If the source does not say which bytes it has, some input has the listing.
-    ensures lists { Lists options (R.to_come source.old) (R.to_come source.new) (W.taken_bytes sink.old) (W.taken_bytes sink.new) result }
-    ensures read { (result ≡ Err IoError.Read) ↔ (R.has_failed source.new ≡ true) }
-    ensures write { (result ≡ Err IoError.Write) ↔ (W.has_failed sink.new ≡ true) }
-    ensures flushed { OnOk result (W.is_flushed sink.new ≡ true) }
+    ensures lists { Lists options (R.state source.old).unread (R.state source.new).unread (W.state sink.old).taken (W.state sink.new).taken result }
+    ensures read { (result ≡ Err IoError.Read) ↔ ((R.state source.new).has_failed ≡ true) }
+    ensures write { (result ≡ Err IoError.Write) ↔ ((W.state sink.new).has_failed ≡ true) }
+    ensures flushed { OnOk result ((W.state sink.new).is_flushed ≡ true) }
 {
     let mut page = Batch::new();
     push_header(&mut page, &options);
@@ -69,14 +69,14 @@ pub fn decode_words_after<R: Source, W: Sink>(
     source: &mut R,
     sink: &mut W,
 ) -> Result<Summary, IoError>
-    requires source { R.has_failed source.old ≡ false }
-    requires sink { W.has_failed sink.old ≡ false }
-    ensures whole { IfSome (R.to_come source.old) (λ text.
-        ListsWholeAfter count options text (R.to_come source.new) (W.taken_bytes sink.old) (W.taken_bytes sink.new) result) }
-    ensures lists { ListsAfter count options (R.to_come source.old) (R.to_come source.new) (W.taken_bytes sink.old) (W.taken_bytes sink.new) result }
-    ensures read { (result ≡ Err IoError.Read) ↔ (R.has_failed source.new ≡ true) }
-    ensures write { (result ≡ Err IoError.Write) ↔ (W.has_failed sink.new ≡ true) }
-    ensures flushed { OnOk result (W.is_flushed sink.new ≡ true) }
+    requires source { (R.state source.old).has_failed ≡ false }
+    requires sink { (W.state sink.old).has_failed ≡ false }
+    ensures whole { IfSome (R.state source.old).unread (λ text.
+        ListsWholeAfter count options text (R.state source.new).unread (W.state sink.old).taken (W.state sink.new).taken result) }
+    ensures lists { ListsAfter count options (R.state source.old).unread (R.state source.new).unread (W.state sink.old).taken (W.state sink.new).taken result }
+    ensures read { (result ≡ Err IoError.Read) ↔ ((R.state source.new).has_failed ≡ true) }
+    ensures write { (result ≡ Err IoError.Write) ↔ ((W.state sink.new).has_failed ≡ true) }
+    ensures flushed { OnOk result ((W.state sink.new).is_flushed ≡ true) }
 {
     match skip(count, source) {
         Ok(()) => {}
@@ -108,14 +108,14 @@ fn list_entries<A: Answerer<ROOM>, R: Source, W: Sink>(
     sink: &mut W,
     page: &mut Batch,
 ) -> Result<Summary, IoError>
-    requires source { R.has_failed source.old ≡ false }
-    requires sink { W.has_failed sink.old ≡ false }
+    requires source { (R.state source.old).has_failed ≡ false }
+    requires sink { (W.state sink.old).has_failed ≡ false }
     requires room { A.MOST ≤ 32768 }
     ensures pumps { Pumps A.Answered A.Ended (frame_of input) 32768 A.MOST decoder.old page.old
-        (R.to_come source.old) (R.to_come source.new) (W.taken_bytes sink.old) (W.taken_bytes sink.new) result decoder.new }
-    ensures read { (result ≡ Err IoError.Read) ↔ (R.has_failed source.new ≡ true) }
-    ensures write { (result ≡ Err IoError.Write) ↔ (W.has_failed sink.new ≡ true) }
-    ensures flushed { OnOk result (W.is_flushed sink.new ≡ true) }
+        (R.state source.old).unread (R.state source.new).unread (W.state sink.old).taken (W.state sink.new).taken result decoder.new }
+    ensures read { (result ≡ Err IoError.Read) ↔ ((R.state source.new).has_failed ≡ true) }
+    ensures write { (result ≡ Err IoError.Write) ↔ ((W.state sink.new).has_failed ≡ true) }
+    ensures flushed { OnOk result ((W.state sink.new).is_flushed ≡ true) }
 {
     match input {
         InputForm::Lines => pump(&Lines, decoder, source, sink, page),

@@ -12,10 +12,10 @@ const PIECE: usize = 65536;
 /// Requires: the source has not failed.
 /// Errors: `Failed` if and only if the source failed. It has then given fewer than `count` bytes.
 pub(crate) fn skip<R: Source>(count: u64, source: &mut R) -> Result<(), Failed>
-    requires { R.has_failed source.old ≡ false }
-    ensures skips { OnOk result (Skips count (R.to_come source.old) (R.to_come source.new)) }
-    ensures fewer { OnErr result (GivesFewer count (R.to_come source.old) (R.to_come source.new)) }
-    ensures fails { IsErr result ↔ (R.has_failed source.new ≡ true) }
+    requires { (R.state source.old).has_failed ≡ false }
+    ensures skips { OnOk result (Skips count (R.state source.old).unread (R.state source.new).unread) }
+    ensures fewer { OnErr result (GivesFewer count (R.state source.old).unread (R.state source.new).unread) }
+    ensures fails { IsErr result ↔ ((R.state source.new).has_failed ≡ true) }
 {
     if count == 0 {
         return Ok(());
@@ -27,10 +27,10 @@ pub(crate) fn skip<R: Source>(count: u64, source: &mut R) -> Result<(), Failed>
 #[cold]
 #[inline(never)]
 fn skip_some<R: Source>(count: u64, source: &mut R) -> Result<(), Failed>
-    requires { R.has_failed source.old ≡ false }
-    ensures skips { OnOk result (Skips count (R.to_come source.old) (R.to_come source.new)) }
-    ensures fewer { OnErr result (GivesFewer count (R.to_come source.old) (R.to_come source.new)) }
-    ensures fails { IsErr result ↔ (R.has_failed source.new ≡ true) }
+    requires { (R.state source.old).has_failed ≡ false }
+    ensures skips { OnOk result (Skips count (R.state source.old).unread (R.state source.new).unread) }
+    ensures fewer { OnErr result (GivesFewer count (R.state source.old).unread (R.state source.new).unread) }
+    ensures fails { IsErr result ↔ ((R.state source.new).has_failed ≡ true) }
 {
     let mut piece = [0u8; PIECE];
     let mut rest = count;

@@ -35,11 +35,11 @@ pub fn show_drawing<P: Placer, W: Sink>(
     planner: &Planner<P>,
     sink: &mut W,
 ) -> Result<Summary, IoError>
-    requires { W.has_failed sink.old ≡ false }
-    ensures shown { WritesAnswer (IsDrawing planner.now) (W.taken_bytes sink.old) (W.taken_bytes sink.new) result }
+    requires { (W.state sink.old).has_failed ≡ false }
+    ensures shown { WritesAnswer (IsDrawing planner.now) (W.state sink.old).taken (W.state sink.new).taken result }
     ensures any_error { IfOk result (λ summary. summary.any_error ≡ false) }
-    ensures flushed { OnOk result (W.is_flushed sink.new ≡ true) }
-    ensures fails { IsErr result ↔ (W.has_failed sink.new ≡ true) }
+    ensures flushed { OnOk result ((W.state sink.new).is_flushed ≡ true) }
+    ensures fails { IsErr result ↔ ((W.state sink.new).has_failed ≡ true) }
     ensures write { OnErr result (result ≡ Err IoError.Write) }
 {
     write_drawing(planner.objects(), &pool_span(planner.pool()), sink).map_err(|_| IoError::Write)?;
@@ -52,13 +52,13 @@ fn write_drawing<W: Sink>(
     pool: &Span,
     sink: &mut W,
 ) -> Result<(), Failed>
-    requires sink { W.has_failed sink.old ≡ false }
+    requires sink { (W.state sink.old).has_failed ≡ false }
     requires few { length objects.now ≤ 65536 }
     requires in_order { pool.now.base ≤ pool.now.top }
     requires fits { pool.now.top ≤ 2 ^ 64 }
-    ensures ok { OnOk result (Appends (W.taken_bytes sink.old) (W.taken_bytes sink.new) (drawing_text objects.now pool.now)) }
-    ensures err { OnErr result (TakesBeginning (W.taken_bytes sink.old) (W.taken_bytes sink.new) (drawing_text objects.now pool.now)) }
-    ensures fails { IsErr result ↔ (W.has_failed sink.new ≡ true) }
+    ensures ok { OnOk result (Appends (W.state sink.old).taken (W.state sink.new).taken (drawing_text objects.now pool.now)) }
+    ensures err { OnErr result (TakesBeginning (W.state sink.old).taken (W.state sink.new).taken (drawing_text objects.now pool.now)) }
+    ensures fails { IsErr result ↔ ((W.state sink.new).has_failed ≡ true) }
 {
     write_laid_out(&Layout::new(pool), objects, pool, sink)
 }
@@ -69,16 +69,16 @@ fn write_laid_out<W: Sink>(
     pool: &Span,
     sink: &mut W,
 ) -> Result<(), Failed>
-    requires sink { W.has_failed sink.old ≡ false }
+    requires sink { (W.state sink.old).has_failed ≡ false }
     requires few { length objects.now ≤ 65536 }
     requires start { layout.now.start < 2 ^ 64 }
     requires some { 0 < layout.now.size }
     requires size { layout.now.size ≤ 2 ^ 50 }
     requires cells { layout.now.cells ≤ 16384 }
     requires width { layout.now.width ≤ 1024 }
-    ensures ok { OnOk result (Appends (W.taken_bytes sink.old) (W.taken_bytes sink.new) (laid_out_text layout.now objects.now pool.now)) }
-    ensures err { OnErr result (TakesBeginning (W.taken_bytes sink.old) (W.taken_bytes sink.new) (laid_out_text layout.now objects.now pool.now)) }
-    ensures fails { IsErr result ↔ (W.has_failed sink.new ≡ true) }
+    ensures ok { OnOk result (Appends (W.state sink.old).taken (W.state sink.new).taken (laid_out_text layout.now objects.now pool.now)) }
+    ensures err { OnErr result (TakesBeginning (W.state sink.old).taken (W.state sink.new).taken (laid_out_text layout.now objects.now pool.now)) }
+    ensures fails { IsErr result ↔ ((W.state sink.new).has_failed ≡ true) }
 {
     write_head(layout, pool, sink)?;
     write_scale(layout, sink)?;
@@ -91,11 +91,11 @@ fn write_laid_out<W: Sink>(
 
 /// Writes the head: everything before the scale.
 fn write_head<W: Sink>(layout: &Layout, pool: &Span, sink: &mut W) -> Result<(), Failed>
-    requires sink { W.has_failed sink.old ≡ false }
+    requires sink { (W.state sink.old).has_failed ≡ false }
     requires cells { layout.now.cells ≤ 16384 }
-    ensures ok { OnOk result (Appends (W.taken_bytes sink.old) (W.taken_bytes sink.new) (head_text layout.now pool.now)) }
-    ensures err { OnErr result (TakesBeginning (W.taken_bytes sink.old) (W.taken_bytes sink.new) (head_text layout.now pool.now)) }
-    ensures fails { IsErr result ↔ (W.has_failed sink.new ≡ true) }
+    ensures ok { OnOk result (Appends (W.state sink.old).taken (W.state sink.new).taken (head_text layout.now pool.now)) }
+    ensures err { OnErr result (TakesBeginning (W.state sink.old).taken (W.state sink.new).taken (head_text layout.now pool.now)) }
+    ensures fails { IsErr result ↔ ((W.state sink.new).has_failed ≡ true) }
 {
     let mut text = Text::new();
     push_head(&mut text, layout, pool);
@@ -203,14 +203,14 @@ fn push_moved(text: &mut Text)
 }
 
 fn write_scale<W: Sink>(layout: &Layout, sink: &mut W) -> Result<(), Failed>
-    requires sink { W.has_failed sink.old ≡ false }
+    requires sink { (W.state sink.old).has_failed ≡ false }
     requires start { layout.now.start < 2 ^ 64 }
     requires size { layout.now.size ≤ 2 ^ 50 }
     requires cells { layout.now.cells ≤ 16384 }
     requires width { layout.now.width ≤ 1024 }
-    ensures ok { OnOk result (Appends (W.taken_bytes sink.old) (W.taken_bytes sink.new) (scale_text layout.now)) }
-    ensures err { OnErr result (TakesBeginning (W.taken_bytes sink.old) (W.taken_bytes sink.new) (scale_text layout.now)) }
-    ensures fails { IsErr result ↔ (W.has_failed sink.new ≡ true) }
+    ensures ok { OnOk result (Appends (W.state sink.old).taken (W.state sink.new).taken (scale_text layout.now)) }
+    ensures err { OnErr result (TakesBeginning (W.state sink.old).taken (W.state sink.new).taken (scale_text layout.now)) }
+    ensures fails { IsErr result ↔ ((W.state sink.new).has_failed ≡ true) }
 {
     let mut text = Text::new();
     push_marks(&mut text, layout);
@@ -296,10 +296,10 @@ fn push_row(text: &mut Text, width: u32, y: u32, cells: u32, address: u128)
 /// Writes the start of the layer of live objects.
 #[tactic(auto, unfolding(crate::specs::Drawing::live_text))]
 fn write_live<W: Sink>(sink: &mut W) -> Result<(), Failed>
-    requires { W.has_failed sink.old ≡ false }
-    ensures ok { OnOk result (Appends (W.taken_bytes sink.old) (W.taken_bytes sink.new) live_text) }
-    ensures err { OnErr result (TakesBeginning (W.taken_bytes sink.old) (W.taken_bytes sink.new) live_text) }
-    ensures fails { IsErr result ↔ (W.has_failed sink.new ≡ true) }
+    requires { (W.state sink.old).has_failed ≡ false }
+    ensures ok { OnOk result (Appends (W.state sink.old).taken (W.state sink.new).taken live_text) }
+    ensures err { OnErr result (TakesBeginning (W.state sink.old).taken (W.state sink.new).taken live_text) }
+    ensures fails { IsErr result ↔ ((W.state sink.new).has_failed ≡ true) }
 {
     write_all(
         sink,
@@ -310,10 +310,10 @@ fn write_live<W: Sink>(sink: &mut W) -> Result<(), Failed>
 /// Ends the layer of live objects, and begins the layer of quarantined ones.
 #[tactic(auto, unfolding(crate::specs::Drawing::quarantined_text))]
 fn write_quarantined<W: Sink>(sink: &mut W) -> Result<(), Failed>
-    requires { W.has_failed sink.old ≡ false }
-    ensures ok { OnOk result (Appends (W.taken_bytes sink.old) (W.taken_bytes sink.new) quarantined_text) }
-    ensures err { OnErr result (TakesBeginning (W.taken_bytes sink.old) (W.taken_bytes sink.new) quarantined_text) }
-    ensures fails { IsErr result ↔ (W.has_failed sink.new ≡ true) }
+    requires { (W.state sink.old).has_failed ≡ false }
+    ensures ok { OnOk result (Appends (W.state sink.old).taken (W.state sink.new).taken quarantined_text) }
+    ensures err { OnErr result (TakesBeginning (W.state sink.old).taken (W.state sink.new).taken quarantined_text) }
+    ensures fails { IsErr result ↔ ((W.state sink.new).has_failed ≡ true) }
 {
     write_all(
         sink,
@@ -323,10 +323,10 @@ fn write_quarantined<W: Sink>(sink: &mut W) -> Result<(), Failed>
 
 #[tactic(auto, unfolding(crate::specs::Drawing::closing_text))]
 fn write_end<W: Sink>(sink: &mut W) -> Result<(), Failed>
-    requires { W.has_failed sink.old ≡ false }
-    ensures ok { OnOk result (Appends (W.taken_bytes sink.old) (W.taken_bytes sink.new) closing_text) }
-    ensures err { OnErr result (TakesBeginning (W.taken_bytes sink.old) (W.taken_bytes sink.new) closing_text) }
-    ensures fails { IsErr result ↔ (W.has_failed sink.new ≡ true) }
+    requires { (W.state sink.old).has_failed ≡ false }
+    ensures ok { OnOk result (Appends (W.state sink.old).taken (W.state sink.new).taken closing_text) }
+    ensures err { OnErr result (TakesBeginning (W.state sink.old).taken (W.state sink.new).taken closing_text) }
+    ensures fails { IsErr result ↔ ((W.state sink.new).has_failed ≡ true) }
 {
     write_all(sink, b"</g>\n</g>\n</svg>\n")
 }
@@ -338,14 +338,14 @@ fn write_layer<W: Sink>(
     objects: &[PlannedObject],
     sink: &mut W,
 ) -> Result<(), Failed>
-    requires sink { W.has_failed sink.old ≡ false }
+    requires sink { (W.state sink.old).has_failed ≡ false }
     requires few { length objects.now ≤ 65536 }
     requires some { 0 < layout.now.size }
     requires cells { layout.now.cells ≤ 16384 }
     requires width { layout.now.width ≤ 1024 }
-    ensures ok { OnOk result (Appends (W.taken_bytes sink.old) (W.taken_bytes sink.new) (layer_text layout.now state 1 objects.now)) }
-    ensures err { OnErr result (TakesBeginning (W.taken_bytes sink.old) (W.taken_bytes sink.new) (layer_text layout.now state 1 objects.now)) }
-    ensures fails { IsErr result ↔ (W.has_failed sink.new ≡ true) }
+    ensures ok { OnOk result (Appends (W.state sink.old).taken (W.state sink.new).taken (layer_text layout.now state 1 objects.now)) }
+    ensures err { OnErr result (TakesBeginning (W.state sink.old).taken (W.state sink.new).taken (layer_text layout.now state 1 objects.now)) }
+    ensures fails { IsErr result ↔ ((W.state sink.new).has_failed ≡ true) }
 {
     let mut number = 1;
     let mut rest = objects;
@@ -378,13 +378,13 @@ fn write_object<W: Sink>(
     span: &Span,
     sink: &mut W,
 ) -> Result<(), Failed>
-    requires sink { W.has_failed sink.old ≡ false }
+    requires sink { (W.state sink.old).has_failed ≡ false }
     requires some { 0 < layout.now.size }
     requires cells { layout.now.cells ≤ 16384 }
     requires width { layout.now.width ≤ 1024 }
-    ensures ok { OnOk result (Appends (W.taken_bytes sink.old) (W.taken_bytes sink.new) (object_text layout.now number span.now)) }
-    ensures err { OnErr result (TakesBeginning (W.taken_bytes sink.old) (W.taken_bytes sink.new) (object_text layout.now number span.now)) }
-    ensures fails { IsErr result ↔ (W.has_failed sink.new ≡ true) }
+    ensures ok { OnOk result (Appends (W.state sink.old).taken (W.state sink.new).taken (object_text layout.now number span.now)) }
+    ensures err { OnErr result (TakesBeginning (W.state sink.old).taken (W.state sink.new).taken (object_text layout.now number span.now)) }
+    ensures fails { IsErr result ↔ ((W.state sink.new).has_failed ≡ true) }
 {
     let (first, end) = cells_of(layout.start, layout.size, span);
     let mut row = 0;
@@ -412,15 +412,15 @@ fn write_rectangle<W: Sink>(
     span: &Span,
     sink: &mut W,
 ) -> Result<(), Failed>
-    requires sink { W.has_failed sink.old ≡ false }
+    requires sink { (W.state sink.old).has_failed ≡ false }
     requires width { width ≤ 1024 }
     requires row { row < 16 }
     requires left { 1024 * row ≤ from }
     requires some { from < to }
     requires right { to ≤ 1024 * row + 1024 }
-    ensures ok { OnOk result (Appends (W.taken_bytes sink.old) (W.taken_bytes sink.new) (rectangle_text width row from to number span.now)) }
-    ensures err { OnErr result (TakesBeginning (W.taken_bytes sink.old) (W.taken_bytes sink.new) (rectangle_text width row from to number span.now)) }
-    ensures fails { IsErr result ↔ (W.has_failed sink.new ≡ true) }
+    ensures ok { OnOk result (Appends (W.state sink.old).taken (W.state sink.new).taken (rectangle_text width row from to number span.now)) }
+    ensures err { OnErr result (TakesBeginning (W.state sink.old).taken (W.state sink.new).taken (rectangle_text width row from to number span.now)) }
+    ensures fails { IsErr result ↔ ((W.state sink.new).has_failed ≡ true) }
 {
     let line = rectangle_line(width, row, from, to, number, span);
     write_all(sink, line.bytes())

@@ -25,11 +25,11 @@ const MOST_CELLS: u128 = 1024;
 /// Requires: the sink has not failed.
 /// Errors: `Write` if and only if the sink fails. A prefix of the map is then written.
 pub fn show_map<P: Placer, W: Sink>(planner: &Planner<P>, sink: &mut W) -> Result<Summary, IoError>
-    requires { W.has_failed sink.old ≡ false }
-    ensures shown { WritesAnswer (IsMap planner.now) (W.taken_bytes sink.old) (W.taken_bytes sink.new) result }
+    requires { (W.state sink.old).has_failed ≡ false }
+    ensures shown { WritesAnswer (IsMap planner.now) (W.state sink.old).taken (W.state sink.new).taken result }
     ensures any_error { IfOk result (λ summary. summary.any_error ≡ false) }
-    ensures flushed { OnOk result (W.is_flushed sink.new ≡ true) }
-    ensures fails { IsErr result ↔ (W.has_failed sink.new ≡ true) }
+    ensures flushed { OnOk result ((W.state sink.new).is_flushed ≡ true) }
+    ensures fails { IsErr result ↔ ((W.state sink.new).has_failed ≡ true) }
     ensures write { OnErr result (result ≡ Err IoError.Write) }
 {
     let mut text = Text::new();

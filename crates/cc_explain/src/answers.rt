@@ -16,11 +16,11 @@ use cc_word::{Refusal, read_word, write_word};
 /// Requires: the sink has not failed.
 /// Errors: `Write` if and only if the sink fails. A prefix of the line is then written.
 pub fn write_refusal<W: Sink>(refusal: Refusal, sink: &mut W) -> Result<Summary, IoError>
-    requires { W.has_failed sink.old ≡ false }
-    ensures shown { WritesAnswer (IsRefusalLine refusal) (W.taken_bytes sink.old) (W.taken_bytes sink.new) result }
+    requires { (W.state sink.old).has_failed ≡ false }
+    ensures shown { WritesAnswer (IsRefusalLine refusal) (W.state sink.old).taken (W.state sink.new).taken result }
     ensures any_error { IfOk result (λ summary. summary.any_error ≡ true) }
-    ensures flushed { OnOk result (W.is_flushed sink.new ≡ true) }
-    ensures fails { IsErr result ↔ (W.has_failed sink.new ≡ true) }
+    ensures flushed { OnOk result ((W.state sink.new).is_flushed ≡ true) }
+    ensures fails { IsErr result ↔ ((W.state sink.new).has_failed ≡ true) }
     ensures write { OnErr result (result ≡ Err IoError.Write) }
 {
     let mut answer = Text::new();
@@ -69,11 +69,11 @@ pub(crate) fn push_word_digits(text: &mut Text, before: &[u8], word: u128)
 /// Requires: the sink has not failed.
 /// Errors: `Write` if and only if the sink fails. A prefix of the output is then written.
 pub fn write_answer<W: Sink>(answer: &Text, sink: &mut W) -> Result<(), IoError>
-    requires { W.has_failed sink.old ≡ false }
-    ensures ok { OnOk result (Appends (W.taken_bytes sink.old) (W.taken_bytes sink.new) answer.now) }
-    ensures err { OnErr result (TakesBeginning (W.taken_bytes sink.old) (W.taken_bytes sink.new) answer.now) }
-    ensures flushed { OnOk result (W.is_flushed sink.new ≡ true) }
-    ensures fails { IsErr result ↔ (W.has_failed sink.new ≡ true) }
+    requires { (W.state sink.old).has_failed ≡ false }
+    ensures ok { OnOk result (Appends (W.state sink.old).taken (W.state sink.new).taken answer.now) }
+    ensures err { OnErr result (TakesBeginning (W.state sink.old).taken (W.state sink.new).taken answer.now) }
+    ensures flushed { OnOk result ((W.state sink.new).is_flushed ≡ true) }
+    ensures fails { IsErr result ↔ ((W.state sink.new).has_failed ≡ true) }
     ensures write { OnErr result (result ≡ Err IoError.Write) }
 {
     match write_all(sink, answer.bytes()) {

@@ -39,14 +39,14 @@ pub fn pump<F: Framing, A: Answerer<N>, R: Source, W: Sink, const N: usize>(
     sink: &mut W,
     page: &mut Page<N>,
 ) -> Result<Summary, IoError>
-    requires source { R.has_failed source.old ≡ false }
-    requires sink { W.has_failed sink.old ≡ false }
+    requires source { (R.state source.old).has_failed ≡ false }
+    requires sink { (W.state sink.old).has_failed ≡ false }
     requires room { A.MOST ≤ N }
     ensures pumps { Pumps A.Answered A.Ended (F.frame framing.now) N A.MOST answerer.old page.old
-        (R.to_come source.old) (R.to_come source.new) (W.taken_bytes sink.old) (W.taken_bytes sink.new) result answerer.new }
-    ensures read { (result ≡ Err IoError.Read) ↔ (R.has_failed source.new ≡ true) }
-    ensures write { (result ≡ Err IoError.Write) ↔ (W.has_failed sink.new ≡ true) }
-    ensures flushed { OnOk result (W.is_flushed sink.new ≡ true) }
+        (R.state source.old).unread (R.state source.new).unread (W.state sink.old).taken (W.state sink.new).taken result answerer.new }
+    ensures read { (result ≡ Err IoError.Read) ↔ ((R.state source.new).has_failed ≡ true) }
+    ensures write { (result ≡ Err IoError.Write) ↔ ((W.state sink.new).has_failed ≡ true) }
+    ensures flushed { OnOk result ((W.state sink.new).is_flushed ≡ true) }
 {
     let mut start = LineStart::new();
     let mut piece = [0u8; PIECE];
@@ -87,17 +87,17 @@ fn take_piece<F: Framing, A: Answerer<N>, W: Sink, const N: usize>(
     piece: &[u8],
     sink: &mut W,
 ) -> Result<bool, Failed>
-    requires sink { W.has_failed sink.old ≡ false }
+    requires sink { (W.state sink.old).has_failed ≡ false }
     requires room { A.MOST ≤ N }
     requires start { F.IsBegun framing.now start.old }
     requires empty { page.old ≡ [] }
     ensures ok { (begun : List ℕ) → start.old ≡ take 129 begun → IfOk result (λ error.
-        Answers A.Answered (F.frame framing.now) answerer.old begun piece.now start.new (W.taken_bytes sink.old) (W.taken_bytes sink.new) error answerer.new) }
+        Answers A.Answered (F.frame framing.now) answerer.old begun piece.now start.new (W.state sink.old).taken (W.state sink.new).taken error answerer.new) }
     ensures err { (begun : List ℕ) → start.old ≡ take 129 begun → OnErr result (
-        StopsOnPage A.Answered N A.MOST answerer.old [] (seen ((F.frame framing.now).entries begun piece.now)) (W.taken_bytes sink.old) (W.taken_bytes sink.new) answerer.new) }
+        StopsOnPage A.Answered N A.MOST answerer.old [] (seen ((F.frame framing.now).entries begun piece.now)) (W.state sink.old).taken (W.state sink.new).taken answerer.new) }
     ensures begun { OnOk result (F.IsBegun framing.now start.new) }
     ensures empty { OnOk result (page.new ≡ []) }
-    ensures fails { IsErr result ↔ (W.has_failed sink.new ≡ true) }
+    ensures fails { IsErr result ↔ ((W.state sink.new).has_failed ≡ true) }
 {
     let mut any_error = false;
     let mut rest = piece;
@@ -192,13 +192,13 @@ fn make_room<W: Sink, const N: usize>(
     page: &mut Page<N>,
     sink: &mut W,
 ) -> Result<(), Failed>
-    requires sink { W.has_failed sink.old ≡ false }
+    requires sink { (W.state sink.old).has_failed ≡ false }
     requires room { most ≤ N }
-    ensures ok { OnOk result (PassesPage (W.taken_bytes sink.old) (W.taken_bytes sink.new) page.old page.new) }
+    ensures ok { OnOk result (PassesPage (W.state sink.old).taken (W.state sink.new).taken page.old page.new) }
     ensures room { OnOk result (length page.new + most ≤ N) }
-    ensures err { OnErr result (TakesBeginning (W.taken_bytes sink.old) (W.taken_bytes sink.new) page.old) }
+    ensures err { OnErr result (TakesBeginning (W.state sink.old).taken (W.state sink.new).taken page.old) }
     ensures some { OnErr result (0 < length page.old) }
-    ensures fails { IsErr result ↔ (W.has_failed sink.new ≡ true) }
+    ensures fails { IsErr result ↔ ((W.state sink.new).has_failed ≡ true) }
 {
     if most <= N - page.len() {
         return Ok(());
@@ -209,12 +209,12 @@ fn make_room<W: Sink, const N: usize>(
 /// Writes the page and clears it.
 #[inline(never)]
 fn write_page<W: Sink, const N: usize>(page: &mut Page<N>, sink: &mut W) -> Result<(), Failed>
-    requires { W.has_failed sink.old ≡ false }
-    ensures ok { OnOk result (Appends (W.taken_bytes sink.old) (W.taken_bytes sink.new) page.old) }
+    requires { (W.state sink.old).has_failed ≡ false }
+    ensures ok { OnOk result (Appends (W.state sink.old).taken (W.state sink.new).taken page.old) }
     ensures empty { OnOk result (page.new ≡ []) }
-    ensures err { OnErr result (TakesBeginning (W.taken_bytes sink.old) (W.taken_bytes sink.new) page.old) }
+    ensures err { OnErr result (TakesBeginning (W.state sink.old).taken (W.state sink.new).taken page.old) }
     ensures some { OnErr result (0 < length page.old) }
-    ensures fails { IsErr result ↔ (W.has_failed sink.new ≡ true) }
+    ensures fails { IsErr result ↔ ((W.state sink.new).has_failed ≡ true) }
 {
     match write_all(sink, page.bytes()) {
         Ok(()) => {
@@ -230,11 +230,11 @@ fn write_page<W: Sink, const N: usize>(page: &mut Page<N>, sink: &mut W) -> Resu
 /// Requires: the sink has not failed.
 /// Errors: `Write` if and only if the sink fails. A prefix of the page is then written.
 pub fn write_and_flush<W: Sink, const N: usize>(page: &Page<N>, sink: &mut W) -> Result<(), IoError>
-    requires { W.has_failed sink.old ≡ false }
-    ensures ok { OnOk result (Appends (W.taken_bytes sink.old) (W.taken_bytes sink.new) page.now) }
-    ensures err { OnErr result (TakesBeginning (W.taken_bytes sink.old) (W.taken_bytes sink.new) page.now) }
-    ensures flushed { OnOk result (W.is_flushed sink.new ≡ true) }
-    ensures fails { IsErr result ↔ (W.has_failed sink.new ≡ true) }
+    requires { (W.state sink.old).has_failed ≡ false }
+    ensures ok { OnOk result (Appends (W.state sink.old).taken (W.state sink.new).taken page.now) }
+    ensures err { OnErr result (TakesBeginning (W.state sink.old).taken (W.state sink.new).taken page.now) }
+    ensures flushed { OnOk result ((W.state sink.new).is_flushed ≡ true) }
+    ensures fails { IsErr result ↔ ((W.state sink.new).has_failed ≡ true) }
     ensures write { OnErr result (result ≡ Err IoError.Write) }
 {
     match write_all(sink, page.bytes()) {
@@ -248,11 +248,11 @@ pub fn write_and_flush<W: Sink, const N: usize>(page: &Page<N>, sink: &mut W) ->
 
 /// Writes the last page and flushes the sink.
 fn write_last<W: Sink, const N: usize>(page: &mut Page<N>, sink: &mut W) -> Result<(), Failed>
-    requires { W.has_failed sink.old ≡ false }
-    ensures ok { OnOk result (Appends (W.taken_bytes sink.old) (W.taken_bytes sink.new) page.old) }
-    ensures flushed { OnOk result (W.is_flushed sink.new ≡ true) }
-    ensures err { OnErr result (TakesBeginning (W.taken_bytes sink.old) (W.taken_bytes sink.new) page.old) }
-    ensures fails { IsErr result ↔ (W.has_failed sink.new ≡ true) }
+    requires { (W.state sink.old).has_failed ≡ false }
+    ensures ok { OnOk result (Appends (W.state sink.old).taken (W.state sink.new).taken page.old) }
+    ensures flushed { OnOk result ((W.state sink.new).is_flushed ≡ true) }
+    ensures err { OnErr result (TakesBeginning (W.state sink.old).taken (W.state sink.new).taken page.old) }
+    ensures fails { IsErr result ↔ ((W.state sink.new).has_failed ≡ true) }
 {
     match write_page(page, sink) {
         Ok(()) => {}

@@ -2,9 +2,7 @@
 //! fails.
 ghost use Rattle.std.specs.Prelude.{◌≡◌, ◌⊎◌, ◌+◌, ◌-◌, ◌<◌, ◌↔◌, Some, length, true, false, ℕ, List, [], min, IfOk, OnOk, OnErr, IsErr};
 ghost use Rattle.std.specs.Option.{unwrap_or};
-ghost use Rattle.std.specs.Io.{ReadsAtMost, WritesAtMost};
-ghost use Rattle.std.specs.Io.KnownBytes.{ReadConsumes, WriteAppends};
-ghost use Rattle.cc_io.specs.Devices.{FailsNext};
+ghost use Rattle.cc_io.specs.Devices.{FailsNext, Flushes, ReadsPiece, WritesPiece, input_of, output_of};
 
 use crate::devices::{Failed, Sink, Source};
 use std::marker::Model;
@@ -50,19 +48,10 @@ impl<'a> SliceSource<'a> {
 }
 
 impl<'a> Source for SliceSource<'a> {
-    ghost to_come = { λ s. Some s.rest };
-
-    ghost most_to_come = { λ s. length s.rest };
-
-    ghost has_failed = { λ s. s.has_failed };
+    ghost state = { λ s. input_of s };
 
     fn read(&mut self, room: &mut [u8]) -> Result<usize, Failed>
-        ensures count { ReadsAtMost result room.new }
-        ensures gives { ReadConsumes (Some self.old.rest) (Some self.new.rest) result room.new }
-        ensures shrinks { IfOk result (λ count. length self.new.rest + count ≡ length self.old.rest) }
-        ensures kept { OnErr result (length self.new.rest ≡ length self.old.rest) }
-        ensures fails { IsErr result ↔ (self.new.has_failed ≡ true) }
-        ensures stays { self.old.has_failed ≡ true → self.new.has_failed ≡ true }
+        ensures reads { ReadsPiece (input_of self.old) (input_of self.new) room.new result }
         ensures planned { IsErr result ↔ FailsNext self.old.calls_left self.old.has_failed }
         ensures pieces { IfOk result (λ count. count ≡ min (min self.old.piece (length room.old)) (length self.old.rest)) }
         ensures counted { OnOk result ((self.new.calls_left ≡ self.old.calls_left - 1) × (self.new.piece ≡ self.old.piece)) }
@@ -137,16 +126,10 @@ impl<'a> SliceSink<'a> {
 }
 
 impl<'a> Sink for SliceSink<'a> {
-    ghost taken_bytes = { λ s. Some s.taken };
-
-    ghost has_failed = { λ s. s.has_failed };
+    ghost state = { λ s. output_of s };
 
     fn write(&mut self, piece: &[u8]) -> Result<usize, Failed>
-        ensures count { WritesAtMost result piece.now }
-        ensures takes { WriteAppends (Some self.old.taken) (Some self.new.taken) result piece.now }
-        ensures some { IfOk result (λ count. 0 < length piece.now → 0 < count) }
-        ensures fails { IsErr result ↔ (self.new.has_failed ≡ true) }
-        ensures stays { self.old.has_failed ≡ true → self.new.has_failed ≡ true }
+        ensures writes { WritesPiece (output_of self.old) (output_of self.new) piece.now result }
         ensures planned { IsErr result ↔ (FailsNext self.old.calls_left self.old.has_failed
             ⊎ ((length self.old.taken ≡ self.old.room) × (0 < length piece.now))) }
         ensures pieces { IfOk result (λ count.
@@ -169,10 +152,7 @@ impl<'a> Sink for SliceSink<'a> {
     }
 
     fn flush(&mut self) -> Result<(), Failed>
-        ensures keeps { self.new.taken ≡ self.old.taken }
-        ensures flushed { OnOk result (true ≡ true) }
-        ensures fails { IsErr result ↔ (self.new.has_failed ≡ true) }
-        ensures stays { self.old.has_failed ≡ true → self.new.has_failed ≡ true }
+        ensures flushes { Flushes (output_of self.old) (output_of self.new) result }
         ensures planned { IsErr result ↔ FailsNext self.old.calls_left self.old.has_failed }
         ensures counted { OnOk result ((self.new.calls_left ≡ self.old.calls_left - 1)
             × (self.new.piece ≡ self.old.piece) × (self.new.room ≡ self.old.room)) }

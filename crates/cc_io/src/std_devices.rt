@@ -1,5 +1,5 @@
 //! A source over a reader of the standard library, and a sink over a writer.
-ghost use Rattle.std.specs.Prelude.{◌≡◌, ◌^◌, false};
+ghost use Rattle.std.specs.Prelude.{◌≡◌, ◌^◌, true, false};
 
 use crate::devices::{Failed, Sink, Source};
 use std::io::{Read, Write};
@@ -22,18 +22,14 @@ pub struct FromReader<R> {
 impl<R: Read> FromReader<R> {
     /// Creates a source over this reader, with a limit of 2^30 bytes.
     pub fn new(reader: R) -> Self
-        ensures to_come { ⟦<FromReader<R> as Source>⟧.to_come result ≡ R.remaining reader }
-        ensures most_to_come { ⟦<FromReader<R> as Source>⟧.most_to_come result ≡ 2 ^ 30 }
-        ensures failed { ⟦<FromReader<R> as Source>⟧.has_failed result ≡ false }
+        ensures { ⟦<FromReader<R> as Source>⟧.state result ≡ record { unread = R.remaining reader; most_unread = 2 ^ 30; has_failed = false } }
     {
         FromReader::with_limit(reader, MOST_BYTES)
     }
 
     /// Creates a source over this reader, with a limit of `limit` bytes.
     pub fn with_limit(reader: R, limit: usize) -> Self
-        ensures to_come { ⟦<FromReader<R> as Source>⟧.to_come result ≡ R.remaining reader }
-        ensures most_to_come { ⟦<FromReader<R> as Source>⟧.most_to_come result ≡ limit }
-        ensures failed { ⟦<FromReader<R> as Source>⟧.has_failed result ≡ false }
+        ensures { ⟦<FromReader<R> as Source>⟧.state result ≡ record { unread = R.remaining reader; most_unread = limit; has_failed = false } }
     {
         FromReader {
             reader,
@@ -44,11 +40,7 @@ impl<R: Read> FromReader<R> {
 }
 
 impl<R: Read> Source for FromReader<R> {
-    ghost to_come = { λ s. R.remaining s.reader };
-
-    ghost most_to_come = { λ s. s.left };
-
-    ghost has_failed = { λ s. s.has_failed };
+    ghost state = { λ s. record { unread = R.remaining s.reader; most_unread = s.left; has_failed = s.has_failed } };
 
     fn read(&mut self, room: &mut [u8]) -> Result<usize, Failed> {
         if self.has_failed || self.left == 0 && !room.is_empty() {
@@ -82,8 +74,7 @@ pub struct FromWriter<W> {
 impl<W: Write> FromWriter<W> {
     /// Creates a sink over this writer.
     pub fn new(writer: W) -> Self
-        ensures taken { ⟦<FromWriter<W> as Sink>⟧.taken_bytes result ≡ W.contents writer }
-        ensures failed { ⟦<FromWriter<W> as Sink>⟧.has_failed result ≡ false }
+        ensures { ⟦<FromWriter<W> as Sink>⟧.state result ≡ record { taken = W.contents writer; is_flushed = true; has_failed = false } }
     {
         FromWriter {
             writer,
@@ -93,9 +84,7 @@ impl<W: Write> FromWriter<W> {
 }
 
 impl<W: Write> Sink for FromWriter<W> {
-    ghost taken_bytes = { λ s. W.contents s.writer };
-
-    ghost has_failed = { λ s. s.has_failed };
+    ghost state = { λ s. record { taken = W.contents s.writer; is_flushed = true; has_failed = s.has_failed } };
 
     fn write(&mut self, piece: &[u8]) -> Result<usize, Failed> {
         if self.has_failed {

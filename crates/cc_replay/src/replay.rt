@@ -134,11 +134,11 @@ impl<P: Placer> Replay<P> {
     /// Requires: the sink has not failed.
     /// Errors: `Write` if the sink fails. A prefix of the sample is then written.
     pub fn end_series<W: Sink>(&self, series: &mut W) -> Result<(), IoError>
-        requires { W.has_failed series.old ≡ false }
-        ensures ok { OnOk result (Appends (W.taken_bytes series.old) (W.taken_bytes series.new) (last_sample self.now)) }
-        ensures err { OnErr result (TakesBeginning (W.taken_bytes series.old) (W.taken_bytes series.new) (last_sample self.now)) }
-        ensures flushed { OnOk result (W.is_flushed series.new ≡ true) }
-        ensures fails { IsErr result ↔ (W.has_failed series.new ≡ true) }
+        requires { (W.state series.old).has_failed ≡ false }
+        ensures ok { OnOk result (Appends (W.state series.old).taken (W.state series.new).taken (last_sample self.now)) }
+        ensures err { OnErr result (TakesBeginning (W.state series.old).taken (W.state series.new).taken (last_sample self.now)) }
+        ensures flushed { OnOk result ((W.state series.new).is_flushed ≡ true) }
+        ensures fails { IsErr result ↔ ((W.state series.new).has_failed ≡ true) }
         ensures write { OnErr result (result ≡ Err IoError.Write) }
     {
         let mut page: Page<MOST_SAMPLE> = Page::new();
@@ -316,15 +316,15 @@ pub fn replay_trace<P: Placer, R: Source, W: Sink>(
     source: &mut R,
     series: &mut W,
 ) -> Result<Summary, IoError>
-    requires source { R.has_failed source.old ≡ false }
-    requires sink { W.has_failed series.old ≡ false }
+    requires source { (R.state source.old).has_failed ≡ false }
+    requires sink { (W.state series.old).has_failed ≡ false }
     // Each line is taken in order, as `TakesLine` says, and the sink took the header of the series
     // and the samples of the events that have one.
     ensures replays { Pumps TakesLine TakesRest lines 65536 1301 replay.old (series_header replay.old)
-        (R.to_come source.old) (R.to_come source.new) (W.taken_bytes series.old) (W.taken_bytes series.new) result replay.new }
-    ensures read { (result ≡ Err IoError.Read) ↔ (R.has_failed source.new ≡ true) }
-    ensures write { (result ≡ Err IoError.Write) ↔ (W.has_failed series.new ≡ true) }
-    ensures flushed { OnOk result (W.is_flushed series.new ≡ true) }
+        (R.state source.old).unread (R.state source.new).unread (W.state series.old).taken (W.state series.new).taken result replay.new }
+    ensures read { (result ≡ Err IoError.Read) ↔ ((R.state source.new).has_failed ≡ true) }
+    ensures write { (result ≡ Err IoError.Write) ↔ ((W.state series.new).has_failed ≡ true) }
+    ensures flushed { OnOk result ((W.state series.new).is_flushed ≡ true) }
 {
     let mut page = Waiting::new();
     replay.push_header(&mut page);

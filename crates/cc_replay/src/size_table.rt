@@ -24,11 +24,11 @@ pub fn write_sizes<W: Sink>(
     format: Format,
     sink: &mut W,
 ) -> Result<(), IoError>
-    requires { W.has_failed sink.old ≡ false }
-    ensures ok { OnOk result (Appends (W.taken_bytes sink.old) (W.taken_bytes sink.new) (sizes_text format sizes.now)) }
-    ensures err { OnErr result (TakesBeginning (W.taken_bytes sink.old) (W.taken_bytes sink.new) (sizes_text format sizes.now)) }
-    ensures flushed { OnOk result (W.is_flushed sink.new ≡ true) }
-    ensures fails { IsErr result ↔ (W.has_failed sink.new ≡ true) }
+    requires { (W.state sink.old).has_failed ≡ false }
+    ensures ok { OnOk result (Appends (W.state sink.old).taken (W.state sink.new).taken (sizes_text format sizes.now)) }
+    ensures err { OnErr result (TakesBeginning (W.state sink.old).taken (W.state sink.new).taken (sizes_text format sizes.now)) }
+    ensures flushed { OnOk result ((W.state sink.new).is_flushed ≡ true) }
+    ensures fails { IsErr result ↔ ((W.state sink.new).has_failed ≡ true) }
     ensures write { OnErr result (result ≡ Err IoError.Write) }
 {
     let mut page: Page<MOST_SIZES> = Page::new();

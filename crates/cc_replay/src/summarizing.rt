@@ -26,9 +26,7 @@ pub enum Failure {
 struct Discard;
 
 impl Sink for Discard {
-    ghost taken_bytes = { λ _. None };
-
-    ghost has_failed = { λ _. false };
+    ghost state = { λ _. record { taken = None; is_flushed = true; has_failed = false } };
 
     fn write(&mut self, piece: &[u8]) -> Result<usize, Failed> {
         Ok(piece.len())
@@ -53,13 +51,13 @@ pub fn summarize_trace<P: Placer, R: Source, W: Sink>(
     format: Format,
     sink: &mut W,
 ) -> Result<Summary, Failure>
-    requires source { R.has_failed source.old ≡ false }
-    requires sink { W.has_failed sink.old ≡ false }
-    ensures summarizes { Summarizes format replay.old (R.to_come source.old) (R.to_come source.new)
-        (W.taken_bytes sink.old) (W.taken_bytes sink.new) result replay.new }
-    ensures read { (result ≡ Err Failure.Read) ↔ (R.has_failed source.new ≡ true) }
-    ensures write { (result ≡ Err Failure.Write) ↔ (W.has_failed sink.new ≡ true) }
-    ensures flushed { OnOk result (W.is_flushed sink.new ≡ true) }
+    requires source { (R.state source.old).has_failed ≡ false }
+    requires sink { (W.state sink.old).has_failed ≡ false }
+    ensures summarizes { Summarizes format replay.old (R.state source.old).unread (R.state source.new).unread
+        (W.state sink.old).taken (W.state sink.new).taken result replay.new }
+    ensures read { (result ≡ Err Failure.Read) ↔ ((R.state source.new).has_failed ≡ true) }
+    ensures write { (result ≡ Err Failure.Write) ↔ ((W.state sink.new).has_failed ≡ true) }
+    ensures flushed { OnOk result ((W.state sink.new).is_flushed ≡ true) }
 {
     let Ok(summary) = take_trace(replay, source) else {
         return Err(Failure::Read);
@@ -78,9 +76,9 @@ fn take_trace<P: Placer, R: Source>(
     replay: &mut Replay<P>,
     source: &mut R,
 ) -> Result<Summary, Failed>
-    requires source { R.has_failed source.old ≡ false }
-    ensures takes { IfOk result (λ summary. TakesTrace replay.old (R.to_come source.old) (R.to_come source.new) summary.any_error replay.new) }
-    ensures read { IsErr result ↔ (R.has_failed source.new ≡ true) }
+    requires source { (R.state source.old).has_failed ≡ false }
+    ensures takes { IfOk result (λ summary. TakesTrace replay.old (R.state source.old).unread (R.state source.new).unread summary.any_error replay.new) }
+    ensures read { IsErr result ↔ ((R.state source.new).has_failed ≡ true) }
 {
     match replay_trace(replay, source, &mut Discard) {
         Ok(summary) => Ok(summary),

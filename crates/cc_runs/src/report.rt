@@ -56,9 +56,9 @@ pub fn write_report<M: RunMemory, E: Sink>(
     errors: &mut E,
 ) -> Result<(), AllocError>
     requires memory { M.has_failed memory.old ≡ false }
-    requires errors { E.has_failed errors.old ≡ false }
-    ensures written { OnOk result (E.has_failed errors.new ≡ false → (opening : List Reply) (exchanges : List Exchange) → IsTally opening exchanges session.now.tally → WritesReport report session.now opening exchanges pool (E.taken_bytes errors.old) (E.taken_bytes errors.new)) }
-    ensures unwritten { OnErr result (E.taken_bytes errors.new ≡ E.taken_bytes errors.old) }
+    requires errors { (E.state errors.old).has_failed ≡ false }
+    ensures written { OnOk result ((E.state errors.new).has_failed ≡ false → (opening : List Reply) (exchanges : List Exchange) → IsTally opening exchanges session.now.tally → WritesReport report session.now opening exchanges pool (E.state errors.old).taken (E.state errors.new).taken) }
+    ensures unwritten { OnErr result ((E.state errors.new).taken ≡ (E.state errors.old).taken) }
     ensures allocates { IsErr result ↔ (M.has_failed memory.new ≡ true) }
     ensures wanted { OnErr result (report.stats ≡ true) }
 {

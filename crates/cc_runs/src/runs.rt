@@ -36,38 +36,38 @@ pub fn run_file<M: RunMemory, I: Inputs, W: Sink, E: Sink>(
     requires from_one { 1 ≤ limit }
     requires at_most { limit ≤ 65536 }
     requires memory { M.has_failed memory.old ≡ false }
-    requires source { I.Opened.has_failed source.old ≡ false }
+    requires source { (I.Opened.state source.old).has_failed ≡ false }
     requires inputs { I.has_refused inputs.old ≡ false }
-    requires sink { W.has_failed sink.old ≡ false }
-    requires errors { E.has_failed errors.old ≡ false }
+    requires sink { (W.state sink.old).has_failed ≡ false }
+    requires errors { (E.state errors.old).has_failed ≡ false }
     ensures executes { OnDevices (FromInput (file_input file.entry) (record {
       input = I.bytes_of inputs.old;
-      left = I.Opened.to_come source.new;
-      output = W.taken_bytes sink.old;
-      output_now = W.taken_bytes sink.new;
-      errors = E.taken_bytes errors.old;
-      errors_now = E.taken_bytes errors.new;
-      errors_failed = E.has_failed errors.new;
+      left = (I.Opened.state source.new).unread;
+      output = (W.state sink.old).taken;
+      output_now = (W.state sink.new).taken;
+      errors = (E.state errors.old).taken;
+      errors_now = (E.state errors.new).taken;
+      errors_failed = (E.state errors.new).has_failed;
     }) (ReportsRun report [] None (initial_state limit))) result }
     ensures open { result ≡ Err Fault.Open → IsFile (file_input file.entry) }
-    ensures untouched { result ≡ Err Fault.Open → W.taken_bytes sink.new ≡ W.taken_bytes sink.old }
+    ensures untouched { result ≡ Err Fault.Open → (W.state sink.new).taken ≡ (W.state sink.old).taken }
     ensures asked { I.last_asked inputs.new (file_input file.entry) Content.Script ≡ false → (inputs.new ≡ inputs.old) × (source.new ≡ source.old) }
     ensures refused { (result ≡ Err Fault.Open) ↔ (I.has_refused inputs.new ≡ true) }
-    ensures read { (result ≡ Err Fault.Read) ↔ (I.Opened.has_failed source.new ≡ true) }
+    ensures read { (result ≡ Err Fault.Read) ↔ ((I.Opened.state source.new).has_failed ≡ true) }
     ensures allocates { (result ≡ Err Fault.Memory) ↔ (M.has_failed memory.new ≡ true) }
-    ensures write { (result ≡ Err Fault.Write) ↔ (W.has_failed sink.new ≡ true) }
+    ensures write { (result ≡ Err Fault.Write) ↔ ((W.state sink.new).has_failed ≡ true) }
     ensures starved { result ≡ Err Fault.Memory → StarvesRun report [] (initial_state limit) (file_input file.entry) (record {
       input = I.bytes_of inputs.old;
-      left = I.Opened.to_come source.new;
-      output = W.taken_bytes sink.old;
-      output_now = W.taken_bytes sink.new;
-      errors = E.taken_bytes errors.old;
-      errors_now = E.taken_bytes errors.new;
-      errors_failed = E.has_failed errors.new;
+      left = (I.Opened.state source.new).unread;
+      output = (W.state sink.old).taken;
+      output_now = (W.state sink.new).taken;
+      errors = (E.state errors.old).taken;
+      errors_now = (E.state errors.new).taken;
+      errors_failed = (E.state errors.new).has_failed;
     }) }
-    ensures main { OnDevices (MeetsMain limit [] (I.bytes_of inputs.old (file_input file.entry)) (I.Opened.to_come source.new) (W.taken_bytes sink.old) (W.taken_bytes sink.new)) result }
-    ensures flushed { OnOk result (W.is_flushed sink.new ≡ true) }
-    ensures unreported { OnErr result (E.taken_bytes errors.new ≡ E.taken_bytes errors.old) }
+    ensures main { OnDevices (MeetsMain limit [] (I.bytes_of inputs.old (file_input file.entry)) (I.Opened.state source.new).unread (W.state sink.old).taken (W.state sink.new).taken) result }
+    ensures flushed { OnOk result ((W.state sink.new).is_flushed ≡ true) }
+    ensures unreported { OnErr result ((E.state errors.new).taken ≡ (E.state errors.old).taken) }
 {
     let input = file_input(file);
     run(
@@ -104,40 +104,40 @@ pub fn plan_file<M: RunMemory, I: Inputs, W: Sink, E: Sink>(
     requires from_one { 1 ≤ limit }
     requires at_most { limit ≤ 65536 }
     requires memory { M.has_failed memory.old ≡ false }
-    requires source { I.Opened.has_failed source.old ≡ false }
+    requires source { (I.Opened.state source.old).has_failed ≡ false }
     requires inputs { I.has_refused inputs.old ≡ false }
-    requires sink { W.has_failed sink.old ≡ false }
-    requires errors { E.has_failed errors.old ≡ false }
+    requires sink { (W.state sink.old).has_failed ≡ false }
+    requires errors { (E.state errors.old).has_failed ≡ false }
     ensures executes { OnDevices (PlansFile report limit pool.entry align file.entry (record {
       input = I.bytes_of inputs.old;
-      left = I.Opened.to_come source.new;
-      output = W.taken_bytes sink.old;
-      output_now = W.taken_bytes sink.new;
-      errors = E.taken_bytes errors.old;
-      errors_now = E.taken_bytes errors.new;
-      errors_failed = E.has_failed errors.new;
+      left = (I.Opened.state source.new).unread;
+      output = (W.state sink.old).taken;
+      output_now = (W.state sink.new).taken;
+      errors = (E.state errors.old).taken;
+      errors_now = (E.state errors.new).taken;
+      errors_failed = (E.state errors.new).has_failed;
     })) result }
     ensures memory { result ≡ Err Fault.Memory → IsOk (pool_of pool.entry.base.now pool.entry.length.now) }
     ensures open { result ≡ Err Fault.Open → IsFile (file_input file.entry) }
-    ensures untouched { result ≡ Err Fault.Open → W.taken_bytes sink.new ≡ W.taken_bytes sink.old }
+    ensures untouched { result ≡ Err Fault.Open → (W.state sink.new).taken ≡ (W.state sink.old).taken }
     ensures asked { I.last_asked inputs.new (file_input file.entry) Content.Script ≡ false → (inputs.new ≡ inputs.old) × (source.new ≡ source.old) }
     ensures unused { ¬ IsOk (pool_of pool.entry.base.now pool.entry.length.now) → (inputs.new ≡ inputs.old) × (source.new ≡ source.old) }
     ensures refused { (result ≡ Err Fault.Open) ↔ (I.has_refused inputs.new ≡ true) }
-    ensures read { (result ≡ Err Fault.Read) ↔ (I.Opened.has_failed source.new ≡ true) }
+    ensures read { (result ≡ Err Fault.Read) ↔ ((I.Opened.state source.new).has_failed ≡ true) }
     ensures allocates { (result ≡ Err Fault.Memory) ↔ (M.has_failed memory.new ≡ true) }
-    ensures write { (result ≡ Err Fault.Write) ↔ (W.has_failed sink.new ≡ true) }
+    ensures write { (result ≡ Err Fault.Write) ↔ ((W.state sink.new).has_failed ≡ true) }
     ensures starved { result ≡ Err Fault.Memory → StarvesPlan report limit pool.entry align file.entry (record {
       input = I.bytes_of inputs.old;
-      left = I.Opened.to_come source.new;
-      output = W.taken_bytes sink.old;
-      output_now = W.taken_bytes sink.new;
-      errors = E.taken_bytes errors.old;
-      errors_now = E.taken_bytes errors.new;
-      errors_failed = E.has_failed errors.new;
+      left = (I.Opened.state source.new).unread;
+      output = (W.state sink.old).taken;
+      output_now = (W.state sink.new).taken;
+      errors = (E.state errors.old).taken;
+      errors_now = (E.state errors.new).taken;
+      errors_failed = (E.state errors.new).has_failed;
     }) }
-    ensures main { IfOk (pool_of pool.entry.base.now pool.entry.length.now) (λ numbers. OnDevices (MeetsMain limit (plan_opening numbers.0 numbers.1 align) (I.bytes_of inputs.old (file_input file.entry)) (I.Opened.to_come source.new) (W.taken_bytes sink.old) (W.taken_bytes sink.new)) result) }
-    ensures flushed { OnOk result (W.is_flushed sink.new ≡ true) }
-    ensures unreported { OnErr result (E.taken_bytes errors.new ≡ E.taken_bytes errors.old) }
+    ensures main { IfOk (pool_of pool.entry.base.now pool.entry.length.now) (λ numbers. OnDevices (MeetsMain limit (plan_opening numbers.0 numbers.1 align) (I.bytes_of inputs.old (file_input file.entry)) (I.Opened.state source.new).unread (W.state sink.old).taken (W.state sink.new).taken) result) }
+    ensures flushed { OnOk result ((W.state sink.new).is_flushed ≡ true) }
+    ensures unreported { OnErr result ((E.state errors.new).taken ≡ (E.state errors.old).taken) }
     ensures silent { ¬ IsOk (pool_of pool.entry.base.now pool.entry.length.now) → errors.new ≡ errors.old }
 {
     match plan_numbers(pool.base.as_bytes(), pool.length.as_bytes()) {
@@ -178,38 +178,38 @@ fn run<M: RunMemory, I: Inputs, W: Sink, E: Sink>(
     requires from_one { 1 ≤ limit }
     requires at_most { limit ≤ 65536 }
     requires memory { M.has_failed memory.old ≡ false }
-    requires source { I.Opened.has_failed source.old ≡ false }
+    requires source { (I.Opened.state source.old).has_failed ≡ false }
     requires inputs { I.has_refused inputs.old ≡ false }
-    requires sink { W.has_failed sink.old ≡ false }
-    requires errors { E.has_failed errors.old ≡ false }
+    requires sink { (W.state sink.old).has_failed ≡ false }
+    requires errors { (E.state errors.old).has_failed ≡ false }
     ensures runs { OnDevices (FromInput input.entry (record {
       input = I.bytes_of inputs.old;
-      left = I.Opened.to_come source.new;
-      output = W.taken_bytes sink.old;
-      output_now = W.taken_bytes sink.new;
-      errors = E.taken_bytes errors.old;
-      errors_now = E.taken_bytes errors.new;
-      errors_failed = E.has_failed errors.new;
+      left = (I.Opened.state source.new).unread;
+      output = (W.state sink.old).taken;
+      output_now = (W.state sink.new).taken;
+      errors = (E.state errors.old).taken;
+      errors_now = (E.state errors.new).taken;
+      errors_failed = (E.state errors.new).has_failed;
     }) (ReportsRun report opening.now pool (initial_state limit))) result }
     ensures open { result ≡ Err Fault.Open → IsFile input.entry }
-    ensures untouched { result ≡ Err Fault.Open → W.taken_bytes sink.new ≡ W.taken_bytes sink.old }
+    ensures untouched { result ≡ Err Fault.Open → (W.state sink.new).taken ≡ (W.state sink.old).taken }
     ensures asked { I.last_asked inputs.new input.entry Content.Script ≡ false → (inputs.new ≡ inputs.old) × (source.new ≡ source.old) }
     ensures refused { (result ≡ Err Fault.Open) ↔ (I.has_refused inputs.new ≡ true) }
-    ensures read { (result ≡ Err Fault.Read) ↔ (I.Opened.has_failed source.new ≡ true) }
+    ensures read { (result ≡ Err Fault.Read) ↔ ((I.Opened.state source.new).has_failed ≡ true) }
     ensures allocates { (result ≡ Err Fault.Memory) ↔ (M.has_failed memory.new ≡ true) }
-    ensures write { (result ≡ Err Fault.Write) ↔ (W.has_failed sink.new ≡ true) }
+    ensures write { (result ≡ Err Fault.Write) ↔ ((W.state sink.new).has_failed ≡ true) }
     ensures starved { result ≡ Err Fault.Memory → StarvesRun report opening.now (initial_state limit) input.entry (record {
       input = I.bytes_of inputs.old;
-      left = I.Opened.to_come source.new;
-      output = W.taken_bytes sink.old;
-      output_now = W.taken_bytes sink.new;
-      errors = E.taken_bytes errors.old;
-      errors_now = E.taken_bytes errors.new;
-      errors_failed = E.has_failed errors.new;
+      left = (I.Opened.state source.new).unread;
+      output = (W.state sink.old).taken;
+      output_now = (W.state sink.new).taken;
+      errors = (E.state errors.old).taken;
+      errors_now = (E.state errors.new).taken;
+      errors_failed = (E.state errors.new).has_failed;
     }) }
-    ensures main { OnDevices (MeetsMain limit opening.now (I.bytes_of inputs.old input.entry) (I.Opened.to_come source.new) (W.taken_bytes sink.old) (W.taken_bytes sink.new)) result }
-    ensures flushed { OnOk result (W.is_flushed sink.new ≡ true) }
-    ensures unreported { OnErr result (E.taken_bytes errors.new ≡ E.taken_bytes errors.old) }
+    ensures main { OnDevices (MeetsMain limit opening.now (I.bytes_of inputs.old input.entry) (I.Opened.state source.new).unread (W.state sink.old).taken (W.state sink.new).taken) result }
+    ensures flushed { OnOk result ((W.state sink.new).is_flushed ≡ true) }
+    ensures unreported { OnErr result ((E.state errors.new).taken ≡ (E.state errors.old).taken) }
 {
     let mut session = memory.session(limit)?;
     inputs.open(input, Content::Script, source)?;
@@ -238,34 +238,34 @@ fn run_and_report<M: RunMemory, S: Source, W: Sink, E: Sink>(
 ) -> Result<Summary, Fault>
     requires fresh { IsTally [] [] session.old.tally }
     requires memory { M.has_failed memory.old ≡ false }
-    requires source { S.has_failed source.old ≡ false }
-    requires sink { W.has_failed sink.old ≡ false }
-    requires errors { E.has_failed errors.old ≡ false }
+    requires source { (S.state source.old).has_failed ≡ false }
+    requires sink { (W.state sink.old).has_failed ≡ false }
+    requires errors { (E.state errors.old).has_failed ≡ false }
     ensures runs { OnDevices (ReportsRun report opening.now pool session.old.machine (record {
-      unread = S.to_come source.old;
-      left = S.to_come source.new;
-      output = W.taken_bytes sink.old;
-      output_now = W.taken_bytes sink.new;
-      errors = E.taken_bytes errors.old;
-      errors_now = E.taken_bytes errors.new;
-      errors_failed = E.has_failed errors.new;
+      unread = (S.state source.old).unread;
+      left = (S.state source.new).unread;
+      output = (W.state sink.old).taken;
+      output_now = (W.state sink.new).taken;
+      errors = (E.state errors.old).taken;
+      errors_now = (E.state errors.new).taken;
+      errors_failed = (E.state errors.new).has_failed;
     })) result }
     ensures open { result ≢ Err Fault.Open }
-    ensures read { (result ≡ Err Fault.Read) ↔ (S.has_failed source.new ≡ true) }
+    ensures read { (result ≡ Err Fault.Read) ↔ ((S.state source.new).has_failed ≡ true) }
     ensures allocates { (result ≡ Err Fault.Memory) ↔ (M.has_failed memory.new ≡ true) }
-    ensures write { (result ≡ Err Fault.Write) ↔ (W.has_failed sink.new ≡ true) }
+    ensures write { (result ≡ Err Fault.Write) ↔ ((W.state sink.new).has_failed ≡ true) }
     ensures starved { result ≡ Err Fault.Memory → (report.stats ≡ true) × AnswersAll opening.now session.old.machine (record {
-      unread = S.to_come source.old;
-      left = S.to_come source.new;
-      output = W.taken_bytes sink.old;
-      output_now = W.taken_bytes sink.new;
-      errors = E.taken_bytes errors.old;
-      errors_now = E.taken_bytes errors.new;
-      errors_failed = E.has_failed errors.new;
+      unread = (S.state source.old).unread;
+      left = (S.state source.new).unread;
+      output = (W.state sink.old).taken;
+      output_now = (W.state sink.new).taken;
+      errors = (E.state errors.old).taken;
+      errors_now = (E.state errors.new).taken;
+      errors_failed = (E.state errors.new).has_failed;
     }) }
-    ensures main { OnDevices (MeetsFrom opening.now session.old.machine (S.to_come source.old) (S.to_come source.new) (W.taken_bytes sink.old) (W.taken_bytes sink.new)) result }
-    ensures flushed { OnOk result (W.is_flushed sink.new ≡ true) }
-    ensures unreported { OnErr result (E.taken_bytes errors.new ≡ E.taken_bytes errors.old) }
+    ensures main { OnDevices (MeetsFrom opening.now session.old.machine (S.state source.old).unread (S.state source.new).unread (W.state sink.old).taken (W.state sink.new).taken) result }
+    ensures flushed { OnOk result ((W.state sink.new).is_flushed ≡ true) }
+    ensures unreported { OnErr result ((E.state errors.new).taken ≡ (E.state errors.old).taken) }
 {
     let mut page = Waiting::new();
     let summary = run_session(

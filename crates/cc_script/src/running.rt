@@ -26,15 +26,15 @@ pub fn run_script<R: Source, W: Sink>(
     source: &mut R,
     sink: &mut W,
 ) -> Result<Summary, IoError>
-    requires source { R.has_failed source.old ≡ false }
-    requires sink { W.has_failed sink.old ≡ false }
+    requires source { (R.state source.old).has_failed ≡ false }
+    requires sink { (W.state sink.old).has_failed ≡ false }
     // The main theorem (`main`), and what was written before a failure (`fails`).
     ensures runs { RunsScript StopsInReply []
-        (record { machine = machine.old; unread = R.to_come source.old; taken = W.taken_bytes sink.old }) result
-        (record { machine = machine.new; unread = R.to_come source.new; taken = W.taken_bytes sink.new }) }
-    ensures read { (result ≡ Err IoError.Read) ↔ (R.has_failed source.new ≡ true) }
-    ensures write { (result ≡ Err IoError.Write) ↔ (W.has_failed sink.new ≡ true) }
-    ensures flushed { OnOk result (W.is_flushed sink.new ≡ true) }
+        (record { machine = machine.old; unread = (R.state source.old).unread; taken = (W.state sink.old).taken }) result
+        (record { machine = machine.new; unread = (R.state source.new).unread; taken = (W.state sink.new).taken }) }
+    ensures read { (result ≡ Err IoError.Read) ↔ ((R.state source.new).has_failed ≡ true) }
+    ensures write { (result ≡ Err IoError.Write) ↔ ((W.state sink.new).has_failed ≡ true) }
+    ensures flushed { OnOk result ((W.state sink.new).is_flushed ≡ true) }
     ensures laws { KeepsLaws machine.old machine.new }
 {
     run_script_after(&[], machine, source, sink)
@@ -58,14 +58,14 @@ pub fn plan_script<R: Source, W: Sink>(
     source: &mut R,
     sink: &mut W,
 ) -> Result<Summary, IoError>
-    requires source { R.has_failed source.old ≡ false }
-    requires sink { W.has_failed sink.old ≡ false }
+    requires source { (R.state source.old).has_failed ≡ false }
+    requires sink { (W.state sink.old).has_failed ≡ false }
     ensures runs { RunsScript StopsInReply (plan_opening base length align)
-        (record { machine = machine.old; unread = R.to_come source.old; taken = W.taken_bytes sink.old }) result
-        (record { machine = machine.new; unread = R.to_come source.new; taken = W.taken_bytes sink.new }) }
-    ensures read { (result ≡ Err IoError.Read) ↔ (R.has_failed source.new ≡ true) }
-    ensures write { (result ≡ Err IoError.Write) ↔ (W.has_failed sink.new ≡ true) }
-    ensures flushed { OnOk result (W.is_flushed sink.new ≡ true) }
+        (record { machine = machine.old; unread = (R.state source.old).unread; taken = (W.state sink.old).taken }) result
+        (record { machine = machine.new; unread = (R.state source.new).unread; taken = (W.state sink.new).taken }) }
+    ensures read { (result ≡ Err IoError.Read) ↔ ((R.state source.new).has_failed ≡ true) }
+    ensures write { (result ≡ Err IoError.Write) ↔ ((W.state sink.new).has_failed ≡ true) }
+    ensures flushed { OnOk result ((W.state sink.new).is_flushed ≡ true) }
     ensures laws { KeepsLaws machine.old machine.new }
 {
     run_script_after(&plan_opening(base, length, align), machine, source, sink)
@@ -85,14 +85,14 @@ pub fn run_script_after<R: Source, W: Sink>(
     source: &mut R,
     sink: &mut W,
 ) -> Result<Summary, IoError>
-    requires source { R.has_failed source.old ≡ false }
-    requires sink { W.has_failed sink.old ≡ false }
+    requires source { (R.state source.old).has_failed ≡ false }
+    requires sink { (W.state sink.old).has_failed ≡ false }
     ensures runs { RunsScript StopsInReply opening.now
-        (record { machine = machine.old; unread = R.to_come source.old; taken = W.taken_bytes sink.old }) result
-        (record { machine = machine.new; unread = R.to_come source.new; taken = W.taken_bytes sink.new }) }
-    ensures read { (result ≡ Err IoError.Read) ↔ (R.has_failed source.new ≡ true) }
-    ensures write { (result ≡ Err IoError.Write) ↔ (W.has_failed sink.new ≡ true) }
-    ensures flushed { OnOk result (W.is_flushed sink.new ≡ true) }
+        (record { machine = machine.old; unread = (R.state source.old).unread; taken = (W.state sink.old).taken }) result
+        (record { machine = machine.new; unread = (R.state source.new).unread; taken = (W.state sink.new).taken }) }
+    ensures read { (result ≡ Err IoError.Read) ↔ ((R.state source.new).has_failed ≡ true) }
+    ensures write { (result ≡ Err IoError.Write) ↔ ((W.state sink.new).has_failed ≡ true) }
+    ensures flushed { OnOk result ((W.state sink.new).is_flushed ≡ true) }
     ensures laws { KeepsLaws machine.old machine.new }
 {
     let mut tally = Tally::new();

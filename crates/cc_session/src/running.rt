@@ -84,18 +84,18 @@ pub fn run_session<R: Source, W: Sink, const N: usize>(
     sink: &mut W,
     page: &mut Page<N>,
 ) -> Result<Summary, IoError>
-    requires source { R.has_failed source.old ≡ false }
-    requires sink { W.has_failed sink.old ≡ false }
+    requires source { (R.state source.old).has_failed ≡ false }
+    requires sink { (W.state sink.old).has_failed ≡ false }
     requires fresh { IsTally [] [] tally.old }
     requires room { 193 ≤ N }
     // The main theorem (`main`), what was written before a failure (`fails`), and the counts of the
     // replies at `Ok` (`counts`).
     ensures runs { RunsSession N opening.now
-        (record { machine = machine.old; unread = R.to_come source.old; taken = W.taken_bytes sink.old }) result tally.new
-        (record { machine = machine.new; unread = R.to_come source.new; taken = W.taken_bytes sink.new }) }
-    ensures read { (result ≡ Err IoError.Read) ↔ (R.has_failed source.new ≡ true) }
-    ensures write { (result ≡ Err IoError.Write) ↔ (W.has_failed sink.new ≡ true) }
-    ensures flushed { OnOk result (W.is_flushed sink.new ≡ true) }
+        (record { machine = machine.old; unread = (R.state source.old).unread; taken = (W.state sink.old).taken }) result tally.new
+        (record { machine = machine.new; unread = (R.state source.new).unread; taken = (W.state sink.new).taken }) }
+    ensures read { (result ≡ Err IoError.Read) ↔ ((R.state source.new).has_failed ≡ true) }
+    ensures write { (result ≡ Err IoError.Write) ↔ ((W.state sink.new).has_failed ≡ true) }
+    ensures flushed { OnOk result ((W.state sink.new).is_flushed ≡ true) }
     ensures laws { KeepsLaws machine.old machine.new }
 {
     tell_reached(machine);
@@ -118,20 +118,20 @@ fn answer_script<R: Source, W: Sink, const N: usize>(
     sink: &mut W,
     page: &mut Page<N>,
 ) -> Result<Summary, IoError>
-    requires source { R.has_failed source.old ≡ false }
-    requires sink { W.has_failed sink.old ≡ false }
+    requires source { (R.state source.old).has_failed ≡ false }
+    requires sink { (W.state sink.old).has_failed ≡ false }
     requires reached { IsReached lent.old.machine.now }
     requires fresh { IsTally [] [] lent.old.tally.now }
     requires room { 193 ≤ N }
     ensures same_machine { lent.new.machine.ghost_name ≡ lent.old.machine.ghost_name }
     ensures same_tally { lent.new.tally.ghost_name ≡ lent.old.tally.ghost_name }
     ensures runs { RunsSession N opening.now
-        (record { machine = lent.old.machine.now; unread = R.to_come source.old; taken = W.taken_bytes sink.old }) result lent.new.tally.now
-        (record { machine = lent.new.machine.now; unread = R.to_come source.new; taken = W.taken_bytes sink.new }) }
+        (record { machine = lent.old.machine.now; unread = (R.state source.old).unread; taken = (W.state sink.old).taken }) result lent.new.tally.now
+        (record { machine = lent.new.machine.now; unread = (R.state source.new).unread; taken = (W.state sink.new).taken }) }
     ensures laws { KeepsLaws lent.old.machine.now lent.new.machine.now }
-    ensures read { (result ≡ Err IoError.Read) ↔ (R.has_failed source.new ≡ true) }
-    ensures write { (result ≡ Err IoError.Write) ↔ (W.has_failed sink.new ≡ true) }
-    ensures flushed { OnOk result (W.is_flushed sink.new ≡ true) }
+    ensures read { (result ≡ Err IoError.Read) ↔ ((R.state source.new).has_failed ≡ true) }
+    ensures write { (result ≡ Err IoError.Write) ↔ ((W.state sink.new).has_failed ≡ true) }
+    ensures flushed { OnOk result ((W.state sink.new).is_flushed ≡ true) }
 {
     page.clear();
     let opening_error = match take_opening(opening, lent.machine, lent.tally, sink, page) {
@@ -155,14 +155,14 @@ fn take_opening<W: Sink, const N: usize>(
     sink: &mut W,
     page: &mut Page<N>,
 ) -> Result<bool, Failed>
-    requires sink { W.has_failed sink.old ≡ false }
+    requires sink { (W.state sink.old).has_failed ≡ false }
     requires room { 193 ≤ N }
     requires empty { page.old ≡ [] }
     ensures ok { IfOk result (λ error.
-        Opens N machine.old tally.old opening.now page.new (W.taken_bytes sink.old) (W.taken_bytes sink.new) error machine.new tally.new) }
+        Opens N machine.old tally.old opening.now page.new (W.state sink.old).taken (W.state sink.new).taken error machine.new tally.new) }
     ensures err { OnErr result (
-        StopsInReplies N machine.old (map Ok opening.now) (Appends (W.taken_bytes sink.old) (W.taken_bytes sink.new)) machine.new) }
-    ensures fails { IsErr result ↔ (W.has_failed sink.new ≡ true) }
+        StopsInReplies N machine.old (map Ok opening.now) (Appends (W.state sink.old).taken (W.state sink.new).taken) machine.new) }
+    ensures fails { IsErr result ↔ ((W.state sink.new).has_failed ≡ true) }
 {
     let mut any_error = false;
     for op in opening {
@@ -177,13 +177,13 @@ fn take_opening<W: Sink, const N: usize>(
 
 /// Writes the page and clears it, if one more reply might not fit.
 fn make_room<W: Sink, const N: usize>(page: &mut Page<N>, sink: &mut W) -> Result<(), Failed>
-    requires sink { W.has_failed sink.old ≡ false }
+    requires sink { (W.state sink.old).has_failed ≡ false }
     requires room { 193 ≤ N }
-    ensures ok { OnOk result (PassesPage (W.taken_bytes sink.old) (W.taken_bytes sink.new) page.old page.new) }
+    ensures ok { OnOk result (PassesPage (W.state sink.old).taken (W.state sink.new).taken page.old page.new) }
     ensures room { OnOk result (length page.new + 193 ≤ N) }
-    ensures err { OnErr result (TakesBeginning (W.taken_bytes sink.old) (W.taken_bytes sink.new) page.old) }
+    ensures err { OnErr result (TakesBeginning (W.state sink.old).taken (W.state sink.new).taken page.old) }
     ensures some { OnErr result (0 < length page.old) }
-    ensures fails { IsErr result ↔ (W.has_failed sink.new ≡ true) }
+    ensures fails { IsErr result ↔ ((W.state sink.new).has_failed ≡ true) }
 {
     if 193 <= N - page.len() {
         return Ok(());

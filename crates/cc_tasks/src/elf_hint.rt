@@ -40,8 +40,8 @@ pub fn raw_file<'a>(invocation: Invocation<'a>) -> Option<&'a str>
 
 /// Writes the hint if a file that begins with these bytes is an ELF file. Errors of the sink are ignored.
 pub fn hint_elf<E: Sink>(start: &[u8], errors: &mut E)
-    requires { E.has_failed errors.old ≡ false }
-    ensures hinted { E.has_failed errors.new ≡ false → Appends (E.taken_bytes errors.old) (E.taken_bytes errors.new) (elf_hint start.now) }
+    requires { (E.state errors.old).has_failed ≡ false }
+    ensures hinted { (E.state errors.new).has_failed ≡ false → Appends (E.state errors.old).taken (E.state errors.new).taken (elf_hint start.now) }
     ensures silent { ¬ IsTrue (is_elf start.now) → errors.new ≡ errors.old }
 {
     if is_elf(start) {
@@ -58,7 +58,7 @@ pub fn hint_elf<E: Sink>(start: &[u8], errors: &mut E)
 ///
 /// Requires: standard error has not failed.
 pub fn hint_on_file<I: Inputs, E: Sink>(inputs: &I, invocation: Invocation<'_>, errors: &mut E)
-    requires { E.has_failed errors.old ≡ false }
+    requires { (E.state errors.old).has_failed ≡ false }
 {
     let Some(path) = raw_file(invocation) else {
         return;

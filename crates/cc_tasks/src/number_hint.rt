@@ -29,8 +29,8 @@ fn has_bare(typed: &[&str]) -> bool
 /// Writes the hint if hints are given and the base, if one is given, or one of the texts is such a number. Errors of the sink
 /// are ignored.
 pub(crate) fn hint_numbers<E: Sink>(hints: bool, base: Option<&str>, typed: &[&str], errors: &mut E)
-    requires { E.has_failed errors.old ≡ false }
-    ensures hinted { E.has_failed errors.new ≡ false → Appends (E.taken_bytes errors.old) (E.taken_bytes errors.new) (number_hint hints (after_base base.entry (texts typed.now))) }
+    requires { (E.state errors.old).has_failed ≡ false }
+    ensures hinted { (E.state errors.new).has_failed ≡ false → Appends (E.state errors.old).taken (E.state errors.new).taken (number_hint hints (after_base base.entry (texts typed.now))) }
     ensures silent { ¬ IsTrue (is_hinted hints (after_base base.entry (texts typed.now))) → errors.new ≡ errors.old }
 {
     write_hint_if(hints && has_bare_after(base, typed), errors);
@@ -39,8 +39,8 @@ pub(crate) fn hint_numbers<E: Sink>(hints: bool, base: Option<&str>, typed: &[&s
 /// Writes the hint if hints are given, and the base, if one is given, or a line of the list is such a number. Errors of the
 /// sink are ignored.
 pub(crate) fn hint_list<E: Sink>(hints: bool, base: Option<&str>, bare: bool, errors: &mut E)
-    requires { E.has_failed errors.old ≡ false }
-    ensures hinted { E.has_failed errors.new ≡ false → Appends (E.taken_bytes errors.old) (E.taken_bytes errors.new) (hint_if (hints && (list_any is_bare (after_base base.entry []) || bare))) }
+    requires { (E.state errors.old).has_failed ≡ false }
+    ensures hinted { (E.state errors.new).has_failed ≡ false → Appends (E.state errors.old).taken (E.state errors.new).taken (hint_if (hints && (list_any is_bare (after_base base.entry []) || bare))) }
     ensures silent { ¬ IsTrue hints → errors.new ≡ errors.old }
 {
     write_hint_if(hints && (has_bare_after(base, &[]) || bare), errors);
@@ -48,8 +48,8 @@ pub(crate) fn hint_list<E: Sink>(hints: bool, base: Option<&str>, bare: bool, er
 
 /// Writes the hint if there is one. Errors of the sink are ignored.
 fn write_hint_if<E: Sink>(is_hinted: bool, errors: &mut E)
-    requires { E.has_failed errors.old ≡ false }
-    ensures hinted { E.has_failed errors.new ≡ false → Appends (E.taken_bytes errors.old) (E.taken_bytes errors.new) (hint_if is_hinted) }
+    requires { (E.state errors.old).has_failed ≡ false }
+    ensures hinted { (E.state errors.new).has_failed ≡ false → Appends (E.state errors.old).taken (E.state errors.new).taken (hint_if is_hinted) }
     ensures silent { ¬ IsTrue is_hinted → errors.new ≡ errors.old }
 {
     if is_hinted {

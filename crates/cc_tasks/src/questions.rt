@@ -30,17 +30,17 @@ pub fn ask<W: Sink, E: Sink>(
     sink: &mut W,
     errors: &mut E,
 ) -> Result<Summary, Fault>
-    requires sink { W.has_failed sink.old ≡ false }
-    requires errors { E.has_failed errors.old ≡ false }
-    ensures answers { OnDevices (AnswersQuestion question.entry (W.taken_bytes sink.old) (W.taken_bytes sink.new)) result }
-    ensures hinted { OnOk result (E.has_failed errors.new ≡ false → Appends (E.taken_bytes errors.old) (E.taken_bytes errors.new) (question_hint hints question.entry)) }
+    requires sink { (W.state sink.old).has_failed ≡ false }
+    requires errors { (E.state errors.old).has_failed ≡ false }
+    ensures answers { OnDevices (AnswersQuestion question.entry (W.state sink.old).taken (W.state sink.new).taken) result }
+    ensures hinted { OnOk result ((E.state errors.new).has_failed ≡ false → Appends (E.state errors.old).taken (E.state errors.new).taken (question_hint hints question.entry)) }
     ensures silent { ¬ IsTrue (has_hint hints question.entry) → errors.new ≡ errors.old }
     ensures unreported { OnErr result (errors.new ≡ errors.old) }
     ensures open { result ≢ Err Fault.Open }
     ensures memory { result ≢ Err Fault.Memory }
     ensures read { result ≢ Err Fault.Read }
-    ensures write { (result ≡ Err Fault.Write) ↔ (W.has_failed sink.new ≡ true) }
-    ensures flushed { OnOk result (W.is_flushed sink.new ≡ true) }
+    ensures write { (result ≡ Err Fault.Write) ↔ ((W.state sink.new).has_failed ≡ true) }
+    ensures flushed { OnOk result ((W.state sink.new).is_flushed ≡ true) }
 {
     let result = answer(question, sink);
     if result.is_err() {
@@ -52,21 +52,21 @@ pub fn ask<W: Sink, E: Sink>(
 
 /// Writes the listing, line, rounding, explanation or drawing that a question requests.
 fn answer<W: Sink>(question: Question<'_>, sink: &mut W) -> Result<Summary, Fault>
-    requires { W.has_failed sink.old ≡ false }
-    ensures answers { OnDevices (AnswersQuestion question.entry (W.taken_bytes sink.old) (W.taken_bytes sink.new)) result }
+    requires { (W.state sink.old).has_failed ≡ false }
+    ensures answers { OnDevices (AnswersQuestion question.entry (W.state sink.old).taken (W.state sink.new).taken) result }
     ensures open { result ≢ Err Fault.Open }
     ensures memory { result ≢ Err Fault.Memory }
     ensures read { result ≢ Err Fault.Read }
-    ensures write { (result ≡ Err Fault.Write) ↔ (W.has_failed sink.new ≡ true) }
-    ensures flushed { OnOk result (W.is_flushed sink.new ≡ true) }
+    ensures write { (result ≡ Err Fault.Write) ↔ ((W.state sink.new).has_failed ≡ true) }
+    ensures flushed { OnOk result ((W.state sink.new).is_flushed ≡ true) }
 {
     Ok(answer_question(question, sink)?)
 }
 
 /// Writes the hint on a question, if hints are given.
 fn hint_question<E: Sink>(hints: bool, question: Question<'_>, errors: &mut E)
-    requires { E.has_failed errors.old ≡ false }
-    ensures hinted { E.has_failed errors.new ≡ false → Appends (E.taken_bytes errors.old) (E.taken_bytes errors.new) (question_hint hints question.entry) }
+    requires { (E.state errors.old).has_failed ≡ false }
+    ensures hinted { (E.state errors.new).has_failed ≡ false → Appends (E.state errors.old).taken (E.state errors.new).taken (question_hint hints question.entry) }
     ensures silent { ¬ IsTrue (has_hint hints question.entry) → errors.new ≡ errors.old }
 {
     match question {
@@ -84,11 +84,11 @@ fn hint_question<E: Sink>(hints: bool, question: Question<'_>, errors: &mut E)
 
 /// Writes the listing, line, rounding, explanation or drawing that a question requests.
 fn answer_question<W: Sink>(question: Question<'_>, sink: &mut W) -> Result<Summary, IoError>
-    requires { W.has_failed sink.old ≡ false }
-    ensures answered { WritesAnswer (IsAnswerTo question.entry) (W.taken_bytes sink.old) (W.taken_bytes sink.new) result }
+    requires { (W.state sink.old).has_failed ≡ false }
+    ensures answered { WritesAnswer (IsAnswerTo question.entry) (W.state sink.old).taken (W.state sink.new).taken result }
     ensures any_error { IfOk result (λ summary. IsTrue summary.any_error ↔ IsUnanswerable question.entry) }
-    ensures flushed { OnOk result (W.is_flushed sink.new ≡ true) }
-    ensures fails { IsErr result ↔ (W.has_failed sink.new ≡ true) }
+    ensures flushed { OnOk result ((W.state sink.new).is_flushed ≡ true) }
+    ensures fails { IsErr result ↔ ((W.state sink.new).has_failed ≡ true) }
     ensures write { OnErr result (result ≡ Err IoError.Write) }
 {
     match question {
@@ -102,11 +102,11 @@ fn answer_question<W: Sink>(question: Question<'_>, sink: &mut W) -> Result<Summ
 
 /// Writes the listing of a word, or its one-line form.
 fn show<W: Sink>(word: &str, as_line: bool, sink: &mut W) -> Result<Summary, IoError>
-    requires { W.has_failed sink.old ≡ false }
-    ensures answered { WritesAnswer (IsAnswerTo (question.Show word.entry as_line)) (W.taken_bytes sink.old) (W.taken_bytes sink.new) result }
+    requires { (W.state sink.old).has_failed ≡ false }
+    ensures answered { WritesAnswer (IsAnswerTo (question.Show word.entry as_line)) (W.state sink.old).taken (W.state sink.new).taken result }
     ensures any_error { IfOk result (λ summary. IsTrue summary.any_error ↔ IsUnanswerable (question.Show word.entry as_line)) }
-    ensures flushed { OnOk result (W.is_flushed sink.new ≡ true) }
-    ensures fails { IsErr result ↔ (W.has_failed sink.new ≡ true) }
+    ensures flushed { OnOk result ((W.state sink.new).is_flushed ≡ true) }
+    ensures fails { IsErr result ↔ ((W.state sink.new).has_failed ≡ true) }
     ensures write { OnErr result (result ≡ Err IoError.Write) }
 {
     if as_line {
@@ -118,11 +118,11 @@ fn show<W: Sink>(word: &str, as_line: bool, sink: &mut W) -> Result<Summary, IoE
 
 /// Writes how setting bounds rounds a length, with the bounds granted from a base on if one is given.
 fn round<W: Sink>(base: Option<&str>, length: &str, sink: &mut W) -> Result<Summary, IoError>
-    requires { W.has_failed sink.old ≡ false }
-    ensures answered { WritesAnswer (IsAnswerTo (question.Round base.entry length.entry)) (W.taken_bytes sink.old) (W.taken_bytes sink.new) result }
+    requires { (W.state sink.old).has_failed ≡ false }
+    ensures answered { WritesAnswer (IsAnswerTo (question.Round base.entry length.entry)) (W.state sink.old).taken (W.state sink.new).taken result }
     ensures any_error { IfOk result (λ summary. IsTrue summary.any_error ↔ IsUnanswerable (question.Round base.entry length.entry)) }
-    ensures flushed { OnOk result (W.is_flushed sink.new ≡ true) }
-    ensures fails { IsErr result ↔ (W.has_failed sink.new ≡ true) }
+    ensures flushed { OnOk result ((W.state sink.new).is_flushed ≡ true) }
+    ensures fails { IsErr result ↔ ((W.state sink.new).has_failed ≡ true) }
     ensures write { OnErr result (result ≡ Err IoError.Write) }
 {
     match base {

@@ -27,20 +27,20 @@ pub fn decode_file<I: Inputs, W: Sink>(
     file: Option<&str>,
     sink: &mut W,
 ) -> Result<Summary, Fault>
-    requires source { I.Opened.has_failed source.old ≡ false }
+    requires source { (I.Opened.state source.old).has_failed ≡ false }
     requires inputs { I.has_refused inputs.old ≡ false }
-    requires sink { W.has_failed sink.old ≡ false }
-    ensures decodes { OnOutput (I.bytes_of inputs.old) (W.taken_bytes sink.old) (W.taken_bytes sink.new) (I.Opened.to_come source.new)
+    requires sink { (W.state sink.old).has_failed ≡ false }
+    ensures decodes { OnOutput (I.bytes_of inputs.old) (W.state sink.old).taken (W.state sink.new).taken (I.Opened.state source.new).unread
         (λ console. WithListing input format texts.entry console (λ skipped options. FromInput (file_input file.entry) console (ListsWords skipped options))) result }
     ensures open { result ≡ Err Fault.Open → IsFile (file_input file.entry) }
-    ensures untouched { result ≡ Err Fault.Open → W.taken_bytes sink.new ≡ W.taken_bytes sink.old }
+    ensures untouched { result ≡ Err Fault.Open → (W.state sink.new).taken ≡ (W.state sink.old).taken }
     ensures memory { result ≢ Err Fault.Memory }
     ensures asked { I.last_asked inputs.new (file_input file.entry) Content.Words ≡ false → (inputs.new ≡ inputs.old) × (source.new ≡ source.old) }
     ensures unused { ¬ IsOk (listing_in input format texts.entry) → (inputs.new ≡ inputs.old) × (source.new ≡ source.old) }
     ensures refused { (result ≡ Err Fault.Open) ↔ (I.has_refused inputs.new ≡ true) }
-    ensures read { (result ≡ Err Fault.Read) ↔ (I.Opened.has_failed source.new ≡ true) }
-    ensures write { (result ≡ Err Fault.Write) ↔ (W.has_failed sink.new ≡ true) }
-    ensures flushed { OnOk result (W.is_flushed sink.new ≡ true) }
+    ensures read { (result ≡ Err Fault.Read) ↔ ((I.Opened.state source.new).has_failed ≡ true) }
+    ensures write { (result ≡ Err Fault.Write) ↔ ((W.state sink.new).has_failed ≡ true) }
+    ensures flushed { OnOk result ((W.state sink.new).is_flushed ≡ true) }
 {
     match listing_of(input, format, texts) {
         Ok((skipped, options)) => list_words(
@@ -66,19 +66,19 @@ fn list_words<I: Inputs, W: Sink>(
     input: InputName<'_>,
     sink: &mut W,
 ) -> Result<Summary, Fault>
-    requires source { I.Opened.has_failed source.old ≡ false }
+    requires source { (I.Opened.state source.old).has_failed ≡ false }
     requires inputs { I.has_refused inputs.old ≡ false }
-    requires sink { W.has_failed sink.old ≡ false }
-    ensures lists { OnOutput (I.bytes_of inputs.old) (W.taken_bytes sink.old) (W.taken_bytes sink.new) (I.Opened.to_come source.new)
+    requires sink { (W.state sink.old).has_failed ≡ false }
+    ensures lists { OnOutput (I.bytes_of inputs.old) (W.state sink.old).taken (W.state sink.new).taken (I.Opened.state source.new).unread
         (λ console. FromInput input.entry console (ListsWords skipped options)) result }
     ensures open { result ≡ Err Fault.Open → IsFile input.entry }
-    ensures untouched { result ≡ Err Fault.Open → W.taken_bytes sink.new ≡ W.taken_bytes sink.old }
+    ensures untouched { result ≡ Err Fault.Open → (W.state sink.new).taken ≡ (W.state sink.old).taken }
     ensures memory { result ≢ Err Fault.Memory }
     ensures asked { I.last_asked inputs.new input.entry Content.Words ≡ false → (inputs.new ≡ inputs.old) × (source.new ≡ source.old) }
     ensures refused { (result ≡ Err Fault.Open) ↔ (I.has_refused inputs.new ≡ true) }
-    ensures read { (result ≡ Err Fault.Read) ↔ (I.Opened.has_failed source.new ≡ true) }
-    ensures write { (result ≡ Err Fault.Write) ↔ (W.has_failed sink.new ≡ true) }
-    ensures flushed { OnOk result (W.is_flushed sink.new ≡ true) }
+    ensures read { (result ≡ Err Fault.Read) ↔ ((I.Opened.state source.new).has_failed ≡ true) }
+    ensures write { (result ≡ Err Fault.Write) ↔ ((W.state sink.new).has_failed ≡ true) }
+    ensures flushed { OnOk result ((W.state sink.new).is_flushed ≡ true) }
 {
     inputs.open(input, Content::Words, source)?;
     Ok(decode_words_after(skipped, options, source, sink)?)
@@ -95,19 +95,19 @@ pub fn annotate_file<I: Inputs, W: Sink>(
     file: Option<&str>,
     sink: &mut W,
 ) -> Result<Summary, Fault>
-    requires source { I.Opened.has_failed source.old ≡ false }
+    requires source { (I.Opened.state source.old).has_failed ≡ false }
     requires inputs { I.has_refused inputs.old ≡ false }
-    requires sink { W.has_failed sink.old ≡ false }
-    ensures annotates { OnOutput (I.bytes_of inputs.old) (W.taken_bytes sink.old) (W.taken_bytes sink.new) (I.Opened.to_come source.new)
+    requires sink { (W.state sink.old).has_failed ≡ false }
+    ensures annotates { OnOutput (I.bytes_of inputs.old) (W.state sink.old).taken (W.state sink.new).taken (I.Opened.state source.new).unread
         (λ console. FromInput (file_input file.entry) console AnnotatesWords) result }
     ensures open { result ≡ Err Fault.Open → IsFile (file_input file.entry) }
-    ensures untouched { result ≡ Err Fault.Open → W.taken_bytes sink.new ≡ W.taken_bytes sink.old }
+    ensures untouched { result ≡ Err Fault.Open → (W.state sink.new).taken ≡ (W.state sink.old).taken }
     ensures memory { result ≢ Err Fault.Memory }
     ensures asked { I.last_asked inputs.new (file_input file.entry) Content.Words ≡ false → (inputs.new ≡ inputs.old) × (source.new ≡ source.old) }
     ensures refused { (result ≡ Err Fault.Open) ↔ (I.has_refused inputs.new ≡ true) }
-    ensures read { (result ≡ Err Fault.Read) ↔ (I.Opened.has_failed source.new ≡ true) }
-    ensures write { (result ≡ Err Fault.Write) ↔ (W.has_failed sink.new ≡ true) }
-    ensures flushed { OnOk result (W.is_flushed sink.new ≡ true) }
+    ensures read { (result ≡ Err Fault.Read) ↔ ((I.Opened.state source.new).has_failed ≡ true) }
+    ensures write { (result ≡ Err Fault.Write) ↔ ((W.state sink.new).has_failed ≡ true) }
+    ensures flushed { OnOk result ((W.state sink.new).is_flushed ≡ true) }
 {
     inputs.open(file_input(file), Content::Words, source)?;
     Ok(annotate(source, sink)?)
@@ -129,30 +129,30 @@ pub fn round_file<I: Inputs, W: Sink, E: Sink>(
     sink: &mut W,
     errors: &mut E,
 ) -> Result<Summary, Fault>
-    requires source { I.Opened.has_failed source.old ≡ false }
+    requires source { (I.Opened.state source.old).has_failed ≡ false }
     requires inputs { I.has_refused inputs.old ≡ false }
-    requires sink { W.has_failed sink.old ≡ false }
-    requires errors { E.has_failed errors.old ≡ false }
-    ensures rounds { OnDevices (WithBase base.entry (W.taken_bytes sink.old) (W.taken_bytes sink.new) (λ place. FromInput (file_input file.entry) (record {
+    requires sink { (W.state sink.old).has_failed ≡ false }
+    requires errors { (E.state errors.old).has_failed ≡ false }
+    ensures rounds { OnDevices (WithBase base.entry (W.state sink.old).taken (W.state sink.new).taken (λ place. FromInput (file_input file.entry) (record {
       input = I.bytes_of inputs.old;
-      left = I.Opened.to_come source.new;
-      output = W.taken_bytes sink.old;
-      output_now = W.taken_bytes sink.new;
-      errors = E.taken_bytes errors.old;
-      errors_now = E.taken_bytes errors.new;
-      errors_failed = E.has_failed errors.new;
+      left = (I.Opened.state source.new).unread;
+      output = (W.state sink.old).taken;
+      output_now = (W.state sink.new).taken;
+      errors = (E.state errors.old).taken;
+      errors_now = (E.state errors.new).taken;
+      errors_failed = (E.state errors.new).has_failed;
     }) (RoundsLengths base.entry hints place))) result }
     ensures silent { ¬ (IsTrue hints × IsOk (place_in base.entry)) → errors.new ≡ errors.old }
     ensures unreported { OnErr result (errors.new ≡ errors.old) }
     ensures open { result ≡ Err Fault.Open → IsFile (file_input file.entry) }
-    ensures untouched { result ≡ Err Fault.Open → W.taken_bytes sink.new ≡ W.taken_bytes sink.old }
+    ensures untouched { result ≡ Err Fault.Open → (W.state sink.new).taken ≡ (W.state sink.old).taken }
     ensures memory { result ≢ Err Fault.Memory }
     ensures asked { I.last_asked inputs.new (file_input file.entry) Content.Words ≡ false → (inputs.new ≡ inputs.old) × (source.new ≡ source.old) }
     ensures unused { ¬ IsOk (place_in base.entry) → (inputs.new ≡ inputs.old) × (source.new ≡ source.old) }
     ensures refused { (result ≡ Err Fault.Open) ↔ (I.has_refused inputs.new ≡ true) }
-    ensures read { (result ≡ Err Fault.Read) ↔ (I.Opened.has_failed source.new ≡ true) }
-    ensures write { (result ≡ Err Fault.Write) ↔ (W.has_failed sink.new ≡ true) }
-    ensures flushed { OnOk result (W.is_flushed sink.new ≡ true) }
+    ensures read { (result ≡ Err Fault.Read) ↔ ((I.Opened.state source.new).has_failed ≡ true) }
+    ensures write { (result ≡ Err Fault.Write) ↔ ((W.state sink.new).has_failed ≡ true) }
+    ensures flushed { OnOk result ((W.state sink.new).is_flushed ≡ true) }
 {
     match place_of(base) {
         Ok(place) => round_hinted(
@@ -180,29 +180,29 @@ fn round_hinted<I: Inputs, W: Sink, E: Sink>(
     sink: &mut W,
     errors: &mut E,
 ) -> Result<Summary, Fault>
-    requires source { I.Opened.has_failed source.old ≡ false }
+    requires source { (I.Opened.state source.old).has_failed ≡ false }
     requires inputs { I.has_refused inputs.old ≡ false }
-    requires sink { W.has_failed sink.old ≡ false }
-    requires errors { E.has_failed errors.old ≡ false }
+    requires sink { (W.state sink.old).has_failed ≡ false }
+    requires errors { (E.state errors.old).has_failed ≡ false }
     ensures rounds { OnDevices (FromInput input.entry (record {
       input = I.bytes_of inputs.old;
-      left = I.Opened.to_come source.new;
-      output = W.taken_bytes sink.old;
-      output_now = W.taken_bytes sink.new;
-      errors = E.taken_bytes errors.old;
-      errors_now = E.taken_bytes errors.new;
-      errors_failed = E.has_failed errors.new;
+      left = (I.Opened.state source.new).unread;
+      output = (W.state sink.old).taken;
+      output_now = (W.state sink.new).taken;
+      errors = (E.state errors.old).taken;
+      errors_now = (E.state errors.new).taken;
+      errors_failed = (E.state errors.new).has_failed;
     }) (RoundsLengths base.entry hints place)) result }
     ensures silent { ¬ IsTrue hints → errors.new ≡ errors.old }
     ensures unreported { OnErr result (errors.new ≡ errors.old) }
     ensures open { result ≡ Err Fault.Open → IsFile input.entry }
-    ensures untouched { result ≡ Err Fault.Open → W.taken_bytes sink.new ≡ W.taken_bytes sink.old }
+    ensures untouched { result ≡ Err Fault.Open → (W.state sink.new).taken ≡ (W.state sink.old).taken }
     ensures memory { result ≢ Err Fault.Memory }
     ensures asked { I.last_asked inputs.new input.entry Content.Words ≡ false → (inputs.new ≡ inputs.old) × (source.new ≡ source.old) }
     ensures refused { (result ≡ Err Fault.Open) ↔ (I.has_refused inputs.new ≡ true) }
-    ensures read { (result ≡ Err Fault.Read) ↔ (I.Opened.has_failed source.new ≡ true) }
-    ensures write { (result ≡ Err Fault.Write) ↔ (W.has_failed sink.new ≡ true) }
-    ensures flushed { OnOk result (W.is_flushed sink.new ≡ true) }
+    ensures read { (result ≡ Err Fault.Read) ↔ ((I.Opened.state source.new).has_failed ≡ true) }
+    ensures write { (result ≡ Err Fault.Write) ↔ ((W.state sink.new).has_failed ≡ true) }
+    ensures flushed { OnOk result ((W.state sink.new).is_flushed ≡ true) }
 {
     let mut bare = false;
     let result = round_input(place, inputs, source, input, sink, &mut bare);
@@ -223,19 +223,19 @@ fn round_input<I: Inputs, W: Sink>(
     sink: &mut W,
     bare: &mut bool,
 ) -> Result<Summary, Fault>
-    requires source { I.Opened.has_failed source.old ≡ false }
+    requires source { (I.Opened.state source.old).has_failed ≡ false }
     requires inputs { I.has_refused inputs.old ≡ false }
-    requires sink { W.has_failed sink.old ≡ false }
-    ensures rounds { OnOutput (I.bytes_of inputs.old) (W.taken_bytes sink.old) (W.taken_bytes sink.new) (I.Opened.to_come source.new)
+    requires sink { (W.state sink.old).has_failed ≡ false }
+    ensures rounds { OnOutput (I.bytes_of inputs.old) (W.state sink.old).taken (W.state sink.new).taken (I.Opened.state source.new).unread
         (λ console. FromInput input.entry console (SeesLengths base bare.new)) result }
     ensures open { result ≡ Err Fault.Open → IsFile input.entry }
-    ensures untouched { result ≡ Err Fault.Open → W.taken_bytes sink.new ≡ W.taken_bytes sink.old }
+    ensures untouched { result ≡ Err Fault.Open → (W.state sink.new).taken ≡ (W.state sink.old).taken }
     ensures memory { result ≢ Err Fault.Memory }
     ensures asked { I.last_asked inputs.new input.entry Content.Words ≡ false → (inputs.new ≡ inputs.old) × (source.new ≡ source.old) }
     ensures refused { (result ≡ Err Fault.Open) ↔ (I.has_refused inputs.new ≡ true) }
-    ensures read { (result ≡ Err Fault.Read) ↔ (I.Opened.has_failed source.new ≡ true) }
-    ensures write { (result ≡ Err Fault.Write) ↔ (W.has_failed sink.new ≡ true) }
-    ensures flushed { OnOk result (W.is_flushed sink.new ≡ true) }
+    ensures read { (result ≡ Err Fault.Read) ↔ ((I.Opened.state source.new).has_failed ≡ true) }
+    ensures write { (result ≡ Err Fault.Write) ↔ ((W.state sink.new).has_failed ≡ true) }
+    ensures flushed { OnOk result ((W.state sink.new).is_flushed ≡ true) }
 {
     inputs.open(input, Content::Words, source)?;
     Ok(round_list(base, source, sink, bare)?)

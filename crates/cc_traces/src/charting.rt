@@ -133,9 +133,9 @@ pub(crate) fn take_trace<P: Placer, S: Source>(
     charting: &mut Charting<P>,
     source: &mut S,
 ) -> Result<Summary, IoError>
-    requires { S.has_failed source.old ≡ false }
-    ensures takes { TakesLines charting.old (S.to_come source.old) (S.to_come source.new) result charting.new }
-    ensures read { (result ≡ Err IoError.Read) ↔ (S.has_failed source.new ≡ true) }
+    requires { (S.state source.old).has_failed ≡ false }
+    ensures takes { TakesLines charting.old (S.state source.old).unread (S.state source.new).unread result charting.new }
+    ensures read { (result ≡ Err IoError.Read) ↔ ((S.state source.new).has_failed ≡ true) }
     ensures written { result ≢ Err IoError.Write }
 {
     let mut page = Waiting::new();
@@ -152,20 +152,20 @@ pub(crate) fn draw_input<M: TraceMemory, I: Inputs, W: Sink>(
     sink: &mut W,
 ) -> Result<Summary, Fault>
     requires memory { M.has_failed memory.old ≡ false }
-    requires source { I.Opened.has_failed source.old ≡ false }
+    requires source { (I.Opened.state source.old).has_failed ≡ false }
     requires inputs { I.has_refused inputs.old ≡ false }
-    requires sink { W.has_failed sink.old ≡ false }
-    ensures charts { OnOutput (I.bytes_of inputs.old) (W.taken_bytes sink.old) (W.taken_bytes sink.new) (I.Opened.to_come source.new)
+    requires sink { (W.state sink.old).has_failed ≡ false }
+    ensures charts { OnOutput (I.bytes_of inputs.old) (W.state sink.old).taken (W.state sink.new).taken (I.Opened.state source.new).unread
         (λ console. FromInput input.entry console (Charts charting.old)) result }
     ensures open { result ≡ Err Fault.Open → IsFile input.entry }
-    ensures untouched { result ≡ Err Fault.Open → W.taken_bytes sink.new ≡ W.taken_bytes sink.old }
-    ensures starved { result ≡ Err Fault.Memory → W.taken_bytes sink.new ≡ W.taken_bytes sink.old }
+    ensures untouched { result ≡ Err Fault.Open → (W.state sink.new).taken ≡ (W.state sink.old).taken }
+    ensures starved { result ≡ Err Fault.Memory → (W.state sink.new).taken ≡ (W.state sink.old).taken }
     ensures asked { I.last_asked inputs.new input.entry Content.Trace ≡ false → (inputs.new ≡ inputs.old) × (source.new ≡ source.old) }
     ensures refused { (result ≡ Err Fault.Open) ↔ (I.has_refused inputs.new ≡ true) }
-    ensures read { (result ≡ Err Fault.Read) ↔ (I.Opened.has_failed source.new ≡ true) }
+    ensures read { (result ≡ Err Fault.Read) ↔ ((I.Opened.state source.new).has_failed ≡ true) }
     ensures allocates { (result ≡ Err Fault.Memory) ↔ (M.has_failed memory.new ≡ true) }
-    ensures write { (result ≡ Err Fault.Write) ↔ (W.has_failed sink.new ≡ true) }
-    ensures flushed { OnOk result (W.is_flushed sink.new ≡ true) }
+    ensures write { (result ≡ Err Fault.Write) ↔ ((W.state sink.new).has_failed ≡ true) }
+    ensures flushed { OnOk result ((W.state sink.new).is_flushed ≡ true) }
 {
     inputs.open(input, Content::Trace, source)?;
     draw(memory, charting, source, sink)
@@ -179,17 +179,17 @@ fn draw<M: TraceMemory, S: Source, W: Sink>(
     sink: &mut W,
 ) -> Result<Summary, Fault>
     requires memory { M.has_failed memory.old ≡ false }
-    requires source { S.has_failed source.old ≡ false }
-    requires sink { W.has_failed sink.old ≡ false }
-    ensures charts { (traffic : Traffic) → traffic.unread ≡ S.to_come source.old → traffic.left ≡ S.to_come source.new
-        → traffic.output ≡ W.taken_bytes sink.old → traffic.output_now ≡ W.taken_bytes sink.new
+    requires source { (S.state source.old).has_failed ≡ false }
+    requires sink { (W.state sink.old).has_failed ≡ false }
+    ensures charts { (traffic : Traffic) → traffic.unread ≡ (S.state source.old).unread → traffic.left ≡ (S.state source.new).unread
+        → traffic.output ≡ (W.state sink.old).taken → traffic.output_now ≡ (W.state sink.new).taken
         → OnDevices (Charts charting.old traffic) result }
     ensures open { result ≢ Err Fault.Open }
-    ensures starved { result ≡ Err Fault.Memory → W.taken_bytes sink.new ≡ W.taken_bytes sink.old }
-    ensures read { (result ≡ Err Fault.Read) ↔ (S.has_failed source.new ≡ true) }
+    ensures starved { result ≡ Err Fault.Memory → (W.state sink.new).taken ≡ (W.state sink.old).taken }
+    ensures read { (result ≡ Err Fault.Read) ↔ ((S.state source.new).has_failed ≡ true) }
     ensures allocates { (result ≡ Err Fault.Memory) ↔ (M.has_failed memory.new ≡ true) }
-    ensures write { (result ≡ Err Fault.Write) ↔ (W.has_failed sink.new ≡ true) }
-    ensures flushed { OnOk result (W.is_flushed sink.new ≡ true) }
+    ensures write { (result ≡ Err Fault.Write) ↔ ((W.state sink.new).has_failed ≡ true) }
+    ensures flushed { OnOk result ((W.state sink.new).is_flushed ≡ true) }
 {
     let summary = memory.take_chart(charting, source)?;
     if let Progress::OutOfMemory = charting.progress() {

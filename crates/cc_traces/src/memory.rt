@@ -44,12 +44,12 @@ pub trait TraceMemory: Memory {
         source: &mut S,
         sink: &mut W,
     ) -> Result<Summary, IoError>
-        requires source { S.has_failed source.old ≡ false }
-        requires sink { W.has_failed sink.old ≡ false }
-        ensures takes { Replays replay.old (S.to_come source.old) (S.to_come source.new) (W.taken_bytes sink.old) (W.taken_bytes sink.new) result replay.new }
-        ensures read { (result ≡ Err IoError.Read) ↔ (S.has_failed source.new ≡ true) }
-        ensures write { (result ≡ Err IoError.Write) ↔ (W.has_failed sink.new ≡ true) }
-        ensures flushed { OnOk result (W.is_flushed sink.new ≡ true) }
+        requires source { (S.state source.old).has_failed ≡ false }
+        requires sink { (W.state sink.old).has_failed ≡ false }
+        ensures takes { Replays replay.old (S.state source.old).unread (S.state source.new).unread (W.state sink.old).taken (W.state sink.new).taken result replay.new }
+        ensures read { (result ≡ Err IoError.Read) ↔ ((S.state source.new).has_failed ≡ true) }
+        ensures write { (result ≡ Err IoError.Write) ↔ ((W.state sink.new).has_failed ≡ true) }
+        ensures flushed { OnOk result ((W.state sink.new).is_flushed ≡ true) }
         ensures fails { OnOk result ((replay.new.progress ≡ OutOfMemory) ↔ (Self.has_failed self.new ≡ true)) }
         ensures stopped { OnErr result (Self.has_failed self.new ≡ false) };
 
@@ -71,9 +71,9 @@ pub trait TraceMemory: Memory {
         charting: &mut Charting<GapPlacer>,
         source: &mut S,
     ) -> Result<Summary, IoError>
-        requires source { S.has_failed source.old ≡ false }
-        ensures takes { TakesLines charting.old (S.to_come source.old) (S.to_come source.new) result charting.new }
-        ensures read { (result ≡ Err IoError.Read) ↔ (S.has_failed source.new ≡ true) }
+        requires source { (S.state source.old).has_failed ≡ false }
+        ensures takes { TakesLines charting.old (S.state source.old).unread (S.state source.new).unread result charting.new }
+        ensures read { (result ≡ Err IoError.Read) ↔ ((S.state source.new).has_failed ≡ true) }
         ensures written { result ≢ Err IoError.Write }
         ensures fails { OnOk result ((charting.new.replay.progress ≡ OutOfMemory) ↔ (Self.has_failed self.new ≡ true)) }
         ensures stopped { OnErr result (Self.has_failed self.new ≡ false) };
@@ -98,12 +98,12 @@ pub trait TraceMemory: Memory {
         source: &mut S,
         sink: &mut W,
     ) -> Result<Summary, IoError>
-        requires source { S.has_failed source.old ≡ false }
-        requires sink { W.has_failed sink.old ≡ false }
-        ensures takes { Writes script.old (S.to_come source.old) (S.to_come source.new) (W.taken_bytes sink.old) (W.taken_bytes sink.new) result script.new }
-        ensures read { (result ≡ Err IoError.Read) ↔ (S.has_failed source.new ≡ true) }
-        ensures write { (result ≡ Err IoError.Write) ↔ (W.has_failed sink.new ≡ true) }
-        ensures flushed { OnOk result (W.is_flushed sink.new ≡ true) }
+        requires source { (S.state source.old).has_failed ≡ false }
+        requires sink { (W.state sink.old).has_failed ≡ false }
+        ensures takes { Writes script.old (S.state source.old).unread (S.state source.new).unread (W.state sink.old).taken (W.state sink.new).taken result script.new }
+        ensures read { (result ≡ Err IoError.Read) ↔ ((S.state source.new).has_failed ≡ true) }
+        ensures write { (result ≡ Err IoError.Write) ↔ ((W.state sink.new).has_failed ≡ true) }
+        ensures flushed { OnOk result ((W.state sink.new).is_flushed ≡ true) }
         ensures fails { OnOk result ((script.new.progress ≡ OutOfMemory) ↔ (Self.has_failed self.new ≡ true)) }
         ensures stopped { OnErr result (Self.has_failed self.new ≡ false) };
 }

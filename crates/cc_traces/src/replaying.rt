@@ -48,22 +48,22 @@ pub fn replay_file<M: TraceMemory, I: Inputs, W: Sink>(
     sink: &mut W,
 ) -> Result<Summary, Fault>
     requires memory { M.has_failed memory.old ≡ false }
-    requires source { I.Opened.has_failed source.old ≡ false }
+    requires source { (I.Opened.state source.old).has_failed ≡ false }
     requires inputs { I.has_refused inputs.old ≡ false }
-    requires sink { W.has_failed sink.old ≡ false }
-    ensures replays { OnOutput (I.bytes_of inputs.old) (W.taken_bytes sink.old) (W.taken_bytes sink.new) (I.Opened.to_come source.new)
+    requires sink { (W.state sink.old).has_failed ≡ false }
+    ensures replays { OnOutput (I.bytes_of inputs.old) (W.state sink.old).taken (W.state sink.new).taken (I.Opened.state source.new).unread
         (λ console. WithReplay align strict texts.entry console (λ settings reading. FromInput (file_input file.entry) console (ReplaysTrace texts.entry.sizes texts.entry.svg texts.entry.script format settings reading))) result }
     ensures memory { result ≡ Err Fault.Memory → IsOk (replay_in align strict texts.entry) }
     ensures open { result ≡ Err Fault.Open → IsFile (file_input file.entry) }
-    ensures untouched { result ≡ Err Fault.Open → W.taken_bytes sink.new ≡ W.taken_bytes sink.old }
-    ensures starved { texts.entry.each ≡ None → texts.entry.script ≡ false → result ≡ Err Fault.Memory → W.taken_bytes sink.new ≡ W.taken_bytes sink.old }
+    ensures untouched { result ≡ Err Fault.Open → (W.state sink.new).taken ≡ (W.state sink.old).taken }
+    ensures starved { texts.entry.each ≡ None → texts.entry.script ≡ false → result ≡ Err Fault.Memory → (W.state sink.new).taken ≡ (W.state sink.old).taken }
     ensures asked { I.last_asked inputs.new (file_input file.entry) (trace_content texts.entry.script) ≡ false → (inputs.new ≡ inputs.old) × (source.new ≡ source.old) }
     ensures unused { ¬ IsOk (replay_in align strict texts.entry) → (inputs.new ≡ inputs.old) × (source.new ≡ source.old) }
     ensures refused { (result ≡ Err Fault.Open) ↔ (I.has_refused inputs.new ≡ true) }
-    ensures read { (result ≡ Err Fault.Read) ↔ (I.Opened.has_failed source.new ≡ true) }
+    ensures read { (result ≡ Err Fault.Read) ↔ ((I.Opened.state source.new).has_failed ≡ true) }
     ensures allocates { (result ≡ Err Fault.Memory) ↔ (M.has_failed memory.new ≡ true) }
-    ensures write { (result ≡ Err Fault.Write) ↔ (W.has_failed sink.new ≡ true) }
-    ensures flushed { OnOk result (W.is_flushed sink.new ≡ true) }
+    ensures write { (result ≡ Err Fault.Write) ↔ ((W.state sink.new).has_failed ≡ true) }
+    ensures flushed { OnOk result ((W.state sink.new).is_flushed ≡ true) }
 {
     match replay_of(align, strict, texts) {
         Ok((settings, reading)) => {
@@ -107,20 +107,20 @@ fn replay<M: TraceMemory, I: Inputs, W: Sink>(
 ) -> Result<Summary, Fault>
     requires settings { IsForHeap settings }
     requires memory { M.has_failed memory.old ≡ false }
-    requires source { I.Opened.has_failed source.old ≡ false }
+    requires source { (I.Opened.state source.old).has_failed ≡ false }
     requires inputs { I.has_refused inputs.old ≡ false }
-    requires sink { W.has_failed sink.old ≡ false }
-    ensures replays { OnOutput (I.bytes_of inputs.old) (W.taken_bytes sink.old) (W.taken_bytes sink.new) (I.Opened.to_come source.new)
+    requires sink { (W.state sink.old).has_failed ≡ false }
+    ensures replays { OnOutput (I.bytes_of inputs.old) (W.state sink.old).taken (W.state sink.new).taken (I.Opened.state source.new).unread
         (λ console. FromInput input.entry console (WritesTrace sizes format settings reading)) result }
     ensures open { result ≡ Err Fault.Open → IsFile input.entry }
-    ensures untouched { result ≡ Err Fault.Open → W.taken_bytes sink.new ≡ W.taken_bytes sink.old }
-    ensures starved { reading.each ≡ 0 → result ≡ Err Fault.Memory → W.taken_bytes sink.new ≡ W.taken_bytes sink.old }
+    ensures untouched { result ≡ Err Fault.Open → (W.state sink.new).taken ≡ (W.state sink.old).taken }
+    ensures starved { reading.each ≡ 0 → result ≡ Err Fault.Memory → (W.state sink.new).taken ≡ (W.state sink.old).taken }
     ensures asked { I.last_asked inputs.new input.entry Content.Trace ≡ false → (inputs.new ≡ inputs.old) × (source.new ≡ source.old) }
     ensures refused { (result ≡ Err Fault.Open) ↔ (I.has_refused inputs.new ≡ true) }
-    ensures read { (result ≡ Err Fault.Read) ↔ (I.Opened.has_failed source.new ≡ true) }
+    ensures read { (result ≡ Err Fault.Read) ↔ ((I.Opened.state source.new).has_failed ≡ true) }
     ensures allocates { (result ≡ Err Fault.Memory) ↔ (M.has_failed memory.new ≡ true) }
-    ensures write { (result ≡ Err Fault.Write) ↔ (W.has_failed sink.new ≡ true) }
-    ensures flushed { OnOk result (W.is_flushed sink.new ≡ true) }
+    ensures write { (result ≡ Err Fault.Write) ↔ ((W.state sink.new).has_failed ≡ true) }
+    ensures flushed { OnOk result ((W.state sink.new).is_flushed ≡ true) }
 {
     let each = reading.each;
     let mut replay = memory.begin_replay(settings, reading)?;
@@ -150,20 +150,20 @@ fn replay_input<M: TraceMemory, I: Inputs, W: Sink>(
     sink: &mut W,
 ) -> Result<Summary, Fault>
     requires memory { M.has_failed memory.old ≡ false }
-    requires source { I.Opened.has_failed source.old ≡ false }
+    requires source { (I.Opened.state source.old).has_failed ≡ false }
     requires inputs { I.has_refused inputs.old ≡ false }
-    requires sink { W.has_failed sink.old ≡ false }
-    ensures replays { OnOutput (I.bytes_of inputs.old) (W.taken_bytes sink.old) (W.taken_bytes sink.new) (I.Opened.to_come source.new)
+    requires sink { (W.state sink.old).has_failed ≡ false }
+    ensures replays { OnOutput (I.bytes_of inputs.old) (W.state sink.old).taken (W.state sink.new).taken (I.Opened.state source.new).unread
         (λ console. FromInput input.entry console (WritesReplay each (end_text sizes format) replay.old)) result }
     ensures open { result ≡ Err Fault.Open → IsFile input.entry }
-    ensures untouched { result ≡ Err Fault.Open → W.taken_bytes sink.new ≡ W.taken_bytes sink.old }
-    ensures starved { each ≡ 0 → result ≡ Err Fault.Memory → W.taken_bytes sink.new ≡ W.taken_bytes sink.old }
+    ensures untouched { result ≡ Err Fault.Open → (W.state sink.new).taken ≡ (W.state sink.old).taken }
+    ensures starved { each ≡ 0 → result ≡ Err Fault.Memory → (W.state sink.new).taken ≡ (W.state sink.old).taken }
     ensures asked { I.last_asked inputs.new input.entry Content.Trace ≡ false → (inputs.new ≡ inputs.old) × (source.new ≡ source.old) }
     ensures refused { (result ≡ Err Fault.Open) ↔ (I.has_refused inputs.new ≡ true) }
-    ensures read { (result ≡ Err Fault.Read) ↔ (I.Opened.has_failed source.new ≡ true) }
+    ensures read { (result ≡ Err Fault.Read) ↔ ((I.Opened.state source.new).has_failed ≡ true) }
     ensures allocates { (result ≡ Err Fault.Memory) ↔ (M.has_failed memory.new ≡ true) }
-    ensures write { (result ≡ Err Fault.Write) ↔ (W.has_failed sink.new ≡ true) }
-    ensures flushed { OnOk result (W.is_flushed sink.new ≡ true) }
+    ensures write { (result ≡ Err Fault.Write) ↔ ((W.state sink.new).has_failed ≡ true) }
+    ensures flushed { OnOk result ((W.state sink.new).is_flushed ≡ true) }
 {
     inputs.open(input, Content::Trace, source)?;
     if each == 0 {
@@ -187,20 +187,20 @@ fn chart<M: TraceMemory, I: Inputs, W: Sink>(
 ) -> Result<Summary, Fault>
     requires settings { IsForHeap settings }
     requires memory { M.has_failed memory.old ≡ false }
-    requires source { I.Opened.has_failed source.old ≡ false }
+    requires source { (I.Opened.state source.old).has_failed ≡ false }
     requires inputs { I.has_refused inputs.old ≡ false }
-    requires sink { W.has_failed sink.old ≡ false }
-    ensures charts { OnOutput (I.bytes_of inputs.old) (W.taken_bytes sink.old) (W.taken_bytes sink.new) (I.Opened.to_come source.new)
+    requires sink { (W.state sink.old).has_failed ≡ false }
+    ensures charts { OnOutput (I.bytes_of inputs.old) (W.state sink.old).taken (W.state sink.new).taken (I.Opened.state source.new).unread
         (λ console. FromInput input.entry console (ChartsTrace settings reading)) result }
     ensures open { result ≡ Err Fault.Open → IsFile input.entry }
-    ensures untouched { result ≡ Err Fault.Open → W.taken_bytes sink.new ≡ W.taken_bytes sink.old }
-    ensures starved { result ≡ Err Fault.Memory → W.taken_bytes sink.new ≡ W.taken_bytes sink.old }
+    ensures untouched { result ≡ Err Fault.Open → (W.state sink.new).taken ≡ (W.state sink.old).taken }
+    ensures starved { result ≡ Err Fault.Memory → (W.state sink.new).taken ≡ (W.state sink.old).taken }
     ensures asked { I.last_asked inputs.new input.entry Content.Trace ≡ false → (inputs.new ≡ inputs.old) × (source.new ≡ source.old) }
     ensures refused { (result ≡ Err Fault.Open) ↔ (I.has_refused inputs.new ≡ true) }
-    ensures read { (result ≡ Err Fault.Read) ↔ (I.Opened.has_failed source.new ≡ true) }
+    ensures read { (result ≡ Err Fault.Read) ↔ ((I.Opened.state source.new).has_failed ≡ true) }
     ensures allocates { (result ≡ Err Fault.Memory) ↔ (M.has_failed memory.new ≡ true) }
-    ensures write { (result ≡ Err Fault.Write) ↔ (W.has_failed sink.new ≡ true) }
-    ensures flushed { OnOk result (W.is_flushed sink.new ≡ true) }
+    ensures write { (result ≡ Err Fault.Write) ↔ ((W.state sink.new).has_failed ≡ true) }
+    ensures flushed { OnOk result ((W.state sink.new).is_flushed ≡ true) }
 {
     let mut charting = memory.begin_chart(settings, reading)?;
     draw_input(memory, &mut charting, inputs, source, input, sink)
@@ -220,19 +220,19 @@ fn to_script<M: TraceMemory, I: Inputs, W: Sink>(
 ) -> Result<Summary, Fault>
     requires settings { IsForScript settings }
     requires memory { M.has_failed memory.old ≡ false }
-    requires source { I.Opened.has_failed source.old ≡ false }
+    requires source { (I.Opened.state source.old).has_failed ≡ false }
     requires inputs { I.has_refused inputs.old ≡ false }
-    requires sink { W.has_failed sink.old ≡ false }
-    ensures scripts { OnOutput (I.bytes_of inputs.old) (W.taken_bytes sink.old) (W.taken_bytes sink.new) (I.Opened.to_come source.new)
+    requires sink { (W.state sink.old).has_failed ≡ false }
+    ensures scripts { OnOutput (I.bytes_of inputs.old) (W.state sink.old).taken (W.state sink.new).taken (I.Opened.state source.new).unread
         (λ console. FromInput input.entry console (ScriptsTrace settings reading)) result }
     ensures open { result ≡ Err Fault.Open → IsFile input.entry }
-    ensures untouched { result ≡ Err Fault.Open → W.taken_bytes sink.new ≡ W.taken_bytes sink.old }
+    ensures untouched { result ≡ Err Fault.Open → (W.state sink.new).taken ≡ (W.state sink.old).taken }
     ensures asked { I.last_asked inputs.new input.entry Content.Changes ≡ false → (inputs.new ≡ inputs.old) × (source.new ≡ source.old) }
     ensures refused { (result ≡ Err Fault.Open) ↔ (I.has_refused inputs.new ≡ true) }
-    ensures read { (result ≡ Err Fault.Read) ↔ (I.Opened.has_failed source.new ≡ true) }
+    ensures read { (result ≡ Err Fault.Read) ↔ ((I.Opened.state source.new).has_failed ≡ true) }
     ensures allocates { (result ≡ Err Fault.Memory) ↔ (M.has_failed memory.new ≡ true) }
-    ensures write { (result ≡ Err Fault.Write) ↔ (W.has_failed sink.new ≡ true) }
-    ensures flushed { OnOk result (W.is_flushed sink.new ≡ true) }
+    ensures write { (result ≡ Err Fault.Write) ↔ ((W.state sink.new).has_failed ≡ true) }
+    ensures flushed { OnOk result ((W.state sink.new).is_flushed ≡ true) }
 {
     let mut script = memory.begin_script(settings, reading)?;
     script_input(memory, &mut script, inputs, source, input, sink)
@@ -248,17 +248,17 @@ fn sum_up<M: TraceMemory, S: Source, W: Sink>(
     sink: &mut W,
 ) -> Result<Summary, Fault>
     requires memory { M.has_failed memory.old ≡ false }
-    requires source { S.has_failed source.old ≡ false }
-    requires sink { W.has_failed sink.old ≡ false }
-    ensures sums_up { (traffic : Traffic) → traffic.unread ≡ S.to_come source.old → traffic.left ≡ S.to_come source.new
-        → traffic.output ≡ W.taken_bytes sink.old → traffic.output_now ≡ W.taken_bytes sink.new
+    requires source { (S.state source.old).has_failed ≡ false }
+    requires sink { (W.state sink.old).has_failed ≡ false }
+    ensures sums_up { (traffic : Traffic) → traffic.unread ≡ (S.state source.old).unread → traffic.left ≡ (S.state source.new).unread
+        → traffic.output ≡ (W.state sink.old).taken → traffic.output_now ≡ (W.state sink.new).taken
         → OnDevices (SumsUp (end_text sizes format) replay.old traffic) result }
     ensures open { result ≢ Err Fault.Open }
-    ensures starved { result ≡ Err Fault.Memory → W.taken_bytes sink.new ≡ W.taken_bytes sink.old }
-    ensures read { (result ≡ Err Fault.Read) ↔ (S.has_failed source.new ≡ true) }
+    ensures starved { result ≡ Err Fault.Memory → (W.state sink.new).taken ≡ (W.state sink.old).taken }
+    ensures read { (result ≡ Err Fault.Read) ↔ ((S.state source.new).has_failed ≡ true) }
     ensures allocates { (result ≡ Err Fault.Memory) ↔ (M.has_failed memory.new ≡ true) }
-    ensures write { (result ≡ Err Fault.Write) ↔ (W.has_failed sink.new ≡ true) }
-    ensures flushed { OnOk result (W.is_flushed sink.new ≡ true) }
+    ensures write { (result ≡ Err Fault.Write) ↔ ((W.state sink.new).has_failed ≡ true) }
+    ensures flushed { OnOk result ((W.state sink.new).is_flushed ≡ true) }
 {
     let summary = memory.take_replay(replay, source, &mut Discard)?;
     if let Progress::OutOfMemory = replay.progress() {
@@ -275,11 +275,11 @@ fn write_end<P: Placer, W: Sink>(
     replay: &Replay<P>,
     sink: &mut W,
 ) -> Result<(), IoError>
-    requires { W.has_failed sink.old ≡ false }
-    ensures ok { OnOk result (Appends (W.taken_bytes sink.old) (W.taken_bytes sink.new) (end_text sizes format replay.now)) }
-    ensures err { OnErr result (TakesBeginning (W.taken_bytes sink.old) (W.taken_bytes sink.new) (end_text sizes format replay.now)) }
-    ensures flushed { OnOk result (W.is_flushed sink.new ≡ true) }
-    ensures fails { IsErr result ↔ (W.has_failed sink.new ≡ true) }
+    requires { (W.state sink.old).has_failed ≡ false }
+    ensures ok { OnOk result (Appends (W.state sink.old).taken (W.state sink.new).taken (end_text sizes format replay.now)) }
+    ensures err { OnErr result (TakesBeginning (W.state sink.old).taken (W.state sink.new).taken (end_text sizes format replay.now)) }
+    ensures flushed { OnOk result ((W.state sink.new).is_flushed ≡ true) }
+    ensures fails { IsErr result ↔ ((W.state sink.new).has_failed ≡ true) }
     ensures write { OnErr result (result ≡ Err IoError.Write) }
 {
     if sizes {
@@ -295,11 +295,11 @@ fn write_figures<P: Placer, W: Sink>(
     replay: &Replay<P>,
     sink: &mut W,
 ) -> Result<(), IoError>
-    requires { W.has_failed sink.old ≡ false }
-    ensures ok { OnOk result (Appends (W.taken_bytes sink.old) (W.taken_bytes sink.new) (summary_text format replay.now)) }
-    ensures err { OnErr result (TakesBeginning (W.taken_bytes sink.old) (W.taken_bytes sink.new) (summary_text format replay.now)) }
-    ensures flushed { OnOk result (W.is_flushed sink.new ≡ true) }
-    ensures fails { IsErr result ↔ (W.has_failed sink.new ≡ true) }
+    requires { (W.state sink.old).has_failed ≡ false }
+    ensures ok { OnOk result (Appends (W.state sink.old).taken (W.state sink.new).taken (summary_text format replay.now)) }
+    ensures err { OnErr result (TakesBeginning (W.state sink.old).taken (W.state sink.new).taken (summary_text format replay.now)) }
+    ensures flushed { OnOk result ((W.state sink.new).is_flushed ≡ true) }
+    ensures fails { IsErr result ↔ ((W.state sink.new).has_failed ≡ true) }
     ensures write { OnErr result (result ≡ Err IoError.Write) }
 {
     let table = table_format(format);
@@ -314,16 +314,16 @@ fn sample<M: TraceMemory, S: Source, W: Sink>(
     sink: &mut W,
 ) -> Result<Summary, Fault>
     requires memory { M.has_failed memory.old ≡ false }
-    requires source { S.has_failed source.old ≡ false }
-    requires sink { W.has_failed sink.old ≡ false }
-    ensures samples { (traffic : Traffic) → traffic.unread ≡ S.to_come source.old → traffic.left ≡ S.to_come source.new
-        → traffic.output ≡ W.taken_bytes sink.old → traffic.output_now ≡ W.taken_bytes sink.new
+    requires source { (S.state source.old).has_failed ≡ false }
+    requires sink { (W.state sink.old).has_failed ≡ false }
+    ensures samples { (traffic : Traffic) → traffic.unread ≡ (S.state source.old).unread → traffic.left ≡ (S.state source.new).unread
+        → traffic.output ≡ (W.state sink.old).taken → traffic.output_now ≡ (W.state sink.new).taken
         → OnDevices (Samples replay.old traffic) result }
     ensures open { result ≢ Err Fault.Open }
-    ensures read { (result ≡ Err Fault.Read) ↔ (S.has_failed source.new ≡ true) }
+    ensures read { (result ≡ Err Fault.Read) ↔ ((S.state source.new).has_failed ≡ true) }
     ensures allocates { (result ≡ Err Fault.Memory) ↔ (M.has_failed memory.new ≡ true) }
-    ensures write { (result ≡ Err Fault.Write) ↔ (W.has_failed sink.new ≡ true) }
-    ensures flushed { OnOk result (W.is_flushed sink.new ≡ true) }
+    ensures write { (result ≡ Err Fault.Write) ↔ ((W.state sink.new).has_failed ≡ true) }
+    ensures flushed { OnOk result ((W.state sink.new).is_flushed ≡ true) }
 {
     let summary = memory.take_replay(replay, source, sink)?;
     if let Progress::OutOfMemory = replay.progress() {

@@ -39,19 +39,19 @@ pub fn execute<M: RunMemory + TraceMemory, I: Inputs, W: Sink, E: Sink>(
     requires invocation { (found : Option (Text × List Row)) × IsInvocation found invocation }
     // Only a command that creates a machine or a heap runs out of memory.
     requires memory { M.has_failed memory.old ≡ false }
-    requires source { I.Opened.has_failed source.old ≡ false }
+    requires source { (I.Opened.state source.old).has_failed ≡ false }
     requires inputs { I.has_refused inputs.old ≡ false }
-    requires sink { W.has_failed sink.old ≡ false }
-    requires errors { E.has_failed errors.old ≡ false }
+    requires sink { (W.state sink.old).has_failed ≡ false }
+    requires errors { (E.state errors.old).has_failed ≡ false }
     // The command's bytes are written, and the summary says whether there is an error.
     ensures executes { OnDevices (Executes invocation.entry terminals (record {
       input = I.bytes_of inputs.old;
-      left = I.Opened.to_come source.new;
-      output = W.taken_bytes sink.old;
-      output_now = W.taken_bytes sink.new;
-      errors = E.taken_bytes errors.old;
-      errors_now = E.taken_bytes errors.new;
-      errors_failed = E.has_failed errors.new;
+      left = (I.Opened.state source.new).unread;
+      output = (W.state sink.old).taken;
+      output_now = (W.state sink.new).taken;
+      errors = (E.state errors.old).taken;
+      errors_now = (E.state errors.new).taken;
+      errors_failed = (E.state errors.new).has_failed;
     })) result }
     ensures memory { result ≡ Err Fault.Memory → RunsMachine invocation.entry }
     // Opening fails only for a FILE that is given and is not `-`.
@@ -63,30 +63,30 @@ pub fn execute<M: RunMemory + TraceMemory, I: Inputs, W: Sink, E: Sink>(
     ensures unused { ¬ ReadsInput invocation.entry → (inputs.new ≡ inputs.old) × (source.new ≡ source.old) }
     ensures refused { (result ≡ Err Fault.Open) ↔ (I.has_refused inputs.new ≡ true) }
     // The main theorem, for `run` and `plan`.
-    ensures main { IfSome (script_of invocation.entry) (λ script. OnDevices (MeetsMain script.limit script.opening (I.bytes_of inputs.old script.input) (I.Opened.to_come source.new) (W.taken_bytes sink.old) (W.taken_bytes sink.new)) result) }
-    ensures read { (result ≡ Err Fault.Read) ↔ (I.Opened.has_failed source.new ≡ true) }
+    ensures main { IfSome (script_of invocation.entry) (λ script. OnDevices (MeetsMain script.limit script.opening (I.bytes_of inputs.old script.input) (I.Opened.state source.new).unread (W.state sink.old).taken (W.state sink.new).taken) result) }
+    ensures read { (result ≡ Err Fault.Read) ↔ ((I.Opened.state source.new).has_failed ≡ true) }
     ensures allocates { (result ≡ Err Fault.Memory) ↔ (M.has_failed memory.new ≡ true) }
-    ensures write { (result ≡ Err Fault.Write) ↔ (W.has_failed sink.new ≡ true) }
-    ensures flushed { OnOk result (W.is_flushed sink.new ≡ true) }
-    ensures unreported { OnErr result (E.taken_bytes errors.new ≡ E.taken_bytes errors.old) }
-    ensures untouched { result ≡ Err Fault.Open → W.taken_bytes sink.new ≡ W.taken_bytes sink.old }
+    ensures write { (result ≡ Err Fault.Write) ↔ ((W.state sink.new).has_failed ≡ true) }
+    ensures flushed { OnOk result ((W.state sink.new).is_flushed ≡ true) }
+    ensures unreported { OnErr result ((E.state errors.new).taken ≡ (E.state errors.old).taken) }
+    ensures untouched { result ≡ Err Fault.Open → (W.state sink.new).taken ≡ (W.state sink.old).taken }
     // At `Ok`, the hint on the argument of `show`, `round` or `explain` is written, if there is one
     // and standard error does not fail.
-    ensures hinted { IsHinted invocation.entry → OnOk result (E.has_failed errors.new ≡ false → Appends (E.taken_bytes errors.old) (E.taken_bytes errors.new) (typed_hint terminals.errors invocation.entry)) }
+    ensures hinted { IsHinted invocation.entry → OnOk result ((E.state errors.new).has_failed ≡ false → Appends (E.state errors.old).taken (E.state errors.new).taken (typed_hint terminals.errors invocation.entry)) }
     // Other commands than those that can report write nothing to standard error.
     ensures silent { ¬ IsReported terminals invocation.entry → errors.new ≡ errors.old }
     // If memory runs out in `run` or `plan`, nothing was written, or, with `--stats`, the whole
     // output.
     ensures stopped { result ≡ Err Fault.Memory → StarvesCommand invocation.entry terminals (record {
       input = I.bytes_of inputs.old;
-      left = I.Opened.to_come source.new;
-      output = W.taken_bytes sink.old;
-      output_now = W.taken_bytes sink.new;
-      errors = E.taken_bytes errors.old;
-      errors_now = E.taken_bytes errors.new;
-      errors_failed = E.has_failed errors.new;
+      left = (I.Opened.state source.new).unread;
+      output = (W.state sink.old).taken;
+      output_now = (W.state sink.new).taken;
+      errors = (E.state errors.old).taken;
+      errors_now = (E.state errors.new).taken;
+      errors_failed = (E.state errors.new).has_failed;
     }) }
-    ensures starved { ¬ IsReported terminals invocation.entry → ¬ IsStreamed invocation.entry → result ≡ Err Fault.Memory → W.taken_bytes sink.new ≡ W.taken_bytes sink.old }
+    ensures starved { ¬ IsReported terminals invocation.entry → ¬ IsStreamed invocation.entry → result ≡ Err Fault.Memory → (W.state sink.new).taken ≡ (W.state sink.old).taken }
 {
     match invocation {
         Invocation::Ask(question) => ask(question, terminals.errors, sink, errors),

@@ -123,43 +123,43 @@ pub fn answer_words<M: RunMemory + TraceMemory, I: Inputs, W: Sink, E: Sink>(
     errors: &mut E,
 ) -> Result<Ending, Error>
     requires memory { M.has_failed memory.old ≡ false }
-    requires source { I.Opened.has_failed source.old ≡ false }
+    requires source { (I.Opened.state source.old).has_failed ≡ false }
     requires inputs { I.has_refused inputs.old ≡ false }
-    requires sink { W.has_failed sink.old ≡ false }
-    requires errors { E.has_failed errors.old ≡ false }
+    requires sink { (W.state sink.old).has_failed ≡ false }
+    requires errors { (E.state errors.old).has_failed ≡ false }
     // A command line that is accepted ends as its command does on these devices.
     ensures executes { IfOk result (λ end. (app : App) × IsProgram app × ExecutesCommand (subcommand_of app (texts words.now)) terminals (record {
       input = I.bytes_of inputs.old;
-      left = I.Opened.to_come source.new;
-      output = W.taken_bytes sink.old;
-      output_now = W.taken_bytes sink.new;
-      errors = E.taken_bytes errors.old;
-      errors_now = E.taken_bytes errors.new;
-      errors_failed = E.has_failed errors.new;
+      left = (I.Opened.state source.new).unread;
+      output = (W.state sink.old).taken;
+      output_now = (W.state sink.new).taken;
+      errors = (E.state errors.old).taken;
+      errors_now = (E.state errors.new).taken;
+      errors_failed = (E.state errors.new).has_failed;
     }) (record {
       open_failed = I.has_refused inputs.new;
-      read_failed = I.Opened.has_failed source.new;
-      write_failed = W.has_failed sink.new;
+      read_failed = (I.Opened.state source.new).has_failed;
+      write_failed = (W.state sink.new).has_failed;
       memory_failed = M.has_failed memory.new;
-      is_flushed = W.is_flushed sink.new;
+      is_flushed = (W.state sink.new).is_flushed;
       last_asked = I.last_asked inputs.new;
     }) end) }
     // The main theorem of the program: from the arguments of `run` and `plan` to the bytes written
     // and the end. If a command line that is accepted has no result, memory ran out.
     ensures runs_script { (app : App) × IsProgram app × MatchResult result (λ end. (invocation : InvocationSpec) × IsInvocation (subcommand_of app (texts words.now)) invocation × AnswersEveryScript invocation (record {
       input = I.bytes_of inputs.old;
-      left = I.Opened.to_come source.new;
-      output = W.taken_bytes sink.old;
-      output_now = W.taken_bytes sink.new;
-      errors = E.taken_bytes errors.old;
-      errors_now = E.taken_bytes errors.new;
-      errors_failed = E.has_failed errors.new;
+      left = (I.Opened.state source.new).unread;
+      output = (W.state sink.old).taken;
+      output_now = (W.state sink.new).taken;
+      errors = (E.state errors.old).taken;
+      errors_now = (E.state errors.new).taken;
+      errors_failed = (E.state errors.new).has_failed;
     }) (record {
       open_failed = I.has_refused inputs.new;
-      read_failed = I.Opened.has_failed source.new;
-      write_failed = W.has_failed sink.new;
+      read_failed = (I.Opened.state source.new).has_failed;
+      write_failed = (W.state sink.new).has_failed;
       memory_failed = M.has_failed memory.new;
-      is_flushed = W.is_flushed sink.new;
+      is_flushed = (W.state sink.new).is_flushed;
       last_asked = I.last_asked inputs.new;
     }) end) (λ error. is_taken app (texts words.now) ≡ true → M.has_failed memory.new ≡ true) }
     ensures asked { IfOk result (λ end. (app : App) × IsProgram app × (invocation : InvocationSpec) × IsInvocation (subcommand_of app (texts words.now)) invocation
@@ -196,27 +196,27 @@ fn answer_invocation<M: RunMemory + TraceMemory, I: Inputs, W: Sink, E: Sink>(
 ) -> Ending
     requires invocation { (found : Option (Text × List Row)) × IsInvocation found invocation }
     requires memory { M.has_failed memory.old ≡ false }
-    requires source { I.Opened.has_failed source.old ≡ false }
+    requires source { (I.Opened.state source.old).has_failed ≡ false }
     requires inputs { I.has_refused inputs.old ≡ false }
-    requires sink { W.has_failed sink.old ≡ false }
-    requires errors { E.has_failed errors.old ≡ false }
+    requires sink { (W.state sink.old).has_failed ≡ false }
+    requires errors { (E.state errors.old).has_failed ≡ false }
     ensures accepted { result ≢ ending.Refused }
     ensures asked { IsUnasked (input_of invocation.entry) (I.last_asked inputs.new) → (inputs.new ≡ inputs.old) × (source.new ≡ source.old) }
     ensures unused { ¬ ReadsInput invocation.entry → (inputs.new ≡ inputs.old) × (source.new ≡ source.old) }
     ensures executes { (found : Option (Text × List Row)) → IsInvocation found invocation.entry → ExecutesCommand found terminals (record {
       input = I.bytes_of inputs.old;
-      left = I.Opened.to_come source.new;
-      output = W.taken_bytes sink.old;
-      output_now = W.taken_bytes sink.new;
-      errors = E.taken_bytes errors.old;
-      errors_now = E.taken_bytes errors.new;
-      errors_failed = E.has_failed errors.new;
+      left = (I.Opened.state source.new).unread;
+      output = (W.state sink.old).taken;
+      output_now = (W.state sink.new).taken;
+      errors = (E.state errors.old).taken;
+      errors_now = (E.state errors.new).taken;
+      errors_failed = (E.state errors.new).has_failed;
     }) (record {
       open_failed = I.has_refused inputs.new;
-      read_failed = I.Opened.has_failed source.new;
-      write_failed = W.has_failed sink.new;
+      read_failed = (I.Opened.state source.new).has_failed;
+      write_failed = (W.state sink.new).has_failed;
       memory_failed = M.has_failed memory.new;
-      is_flushed = W.is_flushed sink.new;
+      is_flushed = (W.state sink.new).is_flushed;
       last_asked = I.last_asked inputs.new;
     }) result }
 {

@@ -9,7 +9,7 @@ pub returns-in-Err-clause-whole : goal.returns-in-Err-clause-whole
 returns-in-Err-clause-whole g c = lists_whole_after _ _ _ _ _ _ _ (returns-in-Err-clause-lists g c)
 
 pub returns-clause-lists : goal.returns-clause-lists
-returns-clause-lists g c = inr (g.R.Source.to_come c.skip.new.source, c.in-Ok.ensures.skips, c.decode_words.ensures.lists)
+returns-clause-lists g c = inr ((g.R.Source.state c.skip.new.source).unread, c.in-Ok.ensures.skips, c.decode_words.ensures.lists)
 
 pub returns-clause-whole : goal.returns-clause-whole
 returns-clause-whole g c = lists_whole_after _ _ _ _ _ _ _ (returns-clause-lists g c)

@@ -4,8 +4,8 @@ use Rattle.cc_decode.proofs.skipping.skip_some.Given as goal
 
 abbrev pub invariant-pieces : goal.invariant-pieces
 invariant-pieces g l = record {
-  skipping : Skipping l.count l.rest (g.R.Source.to_come l.initial.source) (g.R.Source.to_come l.source);
-  gives : g.R.Source.has_failed l.source ≡ false;
+  skipping : Skipping l.count l.rest (g.R.Source.state l.initial.source).unread (g.R.Source.state l.source).unread;
+  gives : (g.R.Source.state l.source).has_failed ≡ false;
 }
 
 abbrev pub decreases-pieces : goal.decreases-pieces

@@ -5,9 +5,9 @@ use Rattle.cc_draw.proofs.drawing.write_layer.Given as goal
 
 abbrev pub invariant-objects : goal.invariant-objects
 invariant-objects g l = record {
-  writes : Writing (g.W.Sink.taken_bytes l.initial.sink) (g.W.Sink.taken_bytes l.sink)
+  writes : Writing (g.W.Sink.state l.initial.sink).taken (g.W.Sink.state l.sink).taken
       (layer_text l.layout l.state l.number l.rest) (layer_text l.layout l.state 1 l.objects);
-  works : g.W.Sink.has_failed l.sink ≡ false;
+  works : (g.W.Sink.state l.sink).has_failed ≡ false;
   number : l.number + length l.rest ≤ 65537;
 }
 

@@ -22,9 +22,9 @@ returns-in_err-write_rectangle-clause-err g c =
     let same = ap₂ (λ (from to : ℕ). rectangle_text width row from to c.args.number c.args.span.now) from_is to_is in
     let whole = ap₂ (λ (from to : ℕ). parts_text width from to c.args.number c.args.span.now (row_count c.args.layout.now) 0) c.cells_of-first.ensures.first c.cells_of-first.ensures.end in
     on_err _
-    (subst (λ (l : List ℕ). TakesBeginning (g.W.Sink.taken_bytes c.args.sink.now) (g.W.Sink.taken_bytes c.write_rectangle.new.sink) l) whole
+    (subst (λ (l : List ℕ). TakesBeginning (g.W.Sink.state c.args.sink.now).taken (g.W.Sink.state c.write_rectangle.new.sink).taken l) whole
     (writing_stops _ _ _ _ _ _ (writing_same _ _ _ _ _ next c.rows.invariant.writes)
-    (subst (λ (l : List ℕ). TakesBeginning (g.W.Sink.taken_bytes c.rows.sink) (g.W.Sink.taken_bytes c.write_rectangle.new.sink) l) same c.in_err-write_rectangle.ensures.err)))
+    (subst (λ (l : List ℕ). TakesBeginning (g.W.Sink.state c.rows.sink).taken (g.W.Sink.state c.write_rectangle.new.sink).taken l) same c.in_err-write_rectangle.ensures.err)))
 
 pub rows-preserved : goal.rows-preserved
 rows-preserved g c =
@@ -45,7 +45,7 @@ rows-preserved g c =
           rw w.sink-is
           (record {
             writes = writing_more _ _ _ _ _ _ (writing_same _ _ _ _ _ next kept.writes)
-                (subst (λ (l : List ℕ). Appends (g.W.Sink.taken_bytes c.rows.sink) (g.W.Sink.taken_bytes w.write_rectangle.new.sink) l) same w.in_ok-write_rectangle.ensures.ok);
+                (subst (λ (l : List ℕ). Appends (g.W.Sink.state c.rows.sink).taken (g.W.Sink.state w.write_rectangle.new.sink).taken l) same w.in_ok-write_rectangle.ensures.ok);
             works = search rules;
             few = omega (arith, kept.few, some);
           })

@@ -5,8 +5,8 @@ use Rattle.cc_io.proofs.devices.write_rest.Given as goal
 abbrev pub invariant-loop-at : goal.invariant-loop-at
 invariant-loop-at g l = record {
   within : l.at ≤ length l.bytes;
-  taken : Appends (g.W.Sink.taken_bytes l.initial.sink) (g.W.Sink.taken_bytes l.sink) (take l.at l.bytes);
-  working : g.W.Sink.has_failed l.sink ≡ false;
+  taken : Appends (g.W.Sink.state l.initial.sink).taken (g.W.Sink.state l.sink).taken (take l.at l.bytes);
+  working : (g.W.Sink.state l.sink).has_failed ≡ false;
 }
 
 abbrev pub decreases-loop-at : goal.decreases-loop-at

@@ -51,24 +51,24 @@ pub returns-in-Ok-write_last-clause-pumps : goal.returns-in-Ok-write_last-clause
 returns-in-Ok-write_last-clause-pumps g c =
     let given = c.in-Ok-read.ensures.gives in
     let none : c.in-Ok-read.count ≡ 0 = search rules in
-    let nothing = subst (λ (n : ℕ). Consumes (g.R.Source.to_come c.pieces.source) (g.R.Source.to_come c.read.new.self) (take n c.read.new.room)) none given.0 in
+    let nothing = subst (λ (n : ℕ). Consumes (g.R.Source.state c.pieces.source).unread (g.R.Source.state c.read.new.self).unread (take n c.read.new.room)) none given.0 in
     let ended = c.end_rest-end_error.ensures in
     subst (λ (e : Bool). Pumps g.A.Answerer.Answered g.A.Answerer.Ended (g.F.Framing.frame c.args.framing.now) g.row.N g.A.Answerer.MOST c.args.answerer.now c.args.page.now
-    (g.R.Source.to_come c.args.source.now) (g.R.Source.to_come c.read.new.self) (g.W.Sink.taken_bytes c.args.sink.now) (g.W.Sink.taken_bytes c.write_last.new.sink)
+    (g.R.Source.state c.args.source.now).unread (g.R.Source.state c.read.new.self).unread (g.W.Sink.state c.args.sink.now).taken (g.W.Sink.state c.write_last.new.sink).taken
     (Ok (record { any_error = c.pieces.any_error || e })) c.end_rest-end_error.new.answerer) (sym ended.error_is)
     (ends _ _ _ _ _ _ _ _ _ _ _ _ _ _ _ _ _ ended.ending c.pieces.invariant.reads nothing (given.1 none (search rules))
     (subst (λ (start : List ℕ). EndsWith g.A.Answerer.Ended c.pieces.answerer start ended.ending c.end_rest-end_error.new.answerer) c.as_slice.ensures ended.ends)
-    (subst (λ (l : List ℕ). Appends (g.W.Sink.taken_bytes c.pieces.sink) (g.W.Sink.taken_bytes c.write_last.new.sink) l) ended.text_is c.in-Ok-write_last.ensures.ok))
+    (subst (λ (l : List ℕ). Appends (g.W.Sink.state c.pieces.sink).taken (g.W.Sink.state c.write_last.new.sink).taken l) ended.text_is c.in-Ok-write_last.ensures.ok))
 
 pub returns-in-Err-write_last-clause-pumps : goal.returns-in-Err-write_last-clause-pumps
 returns-in-Err-write_last-clause-pumps g c =
     let given = c.in-Ok-read.ensures.gives in
     let none : c.in-Ok-read.count ≡ 0 = search rules in
-    let nothing = subst (λ (n : ℕ). Consumes (g.R.Source.to_come c.pieces.source) (g.R.Source.to_come c.read.new.self) (take n c.read.new.room)) none given.0 in
+    let nothing = subst (λ (n : ℕ). Consumes (g.R.Source.state c.pieces.source).unread (g.R.Source.state c.read.new.self).unread (take n c.read.new.room)) none given.0 in
     let ended = c.end_rest-end_error.ensures in
     stops_ending _ _ _ _ _ _ _ _ _ _ _ _ _ _ _ _ _ ended.ending c.pieces.invariant.reads nothing (given.1 none (search rules))
     (subst (λ (start : List ℕ). EndsWith g.A.Answerer.Ended c.pieces.answerer start ended.ending c.end_rest-end_error.new.answerer) c.as_slice.ensures ended.ends)
-    (subst (λ (l : List ℕ). TakesBeginning (g.W.Sink.taken_bytes c.pieces.sink) (g.W.Sink.taken_bytes c.write_last.new.sink) l) ended.text_is c.in-Err-write_last.ensures.err)
+    (subst (λ (l : List ℕ). TakesBeginning (g.W.Sink.state c.pieces.sink).taken (g.W.Sink.state c.write_last.new.sink).taken l) ended.text_is c.in-Err-write_last.ensures.err)
 
 pub returns-in-Err-clause-read : goal.returns-in-Err-clause-read
 returns-in-Err-clause-read g c = neither_failed _ _ _ (λ h. sym c.requires.source ∙ h) (λ is. cc (is))

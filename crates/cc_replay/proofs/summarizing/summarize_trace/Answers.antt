@@ -10,7 +10,7 @@ pub returns-in-Ok-write_summary-clause-summarizes : goal.returns-in-Ok-write_sum
 returns-in-Ok-write_summary-clause-summarizes g c = (
   c.in-Ok.ensures.takes,
   λ out. true≢false (sym (c.is_out_of_memory.ensures.1 out) ∙ c.if-is_out_of_memory.false),
-  subst (λ (figures : Figures). Appends (g.W.Sink.taken_bytes c.args.sink.now) (g.W.Sink.taken_bytes c.write_summary.new.sink)
+  subst (λ (figures : Figures). Appends (g.W.Sink.state c.args.sink.now).taken (g.W.Sink.state c.write_summary.new.sink).taken
       (table_text c.args.format (summary_rows figures))) c.figures.ensures c.in-Ok-write_summary.ensures.ok,
 )
 
@@ -19,6 +19,6 @@ returns-in-Err-clause-summarizes g c = (
   c.in-Ok.summary.any_error,
   c.in-Ok.ensures.takes,
   λ out. true≢false (sym (c.is_out_of_memory.ensures.1 out) ∙ c.if-is_out_of_memory.false),
-  subst (λ (figures : Figures). TakesBeginning (g.W.Sink.taken_bytes c.args.sink.now) (g.W.Sink.taken_bytes c.write_summary.new.sink)
+  subst (λ (figures : Figures). TakesBeginning (g.W.Sink.state c.args.sink.now).taken (g.W.Sink.state c.write_summary.new.sink).taken
       (table_text c.args.format (summary_rows figures))) c.figures.ensures c.in-Err.ensures.err,
 )

@@ -8,9 +8,9 @@ returns-clause-draws g c = λ errors errors_now errors_failed.
     draws_input c.args.svg c.args.opening.now c.in_ok-session.session.machine (initial_state c.args.limit) c.args.input
     (record {
       input = g.I.Inputs.bytes_of c.args.inputs.now;
-      left = g.I.Opened.Source.to_come c.draw_end.new.source;
-      output = g.W.Sink.taken_bytes c.args.sink.now;
-      output_now = g.W.Sink.taken_bytes c.draw_end.new.sink;
+      left = (g.I.Opened.Source.state c.draw_end.new.source).unread;
+      output = (g.W.Sink.state c.args.sink.now).taken;
+      output_now = (g.W.Sink.state c.draw_end.new.sink).taken;
       errors = errors;
       errors_now = errors_now;
       errors_failed = errors_failed;

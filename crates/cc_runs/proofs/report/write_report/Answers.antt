@@ -15,11 +15,11 @@ returns-then-report-2-clause-written g c not_failed opening exchanges counts =
       | then-report+in_ok-usage+else-is_err w ↦
           tells _ _ _ _ _ _ _ _ _ _
           (asked_summary _ _ _ w.if-report.true w.in_ok-usage.ensures.usage) hints
-          (subst (λ errors. Appends (g.E.Sink.taken_bytes c.args.errors.now) (g.E.Sink.taken_bytes errors) (statistics_text w.in_ok-usage.usage c.args.session.now.tally)) (sym w.errors-is)
+          (subst (λ errors. Appends (g.E.Sink.state c.args.errors.now).taken (g.E.Sink.state errors).taken (statistics_text w.in_ok-usage.usage c.args.session.now.tally)) (sym w.errors-is)
           (of_answered _ _ (sym w.is_err.ensures.value ∙ w.if-is_err.false) w.show_statistics.ensures.ok)) written
       | else-report w ↦
           tells _ _ _ _ _ _ _ _ _ _ (no_summary _ _ w.if-report.false) hints
-          (subst (λ errors. Appends (g.E.Sink.taken_bytes c.args.errors.now) (g.E.Sink.taken_bytes errors) []) (sym w.errors-is) (Appends-nil _)) written
+          (subst (λ errors. Appends (g.E.Sink.state c.args.errors.now).taken (g.E.Sink.state errors).taken []) (sym w.errors-is) (Appends-nil _)) written
     ]
 
 pub returns-else-report-2-clause-written : goal.returns-else-report-2-clause-written
@@ -29,9 +29,9 @@ returns-else-report-2-clause-written g c not_failed opening exchanges counts =
       | then-report+in_ok-usage+else-is_err w ↦
           tells _ _ _ _ _ _ _ _ _ _
           (asked_summary _ _ _ w.if-report.true w.in_ok-usage.ensures.usage) hints
-          (subst (λ errors. Appends (g.E.Sink.taken_bytes c.args.errors.now) (g.E.Sink.taken_bytes errors) (statistics_text w.in_ok-usage.usage c.args.session.now.tally)) (sym w.errors-is)
+          (subst (λ errors. Appends (g.E.Sink.state c.args.errors.now).taken (g.E.Sink.state errors).taken (statistics_text w.in_ok-usage.usage c.args.session.now.tally)) (sym w.errors-is)
           (of_answered _ _ (sym w.is_err.ensures.value ∙ w.if-is_err.false) w.show_statistics.ensures.ok)) (Appends-nil _)
       | else-report w ↦
           tells _ _ _ _ _ _ _ _ _ _ (no_summary _ _ w.if-report.false) hints
-          (subst (λ errors. Appends (g.E.Sink.taken_bytes c.args.errors.now) (g.E.Sink.taken_bytes errors) []) (sym w.errors-is) (Appends-nil _)) (Appends-nil _)
+          (subst (λ errors. Appends (g.E.Sink.state c.args.errors.now).taken (g.E.Sink.state errors).taken []) (sym w.errors-is) (Appends-nil _)) (Appends-nil _)
     ]

@@ -12,12 +12,12 @@ returns-in-Ok-clause-starved g c = λ ran_out.
     search rules in
     let console : Console = record {
       input = g.I.Inputs.bytes_of c.args.inputs.now;
-      left = g.I.Opened.Source.to_come c.run.new.source;
-      output = g.W.Sink.taken_bytes c.args.sink.now;
-      output_now = g.W.Sink.taken_bytes c.run.new.sink;
-      errors = g.E.Sink.taken_bytes c.args.errors.now;
-      errors_now = g.E.Sink.taken_bytes c.run.new.errors;
-      errors_failed = g.E.Sink.has_failed c.run.new.errors;
+      left = (g.I.Opened.Source.state c.run.new.source).unread;
+      output = (g.W.Sink.state c.args.sink.now).taken;
+      output_now = (g.W.Sink.state c.run.new.sink).taken;
+      errors = (g.E.Sink.state c.args.errors.now).taken;
+      errors_now = (g.E.Sink.state c.run.new.errors).taken;
+      errors_failed = (g.E.Sink.state c.run.new.errors).has_failed;
     } in
     plan_starves c.args.report c.args.limit c.args.pool c.args.align c.args.file console _ _ _
     (texts ∙ c.in-Ok.is) is_opening c.file_input.ensures (c.run.ensures.starved ran_out)

@@ -10,12 +10,12 @@ returns-clause-runs g c =
     runs_input c.args.report c.args.opening.now c.args.pool c.in_ok-session.session.machine (initial_state c.args.limit) c.args.input
     (record {
       input = g.I.Inputs.bytes_of c.args.inputs.now;
-      left = g.I.Opened.Source.to_come c.run_and_report.new.source;
-      output = g.W.Sink.taken_bytes c.args.sink.now;
-      output_now = g.W.Sink.taken_bytes c.run_and_report.new.sink;
-      errors = g.E.Sink.taken_bytes c.args.errors.now;
-      errors_now = g.E.Sink.taken_bytes c.run_and_report.new.errors;
-      errors_failed = g.E.Sink.has_failed c.run_and_report.new.errors;
+      left = (g.I.Opened.Source.state c.run_and_report.new.source).unread;
+      output = (g.W.Sink.state c.args.sink.now).taken;
+      output_now = (g.W.Sink.state c.run_and_report.new.sink).taken;
+      errors = (g.E.Sink.state c.args.errors.now).taken;
+      errors_now = (g.E.Sink.state c.run_and_report.new.errors).taken;
+      errors_failed = (g.E.Sink.state c.run_and_report.new.errors).has_failed;
     })
     (g.I.Inputs.bytes_of c.args.inputs.now) _ _ c.run_and_report.result c.in_ok-session.ensures.machine refl refl
     c.in_ok-open.ensures.opened c.run_and_report.ensures.runs
@@ -25,14 +25,14 @@ returns-clause-starved g c = λ is.
     let told = c.run_and_report.ensures.starved is in
     let console : Console = record {
       input = g.I.Inputs.bytes_of c.args.inputs.now;
-      left = g.I.Opened.Source.to_come c.run_and_report.new.source;
-      output = g.W.Sink.taken_bytes c.args.sink.now;
-      output_now = g.W.Sink.taken_bytes c.run_and_report.new.sink;
-      errors = g.E.Sink.taken_bytes c.args.errors.now;
-      errors_now = g.E.Sink.taken_bytes c.run_and_report.new.errors;
-      errors_failed = g.E.Sink.has_failed c.run_and_report.new.errors;
+      left = (g.I.Opened.Source.state c.run_and_report.new.source).unread;
+      output = (g.W.Sink.state c.args.sink.now).taken;
+      output_now = (g.W.Sink.state c.run_and_report.new.sink).taken;
+      errors = (g.E.Sink.state c.args.errors.now).taken;
+      errors_now = (g.E.Sink.state c.run_and_report.new.errors).taken;
+      errors_failed = (g.E.Sink.state c.run_and_report.new.errors).has_failed;
     } in
-    let unread = g.I.Opened.Source.to_come c.open.new.source in
+    let unread = (g.I.Opened.Source.state c.open.new.source).unread in
     inr (
       told.0,
       unread,
@@ -43,6 +43,6 @@ returns-clause-starved g c = λ is.
 pub returns-clause-main : goal.returns-clause-main
 returns-clause-main g c =
     meets_input c.args.opening.now c.in_ok-session.session.machine c.args.limit (g.I.Inputs.bytes_of c.args.inputs.now c.args.input)
-    (g.I.Opened.Source.to_come c.open.new.source) (g.I.Opened.Source.to_come c.run_and_report.new.source)
-    (g.W.Sink.taken_bytes c.args.sink.now) (g.W.Sink.taken_bytes c.run_and_report.new.sink)
+    (g.I.Opened.Source.state c.open.new.source).unread (g.I.Opened.Source.state c.run_and_report.new.source).unread
+    (g.W.Sink.state c.args.sink.now).taken (g.W.Sink.state c.run_and_report.new.sink).taken
     c.run_and_report.result c.in_ok-session.ensures.machine c.in_ok-open.ensures.opened c.run_and_report.ensures.main

@@ -10,13 +10,13 @@ returns-in_err-summary-clause-runs g c =
     let told = err_from_is_err_and c.from_residual.result c.from_residual.ensures.1 in
     on_devices
     (ReportsRun c.args.report c.args.opening.now c.args.pool c.args.session.now.machine (record {
-      unread = g.S.Source.to_come c.args.source.now;
-      left = g.S.Source.to_come c.run_session.new.source;
-      output = g.W.Sink.taken_bytes c.args.sink.now;
-      output_now = g.W.Sink.taken_bytes c.run_session.new.sink;
-      errors = g.E.Sink.taken_bytes c.args.errors.now;
-      errors_now = g.E.Sink.taken_bytes c.args.errors.now;
-      errors_failed = g.E.Sink.has_failed c.args.errors.now;
+      unread = (g.S.Source.state c.args.source.now).unread;
+      left = (g.S.Source.state c.run_session.new.source).unread;
+      output = (g.W.Sink.state c.args.sink.now).taken;
+      output_now = (g.W.Sink.state c.run_session.new.sink).taken;
+      errors = (g.E.Sink.state c.args.errors.now).taken;
+      errors_now = (g.E.Sink.state c.args.errors.now).taken;
+      errors_failed = (g.E.Sink.state c.args.errors.now).has_failed;
     }))
     c.from_residual.result (Err c.in_err-summary.field-0.0) (told.1 ∙ ap Err told.2)
     (record {
@@ -42,13 +42,13 @@ pub returns-in_err-summary-clause-main : goal.returns-in_err-summary-clause-main
 returns-in_err-summary-clause-main g c =
     meets c.args.report c.args.opening.now c.args.pool c.args.session.now.machine
     (record {
-      unread = g.S.Source.to_come c.args.source.now;
-      left = g.S.Source.to_come c.run_session.new.source;
-      output = g.W.Sink.taken_bytes c.args.sink.now;
-      output_now = g.W.Sink.taken_bytes c.run_session.new.sink;
-      errors = g.E.Sink.taken_bytes c.args.errors.now;
-      errors_now = g.E.Sink.taken_bytes c.args.errors.now;
-      errors_failed = g.E.Sink.has_failed c.args.errors.now;
+      unread = (g.S.Source.state c.args.source.now).unread;
+      left = (g.S.Source.state c.run_session.new.source).unread;
+      output = (g.W.Sink.state c.args.sink.now).taken;
+      output_now = (g.W.Sink.state c.run_session.new.sink).taken;
+      errors = (g.E.Sink.state c.args.errors.now).taken;
+      errors_now = (g.E.Sink.state c.args.errors.now).taken;
+      errors_failed = (g.E.Sink.state c.args.errors.now).has_failed;
     })
     c.from_residual.result (returns-in_err-summary-clause-runs g c)
 

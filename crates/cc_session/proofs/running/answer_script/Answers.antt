@@ -31,7 +31,7 @@ returns-in-Err-pump-clause-same_tally g c = (same_lent _ _ _ _ _ _ _ _ _ c.in-Er
 
 pub returns-in-Err-clause-laws : goal.returns-in-Err-clause-laws
 returns-in-Err-clause-laws g c =
-    let stops = stops_in_opening _ _ (record { machine = _; unread = g.R.Source.to_come c.args.source.now; taken = _ }) _ c.requires.reached refl c.in-Err.ensures.err in
+    let stops = stops_in_opening _ _ (record { machine = _; unread = (g.R.Source.state c.args.source.now).unread; taken = _ }) _ c.requires.reached refl c.in-Err.ensures.err in
     laws_after _ _ _ c.requires.reached stops.main.ends
 
 pub returns-in-Ok-pump-clause-laws : goal.returns-in-Ok-pump-clause-laws

@@ -7,9 +7,9 @@ pub returns-in-Ok-clause-decodes : goal.returns-in-Ok-clause-decodes
 returns-in-Ok-clause-decodes g c = λ errors errors_now errors_failed.
     let console : Console = record {
       input = g.I.Inputs.bytes_of c.args.inputs.now;
-      left = g.I.Opened.Source.to_come c.list_words.new.source;
-      output = g.W.Sink.taken_bytes c.args.sink.now;
-      output_now = g.W.Sink.taken_bytes c.list_words.new.sink;
+      left = (g.I.Opened.Source.state c.list_words.new.source).unread;
+      output = (g.W.Sink.state c.args.sink.now).taken;
+      output_now = (g.W.Sink.state c.list_words.new.sink).taken;
       errors = errors;
       errors_now = errors_now;
       errors_failed = errors_failed;

@@ -10,12 +10,12 @@ pub returns-in-Ok-clause-rounds : goal.returns-in-Ok-clause-rounds
 returns-in-Ok-clause-rounds g c =
     let console : Console = record {
       input = g.I.Inputs.bytes_of c.args.inputs.now;
-      left = g.I.Opened.Source.to_come c.round_hinted.new.source;
-      output = g.W.Sink.taken_bytes c.args.sink.now;
-      output_now = g.W.Sink.taken_bytes c.round_hinted.new.sink;
-      errors = g.E.Sink.taken_bytes c.args.errors.now;
-      errors_now = g.E.Sink.taken_bytes c.round_hinted.new.errors;
-      errors_failed = g.E.Sink.has_failed c.round_hinted.new.errors;
+      left = (g.I.Opened.Source.state c.round_hinted.new.source).unread;
+      output = (g.W.Sink.state c.args.sink.now).taken;
+      output_now = (g.W.Sink.state c.round_hinted.new.sink).taken;
+      errors = (g.E.Sink.state c.args.errors.now).taken;
+      errors_now = (g.E.Sink.state c.round_hinted.new.errors).taken;
+      errors_failed = (g.E.Sink.state c.round_hinted.new.errors).has_failed;
     } in
     with_base c.args.base _ _ _ (λ place. FromInput (file_input c.args.file) console (RoundsLengths c.args.base c.args.hints place)) c.round_hinted.result
     (sym c.place_of.ensures ∙ c.in-Ok.is)

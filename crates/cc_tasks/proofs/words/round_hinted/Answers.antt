@@ -7,12 +7,12 @@ pub returns-then-is_err-clause-rounds : goal.returns-then-is_err-clause-rounds
 returns-then-is_err-clause-rounds g c =
     let console : Console = record {
       input = g.I.Inputs.bytes_of c.args.inputs.now;
-      left = g.I.Opened.Source.to_come c.round_input-result.new.source;
-      output = g.W.Sink.taken_bytes c.args.sink.now;
-      output_now = g.W.Sink.taken_bytes c.round_input-result.new.sink;
-      errors = g.E.Sink.taken_bytes c.args.errors.now;
-      errors_now = g.E.Sink.taken_bytes c.args.errors.now;
-      errors_failed = g.E.Sink.has_failed c.args.errors.now;
+      left = (g.I.Opened.Source.state c.round_input-result.new.source).unread;
+      output = (g.W.Sink.state c.args.sink.now).taken;
+      output_now = (g.W.Sink.state c.round_input-result.new.sink).taken;
+      errors = (g.E.Sink.state c.args.errors.now).taken;
+      errors_now = (g.E.Sink.state c.args.errors.now).taken;
+      errors_failed = (g.E.Sink.state c.args.errors.now).has_failed;
     } in
     hinted_too c.args.base c.args.hints c.round_input-result.new.bare c.args.place c.args.input console c.round_input-result.result
     (no_hint _ c.round_input-result.result (search rules))
@@ -22,12 +22,12 @@ pub returns-clause-rounds : goal.returns-clause-rounds
 returns-clause-rounds g c =
     let console : Console = record {
       input = g.I.Inputs.bytes_of c.args.inputs.now;
-      left = g.I.Opened.Source.to_come c.round_input-result.new.source;
-      output = g.W.Sink.taken_bytes c.args.sink.now;
-      output_now = g.W.Sink.taken_bytes c.round_input-result.new.sink;
-      errors = g.E.Sink.taken_bytes c.args.errors.now;
-      errors_now = g.E.Sink.taken_bytes c.hint_list.new.errors;
-      errors_failed = g.E.Sink.has_failed c.hint_list.new.errors;
+      left = (g.I.Opened.Source.state c.round_input-result.new.source).unread;
+      output = (g.W.Sink.state c.args.sink.now).taken;
+      output_now = (g.W.Sink.state c.round_input-result.new.sink).taken;
+      errors = (g.E.Sink.state c.args.errors.now).taken;
+      errors_now = (g.E.Sink.state c.hint_list.new.errors).taken;
+      errors_failed = (g.E.Sink.state c.hint_list.new.errors).has_failed;
     } in
     hinted_too c.args.base c.args.hints c.round_input-result.new.bare c.args.place c.args.input console c.round_input-result.result
     (search rules)

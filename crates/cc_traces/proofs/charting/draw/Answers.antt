@@ -19,10 +19,10 @@ returns-in_err-write_chart-clause-charts g c = λ traffic unread left output out
     (told.1 ∙ ap Err (told.2 ∙ ap fault_of is_write))
     (stops_in_chart c.args.charting.now c.take_chart.new.charting traffic _ _ _ _ _ unread left output output_now c.in_ok-summary.ensures.takes
     (λ is. c.in_default.not-OutOfMemory (c.progress.ensures ∙ is))
-    (subst (λ (chart : Chart). TakesBeginning (g.W.Sink.taken_bytes c.args.sink.now) (g.W.Sink.taken_bytes c.write_chart.new.sink) (chart_text chart)) c.chart.ensures c.in_err-write_chart.ensures.err))
+    (subst (λ (chart : Chart). TakesBeginning (g.W.Sink.state c.args.sink.now).taken (g.W.Sink.state c.write_chart.new.sink).taken (chart_text chart)) c.chart.ensures c.in_err-write_chart.ensures.err))
 
 pub returns-clause-charts : goal.returns-clause-charts
 returns-clause-charts g c = λ traffic unread left output output_now.
     charts_all c.args.charting.now c.take_chart.new.charting traffic _ _ _ _ _ unread left output output_now
     c.in_ok-summary.ensures.takes (λ is. c.in_default.not-OutOfMemory (c.progress.ensures ∙ is))
-    (subst (λ (chart : Chart). Appends (g.W.Sink.taken_bytes c.args.sink.now) (g.W.Sink.taken_bytes c.write_chart.new.sink) (chart_text chart)) c.chart.ensures c.in_ok-write_chart.ensures.ok)
+    (subst (λ (chart : Chart). Appends (g.W.Sink.state c.args.sink.now).taken (g.W.Sink.state c.write_chart.new.sink).taken (chart_text chart)) c.chart.ensures c.in_ok-write_chart.ensures.ok)

@@ -8,9 +8,9 @@ returns-clause-charts g c = λ errors errors_now errors_failed.
     reads_input (Charts c.args.charting.now) c.args.input
     (record {
       input = g.I.Inputs.bytes_of c.args.inputs.now;
-      left = g.I.Opened.Source.to_come c.draw.new.source;
-      output = g.W.Sink.taken_bytes c.args.sink.now;
-      output_now = g.W.Sink.taken_bytes c.draw.new.sink;
+      left = (g.I.Opened.Source.state c.draw.new.source).unread;
+      output = (g.W.Sink.state c.args.sink.now).taken;
+      output_now = (g.W.Sink.state c.draw.new.sink).taken;
       errors = errors;
       errors_now = errors_now;
       errors_failed = errors_failed;

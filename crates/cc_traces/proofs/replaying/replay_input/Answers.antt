@@ -11,9 +11,9 @@ returns-then-each-eq0-clause-replays g c = λ errors errors_now errors_failed.
     reads_input (WritesReplay c.args.each text_of c.args.replay.now) c.args.input
     (record {
       input = g.I.Inputs.bytes_of c.args.inputs.now;
-      left = g.I.Opened.Source.to_come c.sum_up.new.source;
-      output = g.W.Sink.taken_bytes c.args.sink.now;
-      output_now = g.W.Sink.taken_bytes c.sum_up.new.sink;
+      left = (g.I.Opened.Source.state c.sum_up.new.source).unread;
+      output = (g.W.Sink.state c.args.sink.now).taken;
+      output_now = (g.W.Sink.state c.sum_up.new.sink).taken;
       errors = errors;
       errors_now = errors_now;
       errors_failed = errors_failed;
@@ -29,9 +29,9 @@ returns-else-each-eq0-clause-replays g c = λ errors errors_now errors_failed.
     reads_input (WritesReplay c.args.each text_of c.args.replay.now) c.args.input
     (record {
       input = g.I.Inputs.bytes_of c.args.inputs.now;
-      left = g.I.Opened.Source.to_come c.sample.new.source;
-      output = g.W.Sink.taken_bytes c.args.sink.now;
-      output_now = g.W.Sink.taken_bytes c.sample.new.sink;
+      left = (g.I.Opened.Source.state c.sample.new.source).unread;
+      output = (g.W.Sink.state c.args.sink.now).taken;
+      output_now = (g.W.Sink.state c.sample.new.sink).taken;
       errors = errors;
       errors_now = errors_now;
       errors_failed = errors_failed;

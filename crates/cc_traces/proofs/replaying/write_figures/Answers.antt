@@ -10,12 +10,12 @@ pub returns-clause-ok : goal.returns-clause-ok
 returns-clause-ok g c =
     let text : table_text c.table_format-table.result (summary_rows c.figures.result) ≡ summary_text c.args.format c.args.replay.now =
     λ i. table_text (c.table_format-table.ensures i) (summary_rows (c.figures.ensures i)) in
-    subst (λ (bytes : List ℕ). OnOk c.write_summary.result (Appends (g.W.Sink.taken_bytes c.args.sink.now) (g.W.Sink.taken_bytes c.write_summary.new.sink) bytes))
+    subst (λ (bytes : List ℕ). OnOk c.write_summary.result (Appends (g.W.Sink.state c.args.sink.now).taken (g.W.Sink.state c.write_summary.new.sink).taken bytes))
     text c.write_summary.ensures.ok
 
 pub returns-clause-err : goal.returns-clause-err
 returns-clause-err g c =
     let text : table_text c.table_format-table.result (summary_rows c.figures.result) ≡ summary_text c.args.format c.args.replay.now =
     λ i. table_text (c.table_format-table.ensures i) (summary_rows (c.figures.ensures i)) in
-    subst (λ (bytes : List ℕ). OnErr c.write_summary.result (TakesBeginning (g.W.Sink.taken_bytes c.args.sink.now) (g.W.Sink.taken_bytes c.write_summary.new.sink) bytes))
+    subst (λ (bytes : List ℕ). OnErr c.write_summary.result (TakesBeginning (g.W.Sink.state c.args.sink.now).taken (g.W.Sink.state c.write_summary.new.sink).taken bytes))
     text c.write_summary.ensures.err

@@ -8,9 +8,9 @@ returns-clause-scripts g c = λ errors errors_now errors_failed.
     reads_input (Scripts c.args.script.now) c.args.input
     (record {
       input = g.I.Inputs.bytes_of c.args.inputs.now;
-      left = g.I.Opened.Source.to_come c.write_script.new.source;
-      output = g.W.Sink.taken_bytes c.args.sink.now;
-      output_now = g.W.Sink.taken_bytes c.write_script.new.sink;
+      left = (g.I.Opened.Source.state c.write_script.new.source).unread;
+      output = (g.W.Sink.state c.args.sink.now).taken;
+      output_now = (g.W.Sink.state c.write_script.new.sink).taken;
       errors = errors;
       errors_now = errors_now;
       errors_failed = errors_failed;

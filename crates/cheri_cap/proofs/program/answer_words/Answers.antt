@@ -26,19 +26,19 @@ returns-in-Ok-clause-runs_script g c =
     let done = c.answer_invocation.ensures.executes (subcommand_of told.0 (texts c.args.words.now)) told.2 in
     let console : Console = record {
       input = g.I.Inputs.bytes_of c.args.inputs.now;
-      left = g.I.Opened.Source.to_come c.answer_invocation.new.source;
-      output = g.W.Sink.taken_bytes c.args.sink.now;
-      output_now = g.W.Sink.taken_bytes c.answer_invocation.new.sink;
-      errors = g.E.Sink.taken_bytes c.args.errors.now;
-      errors_now = g.E.Sink.taken_bytes c.answer_invocation.new.errors;
-      errors_failed = g.E.Sink.has_failed c.answer_invocation.new.errors;
+      left = (g.I.Opened.Source.state c.answer_invocation.new.source).unread;
+      output = (g.W.Sink.state c.args.sink.now).taken;
+      output_now = (g.W.Sink.state c.answer_invocation.new.sink).taken;
+      errors = (g.E.Sink.state c.args.errors.now).taken;
+      errors_now = (g.E.Sink.state c.answer_invocation.new.errors).taken;
+      errors_failed = (g.E.Sink.state c.answer_invocation.new.errors).has_failed;
     } in
     let failures : Failures = record {
       open_failed = g.I.Inputs.has_refused c.answer_invocation.new.inputs;
-      read_failed = g.I.Opened.Source.has_failed c.answer_invocation.new.source;
-      write_failed = g.W.Sink.has_failed c.answer_invocation.new.sink;
+      read_failed = (g.I.Opened.Source.state c.answer_invocation.new.source).has_failed;
+      write_failed = (g.W.Sink.state c.answer_invocation.new.sink).has_failed;
       memory_failed = g.M.Memory.has_failed c.answer_invocation.new.memory;
-      is_flushed = g.W.Sink.is_flushed c.answer_invocation.new.sink;
+      is_flushed = (g.W.Sink.state c.answer_invocation.new.sink).is_flushed;
       last_asked = g.I.Inputs.last_asked c.answer_invocation.new.inputs;
     } in
     (told.0, told.1, (done.invocation, done.is_invocation, runs_script done.invocation c.args.terminals console failures c.answer_invocation.result done.executed))
