@@ -234,6 +234,11 @@ impl<P: Placer, const N: usize> Answerer<N> for Script<P> {
     ghost MOST = { 128 };
 
     #[inline(always)]
+    fn is_done(&self) -> bool {
+        false
+    }
+
+    #[inline(always)]
     fn most() -> usize {
         128
     }
@@ -266,7 +271,7 @@ pub fn script_trace<P: Placer, R: Source, W: Sink>(
 ) -> Result<Summary, IoError>
     requires source { (R.state source.old).has_failed ≡ false }
     requires sink { (W.state sink.old).has_failed ≡ false }
-    ensures scripts { Pumps ScriptsLine ScriptsRest lines 65536 128 script.old []
+    ensures scripts { Pumps (λ _. false) ScriptsLine ScriptsRest lines 65536 128 script.old []
         (R.state source.old).unread (R.state source.new).unread (W.state sink.old).taken (W.state sink.new).taken result script.new }
     ensures read { (result ≡ Err IoError.Read) ↔ ((R.state source.new).has_failed ≡ true) }
     ensures write { (result ≡ Err IoError.Write) ↔ ((W.state sink.new).has_failed ≡ true) }

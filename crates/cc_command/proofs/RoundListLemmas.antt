@@ -6,6 +6,7 @@ use Rattle.std.specs.Io.KnownBytes.{Appends}
 use Rattle.std.proofs.lemmas.Bool.{cases_lt, and_left, ne_eqb}
 use Rattle.std.proofs.lemmas.List.{take_all}
 use Rattle.std.proofs.Math.Dec.{eqb-suc-zero}
+use Rattle.cc_io.proofs.ServingLemmas.{runs_through}
 use Rattle.cc_io.specs.Text.{rest_text}
 use Rattle.cc_io.specs.Answers.{Answer, AnswersAll, EndsWith, answers_text, seen}
 use Rattle.cc_io.specs.Correct.{Pumps, PumpsText, WritesOutput, StopsOnPage as StopsPage, StopsAfterAnswers as StopsAfter}
@@ -192,7 +193,8 @@ bare_text old new text j t u (Err error) unseen p = tt
 
 -- what the pump promises of a rounder is what `round_list` promises
 pub rounds_pumped : (old new : Rounder) (pending : List ℕ) (c j t u : Option (List ℕ)) (result : Result Summary IoError) → old.bare ≡ false → pending ≡ []
-    → Pumps AnswersLength RefusesRest lines 32768 264 old pending c j t u result new → RoundsList old.base new.bare c j t u result
+    → Pumps (λ (state : Rounder). false) AnswersLength RefusesRest lines 32768 264 old pending c j t u result new → RoundsList old.base new.bare c j t u result
 rounds_pumped old new pending c j t u result unseen none p =
-    let q = subst (λ (l : List ℕ). Pumps AnswersLength RefusesRest lines 32768 264 old l c j t u result new) none p in
-    record { text = q.text; given = q.given; rounds = rounds_text old new q.text j t u result q.pumps; bare_is = bare_text old new q.text j t u result unseen q.pumps }
+    let q = subst (λ (l : List ℕ). Pumps (λ (state : Rounder). false) AnswersLength RefusesRest lines 32768 264 old l c j t u result new) none p in
+    let r = runs_through (λ (state : Rounder). false) _ _ _ _ _ _ _ _ _ _ _ _ _ refl q in
+    record { text = q.text; given = q.given; rounds = rounds_text old new q.text j t u result r; bare_is = bare_text old new q.text j t u result unseen r }

@@ -31,6 +31,11 @@ impl Answerer<ROOM> for Rounder {
     ghost MOST = { 264 };
 
     #[inline(always)]
+    fn is_done(&self) -> bool {
+        false
+    }
+
+    #[inline(always)]
     fn most() -> usize {
         264
     }

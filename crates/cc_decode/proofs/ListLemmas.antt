@@ -1,7 +1,8 @@
 -- The bytes written for a text, from the contract of the pump.
-use Rattle.std.proofs.Common.{◌≡◌, ℕ, ◌≤◌, Bool, List, [], ◌∷◌, ◌++◌, length, take, refl, sym, ◌∙◌, ap, subst, append_assoc, append-nil, ◌||◌, Option, Some, None, IfSome, Result, Ok, Err, inl, inr}
+use Rattle.std.proofs.Common.{◌≡◌, ℕ, ◌≤◌, Bool, List, [], ◌∷◌, ◌++◌, length, take, refl, sym, ◌∙◌, ap, subst, append_assoc, append-nil, ◌||◌, Option, Some, None, IfSome, Result, Ok, Err, inl, inr, false}
 use Rattle.std.specs.List.{list_any}
 use Rattle.std.specs.Io.KnownBytes.{Appends, Consumes, IsAtEnd}
+use Rattle.cc_io.proofs.ServingLemmas.{runs_through}
 use Rattle.cc_io.specs.Text.{rest_text}
 use Rattle.cc_io.specs.Frames.{Frame, IsFrame}
 use Rattle.cc_io.specs.FrameLaws.{lines_frame, blocks_frame}
@@ -125,16 +126,16 @@ module _ {S : Type 0} (options_of : S → Options) (Answered : Relation S) (repl
   -- what the pump promises of a decoder is what `decode_words` promises
   pub lists_pumped : (old new : S) (frame : Frame) (pending : List ℕ) (c j t u : Option (List ℕ)) (result : Result Summary IoError)
       → frame ≡ frame_of (options_of old).input → pending ≡ header_of (options_of old)
-      → Pumps Answered RefusesRest frame 32768 512 old pending c j t u result new → Lists (options_of old) c j t u result
+      → Pumps (λ (state : S). false) Answered RefusesRest frame 32768 512 old pending c j t u result new → Lists (options_of old) c j t u result
   lists_pumped old new frame pending c j t u result frame_is pending_is p =
-      let q = subst (λ (f : Frame). Pumps Answered RefusesRest f 32768 512 old pending c j t u result new) frame_is p in
-      let r = subst (λ (l : List ℕ). Pumps Answered RefusesRest (frame_of (options_of old).input) 32768 512 old l c j t u result new) pending_is q in
-      record { text = r.text; given = r.given; lists = lists_text old new r.text j t u result r.pumps }
+      let q = subst (λ (f : Frame). Pumps (λ (state : S). false) Answered RefusesRest f 32768 512 old pending c j t u result new) frame_is p in
+      let r = subst (λ (l : List ℕ). Pumps (λ (state : S). false) Answered RefusesRest (frame_of (options_of old).input) 32768 512 old l c j t u result new) pending_is q in
+      record { text = r.text; given = r.given; lists = lists_text old new r.text j t u result (runs_through (λ (state : S). false) _ _ _ _ _ _ _ _ _ _ _ _ _ refl r) }
 
 -- what the pump promises of the decoder of all words, for the options that ask for it
 pub lists_plain : (options : Options) (old new : PlainDecoder) (pending : List ℕ) (c j t u : Option (List ℕ)) (result : Result Summary IoError)
     → plain_options old ≡ options → pending ≡ header_of options
-    → Pumps AnswersPlainly RefusesRest (frame_of options.input) 32768 512 old pending c j t u result new → Lists options c j t u result
+    → Pumps (λ (state : PlainDecoder). false) AnswersPlainly RefusesRest (frame_of options.input) 32768 512 old pending c j t u result new → Lists options c j t u result
 lists_plain options old new pending c j t u result same pending_is p =
     subst (λ (o : Options). Lists o c j t u result) same
     (lists_pumped plain_options AnswersPlainly answers_plainly old new (frame_of options.input) pending c j t u result

@@ -38,6 +38,11 @@ impl Answerer<ROOM> for Annotator {
     ghost MOST = { 600 };
 
     #[inline(always)]
+    fn is_done(&self) -> bool {
+        false
+    }
+
+    #[inline(always)]
     fn most() -> usize {
         600
     }

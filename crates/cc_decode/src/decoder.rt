@@ -32,6 +32,11 @@ impl Answerer<ROOM> for PlainDecoder {
     ghost MOST = { 512 };
 
     #[inline(always)]
+    fn is_done(&self) -> bool {
+        false
+    }
+
+    #[inline(always)]
     fn most() -> usize {
         512
     }
@@ -69,6 +74,11 @@ impl Answerer<ROOM> for Decoder {
     ghost Ended = { RefusesRest };
 
     ghost MOST = { 512 };
+
+    #[inline(always)]
+    fn is_done(&self) -> bool {
+        false
+    }
 
     #[inline(always)]
     fn most() -> usize {

@@ -111,7 +111,8 @@ fn list_entries<A: Answerer<ROOM>, R: Source, W: Sink>(
     requires source { (R.state source.old).has_failed ≡ false }
     requires sink { (W.state sink.old).has_failed ≡ false }
     requires room { A.MOST ≤ 32768 }
-    ensures pumps { Pumps A.Answered A.Ended (frame_of input) 32768 A.MOST decoder.old page.old
+    requires goes_on { A.done decoder.old ≡ false }
+    ensures pumps { Pumps A.done A.Answered A.Ended (frame_of input) 32768 A.MOST decoder.old page.old
         (R.state source.old).unread (R.state source.new).unread (W.state sink.old).taken (W.state sink.new).taken result decoder.new }
     ensures read { (result ≡ Err IoError.Read) ↔ ((R.state source.new).has_failed ≡ true) }
     ensures write { (result ≡ Err IoError.Write) ↔ ((W.state sink.new).has_failed ≡ true) }

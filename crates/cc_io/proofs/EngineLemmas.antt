@@ -4,14 +4,14 @@ use Rattle.std.proofs.lemmas.Bool.{eqb-true, eqb-false}
 use Rattle.std.proofs.lemmas.List.{take_all, map-append}
 use Rattle.std.proofs.lemmas.List.Folds.{list_any-append}
 use Rattle.std.specs.List.{list_any}
-use Rattle.std.specs.Io.KnownBytes.{Appends, Consumes, IsAtEnd}
+use Rattle.std.specs.Io.KnownBytes.{Appends, Consumes, IsAtEnd, Keeps}
 use Rattle.cc_io.specs.Devices.{TakesBeginning}
 use Rattle.cc_io.specs.Frames.{Frame, IsFrame, EndsEntry, EndsNone}
 use Rattle.cc_io.specs.Answers.{Answer, Relation, AnswersAll, answers_text, EndsWith, seen, entries_of, AnswersInto, LastFits}
-use Rattle.cc_io.specs.Correct.{StopsOnPage, Pumps}
-use Rattle.cc_io.specs.Engine.{Answers, PassesPage, EndsPage}
+use Rattle.cc_io.specs.Correct.{StopsOnPage, StopsEarly, Pumps}
+use Rattle.cc_io.specs.Engine.{Answers, AnswersPiece, AnswersSome, PassesPage, EndsPage}
 use Rattle.cc_io.specs.declared.summary.IoError.TheVariants.{Read, Write}
-use Rattle.cc_io.proofs.DeviceLemmas.{appends_none, appends_twice, consumes_none, consumes_twice}
+use Rattle.cc_io.proofs.DeviceLemmas.{appends_none, appends_twice, consumes_none, consumes_twice, then_kept}
 use Rattle.cc_io.proofs.LineLemmas.{start_longer}
 
 -- ---- what the loops keep
@@ -120,6 +120,7 @@ stops_behind {S} A room most a b c t u v xs ys rs takes written q = record {
   page = q.page;
   takes = q.takes;
   fits = q.fits;
+  all_fit = q.all_fit;
   count = q.count;
   within = q.within;
   written = rw (answers_text-append rs q.before, append_assoc (answers_text rs) (answers_text q.before) (take q.count (answers_text q.page)))
@@ -140,6 +141,7 @@ stops_opened {S} A room most a c t u v pending xs written q = record {
   page = q.page;
   takes = q.takes;
   fits = q.fits;
+  all_fit = q.all_fit;
   count = q.count;
   within = q.within;
   written = rw (append_assoc pending (answers_text q.before) (take q.count (answers_text q.page)))
@@ -268,9 +270,9 @@ first_ends {S} A frame room most a b t u v begun piece rest start end waiting e 
 
 -- the sink failed as the page was written
 pub first_stops : {S : Type 0} (A : Relation S) (frame : Frame) (room most : ℕ) (a b : S) (t u v : Option (List ℕ)) (begun piece rest start waiting : List ℕ) (e : Bool)
-    → AnswersFirst A frame room most a begun piece rest start t u waiting e b → TakesBeginning u v waiting → 0 < length waiting
+    → AnswersFirst A frame room most a begun piece rest start t u waiting e b → TakesBeginning u v waiting → 0 < length waiting → length waiting ≤ room
     → StopsOnPage A room most a [] (seen (frame.entries begun piece)) t v b
-first_stops {S} A frame room most a b t u v begun piece rest start waiting e p q some = record {
+first_stops {S} A frame room most a b t u v begun piece rest start waiting e p q some within = record {
   earlier = seen p.earlier;
   on_page = seen p.on_page;
   later = seen (frame.entries p.begun_now rest);
@@ -286,6 +288,7 @@ first_stops {S} A frame room most a b t u v begun piece rest start waiting e p q
     | inl none ↦ absurd (omega (arith, some, ap length (p.waits ∙ ap answers_text none)))
     | inr last ↦ last
   ];
+  all_fit = subst (λ (l : List ℕ). length l ≤ room) p.waits within;
   count = q.count;
   within = subst (λ (l : List ℕ). q.count ≤ length l) p.waits q.within;
   written = appends_twice t u v (answers_text p.before) (take q.count (answers_text p.page)) p.written
@@ -312,12 +315,12 @@ reads_begins {S} A frame is a pending c t u start empty written = record {
 }
 
 -- the sink failed in what waited
-pub stops_pending : {S : Type 0} (A E : Relation S) (frame : Frame) (room most : ℕ) (a : S) (pending : List ℕ) (c t u : Option (List ℕ)) → TakesBeginning t u pending → 0 < length pending
-    → Pumps A E frame room most a pending c c t u (Err Write) a
-stops_pending {S} A E frame room most a pending c t u q some = record {
+pub stops_pending : {S : Type 0} (done : S → Bool) (A E : Relation S) (frame : Frame) (room most : ℕ) (a : S) (pending : List ℕ) (c t u : Option (List ℕ)) → TakesBeginning t u pending → 0 < length pending
+    → Pumps done A E frame room most a pending c c t u (Err Write) a
+stops_pending {S} done A E frame room most a pending c t u q some = record {
   text = [];
   given = consumes_none c;
-  pumps = inl (refl, record { some = some; stays = refl; written = q });
+  pumps = inl (inl (refl, record { some = some; stays = refl; written = q }));
 }
 
 pub reads_more : {S : Type 0} (A : Relation S) (frame : Frame) → IsFrame frame → (a b d : S) (pending : List ℕ) (c l j t u v : Option (List ℕ)) (start end piece : List ℕ) (e f : Bool)
@@ -336,38 +339,38 @@ still : (c l j : Option (List ℕ)) (text : List ℕ) → Consumes c l text → 
 still c l j text p q = subst (λ (x : List ℕ). Consumes c j x) (append-nil text) (consumes_twice c l j text [] p q)
 
 -- the source failed
-pub fails_reading : {S : Type 0} (A E : Relation S) (frame : Frame) (room most : ℕ) (a b : S) (pending : List ℕ) (c l j t u : Option (List ℕ)) (start : List ℕ) (e : Bool)
-    → Reads A frame a pending c l start t u e b → Consumes l j [] → Pumps A E frame room most a pending c j t u (Err Read) b
-fails_reading {S} A E frame room most a b pending c l j t u start e r nothing = record {
+pub fails_reading : {S : Type 0} (done : S → Bool) (A E : Relation S) (frame : Frame) (room most : ℕ) (a b : S) (pending : List ℕ) (c l j t u : Option (List ℕ)) (start : List ℕ) (e : Bool)
+    → Reads A frame a pending c l start t u e b → Consumes l j [] → Pumps done A E frame room most a pending c j t u (Err Read) b
+fails_reading {S} done A E frame room most a b pending c l j t u start e r nothing = record {
   text = r.text;
   given = still c l j r.text r.given nothing;
-  pumps = record {
+  pumps = inl (record {
     answers = r.answers.answers;
     takes = r.answers.takes;
     written = appends_twice t r.opened u pending (answers_text r.answers.answers) r.opening r.answers.written;
-  };
+  });
 }
 
 -- the sink failed in a piece
-pub stops_reading : {S : Type 0} (A E : Relation S) (frame : Frame) → IsFrame frame → (room most : ℕ) (a b d : S) (pending : List ℕ) (c l j t u v : Option (List ℕ)) (start piece : List ℕ) (e : Bool)
+pub stops_reading : {S : Type 0} (done : S → Bool) (A E : Relation S) (frame : Frame) → IsFrame frame → (room most : ℕ) (a b d : S) (pending : List ℕ) (c l j t u v : Option (List ℕ)) (start piece : List ℕ) (e : Bool)
     → (r : Reads A frame a pending c l start t u e b) → Consumes l j piece
-    → StopsOnPage A room most b [] (seen (frame.entries (frame.left [] r.text) piece)) u v d → Pumps A E frame room most a pending c j t v (Err Write) d
-stops_reading {S} A E frame is room most a b d pending c l j t u v start piece e r given s = record {
+    → StopsOnPage A room most b [] (seen (frame.entries (frame.left [] r.text) piece)) u v d → Pumps done A E frame room most a pending c j t v (Err Write) d
+stops_reading {S} done A E frame is room most a b d pending c l j t u v start piece e r given s = record {
   text = r.text ++ piece;
   given = consumes_twice c l j r.text piece r.given given;
-  pumps = inr (inl (stops_opened A room most a d t r.opened v pending (entries_of frame (r.text ++ piece)) r.opening
-      (stops_further A frame is room most a b d r.opened u v [] r.text piece start e r.answers s)));
+  pumps = inl (inr (inl (stops_opened A room most a d t r.opened v pending (entries_of frame (r.text ++ piece)) r.opening
+      (stops_further A frame is room most a b d r.opened u v [] r.text piece start e r.answers s))));
 }
 
 -- the source is at its end, and the output was ended
-pub ends : {S : Type 0} (A E : Relation S) (frame : Frame) (room most : ℕ) (a b d : S) (pending : List ℕ) (c l j t u v : Option (List ℕ)) (start : List ℕ) (e : Bool) (ending : Answer)
+pub ends : {S : Type 0} (done : S → Bool) (A E : Relation S) (frame : Frame) (room most : ℕ) (a b d : S) (pending : List ℕ) (c l j t u v : Option (List ℕ)) (start : List ℕ) (e : Bool) (ending : Answer)
     → Reads A frame a pending c l start t u e b → Consumes l j [] → IsAtEnd j
     → EndsWith E b start ending d → Appends u v ending.text
-    → Pumps A E frame room most a pending c j t v (Ok (record { any_error = e || ending.is_error })) d
-ends {S} A E frame room most a b d pending c l j t u v start e ending r nothing at_end s w = record {
+    → Pumps done A E frame room most a pending c j t v (Ok (record { any_error = e || ending.is_error })) d
+ends {S} done A E frame room most a b d pending c l j t u v start e ending r nothing at_end s w = record {
   text = r.text;
   given = still c l j r.text r.given nothing;
-  pumps = (
+  pumps = inl (
     at_end,
     record {
       output = answers_text r.answers.answers ++ ending.text;
@@ -386,14 +389,14 @@ ends {S} A E frame room most a b d pending c l j t u v start e ending r nothing 
 }
 
 -- the source is at its end, and the sink failed in ending the output
-pub stops_ending : {S : Type 0} (A E : Relation S) (frame : Frame) (room most : ℕ) (a b d : S) (pending : List ℕ) (c l j t u v : Option (List ℕ)) (start : List ℕ) (e : Bool) (ending : Answer)
+pub stops_ending : {S : Type 0} (done : S → Bool) (A E : Relation S) (frame : Frame) (room most : ℕ) (a b d : S) (pending : List ℕ) (c l j t u v : Option (List ℕ)) (start : List ℕ) (e : Bool) (ending : Answer)
     → Reads A frame a pending c l start t u e b → Consumes l j [] → IsAtEnd j
     → EndsWith E b start ending d → TakesBeginning u v ending.text
-    → Pumps A E frame room most a pending c j t v (Err Write) d
-stops_ending {S} A E frame room most a b d pending c l j t u v start e ending r nothing at_end s w = record {
+    → Pumps done A E frame room most a pending c j t v (Err Write) d
+stops_ending {S} done A E frame room most a b d pending c l j t u v start e ending r nothing at_end s w = record {
   text = r.text;
   given = still c l j r.text r.given nothing;
-  pumps = inr (inr (
+  pumps = inl (inr (inr (
     at_end,
     record {
       answers = r.answers.answers;
@@ -405,7 +408,81 @@ stops_ending {S} A E frame room most a b d pending c l j t u v start e ending r 
       within = w.within;
       written = appends_twice t u v (pending ++ answers_text r.answers.answers) (take w.count ending.text) (appends_twice t r.opened u pending (answers_text r.answers.answers) r.opening r.answers.written) w.taken;
     },
-  ));
+  )));
+}
+
+-- ---- an answerer that is done
+
+-- the page was written after the entry with which the answerer was done
+pub first_done : {S : Type 0} (A : Relation S) (frame : Frame) (room most : ℕ) (a b : S) (t u v : Option (List ℕ)) (begun piece rest start waiting : List ℕ) (e : Bool)
+    → AnswersFirst A frame room most a begun piece rest start t u waiting e b → Appends u v waiting → AnswersSome A frame a begun piece t v e b
+first_done {S} A frame room most a b t u v begun piece rest start waiting e p w = record {
+  answered = p.earlier ++ p.on_page;
+  later = frame.entries p.begun_now rest;
+  entries_are = p.entries_are;
+  answers = p.before ++ p.page;
+  takes = all_parts A a p.mid b (p.earlier ++ p.on_page) p.earlier p.on_page p.before p.page refl p.first p.takes;
+  written = rw (answers_text-append p.before p.page, ← p.waits) (appends_twice t u v (answers_text p.before) waiting p.written w);
+  error_is = p.error_is;
+}
+
+pub piece_goes_on : {S : Type 0} (done : S → Bool) (A : Relation S) (frame : Frame) (a b : S) (begun text start : List ℕ) (t u : Option (List ℕ)) (e : Bool)
+    → AnswersPiece done A frame a begun text start t u e b → done b ≡ false → Answers A frame a begun text start t u e b
+piece_goes_on {S} done A frame a b begun text start t u e (inl all) going = all.1
+piece_goes_on {S} done A frame a b begun text start t u e (inr some) going = absurd (cc (some.0, going))
+
+pub piece_done : {S : Type 0} (done : S → Bool) (A : Relation S) (frame : Frame) (a b : S) (begun text start : List ℕ) (t u : Option (List ℕ)) (e : Bool)
+    → AnswersPiece done A frame a begun text start t u e b → done b ≡ true → AnswersSome A frame a begun text t u e b
+piece_done {S} done A frame a b begun text start t u e (inl all) over = absurd (cc (all.0, over))
+piece_done {S} done A frame a b begun text start t u e (inr some) over = some.1
+
+stops_early : {S : Type 0} (A : Relation S) (frame : Frame) → IsFrame frame → (a b d : S) (pending : List ℕ) (c l t u v : Option (List ℕ)) (start piece : List ℕ) (e f : Bool)
+    → (r : Reads A frame a pending c l start t u e b) → AnswersSome A frame b (frame.left [] r.text) piece u v f d
+    → StopsEarly A a pending (entries_of frame (r.text ++ piece)) t v (e || f) d
+stops_early {S} A frame is a b d pending c l t u v start piece e f r p = record {
+  answered = seen (frame.entries [] r.text ++ p.answered);
+  later = seen p.later;
+  entries_are =
+      ap seen (is.entries_further [] r.text piece ∙ ap (λ (x : List (List ℕ)). frame.entries [] r.text ++ x) p.entries_are ∙ sym (append_assoc (frame.entries [] r.text) p.answered p.later))
+      ∙ seen_further (frame.entries [] r.text ++ p.answered) p.later;
+  answers = r.answers.answers ++ p.answers;
+  takes = all_parts A a b d (frame.entries [] r.text ++ p.answered) (frame.entries [] r.text) p.answered r.answers.answers p.answers refl r.answers.takes p.takes;
+  written = rw (answers_text-append r.answers.answers p.answers)
+      (appends_twice t r.opened v pending (answers_text r.answers.answers ++ answers_text p.answers) r.opening
+      (appends_twice r.opened u v (answers_text r.answers.answers) (answers_text p.answers) r.answers.written p.written));
+  error_is = errors_further r.answers.answers p.answers e f r.answers.error_is p.error_is;
+}
+
+kept_early : {S : Type 0} (A : Relation S) (a d : S) (pending : List ℕ) (entries : List (List ℕ)) (t v w : Option (List ℕ)) (e : Bool)
+    → Keeps v w → StopsEarly A a pending entries t v e d → StopsEarly A a pending entries t w e d
+kept_early {S} A a d pending entries t v w e kept p = record {
+  answered = p.answered;
+  later = p.later;
+  entries_are = p.entries_are;
+  answers = p.answers;
+  takes = p.takes;
+  written = then_kept t v w (pending ++ answers_text p.answers) p.written kept;
+  error_is = p.error_is;
+}
+
+-- the answerer is done, and the sink was flushed
+pub ends_early : {S : Type 0} (done : S → Bool) (A E : Relation S) (frame : Frame) → IsFrame frame → (room most : ℕ) (a b d : S) (pending : List ℕ) (c l j t u v w : Option (List ℕ)) (start piece : List ℕ) (e f : Bool)
+    → (r : Reads A frame a pending c l start t u e b) → Consumes l j piece → done d ≡ true
+    → AnswersSome A frame b (frame.left [] r.text) piece u v f d → Keeps v w → Pumps done A E frame room most a pending c j t w (Ok (record { any_error = e || f })) d
+ends_early {S} done A E frame is room most a b d pending c l j t u v w start piece e f r given over p kept = record {
+  text = r.text ++ piece;
+  given = consumes_twice c l j r.text piece r.given given;
+  pumps = inr (over, kept_early A a d pending (entries_of frame (r.text ++ piece)) t v w (e || f) kept (stops_early A frame is a b d pending c l t u v start piece e f r p));
+}
+
+-- the answerer is done, and the flush failed
+pub stops_done : {S : Type 0} (done : S → Bool) (A E : Relation S) (frame : Frame) → IsFrame frame → (room most : ℕ) (a b d : S) (pending : List ℕ) (c l j t u v w : Option (List ℕ)) (start piece : List ℕ) (e f : Bool)
+    → (r : Reads A frame a pending c l start t u e b) → Consumes l j piece → done d ≡ true
+    → AnswersSome A frame b (frame.left [] r.text) piece u v f d → Keeps v w → Pumps done A E frame room most a pending c j t w (Err Write) d
+stops_done {S} done A E frame is room most a b d pending c l j t u v w start piece e f r given over p kept = record {
+  text = r.text ++ piece;
+  given = consumes_twice c l j r.text piece r.given given;
+  pumps = inr (over, (e || f, kept_early A a d pending (entries_of frame (r.text ++ piece)) t v w (e || f) kept (stops_early A frame is a b d pending c l t u v start piece e f r p)));
 }
 
 -- ---- the rest

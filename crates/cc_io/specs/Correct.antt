@@ -1,5 +1,6 @@
 -- The main theorem of the engine: the bytes written, and the state of the answerer.
-use Rattle.std.specs.Prelude.{◌≡◌, ◌≤◌, ◌<◌, ℕ, Bool, List, [], ◌∷◌, ◌++◌, length, take, Option, Result, Ok, Err, ◌⊎◌}
+use Rattle.std.specs.Prelude.{◌≡◌, ◌≤◌, ◌<◌, ℕ, Bool, true, List, [], ◌∷◌, ◌++◌, length, take, Option, Result, Ok, Err, ◌⊎◌}
+use Rattle.std.specs.List.{list_any}
 use Rattle.std.specs.Io.KnownBytes.{Appends, Consumes, IsAtEnd}
 use Rattle.cc_io.specs.Frames.{Frame}
 use Rattle.cc_io.specs.Devices.{TakesBeginning}
@@ -41,6 +42,7 @@ pub record StopsOnPage {S : Type 0} (Answered : Relation S) (room most : ℕ) (o
   pub page : List Answer
   pub takes : AnswersAll Answered mid on_page page new
   pub fits : LastFits room most page
+  pub all_fit : length (answers_text page) ≤ room
   pub count : ℕ
   pub within : count ≤ length (answers_text page)
   pub written : Appends taken taken_now (pending ++ answers_text before ++ take count (answers_text page))
@@ -73,6 +75,17 @@ pub record StopsAfterAnswers {S : Type 0} (Answered Ended : Relation S) (frame :
   pub within : count ≤ length ending.text
   pub written : Appends taken taken_now (pending ++ answers_text answers ++ take count ending.text)
 
+-- `StopsEarly` holds if the answerer took the first of the entries, and none after them. `pending` and
+-- the replies to these were written. `any_error` says whether one of them is an error.
+pub record StopsEarly {S : Type 0} (Answered : Relation S) (old : S) (pending : List ℕ) (entries : List (List ℕ)) (taken taken_now : Option (List ℕ)) (any_error : Bool) (new : S) : Type 0 where
+  pub answered : List (List ℕ)
+  pub later : List (List ℕ)
+  pub entries_are : entries ≡ answered ++ later
+  pub answers : List Answer
+  pub takes : AnswersAll Answered old answered answers new
+  pub written : Appends taken taken_now (pending ++ answers_text answers)
+  pub error_is : any_error ≡ list_any (λ answer. answer.is_error) answers
+
 -- `PumpsText` holds if the bytes written for `text`, which the source gave, and the state of the
 -- answerer are those for the result.
 abbrev pub PumpsText : {S : Type 0} → (Answered Ended : Relation S) → Frame → (room most : ℕ) → (old : S) → (pending text : List ℕ) → (left taken taken_now : Option (List ℕ)) → Result Summary IoError → (new : S) → Type 0
@@ -85,9 +98,21 @@ PumpsText {S} Answered Ended frame room most old pending text left taken taken_n
     ⊎ (StopsOnPage Answered room most old pending (entries_of frame text) taken taken_now new
     ⊎ (IsAtEnd left × StopsAfterAnswers Answered Ended frame old pending text taken taken_now new))
 
--- `Pumps` holds if the bytes written are those for some text that the source gave. If the source
--- says which bytes are unread, this text is a prefix of them.
-pub record Pumps {S : Type 0} (Answered Ended : Relation S) (frame : Frame) (room most : ℕ) (old : S) (pending : List ℕ) (to_come left taken taken_now : Option (List ℕ)) (result : Result Summary IoError) (new : S) : Type 0 where
+-- `StopsText` holds if the answerer took no more than the first of the entries of `text`, and the
+-- replies to these were written. With the result `Write`, the flush after them failed.
+abbrev pub StopsText : {S : Type 0} → (Answered : Relation S) → Frame → (old : S) → (pending text : List ℕ) → (taken taken_now : Option (List ℕ)) → Result Summary IoError → (new : S) → Type 0
+StopsText {S} Answered frame old pending text taken taken_now (Ok summary) new =
+    StopsEarly Answered old pending (entries_of frame text) taken taken_now summary.any_error new
+StopsText {S} Answered frame old pending text taken taken_now (Err Read) new = ⊥
+StopsText {S} Answered frame old pending text taken taken_now (Err Write) new =
+    (any_error : Bool) × StopsEarly Answered old pending (entries_of frame text) taken taken_now any_error new
+
+-- `Pumps` holds if the bytes written are those for some text that the source gave, or for its first
+-- entries, after which the answerer is done. If the source says which bytes are unread, this text is a
+-- prefix of them.
+pub record Pumps {S : Type 0} (done : S → Bool) (Answered Ended : Relation S) (frame : Frame) (room most : ℕ) (old : S) (pending : List ℕ) (unread left taken taken_now : Option (List ℕ)) (result : Result Summary IoError) (new : S) : Type 0 where
   pub text : List ℕ
-  pub given : Consumes to_come left text
-  pub pumps : PumpsText Answered Ended frame room most old pending text left taken taken_now result new
+  pub given : Consumes unread left text
+  pub pumps :
+      PumpsText Answered Ended frame room most old pending text left taken taken_now result new
+      ⊎ ((done new ≡ true) × StopsText Answered frame old pending text taken taken_now result new)

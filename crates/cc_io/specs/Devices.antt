@@ -3,6 +3,9 @@
 use Rattle.std.specs.Prelude.{ℕ, Bool, true, false, ◌≡◌, ◌⊎◌, ◌↔◌, ◌≤◌, ◌<◌, ◌+◌, List, length, take, Option, Some, Result, Err, IfOk, OnOk, OnErr, IsErr, ⊤}
 use Rattle.std.specs.Io.{ReadsAtMost, WritesAtMost}
 use Rattle.std.specs.Io.KnownBytes.{Appends, Keeps, ReadConsumes, WriteAppends}
+use Rattle.cc_io.specs.declared.summary.IoError.{IoError}
+use Rattle.cc_io.specs.declared.summary.IoError.TheVariants.{Read, Write}
+use Rattle.cc_io.specs.declared.summary.Summary.{Summary}
 
 -- `TakesBeginning` holds if the sink took a prefix of the bytes, and no more.
 pub record TakesBeginning (old new : Option (List ℕ)) (bytes : List ℕ) : Type 0 where
@@ -50,6 +53,31 @@ pub record Flushes {E : Type 0} (old new : OutputState) (result : Result ⊤ E) 
   pub flushed : OnOk result (new.is_flushed ≡ true)
   pub fails : IsErr result ↔ (new.has_failed ≡ true)
   pub stays : old.has_failed ≡ true → new.has_failed ≡ true
+
+-- `AreReady` holds if no call of the source or of the sink has failed.
+pub record AreReady (input : InputState) (output : OutputState) : Type 0 where
+  pub source : input.has_failed ≡ false
+  pub sink : output.has_failed ≡ false
+
+-- `WritesBytes` holds if the sink took all the bytes, or failed after a prefix of them.
+pub record WritesBytes {E : Type 0} (old new : OutputState) (bytes : List ℕ) (result : Result ⊤ E) : Type 0 where
+  pub ok : OnOk result (Appends old.taken new.taken bytes)
+  pub err : OnErr result (TakesBeginning old.taken new.taken bytes)
+  pub fails : IsErr result ↔ (new.has_failed ≡ true)
+
+-- `SendsBytes` holds if the sink took all the bytes and was flushed, or failed after a prefix of them.
+pub record SendsBytes {E : Type 0} (old new : OutputState) (bytes : List ℕ) (result : Result ⊤ E) : Type 0 where
+  pub ok : OnOk result (Appends old.taken new.taken bytes)
+  pub err : OnErr result (TakesBeginning old.taken new.taken bytes)
+  pub flushed : OnOk result (new.is_flushed ≡ true)
+  pub fails : IsErr result ↔ (new.has_failed ≡ true)
+
+-- `IsOutcome` holds if the result is `Read` if and only if the source failed, and `Write` if and only
+-- if the sink failed, and otherwise the sink is flushed.
+pub record IsOutcome (input : InputState) (output : OutputState) (result : Result Summary IoError) : Type 0 where
+  pub read : (result ≡ Err Read) ↔ (input.has_failed ≡ true)
+  pub write : (result ≡ Err Write) ↔ (output.has_failed ≡ true)
+  pub flushed : OnOk result (output.is_flushed ≡ true)
 
 -- The state of a source over a slice: the unread bytes, the maximum length of a read, the number of
 -- the call that fails, counted from 1 at the next call (0 if none fails), and whether a call has

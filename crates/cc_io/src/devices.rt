@@ -1,7 +1,6 @@
 //! Sources and sinks of bytes.
 ghost use Rattle.std.specs.Prelude.{◌≡◌, ℕ, ◌+◌, ◌<◌, Bool, true, false, Option, List, [], length, IfOk, OnOk, OnErr, IsErr, ◌↔◌};
-ghost use Rattle.std.specs.Io.KnownBytes.{Appends};
-ghost use Rattle.cc_io.specs.Devices.{Flushes, InputState, OutputState, ReadsPiece, TakesBeginning, WritesPiece};
+ghost use Rattle.cc_io.specs.Devices.{Flushes, InputState, OutputState, ReadsPiece, WritesBytes, WritesPiece};
 
 /// The failure of a call of a source or a sink.
 #[derive(Clone, Copy, Debug, PartialEq, Eq)]
@@ -53,10 +52,8 @@ pub trait Sink {
 #[tactic(auto, using(crate::proofs::DeviceLemmas::appends_none, crate::proofs::DeviceLemmas::appends_whole, crate::proofs::DeviceLemmas::whole_after, crate::proofs::DeviceLemmas::begun_after))]
 pub fn write_all<W: Sink>(sink: &mut W, bytes: &[u8]) -> Result<(), Failed>
     requires { (W.state sink.old).has_failed ≡ false }
-    ensures ok { OnOk result (Appends (W.state sink.old).taken (W.state sink.new).taken bytes.now) }
-    ensures err { OnErr result (TakesBeginning (W.state sink.old).taken (W.state sink.new).taken bytes.now) }
+    ensures writes { WritesBytes (W.state sink.old) (W.state sink.new) bytes.now result }
     ensures some { OnErr result (0 < length bytes.now) }
-    ensures fails { IsErr result ↔ ((W.state sink.new).has_failed ≡ true) }
 {
     if bytes.is_empty() {
         return Ok(());
@@ -82,9 +79,7 @@ pub fn write_all<W: Sink>(sink: &mut W, bytes: &[u8]) -> Result<(), Failed>
 #[tactic(auto, using(crate::proofs::DeviceLemmas::appends_further, crate::proofs::DeviceLemmas::count_further))]
 fn write_rest<W: Sink>(sink: &mut W, bytes: &[u8]) -> Result<(), Failed>
     requires { (W.state sink.old).has_failed ≡ false }
-    ensures ok { OnOk result (Appends (W.state sink.old).taken (W.state sink.new).taken bytes.now) }
-    ensures err { OnErr result (TakesBeginning (W.state sink.old).taken (W.state sink.new).taken bytes.now) }
-    ensures fails { IsErr result ↔ ((W.state sink.new).has_failed ≡ true) }
+    ensures { WritesBytes (W.state sink.old) (W.state sink.new) bytes.now result }
 {
     let mut at = 0;
     while at < bytes.len() {

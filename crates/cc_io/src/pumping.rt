@@ -1,10 +1,10 @@
 //! The engine: reads entries from a source, and writes the replies to them to a sink.
 ghost use Rattle.std.specs.Prelude.{◌≡◌, ◌≤◌, ◌<◌, ◌+◌, ℕ, true, false, List, [], take, length, ◌↔◌, Err, IfOk, OnOk, OnErr, IsErr, ◌++◌};
 ghost use Rattle.std.specs.Io.KnownBytes.{Appends};
-ghost use Rattle.cc_io.specs.Devices.{TakesBeginning};
+ghost use Rattle.cc_io.specs.Devices.{AreReady, IsOutcome, SendsBytes, TakesBeginning, WritesBytes};
 ghost use Rattle.cc_io.specs.Answers.{AnswersInto, seen};
 ghost use Rattle.cc_io.specs.Correct.{Pumps, StopsOnPage};
-ghost use Rattle.cc_io.specs.Engine.{Answers, PassesPage, EndsPage};
+ghost use Rattle.cc_io.specs.Engine.{AnswersPiece, PassesPage, EndsPage};
 
 use crate::Page;
 use crate::answerer::Answerer;
@@ -25,9 +25,10 @@ const SEEN: usize = 129;
 /// The source is read in chunks of up to 16 KiB. The replies to all entries of a chunk are written
 /// before the next read, and none is pending then. An entry that ends in a later chunk gets its
 /// reply then. [`Answerer::end`] replies to the bytes after the last entry, unless there are none.
+/// Once the answerer is done, no further entry gets a reply, and the source is read no further.
 /// The sink is flushed once, at the end. Allocates nothing.
 ///
-/// Requires: neither the source nor the sink has failed; `A::most() <= N`.
+/// Requires: neither the source nor the sink has failed; `A::most() <= N`; the answerer is not done.
 /// Errors: `Read` if and only if the source failed. The replies to all complete entries that it
 /// gave are then written, and the answerer has taken these entries alone. `Write` if and only if
 /// the sink failed. It has then taken a prefix of the output. The answerer may be ahead of the sink
@@ -39,14 +40,12 @@ pub fn pump<F: Framing, A: Answerer<N>, R: Source, W: Sink, const N: usize>(
     sink: &mut W,
     page: &mut Page<N>,
 ) -> Result<Summary, IoError>
-    requires source { (R.state source.old).has_failed ≡ false }
-    requires sink { (W.state sink.old).has_failed ≡ false }
+    requires ready { AreReady (R.state source.old) (W.state sink.old) }
     requires room { A.MOST ≤ N }
-    ensures pumps { Pumps A.Answered A.Ended (F.frame framing.now) N A.MOST answerer.old page.old
+    requires goes_on { A.done answerer.old ≡ false }
+    ensures pumps { Pumps A.done A.Answered A.Ended (F.frame framing.now) N A.MOST answerer.old page.old
         (R.state source.old).unread (R.state source.new).unread (W.state sink.old).taken (W.state sink.new).taken result answerer.new }
-    ensures read { (result ≡ Err IoError.Read) ↔ ((R.state source.new).has_failed ≡ true) }
-    ensures write { (result ≡ Err IoError.Write) ↔ ((W.state sink.new).has_failed ≡ true) }
-    ensures flushed { OnOk result ((W.state sink.new).is_flushed ≡ true) }
+    ensures outcome { IsOutcome (R.state source.new) (W.state sink.new) result }
 {
     let mut start = LineStart::new();
     let mut piece = [0u8; PIECE];
@@ -66,6 +65,12 @@ pub fn pump<F: Framing, A: Answerer<N>, R: Source, W: Sink, const N: usize>(
         match take_piece(framing, answerer, &mut start, page, &piece[..count], sink) {
             Ok(is_error) => any_error |= is_error,
             Err(Failed) => return Err(IoError::Write),
+        }
+        if answerer.is_done() {
+            return match sink.flush() {
+                Ok(()) => Ok(Summary { any_error }),
+                Err(Failed) => Err(IoError::Write),
+            };
         }
     }
     let end_error = end_rest(answerer, start.as_slice(), page);
@@ -91,8 +96,9 @@ fn take_piece<F: Framing, A: Answerer<N>, W: Sink, const N: usize>(
     requires room { A.MOST ≤ N }
     requires start { F.IsBegun framing.now start.old }
     requires empty { page.old ≡ [] }
+    requires goes_on { A.done answerer.old ≡ false }
     ensures ok { (begun : List ℕ) → start.old ≡ take 129 begun → IfOk result (λ error.
-        Answers A.Answered (F.frame framing.now) answerer.old begun piece.now start.new (W.state sink.old).taken (W.state sink.new).taken error answerer.new) }
+        AnswersPiece A.done A.Answered (F.frame framing.now) answerer.old begun piece.now start.new (W.state sink.old).taken (W.state sink.new).taken error answerer.new) }
     ensures err { (begun : List ℕ) → start.old ≡ take 129 begun → OnErr result (
         StopsOnPage A.Answered N A.MOST answerer.old [] (seen ((F.frame framing.now).entries begun piece.now)) (W.state sink.old).taken (W.state sink.new).taken answerer.new) }
     ensures begun { OnOk result (F.IsBegun framing.now start.new) }
@@ -107,6 +113,12 @@ fn take_piece<F: Framing, A: Answerer<N>, W: Sink, const N: usize>(
             Err(Failed) => return Err(Failed),
         }
         any_error |= end_entry(answerer, start, page, end);
+        if answerer.is_done() {
+            return match write_page(page, sink) {
+                Ok(()) => Ok(any_error),
+                Err(Failed) => Err(Failed),
+            };
+        }
         rest = after;
     }
     start.extend(rest);
@@ -124,7 +136,8 @@ fn end_entry<A: Answerer<N>, const N: usize>(
     page: &mut Page<N>,
     end: &[u8],
 ) -> bool
-    requires { length page.old + A.MOST ≤ N }
+    requires room { length page.old + A.MOST ≤ N }
+    requires goes_on { A.done answerer.old ≡ false }
     ensures next { start.new ≡ [] }
     ensures answers { (begun : List ℕ) → start.old ≡ take 129 begun →
         AnswersInto A.Answered answerer.old (take 129 (begun ++ end.now)) page.old page.new result answerer.new }
@@ -146,7 +159,8 @@ fn end_begun<A: Answerer<N>, const N: usize>(
     page: &mut Page<N>,
     end: &[u8],
 ) -> bool
-    requires { length page.old + A.MOST ≤ N }
+    requires room { length page.old + A.MOST ≤ N }
+    requires goes_on { A.done answerer.old ≡ false }
     ensures next { start.new ≡ [] }
     ensures answers { (begun : List ℕ) → start.old ≡ take 129 begun →
         AnswersInto A.Answered answerer.old (take 129 (begun ++ end.now)) page.old page.new result answerer.new }
@@ -177,6 +191,7 @@ fn end_rest<A: Answerer<N>, const N: usize>(
 ) -> bool
     requires empty { page.old ≡ [] }
     requires room { A.MOST ≤ N }
+    requires goes_on { A.done answerer.old ≡ false }
     ensures { EndsPage A.Ended answerer.old rest.now page.new result answerer.new }
 {
     if rest.is_empty() {
@@ -198,6 +213,7 @@ fn make_room<W: Sink, const N: usize>(
     ensures room { OnOk result (length page.new + most ≤ N) }
     ensures err { OnErr result (TakesBeginning (W.state sink.old).taken (W.state sink.new).taken page.old) }
     ensures some { OnErr result (0 < length page.old) }
+    ensures within { OnErr result (length page.old ≤ N) }
     ensures fails { IsErr result ↔ ((W.state sink.new).has_failed ≡ true) }
 {
     if most <= N - page.len() {
@@ -210,11 +226,10 @@ fn make_room<W: Sink, const N: usize>(
 #[inline(never)]
 fn write_page<W: Sink, const N: usize>(page: &mut Page<N>, sink: &mut W) -> Result<(), Failed>
     requires { (W.state sink.old).has_failed ≡ false }
-    ensures ok { OnOk result (Appends (W.state sink.old).taken (W.state sink.new).taken page.old) }
+    ensures writes { WritesBytes (W.state sink.old) (W.state sink.new) page.old result }
     ensures empty { OnOk result (page.new ≡ []) }
-    ensures err { OnErr result (TakesBeginning (W.state sink.old).taken (W.state sink.new).taken page.old) }
     ensures some { OnErr result (0 < length page.old) }
-    ensures fails { IsErr result ↔ ((W.state sink.new).has_failed ≡ true) }
+    ensures within { OnErr result (length page.old ≤ N) }
 {
     match write_all(sink, page.bytes()) {
         Ok(()) => {
@@ -231,10 +246,7 @@ fn write_page<W: Sink, const N: usize>(page: &mut Page<N>, sink: &mut W) -> Resu
 /// Errors: `Write` if and only if the sink fails. A prefix of the page is then written.
 pub fn write_and_flush<W: Sink, const N: usize>(page: &Page<N>, sink: &mut W) -> Result<(), IoError>
     requires { (W.state sink.old).has_failed ≡ false }
-    ensures ok { OnOk result (Appends (W.state sink.old).taken (W.state sink.new).taken page.now) }
-    ensures err { OnErr result (TakesBeginning (W.state sink.old).taken (W.state sink.new).taken page.now) }
-    ensures flushed { OnOk result ((W.state sink.new).is_flushed ≡ true) }
-    ensures fails { IsErr result ↔ ((W.state sink.new).has_failed ≡ true) }
+    ensures sends { SendsBytes (W.state sink.old) (W.state sink.new) page.now result }
     ensures write { OnErr result (result ≡ Err IoError.Write) }
 {
     match write_all(sink, page.bytes()) {
@@ -249,10 +261,7 @@ pub fn write_and_flush<W: Sink, const N: usize>(page: &Page<N>, sink: &mut W) ->
 /// Writes the last page and flushes the sink.
 fn write_last<W: Sink, const N: usize>(page: &mut Page<N>, sink: &mut W) -> Result<(), Failed>
     requires { (W.state sink.old).has_failed ≡ false }
-    ensures ok { OnOk result (Appends (W.state sink.old).taken (W.state sink.new).taken page.old) }
-    ensures flushed { OnOk result ((W.state sink.new).is_flushed ≡ true) }
-    ensures err { OnErr result (TakesBeginning (W.state sink.old).taken (W.state sink.new).taken page.old) }
-    ensures fails { IsErr result ↔ ((W.state sink.new).has_failed ≡ true) }
+    ensures { SendsBytes (W.state sink.old) (W.state sink.new) page.old result }
 {
     match write_page(page, sink) {
         Ok(()) => {}

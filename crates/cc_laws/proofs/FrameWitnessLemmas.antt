@@ -48,6 +48,7 @@ stops = record {
   page = answer ∷ [];
   takes = (2, (refl, refl, refl), refl);
   fits = record { first = []; last = answer; answers_are = refl; fits = omega arith };
+  all_fit = omega arith;
   count = 0;
   within = omega arith;
   written = refl;

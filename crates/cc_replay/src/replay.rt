@@ -288,6 +288,11 @@ impl<P: Placer, const N: usize> Answerer<N> for Replay<P> {
     ghost MOST = { 1301 };
 
     #[inline(always)]
+    fn is_done(&self) -> bool {
+        false
+    }
+
+    #[inline(always)]
     fn most() -> usize {
         1301
     }
@@ -320,7 +325,7 @@ pub fn replay_trace<P: Placer, R: Source, W: Sink>(
     requires sink { (W.state series.old).has_failed ≡ false }
     // Each line is taken in order, as `TakesLine` says, and the sink took the header of the series
     // and the samples of the events that have one.
-    ensures replays { Pumps TakesLine TakesRest lines 65536 1301 replay.old (series_header replay.old)
+    ensures replays { Pumps (λ _. false) TakesLine TakesRest lines 65536 1301 replay.old (series_header replay.old)
         (R.state source.old).unread (R.state source.new).unread (W.state series.old).taken (W.state series.new).taken result replay.new }
     ensures read { (result ≡ Err IoError.Read) ↔ ((R.state source.new).has_failed ≡ true) }
     ensures write { (result ≡ Err IoError.Write) ↔ ((W.state series.new).has_failed ≡ true) }

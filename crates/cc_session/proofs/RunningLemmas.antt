@@ -1,5 +1,5 @@
 -- The output of a script's run, from the output of the engine of cc_io.
-use Rattle.std.proofs.Common.{◌≡◌, ℕ, ◌<◌, ◌≤◌, ◌+◌, List, [], ◌∷◌, ◌++◌, length, take, map, refl, sym, ◌∙◌, ap, subst, append_assoc, append-nil, arith, length-append, length-take, ◌==◌, Bool, true, ◌||◌, not, nat_lt, Option, Some, None, IfSome, IfOk, IfErr, Result, Ok, Err, inl, inr}
+use Rattle.std.proofs.Common.{◌≡◌, ℕ, ◌<◌, ◌≤◌, ◌+◌, List, [], ◌∷◌, ◌++◌, length, take, map, refl, sym, ◌∙◌, ap, subst, append_assoc, append-nil, arith, length-append, length-take, ◌==◌, Bool, true, ◌||◌, not, nat_lt, Option, Some, None, IfSome, IfOk, IfErr, Result, Ok, Err, inl, inr, false}
 use Rattle.std.proofs.lemmas.Bool.{cases_lt, lt-ltb}
 use Rattle.std.proofs.lemmas.List.{take_all, map-append}
 use Rattle.std.proofs.lemmas.List.Folds.{list_any-append}
@@ -10,6 +10,7 @@ use Rattle.cc_word.specs.declared.refusal.Refusal.{Refusal}
 use Rattle.cc_values.specs.declared.op.Op.{Op}
 use Rattle.cc_values.specs.declared.reply.Reply.{Reply}
 use Rattle.cc_machine.specs.State.{State}
+use Rattle.cc_io.proofs.ServingLemmas.{runs_through}
 use Rattle.cc_io.specs.Lines.{lines_of, rest_of, lines_from, rest_from}
 use Rattle.cc_io.specs.FrameLaws.{lines_further}
 use Rattle.cc_io.specs.Frames.{lines}
@@ -458,10 +459,11 @@ some_part room start tally counts opening a b pending given left s t u e (Err Wr
 
 -- The setup operations got their replies, of which some are on the page, and then the lines.
 unfoldable pub pumps_script : (room : ℕ) (start : State) (tally counts : Tally) (opening : List Op) (a b : Lent) (pending : List ℕ) (c left s t u : Option (List ℕ)) (e : Bool) (result : Result Summary IoError)
-    → IsReached start → Opens room start tally opening pending s t e (machine a) counts → Pumps AnswersLine RefusesRest lines room 193 a pending c left t u result b
+    → IsReached start → Opens room start tally opening pending s t e (machine a) counts → Pumps (λ (state : Lent). false) AnswersLine RefusesRest lines room 193 a pending c left t u result b
     → RunsScript (StopsInReplies room) opening (io start c s) (joined e result) (io (machine b) left u)
 unfolding runs_script
 pumps_script room start tally counts opening a b pending c left s t u e result reached o p =
+    let through = runs_through (λ (state : Lent). false) _ _ _ _ _ _ _ _ _ _ _ _ _ refl p in
     runs_script room opening p.text (io start c s) (joined e result) (io (machine b) left u) reached p.given
-    (whole_part room start tally counts opening a b pending p.text c left s t u e result o p.pumps)
-    (some_part room start tally counts opening a b pending p.text left s t u e result o p.pumps)
+    (whole_part room start tally counts opening a b pending p.text c left s t u e result o through)
+    (some_part room start tally counts opening a b pending p.text left s t u e result o through)

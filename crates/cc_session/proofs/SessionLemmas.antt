@@ -8,6 +8,7 @@ use Rattle.cc_word.specs.declared.refusal.Refusal.{Refusal}
 use Rattle.cc_values.specs.declared.op.Op.{Op}
 use Rattle.cc_values.specs.declared.reply.Reply.{Reply}
 use Rattle.cc_machine.specs.State.{State}
+use Rattle.cc_io.proofs.ServingLemmas.{runs_through}
 use Rattle.cc_io.specs.Answers.{Answer, AnswersAll, EndsWith, seen}
 use Rattle.cc_io.specs.Correct.{Pumps, PumpsText}
 use Rattle.cc_io.specs.Frames.{lines}
@@ -194,12 +195,12 @@ module _ {X : Type 0} (name : Lent → X)
       lent_end p.1.mid b (take 129 (rest_of text)) p.1.ending p.1.ends ∙ lent_all a p.1.mid (seen (lines_of text)) p.1.answers p.1.takes
 
 pub same_lent : (room : ℕ) (a b : Lent) (pending : List ℕ) (to_come left t u : Option (List ℕ)) (result : Result Summary IoError)
-    → Pumps AnswersLine RefusesRest lines room 193 a pending to_come left t u result b → IsSame a b
+    → Pumps (λ (state : Lent). false) AnswersLine RefusesRest lines room 193 a pending to_come left t u result b → IsSame a b
 same_lent room a b pending to_come left t u result p = record {
   machine = lent_text (λ (lent : Lent). lent.machine.ghost_name) (λ old line text error new r. r.same.machine) (λ old rest text error new r. r.same.machine)
-      room a b pending p.text left t u result p.pumps;
+      room a b pending p.text left t u result (runs_through (λ (state : Lent). false) _ _ _ _ _ _ _ _ _ _ _ _ _ refl p);
   tally = lent_text (λ (lent : Lent). lent.tally.ghost_name) (λ old line text error new r. r.same.tally) (λ old rest text error new r. r.same.tally)
-      room a b pending p.text left t u result p.pumps;
+      room a b pending p.text left t u result (runs_through (λ (state : Lent). false) _ _ _ _ _ _ _ _ _ _ _ _ _ refl p);
 }
 
 -- ---- the run
@@ -227,7 +228,7 @@ counts_run room old tally a b opening pending text left s t u e (Err error) fres
 
 pub runs_session : (room : ℕ) (old : State) (tally : Tally) (a b : Lent) (opening : List Op) (pending : List ℕ) (c left s t u : Option (List ℕ)) (e : Bool) (result : Result Summary IoError)
     → IsReached old → IsTally [] [] tally → Opens room old tally opening pending s t e a.machine.now a.tally.now
-    → Pumps AnswersLine RefusesRest lines room 193 a pending c left t u result b
+    → Pumps (λ (state : Lent). false) AnswersLine RefusesRest lines room 193 a pending c left t u result b
     → RunsSession room opening (io old c s) (joined e result) b.tally.now (io b.machine.now left u)
 unfolding pumps_script runs_script
 runs_session room old tally a b opening pending c left s t u e result reached fresh o p =
@@ -235,5 +236,5 @@ runs_session room old tally a b opening pending c left s t u e result reached fr
     record {
       main = runs.main;
       fails = runs.fails;
-      counts = counts_run room old tally a b opening pending p.text left s t u e result fresh o p.pumps;
+      counts = counts_run room old tally a b opening pending p.text left s t u e result fresh o (runs_through (λ (state : Lent). false) _ _ _ _ _ _ _ _ _ _ _ _ _ refl p);
     }

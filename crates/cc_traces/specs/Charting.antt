@@ -1,5 +1,5 @@
 -- The output of `replay --svg`: a chart of the heap of a trace over its events.
-use Rattle.std.specs.Prelude.{ℕ, Bool, ◌≡◌, ◌≢◌, ◌+◌, ◌==◌, max, List, [], Option, None, Result, Ok, Err, if◌then◌else◌}
+use Rattle.std.specs.Prelude.{ℕ, Bool, ◌≡◌, ◌≢◌, ◌+◌, ◌==◌, max, List, [], Option, None, Result, Ok, Err, if◌then◌else◌, false}
 use Rattle.std.specs.Io.KnownBytes.{Appends}
 use Rattle.cc_io.specs.Correct.{Pumps}
 use Rattle.cc_io.specs.Devices.{TakesBeginning}
@@ -61,7 +61,7 @@ pub record ChartsRest (old : Charted) (rest text : List ℕ) (is_error : Bool) (
 -- TakesLines holds if the lines that the source gave were taken, and the bytes after the last of them, until the replay and the chart
 -- were `new`. With a result that is `Ok` the source was read to its end.
 abbrev pub TakesLines : (old : Charted) (unread left : Option (List ℕ)) → Result Summary IoError → (new : Charted) → Type 0
-TakesLines old unread left result new = Pumps ChartsLine ChartsRest lines 65536 1301 old [] unread left None None result new
+TakesLines old unread left result new = Pumps (λ (state : Charted). false) ChartsLine ChartsRest lines 65536 1301 old [] unread left None None result new
 
 -- TakesAll holds if the source gave the whole trace, and the lines were taken until one stopped the replay, if any
 -- did. No allocation failed.

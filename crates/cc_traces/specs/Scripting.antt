@@ -1,5 +1,5 @@
 -- The output of `replay --script`: the script of a trace.
-use Rattle.std.specs.Prelude.{◌≢◌, ℕ, List, [], Option, Result, Ok, Err}
+use Rattle.std.specs.Prelude.{◌≢◌, ℕ, List, [], Option, Result, Ok, Err, false}
 use Rattle.cc_io.specs.Correct.{Pumps}
 use Rattle.cc_io.specs.Frames.{lines}
 use Rattle.cc_io.specs.declared.summary.IoError.{IoError}
@@ -14,7 +14,7 @@ use Rattle.cc_console.specs.Devices.{Traffic}
 -- `new`. The lines of its operations were written. With a result that is `Ok` the source was read to its end.
 abbrev pub Writes : (old : ScriptState) (unread left output output_now : Option (List ℕ)) → Result Summary IoError → (new : ScriptState) → Type 0
 Writes old unread left output output_now result new =
-    Pumps ScriptsLine ScriptsRest lines 65536 128 old [] unread left output output_now result new
+    Pumps (λ (state : ScriptState). false) ScriptsLine ScriptsRest lines 65536 128 old [] unread left output output_now result new
 
 -- ScriptsAll holds if the whole trace was taken, its script was written, and no allocation failed.
 pub record ScriptsAll (old : ScriptState) (traffic : Traffic) (summary : Summary) : Type 0 where

@@ -115,6 +115,11 @@ impl<P: Placer, const N: usize> Answerer<N> for Charting<P> {
 
     ghost MOST = { 1301 };
 
+    #[inline(always)]
+    fn is_done(&self) -> bool {
+        false
+    }
+
     fn most() -> usize {
         1301
     }

@@ -10,6 +10,7 @@ invariant-pieces g l = record {
   none_waits : l.page ≡ [];
   gives : (g.R.Source.state l.source).has_failed ≡ false;
   takes : (g.W.Sink.state l.sink).has_failed ≡ false;
+  goes_on : g.A.Answerer.done l.answerer ≡ false;
 }
 
 abbrev pub decreases-pieces : goal.decreases-pieces

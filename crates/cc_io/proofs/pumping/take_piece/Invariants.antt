@@ -8,6 +8,7 @@ invariant-entries g l = record {
       l.initial.answerer begun l.piece l.rest l.start (g.W.Sink.state l.initial.sink).taken (g.W.Sink.state l.sink).taken l.page l.any_error l.answerer;
   begun : g.F.Framing.IsBegun l.framing l.start;
   works : (g.W.Sink.state l.sink).has_failed ≡ false;
+  goes_on : g.A.Answerer.done l.answerer ≡ false;
 }
 
 abbrev pub decreases-entries : goal.decreases-entries
