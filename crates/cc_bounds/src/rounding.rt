@@ -144,8 +144,8 @@ fn length_power(len: u128) -> u32
 
 /// Returns the granule of a length, in bytes.
 ///
-/// It is the unit that stores the bounds of that many bytes from address 0 up: 1 for less than
-/// 4,096 bytes, otherwise a power of two from 8 to 2^55.
+/// It is the unit that stores the bounds of that many bytes from address 0: 1 for less than 4,096
+/// bytes, otherwise a power of two from 8 to 2^55.
 ///
 /// Requires: `len <= 2^64`.
 /// Source: UCAM-CL-TR-987, `CRRL` and `CRAM`; Woodruff et al. 2019.
@@ -159,9 +159,8 @@ pub fn granule(len: u128) -> u64
 
 /// Returns the representable length: the length rounded up to a multiple of its granule, in bytes.
 ///
-/// That of the whole address space is 2^64, and not 0. A request for this many bytes, from a
-/// multiple of the granule up, has exact bounds. No exact bounds of at least `len` bytes are
-/// shorter.
+/// For the whole address space it is 2^64, and not 0. A request for this many bytes at a multiple
+/// of the granule has exact bounds. No exact bounds of at least `len` bytes are shorter.
 ///
 /// Requires: `len <= 2^64`.
 /// Instruction: CRRL (CRepresentableLength), which returns 0 if the length rounds to 2^64.

@@ -41,7 +41,7 @@ pub fn show_round<W: Sink>(text: &[u8], sink: &mut W) -> Result<Summary, IoError
     write_round(None, text, sink)
 }
 
-/// Writes the line `round LENGTH GRANULE MASK BASE TOP` for a length from a base on, and flushes the
+/// Writes the line `round LENGTH GRANULE MASK BASE TOP` for a length from a base, and flushes the
 /// sink once after it.
 ///
 /// BASE and TOP are the bounds that the request of this length from this base is granted. If the base is

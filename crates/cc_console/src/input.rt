@@ -45,7 +45,8 @@ pub trait Inputs {
     // The last input that was requested was not opened.
     ghost has_refused: { Self → Bool };
 
-    /// Has a source read an input from its start. A failure of the source before that is forgotten.
+    /// Makes a source read an input from its start. A failure of the source before that is
+    /// forgotten.
     ///
     /// Errors: `Open` if a file cannot be opened.
     fn open(

@@ -93,8 +93,7 @@ fn cell_width(cells: u32) -> u32
 /// 0.
 ///
 /// For a span with bytes, none of them below `start`, exactly these cells hold a byte of it: from
-/// the first number up to, and without, the second. A base or a top below `start` is treated as
-/// `start`.
+/// the first number to before the second. A base or a top below `start` is treated as `start`.
 ///
 /// Requires: `0 < size`.
 pub fn cells_of(start: u128, size: u128, span: &Span) -> (u128, u128)

@@ -123,8 +123,8 @@ fn push_row(text: &mut Text, start: u128, cells: &[u8])
     text.push_line(&line);
 }
 
-/// Returns the marks of 64 cells of `size` bytes, which follow one another from the address `start`
-/// on.
+/// Returns the marks of 64 cells of `size` bytes, which follow one another from the address
+/// `start`.
 ///
 /// The mark of a cell is:
 ///

@@ -108,8 +108,8 @@ pub extern "C" fn cheri_cap_represents(high: u64, low: u64, address: u64) -> boo
     }
 }
 
-/// Returns whether a word decodes to the same bounds at `address` as at its own address, for every
-/// word.
+/// Returns whether a word decodes to the same bounds at `address` as at its own address. Any word
+/// is accepted.
 ///
 /// At exponents of at least 50, the result is true. If the word stores its bounds as setting bounds
 /// stores them, the result equals that of [`cheri_cap_represents`].

@@ -15,7 +15,7 @@ use crate::bounds::{cheri_cap_decode, cheri_cap_represents};
 use crate::structs::{Bounds, Halves};
 use crate::words::cheri_cap_is_canonical;
 
-/// Writes the base, the top and the exponent of each word, and returns the number of these words.
+/// Writes the base, the top and the exponent of each word, and returns the number of results.
 #[unsafe(no_mangle)]
 pub extern "C" fn cheri_cap_decode_many(words: &[Halves], bounds: &mut [Bounds]) -> usize
     ensures count { result ≡ min (length words.now) (length bounds.old) }
@@ -29,7 +29,7 @@ pub extern "C" fn cheri_cap_decode_many(words: &[Halves], bounds: &mut [Bounds])
     count
 }
 
-/// Writes 1 for each canonical word and 0 for each other, and returns the number of these words.
+/// Writes 1 for each canonical word and 0 for each other, and returns the number of results.
 #[unsafe(no_mangle)]
 pub extern "C" fn cheri_cap_is_canonical_many(words: &[Halves], answers: &mut [u8]) -> usize
     ensures count { result ≡ min (length words.now) (length answers.old) }
@@ -44,8 +44,7 @@ pub extern "C" fn cheri_cap_is_canonical_many(words: &[Halves], answers: &mut [u
 }
 
 /// Writes 1 for each word that stores its bounds as setting bounds stores them and for which the
-/// address at its position is representable, and 0 for each other. Returns the number of these
-/// words.
+/// address at its position is representable, and 0 for each other. Returns the number of results.
 #[unsafe(no_mangle)]
 pub extern "C" fn cheri_cap_represents_many(
     words: &[Halves],

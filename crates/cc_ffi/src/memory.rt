@@ -17,8 +17,8 @@ use crate::halves::halves;
 use crate::many::{canonical, decoded, represented};
 use crate::structs::{Bounds, Halves};
 
-/// Writes the base, the top and the exponent of each word of memory, and returns the number of these
-/// words.
+/// Writes the base, the top and the exponent of each word of memory, and returns the number of
+/// results.
 #[unsafe(no_mangle)]
 pub extern "C" fn cheri_cap_decode_memory(
     memory: &[[u8; 16]],
@@ -36,8 +36,8 @@ pub extern "C" fn cheri_cap_decode_memory(
     count
 }
 
-/// Writes 1 for each canonical word of memory and 0 for each other, and returns the number of these
-/// words.
+/// Writes 1 for each canonical word of memory and 0 for each other, and returns the number of
+/// results.
 #[unsafe(no_mangle)]
 pub extern "C" fn cheri_cap_is_canonical_memory(
     memory: &[[u8; 16]],
@@ -57,7 +57,7 @@ pub extern "C" fn cheri_cap_is_canonical_memory(
 
 /// Writes 1 for each word of memory that stores its bounds as setting bounds stores them and for
 /// which the address at its position is representable, and 0 for each other. Returns the number of
-/// these words.
+/// results.
 #[unsafe(no_mangle)]
 pub extern "C" fn cheri_cap_represents_memory(
     memory: &[[u8; 16]],

@@ -61,8 +61,8 @@ pub extern "C" fn cheri_cap_increment(high: u64, low: u64, amount: u64) -> MadeW
     told(words::increment(number(high, low), amount))
 }
 
-/// Returns the word with the bounds of `length` bytes from its address on, rounded if they cannot
-/// be stored exactly.
+/// Returns the word with the bounds of `length` bytes from its address, rounded if they cannot be
+/// stored exactly.
 ///
 /// Bounds are rounded outward, but never beyond the word's own. The address, the permissions, the
 /// reserved bits, the flag and the type do not change.
@@ -86,7 +86,7 @@ pub extern "C" fn cheri_cap_set_bounds_on(
     told(words::set_bounds(number(high, low), number(length_high, length_low)))
 }
 
-/// Returns the word with exactly the bounds of `length` bytes from its address on.
+/// Returns the word with exactly the bounds of `length` bytes from its address.
 ///
 /// Errors, in order: `NotCanonical`; `Sealed`; `OutOfBounds`; `Inexact`.
 /// Instruction: CSetBoundsExact.

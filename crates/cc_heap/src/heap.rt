@@ -30,7 +30,7 @@ use std::marker::Model;
 /// and a quarantine of the spans of freed objects.
 ///
 /// An object takes its padded size at the lowest place of the pool. Its bytes stay held from its
-/// making to the sweep after its free, and no byte is held twice.
+/// creation to the sweep after its free, and no byte is held twice.
 #[derive(Drop)]
 pub struct Heap<P: Placer> {
     settings: Settings,

@@ -20,8 +20,8 @@ use std::collections::HashSet;
 use std::marker::Model;
 
 /// A heap over a trace. It also has the lost ids, whose objects had no place: a free of such an id
-/// does not name nothing. And it has the numbers of the objects that were made, by the powers of two
-/// of their sizes.
+/// is lost, and not unknown. And it has the numbers of the objects that were made, by the powers of
+/// two of their sizes.
 #[derive(Drop)]
 pub struct Run<P: Placer> {
     heap: Heap<P>,

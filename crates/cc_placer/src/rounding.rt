@@ -22,8 +22,8 @@ pub fn round_up(n: u128, align: u64) -> u128
     end - end % align
 }
 
-/// Returns the unit of an object of `size` bytes, of which its ends are multiples: the larger of the granule of
-/// its size and the alignment.
+/// Returns the unit of an object of `size` bytes: the larger of the granule of its size and the alignment. The
+/// ends of the object are multiples of it.
 ///
 /// Requires: `size <= 2^64`.
 pub fn unit(align: Align, size: u128) -> u64

@@ -74,8 +74,8 @@ pub fn plan_script<R: Source, W: Sink>(
 /// Runs the script that begins with these setup operations and continues with the bytes that the
 /// source gives.
 ///
-/// It runs like a script that [`run_script`] takes from the source alone. A setup operation gets
-/// the reply that a line with this operation gets.
+/// It runs like a script that [`run_script`] takes from the source alone. The reply to a setup
+/// operation is the same as to a line with this operation.
 ///
 /// Requires: neither the source nor the sink has failed.
 /// Errors: those of [`run_script`].

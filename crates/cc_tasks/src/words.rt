@@ -113,7 +113,7 @@ pub fn annotate_file<I: Inputs, W: Sink>(
     Ok(annotate(source, sink)?)
 }
 
-/// Writes the output of `round` for each length of the list that FILE names, with the bounds granted from a base on if one is
+/// Writes the output of `round` for each length of the list that FILE names, with the bounds granted from a base, if one is
 /// given. The base is read first. If it is refused, the output is that refusal, and nothing is read. Then writes the hint on
 /// numbers to `errors`, if hints are given and the base or a line of the list may be meant as hexadecimal digits.
 ///

@@ -29,7 +29,7 @@ use std::rt::Files;
 
 /// Executes the command line of the process, and returns the program's end. The arguments have to be UTF-8.
 ///
-/// No clause says that these are the arguments of the process: `tests/program` does.
+/// No clause says that these are the arguments of the process; `tests/program` shows it.
 pub fn answer_arguments<R: Env + AllocGlobal + Files + Input + Print + Eprint>(
     rt: &R,
     terminals: Terminals,
