@@ -2,7 +2,8 @@
 for `pip install ./python` and `pip wheel ./python`, as pyproject.toml says.
 
 The library is the file that the environment's CHERI_CAP_LIBRARY names, or otherwise the one that `examples/run shared`
-of the checkout builds if necessary. The version is the latest of CHANGELOG.md. Equal files give an equal wheel.
+of the checkout builds if necessary. The version is CHERI_CAP_WHEEL, or otherwise the latest of CHANGELOG.md. Equal files give
+an equal wheel.
 """
 
 import base64
@@ -21,6 +22,9 @@ DATE = (1980, 1, 1, 0, 0, 0)
 
 
 def version() -> str:
+    named = os.environ.get("CHERI_CAP_WHEEL")
+    if named:
+        return named
     found = re.search(r"^## (\d\S*)", (TOP / "CHANGELOG.md").read_text(encoding="utf-8"), flags=re.MULTILINE)
     if not found:
         raise SystemExit("cheri_cap: CHANGELOG.md has no version")

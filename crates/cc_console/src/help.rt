@@ -311,8 +311,7 @@ Read raw words of 16 bytes, the lowest byte first or the highest
 pub(crate) const SKIP_HELP: &str =
     "Number of bytes at the start of the input that are not decoded [default: 0]";
 
-pub(crate) const AT_HELP: &str =
-    "Print the address of each word; the first is at START";
+pub(crate) const AT_HELP: &str = "Print the address of each word; the first is at START";
 
 pub(crate) const HOLDS_HELP: &str = "List only words that could be capabilities to ADDRESS";
 
