@@ -495,8 +495,8 @@ size_t cheri_cap_format(
  * one, or traps.
  *
  * The name of an instruction says which function is for it. Agreement with any instruction is
- * neither proved nor tested here: docs/EMBEDDING.md, "Where an instruction may write something
- * else", lists the places to compare with an ISA text.
+ * neither proved nor tested here: docs/EMBEDDING.md, "Emulators", lists the places to compare with
+ * an ISA text.
  *
  * CSealEntry, CInvoke, CCSeal, CCopyType and jumps have no function here. The word with another
  * type, such as that of a sentry or an unsealed one, is cheri_cap_with_type.
