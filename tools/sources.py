@@ -237,6 +237,23 @@ class File(Scope):
             return self.sources.meaning(*self.imports[name])
         return self.own.get(name) or (self.sources.used(self.crate, self.paths[name]) if name in self.paths else None)
 
+    def named(self, path):
+        """Returns what a comment of this file names as `name`, `Type::member`, `module::name` or `crate::path`: an item, a file or the path
+        of a use, or None."""
+        first, *rest = path.removesuffix("()").split("::")
+        if first in self.sources.order:
+            there = self.sources.library(first)
+            return self.sources.find(first, "::".join(rest)) or there and there is not self and there.named("::".join(rest)) if rest else there
+        if first in ("crate", "self", "super"):
+            return self.named("::".join(rest)) if rest else self.sources.library(self.crate)
+        if module := self.sources.files.get((self.crate, first)):
+            return module.named("::".join(rest)) if rest else module
+        owner = self.find(first)
+        every = [*self.items, *self.sources.items(owner.scope.crate if isinstance(owner, Item) else self.crate)]
+        if rest:
+            return next((it for it in every if it.name == rest[0] and it.owner.partition(": ")[0] == first), None) or next((it for it in every if it.name == first and re.search(rf"\b{rest[0]}\b", it.code)), None)
+        return self.find(first) or self.paths.get(first) or next((it for it in every if it.name == first), None)
+
 
 def inside(lines):
     """Returns the lines in the braces of an item, without their margin, and the number of lines before them."""
