@@ -66,8 +66,16 @@ extern "C" {
 /* The version of this header. */
 #define CHERI_CAP_VERSION 1u
 
-/* The release of this header: 10000 * major + 100 * minor + patch, so 300 for 0.3.0. */
-#define CHERI_CAP_RELEASE 300
+/*
+ * The release of this header: 10000 * major + 100 * minor + patch, so 400 for 0.4.0.
+ *
+ * New in 400 are this macro, cheri_cap_decode_memory, cheri_cap_is_canonical_memory,
+ * cheri_cap_represents_memory, cheri_cap_keeps_bounds, cheri_cap_window, cheri_cap_defect,
+ * cheri_cap_word_length, cheri_cap_word_granule, cheri_cap_lost, cheri_cap_bounds_hold_bytes,
+ * cheri_cap_set_offset and cheri_cap_with_*. All other functions are in 0.3.0 too, whose header does
+ * not define this macro.
+ */
+#define CHERI_CAP_RELEASE 400
 
 /*
  * Attributes of the functions below. To change one, define it before the include, empty or not.

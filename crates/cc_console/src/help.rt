@@ -1,7 +1,7 @@
 //! The help texts: the summary of each command (`ABOUT`), the text after its arguments (`AFTER_HELP`), and the meaning of
 //! each argument or option (`HELP`).
 
-pub(crate) const VERSION: &str = "0.3.0\nCHERI Concentrate, 128 bits, CHERI ISA version 9";
+pub(crate) const VERSION: &str = "0.4.0\nCHERI Concentrate, 128 bits, CHERI ISA version 9";
 
 pub(crate) const ABOUT: &str =
     "Decodes and derives 128-bit CHERI Concentrate capabilities, and plans the objects of a pool";
