@@ -28,16 +28,15 @@ use cc_io::{IoError, Sink, Summary, Text};
 /// Errors: `Write` if and only if the sink fails. A prefix of the output is then written.
 pub fn explain_length<W: Sink>(base: &str, length: &str, sink: &mut W) -> Result<Summary, IoError>
     requires { (W.state sink.old).has_failed ≡ false }
-    ensures shown { WritesAnswer (IsLengthExplanation base.now length.now) (W.state sink.old).taken (W.state sink.new).taken result }
+    ensures shown { WritesAnswer (IsLengthExplanation base.now length.now) (W.state sink.old) (W.state sink.new) result }
     ensures any_error { IfOk result (λ summary. IsTrue summary.any_error ↔ IsErr (request_in base.now length.now)) }
-    ensures flushed { OnOk result ((W.state sink.new).is_flushed ≡ true) }
-    ensures fails { IsErr result ↔ ((W.state sink.new).has_failed ≡ true) }
-    ensures write { OnErr result (result ≡ Err IoError.Write) }
 {
     let mut answer = Text::new();
     let summary = push_request(&mut answer, base, length);
-    write_answer(&answer, sink)?;
-    Ok(summary)
+    match write_answer(&answer, sink) {
+        Ok(()) => Ok(summary),
+        Err(error) => Err(error),
+    }
 }
 
 /// Appends the explanation of the request, or the refusal of arguments that are not a request.

@@ -1,7 +1,7 @@
 //! Hints after a run, one on each line: what the writer of a script might not see in its replies.
 ghost use Rattle.std.specs.Prelude.{◌≡◌, ◌+◌, ◌≤◌, ◌++◌, ◌↔◌, [], Err, IsErr, List, OnErr, OnOk, codes, false, length, option_map, true};
 ghost use Rattle.std.specs.Io.KnownBytes.{Appends};
-ghost use Rattle.cc_io.specs.Devices.{TakesBeginning};
+ghost use Rattle.cc_io.specs.Devices.{SendsBytes};
 ghost use Rattle.cc_values.specs.declared.reply.Reply.{Reply};
 ghost use Rattle.std.specs.List.{list_any};
 ghost use Rattle.cc_word.specs.declared.refusal.Refusal.TheVariants.{Inexact};
@@ -67,10 +67,7 @@ fn is_in_opening(count: &Count) -> bool
 /// Errors: `Write` if and only if the sink fails. A prefix of the hints is then written.
 pub fn show_hints<W: Sink>(hints: &Hints, sink: &mut W) -> Result<(), IoError>
     requires { (W.state sink.old).has_failed ≡ false }
-    ensures ok { OnOk result (Appends (W.state sink.old).taken (W.state sink.new).taken (hints_text hints.now)) }
-    ensures err { OnErr result (TakesBeginning (W.state sink.old).taken (W.state sink.new).taken (hints_text hints.now)) }
-    ensures flushed { OnOk result ((W.state sink.new).is_flushed ≡ true) }
-    ensures fails { IsErr result ↔ ((W.state sink.new).has_failed ≡ true) }
+    ensures sends { SendsBytes (W.state sink.old) (W.state sink.new) (hints_text hints.now) result }
     ensures write { OnErr result (result ≡ Err IoError.Write) }
 {
     let mut text = Text::new();

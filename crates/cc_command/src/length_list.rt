@@ -1,5 +1,6 @@
 //! The output of `round` for a list: how setting bounds rounds each length of a list.
-ghost use Rattle.std.specs.Prelude.{◌≡◌, ◌↔◌, Err, OnOk, false, true};
+ghost use Rattle.std.specs.Prelude.{false};
+ghost use Rattle.cc_io.specs.Devices.{AreReady};
 ghost use Rattle.cc_command.specs.RoundList.{RoundsList};
 ghost use Rattle.cc_command.specs.Rounder.{AnswersLength, RefusesRest};
 
@@ -84,12 +85,8 @@ pub fn round_list<R: Source, W: Sink>(
     sink: &mut W,
     bare: &mut bool,
 ) -> Result<Summary, IoError>
-    requires source { (R.state source.old).has_failed ≡ false }
-    requires sink { (W.state sink.old).has_failed ≡ false }
-    ensures rounds { RoundsList base bare.new (R.state source.old).unread (R.state source.new).unread (W.state sink.old).taken (W.state sink.new).taken result }
-    ensures read { (result ≡ Err IoError.Read) ↔ ((R.state source.new).has_failed ≡ true) }
-    ensures write { (result ≡ Err IoError.Write) ↔ ((W.state sink.new).has_failed ≡ true) }
-    ensures flushed { OnOk result ((W.state sink.new).is_flushed ≡ true) }
+    requires { AreReady (R.state source.old) (W.state sink.old) }
+    ensures { RoundsList base bare.new (R.state source.old) (R.state source.new) (W.state sink.old) (W.state sink.new) result }
 {
     let mut page = Page::<ROOM>::new();
     let mut rounder = Rounder { base, bare: false };

@@ -32,11 +32,8 @@ const MOST: usize = 264;
 /// Instruction: CRRL, CRAM.
 pub fn show_round<W: Sink>(text: &[u8], sink: &mut W) -> Result<Summary, IoError>
     requires { (W.state sink.old).has_failed ≡ false }
-    ensures shown { WritesAnswer (IsRounding None text.now) (W.state sink.old).taken (W.state sink.new).taken result }
+    ensures shown { WritesAnswer (IsRounding None text.now) (W.state sink.old) (W.state sink.new) result }
     ensures any_error { IfOk result (λ summary. IsTrue summary.any_error ↔ IsErr (length_in text.now)) }
-    ensures flushed { OnOk result ((W.state sink.new).is_flushed ≡ true) }
-    ensures fails { IsErr result ↔ ((W.state sink.new).has_failed ≡ true) }
-    ensures write { OnErr result (result ≡ Err IoError.Write) }
 {
     write_round(None, text, sink)
 }
@@ -52,11 +49,8 @@ pub fn show_round<W: Sink>(text: &[u8], sink: &mut W) -> Result<Summary, IoError
 /// Errors: `Write` if and only if the sink fails. A prefix of the output is then written.
 pub fn show_round_from<W: Sink>(base: &[u8], text: &[u8], sink: &mut W) -> Result<Summary, IoError>
     requires { (W.state sink.old).has_failed ≡ false }
-    ensures shown { WritesAnswer (IsRoundingAfter base.now text.now) (W.state sink.old).taken (W.state sink.new).taken result }
+    ensures shown { WritesAnswer (IsRoundingAfter base.now text.now) (W.state sink.old) (W.state sink.new) result }
     ensures any_error { IfOk result (λ summary. IsTrue summary.any_error ↔ IsUnroundableAfter base.now text.now) }
-    ensures flushed { OnOk result ((W.state sink.new).is_flushed ≡ true) }
-    ensures fails { IsErr result ↔ ((W.state sink.new).has_failed ≡ true) }
-    ensures write { OnErr result (result ≡ Err IoError.Write) }
 {
     match read_address(base) {
         Ok(base) => write_round(Some(base), text, sink),
@@ -67,18 +61,17 @@ pub fn show_round_from<W: Sink>(base: &[u8], text: &[u8], sink: &mut W) -> Resul
 /// Writes the output for a length, and flushes the sink once after it.
 fn write_round<W: Sink>(base: Option<u64>, text: &[u8], sink: &mut W) -> Result<Summary, IoError>
     requires { (W.state sink.old).has_failed ≡ false }
-    ensures shown { WritesAnswer (IsRounding base text.now) (W.state sink.old).taken (W.state sink.new).taken result }
+    ensures shown { WritesAnswer (IsRounding base text.now) (W.state sink.old) (W.state sink.new) result }
     ensures any_error { IfOk result (λ summary. IsTrue summary.any_error ↔ IsUnroundable base (length_in text.now)) }
-    ensures flushed { OnOk result ((W.state sink.new).is_flushed ≡ true) }
-    ensures fails { IsErr result ↔ ((W.state sink.new).has_failed ≡ true) }
-    ensures write { OnErr result (result ≡ Err IoError.Write) }
 {
     let mut line = Page::<MOST>::new();
     let any_error = push_round(base, text, &mut line);
     let mut answer = Text::new();
     answer.push(line.bytes());
-    write_answer(&answer, sink)?;
-    Ok(Summary { any_error })
+    match write_answer(&answer, sink) {
+        Ok(()) => Ok(Summary { any_error }),
+        Err(error) => Err(error),
+    }
 }
 
 /// Appends the output for a length, and returns whether it is an error.

@@ -1,7 +1,7 @@
 //! The summary of a run: a line for each number.
 ghost use Rattle.std.specs.Prelude.{◌≡◌, ◌+◌, ◌*◌, ◌≤◌, ◌^◌, ◌++◌, ◌↔◌, [], Err, IsErr, OnErr, OnOk, codes, false, length, true};
 ghost use Rattle.std.specs.Io.KnownBytes.{Appends};
-ghost use Rattle.cc_io.specs.Devices.{TakesBeginning};
+ghost use Rattle.cc_io.specs.Devices.{SendsBytes};
 ghost use Rattle.cc_io.specs.Numbered.{line_with_decimal};
 ghost use Rattle.cc_command.specs.Statistics.{bytes_text, count_lines, counts_text, end_text, holes_text, hundredths_of, objects_text, percent_text, statistics_text};
 
@@ -23,10 +23,7 @@ use cc_values::Usage;
 pub fn show_statistics<W: Sink>(usage: &Usage, tally: &Tally, sink: &mut W) -> Result<(), IoError>
     requires sink { (W.state sink.old).has_failed ≡ false }
     requires fits { usage.now.held ≤ 2 ^ 80 }
-    ensures ok { OnOk result (Appends (W.state sink.old).taken (W.state sink.new).taken (statistics_text usage.now tally.now)) }
-    ensures err { OnErr result (TakesBeginning (W.state sink.old).taken (W.state sink.new).taken (statistics_text usage.now tally.now)) }
-    ensures flushed { OnOk result ((W.state sink.new).is_flushed ≡ true) }
-    ensures fails { IsErr result ↔ ((W.state sink.new).has_failed ≡ true) }
+    ensures sends { SendsBytes (W.state sink.old) (W.state sink.new) (statistics_text usage.now tally.now) result }
     ensures write { OnErr result (result ≡ Err IoError.Write) }
 {
     let mut text = Text::new();

@@ -1,6 +1,7 @@
 -- The result of a command, from that of its devices.
 use Rattle.std.proofs.Common.{◌≡◌, ◌∙◌, ℕ, List, Option, Some, None, Result, Ok, Err, subst, sym}
 use Rattle.std.specs.Prelude.{IfSome}
+use Rattle.cc_io.specs.Devices.{InputState}
 use Rattle.cc_io.specs.declared.summary.IoError.{IoError}
 use Rattle.cc_io.specs.declared.summary.IoError.TheVariants.{Read, Write}
 use Rattle.cc_io.specs.declared.summary.Summary.{Summary}
@@ -44,11 +45,11 @@ known_too (Some bytes) one other same told = same ∙ told
 
 -- A run whose source has the bytes of a reader of this input, which `bytes_of` knows or not.
 pub from_input : (input : InputName) (console : Console) (Does : Traffic → Result Summary IoError → Type 0) (bytes_of : InputName → Option (List ℕ))
-    (unread remaining : Option (List ℕ)) (io : Result Summary IoError)
-    → console.input ≡ bytes_of → unread ≡ remaining → IfSome (bytes_of input) (λ bytes. remaining ≡ Some bytes)
-    → Does (traffic_of console unread) io → FromInput input console Does io
-from_input input console Does bytes_of unread remaining io same is told does = record {
-  unread = unread;
-  known = subst (λ (bytes : InputName → Option (List ℕ)). IfSome (bytes input) (λ b. unread ≡ Some b)) (sym same) (known_too (bytes_of input) unread remaining is told);
+    (source : InputState) (remaining : Option (List ℕ)) (io : Result Summary IoError)
+    → console.input ≡ bytes_of → source.unread ≡ remaining → IfSome (bytes_of input) (λ bytes. remaining ≡ Some bytes)
+    → Does (traffic_of console source) io → FromInput input console Does io
+from_input input console Does bytes_of source remaining io same is told does = record {
+  source = source;
+  known = subst (λ (bytes : InputName → Option (List ℕ)). IfSome (bytes input) (λ b. source.unread ≡ Some b)) (sym same) (known_too (bytes_of input) source.unread remaining is told);
   does = does;
 }

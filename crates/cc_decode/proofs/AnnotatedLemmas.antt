@@ -6,6 +6,7 @@ use Rattle.std.specs.List.{AllByRecursion, list_any}
 use Rattle.std.specs.Io.KnownBytes.{Appends}
 use Rattle.cc_io.proofs.ServingLemmas.{runs_through}
 use Rattle.cc_io.specs.Blocks.{blocks_text}
+use Rattle.cc_io.specs.Devices.{InputState, IsOutcome, OutputState}
 use Rattle.cc_io.specs.Answers.{Answer, AnswersAll, EndsWith, answers_text, seen}
 use Rattle.cc_io.specs.Correct.{Pumps, PumpsText, StopsOnPage, StopsAfterAnswers}
 use Rattle.cc_io.specs.declared.summary.IoError.{IoError}
@@ -289,8 +290,8 @@ annotates_text text new j t u (Err Write) p = elim p [
   ]
 ]
 
-pub annotated_pumped : (new : Annotator) (pending : List ℕ) (c j t u : Option (List ℕ)) (result : Result Summary IoError) → pending ≡ []
-    → Pumps (λ (state : Annotator). false) AnswersRun AnswersRest runs 32768 600 begin pending c j t u result new → AnnotatesGiven c j t u result
-annotated_pumped new pending c j t u result none p =
-    let q = subst (λ (l : List ℕ). Pumps (λ (state : Annotator). false) AnswersRun AnswersRest runs 32768 600 begin l c j t u result new) none p in
-    record { text = q.text; given = q.given; annotates = annotates_text q.text new j t u result (runs_through (λ (state : Annotator). false) _ _ _ _ _ _ _ _ _ _ _ _ _ refl q) }
+pub annotated_pumped : (new : Annotator) (pending : List ℕ) (c j : InputState) (t u : OutputState) (result : Result Summary IoError) → pending ≡ [] → IsOutcome j u result
+    → Pumps (λ (state : Annotator). false) AnswersRun AnswersRest runs 32768 600 begin pending c.unread j.unread t.taken u.taken result new → AnnotatesGiven c j t u result
+annotated_pumped new pending c j t u result none outcome p =
+    let q = subst (λ (l : List ℕ). Pumps (λ (state : Annotator). false) AnswersRun AnswersRest runs 32768 600 begin l c.unread j.unread t.taken u.taken result new) none p in
+    record { text = q.text; given = q.given; annotates = annotates_text q.text new j.unread t.taken u.taken result (runs_through (λ (state : Annotator). false) _ _ _ _ _ _ _ _ _ _ _ _ _ refl q); outcome = outcome }

@@ -6,6 +6,7 @@ use Rattle.std.specs.List.{AllByRecursion}
 use Rattle.std.specs.Str.Parse.{digits_value}
 use Rattle.cc_word.specs.WordText.{IsWordText}
 use Rattle.cc_cap.specs.LineText.{IsWordLine}
+use Rattle.cc_io.specs.Devices.{InputState, IsOutcome, OutputState}
 use Rattle.cc_io.specs.declared.summary.IoError.{IoError}
 use Rattle.cc_io.specs.declared.summary.IoError.TheVariants.{Read, Write}
 use Rattle.cc_io.specs.declared.summary.Summary.{Summary}
@@ -126,7 +127,8 @@ AnnotatesText text left taken taken_now (Err Write) = StopsInStart text taken ta
 
 -- AnnotatesGiven holds if the bytes written are those for some text that the source gave. If the
 -- source says which bytes are unread, this text is a prefix of them.
-pub record AnnotatesGiven (to_come left taken taken_now : Option (List ℕ)) (result : Result Summary IoError) : Type 0 where
+pub record AnnotatesGiven (input input_now : InputState) (output output_now : OutputState) (result : Result Summary IoError) : Type 0 where
   pub text : List ℕ
-  pub given : Consumes to_come left text
-  pub annotates : AnnotatesText text left taken taken_now result
+  pub given : Consumes input.unread input_now.unread text
+  pub annotates : AnnotatesText text input_now.unread output.taken output_now.taken result
+  pub outcome : IsOutcome input_now output_now result

@@ -1,5 +1,5 @@
 //! Copies a text, with the line of each word after the word.
-ghost use Rattle.std.specs.Prelude.{◌≡◌, ◌↔◌, true, false, Err, OnOk};
+ghost use Rattle.cc_io.specs.Devices.{AreReady};
 ghost use Rattle.cc_decode.specs.Annotate.{AnnotatesGiven};
 
 use crate::annotator::{Annotator, Before};
@@ -21,12 +21,8 @@ use cc_io::{IoError, Sink, Source, Summary, pump};
 /// except these word characters. `Write` if and only if the sink failed. It has then taken a prefix
 /// of the output, and at most one page of it is lost (32 KiB).
 pub fn annotate<R: Source, W: Sink>(source: &mut R, sink: &mut W) -> Result<Summary, IoError>
-    requires source { (R.state source.old).has_failed ≡ false }
-    requires sink { (W.state sink.old).has_failed ≡ false }
-    ensures annotates { AnnotatesGiven (R.state source.old).unread (R.state source.new).unread (W.state sink.old).taken (W.state sink.new).taken result }
-    ensures read { (result ≡ Err IoError.Read) ↔ ((R.state source.new).has_failed ≡ true) }
-    ensures write { (result ≡ Err IoError.Write) ↔ ((W.state sink.new).has_failed ≡ true) }
-    ensures flushed { OnOk result ((W.state sink.new).is_flushed ≡ true) }
+    requires { AreReady (R.state source.old) (W.state sink.old) }
+    ensures { AnnotatesGiven (R.state source.old) (R.state source.new) (W.state sink.old) (W.state sink.new) result }
 {
     let mut page = Batch::new();
     let mut annotator = Annotator {

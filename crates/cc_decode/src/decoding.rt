@@ -1,12 +1,12 @@
 //! Replies to all entries of the input that a source gives.
-ghost use Rattle.std.specs.Prelude.{◌≡◌, ◌≤◌, ◌↔◌, [], true, false, length, Err, IfSome, OnOk};
+ghost use Rattle.std.specs.Prelude.{◌≡◌, ◌≤◌, [], false, length, IfSome};
 ghost use Rattle.cc_io.specs.Correct.{Pumps};
-ghost use Rattle.cc_decode.specs.Correct.{Lists, ListsWhole};
+ghost use Rattle.cc_io.specs.Devices.{AreReady, IsOutcome};
+ghost use Rattle.cc_decode.specs.Correct.{Lists};
 ghost use Rattle.cc_decode.specs.Decoder.{plain_options};
 ghost use Rattle.cc_decode.specs.Input.{frame_of};
 ghost use Rattle.cc_decode.specs.Place.{header_of, place_name};
 ghost use Rattle.cc_decode.specs.Row.{header_text};
-ghost use Rattle.cc_decode.specs.Skip.{ListsAfter, ListsWholeAfter};
 
 use crate::decoder::{Decoder, PlainDecoder};
 use crate::options::Options;
@@ -16,8 +16,9 @@ use cc_io::{
     Answerer, Blocks, Failed, Format, InputForm, IoError, Lines, Sink, Source, Summary, pump,
 };
 
-/// Writes the header of the format, and then the reply to each entry of the input that the source
-/// gives. An entry is a line, or a block of 16 bytes.
+/// Skips the first `skipped` bytes of the input that the source gives, or all if there are fewer, and
+/// writes the header of the format, and then the reply to each entry of the rest. An entry is a line,
+/// or a block of 16 bytes; the first begins after the skipped bytes.
 ///
 /// The reply to a word is its row in the format, with its address in front if the options have the
 /// address of the first entry. In a search, only the words that it finds get a reply. The reply to a
@@ -29,23 +30,23 @@ use cc_io::{
 ///
 /// Requires: neither the source nor the sink has failed.
 /// Errors: `Read` if and only if the source failed. The header and the replies to all entries
-/// before the failure are then written. `Write` if and only if the sink failed. It has then taken a
-/// prefix of the header and the replies, and at most one page of replies is lost (32 KiB).
+/// before the failure are then written, or nothing if it failed among the skipped bytes. `Write` if
+/// and only if the sink failed. It has then taken a prefix of the header and the replies, and at most
+/// one page of replies is lost (32 KiB).
 pub fn decode_words<R: Source, W: Sink>(
+    skipped: u64,
     options: Options,
     source: &mut R,
     sink: &mut W,
 ) -> Result<Summary, IoError>
-    requires source { (R.state source.old).has_failed ≡ false }
-    requires sink { (W.state sink.old).has_failed ≡ false }
-    ensures whole { IfSome (R.state source.old).unread (λ text.
-        ListsWhole options text (R.state source.new).unread (W.state sink.old).taken (W.state sink.new).taken result) }
+    requires { AreReady (R.state source.old) (W.state sink.old) }
     // If the source does not say which bytes it has, some input has the listing.
-    ensures lists { Lists options (R.state source.old).unread (R.state source.new).unread (W.state sink.old).taken (W.state sink.new).taken result }
-    ensures read { (result ≡ Err IoError.Read) ↔ ((R.state source.new).has_failed ≡ true) }
-    ensures write { (result ≡ Err IoError.Write) ↔ ((W.state sink.new).has_failed ≡ true) }
-    ensures flushed { OnOk result ((W.state sink.new).is_flushed ≡ true) }
+    ensures { Lists skipped options (R.state source.old) (R.state source.new) (W.state sink.old) (W.state sink.new) result }
 {
+    match skip(skipped, source) {
+        Ok(()) => {}
+        Err(Failed) => return Err(IoError::Read),
+    }
     let mut page = Batch::new();
     push_header(&mut page, &options);
     match plain_decoder(options) {
@@ -55,34 +56,6 @@ pub fn decode_words<R: Source, W: Sink>(
             list_entries(options.input, &mut decoder, source, sink, &mut page)
         }
     }
-}
-
-/// Skips the first `count` bytes of the input, or all if there are fewer, and then writes the listing
-/// of the others as [`decode_words`] does. The first entry begins after the skipped bytes.
-///
-/// Requires: neither the source nor the sink has failed.
-/// Errors: those of `decode_words`. If the source failed among the skipped bytes, nothing is written.
-#[tactic(auto, using(crate::proofs::SkipLemmas::lists_whole_after))]
-pub fn decode_words_after<R: Source, W: Sink>(
-    count: u64,
-    options: Options,
-    source: &mut R,
-    sink: &mut W,
-) -> Result<Summary, IoError>
-    requires source { (R.state source.old).has_failed ≡ false }
-    requires sink { (W.state sink.old).has_failed ≡ false }
-    ensures whole { IfSome (R.state source.old).unread (λ text.
-        ListsWholeAfter count options text (R.state source.new).unread (W.state sink.old).taken (W.state sink.new).taken result) }
-    ensures lists { ListsAfter count options (R.state source.old).unread (R.state source.new).unread (W.state sink.old).taken (W.state sink.new).taken result }
-    ensures read { (result ≡ Err IoError.Read) ↔ ((R.state source.new).has_failed ≡ true) }
-    ensures write { (result ≡ Err IoError.Write) ↔ ((W.state sink.new).has_failed ≡ true) }
-    ensures flushed { OnOk result ((W.state sink.new).is_flushed ≡ true) }
-{
-    match skip(count, source) {
-        Ok(()) => {}
-        Err(Failed) => return Err(IoError::Read),
-    }
-    decode_words(options, source, sink)
 }
 
 /// Returns the decoder of all words without addresses, if that is what the options request.
@@ -108,15 +81,12 @@ fn list_entries<A: Answerer<ROOM>, R: Source, W: Sink>(
     sink: &mut W,
     page: &mut Batch,
 ) -> Result<Summary, IoError>
-    requires source { (R.state source.old).has_failed ≡ false }
-    requires sink { (W.state sink.old).has_failed ≡ false }
+    requires ready { AreReady (R.state source.old) (W.state sink.old) }
     requires room { A.MOST ≤ 32768 }
     requires goes_on { A.done decoder.old ≡ false }
     ensures pumps { Pumps A.done A.Answered A.Ended (frame_of input) 32768 A.MOST decoder.old page.old
         (R.state source.old).unread (R.state source.new).unread (W.state sink.old).taken (W.state sink.new).taken result decoder.new }
-    ensures read { (result ≡ Err IoError.Read) ↔ ((R.state source.new).has_failed ≡ true) }
-    ensures write { (result ≡ Err IoError.Write) ↔ ((W.state sink.new).has_failed ≡ true) }
-    ensures flushed { OnOk result ((W.state sink.new).is_flushed ≡ true) }
+    ensures outcome { IsOutcome (R.state source.new) (W.state sink.new) result }
 {
     match input {
         InputForm::Lines => pump(&Lines, decoder, source, sink, page),

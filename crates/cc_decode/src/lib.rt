@@ -17,5 +17,5 @@ mod writers;
 
 pub use annotating::annotate;
 pub use cc_io::{ByteOrder, Format, InputForm};
-pub use decoding::{decode_words, decode_words_after};
+pub use decoding::decode_words;
 pub use options::{Options, Search};

@@ -1,6 +1,6 @@
 //! Bytes of a source that are read and dropped.
-ghost use Rattle.std.specs.Prelude.{◌≡◌, ◌↔◌, true, false, IsErr, OnErr, OnOk};
-ghost use Rattle.cc_decode.specs.Skip.{GivesFewer, Skips};
+ghost use Rattle.std.specs.Prelude.{◌≡◌, false};
+ghost use Rattle.cc_decode.specs.Skip.{Skips};
 
 use cc_io::{Failed, Source};
 
@@ -13,9 +13,7 @@ const PIECE: usize = 65536;
 /// Errors: `Failed` if and only if the source failed. It has then given fewer than `count` bytes.
 pub(crate) fn skip<R: Source>(count: u64, source: &mut R) -> Result<(), Failed>
     requires { (R.state source.old).has_failed ≡ false }
-    ensures skips { OnOk result (Skips count (R.state source.old).unread (R.state source.new).unread) }
-    ensures fewer { OnErr result (GivesFewer count (R.state source.old).unread (R.state source.new).unread) }
-    ensures fails { IsErr result ↔ ((R.state source.new).has_failed ≡ true) }
+    ensures { Skips count (R.state source.old) (R.state source.new) result }
 {
     if count == 0 {
         return Ok(());
@@ -28,9 +26,7 @@ pub(crate) fn skip<R: Source>(count: u64, source: &mut R) -> Result<(), Failed>
 #[inline(never)]
 fn skip_some<R: Source>(count: u64, source: &mut R) -> Result<(), Failed>
     requires { (R.state source.old).has_failed ≡ false }
-    ensures skips { OnOk result (Skips count (R.state source.old).unread (R.state source.new).unread) }
-    ensures fewer { OnErr result (GivesFewer count (R.state source.old).unread (R.state source.new).unread) }
-    ensures fails { IsErr result ↔ ((R.state source.new).has_failed ≡ true) }
+    ensures { Skips count (R.state source.old) (R.state source.new) result }
 {
     let mut piece = [0u8; PIECE];
     let mut rest = count;

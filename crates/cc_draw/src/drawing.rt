@@ -36,11 +36,8 @@ pub fn show_drawing<P: Placer, W: Sink>(
     sink: &mut W,
 ) -> Result<Summary, IoError>
     requires { (W.state sink.old).has_failed ≡ false }
-    ensures shown { WritesAnswer (IsDrawing planner.now) (W.state sink.old).taken (W.state sink.new).taken result }
+    ensures shown { WritesAnswer (IsDrawing planner.now) (W.state sink.old) (W.state sink.new) result }
     ensures any_error { IfOk result (λ summary. summary.any_error ≡ false) }
-    ensures flushed { OnOk result ((W.state sink.new).is_flushed ≡ true) }
-    ensures fails { IsErr result ↔ ((W.state sink.new).has_failed ≡ true) }
-    ensures write { OnErr result (result ≡ Err IoError.Write) }
 {
     write_drawing(planner.objects(), &pool_span(planner.pool()), sink).map_err(|_| IoError::Write)?;
     sink.flush().map_err(|_| IoError::Write)?;

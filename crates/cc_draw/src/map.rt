@@ -26,16 +26,15 @@ const MOST_CELLS: u128 = 1024;
 /// Errors: `Write` if and only if the sink fails. A prefix of the map is then written.
 pub fn show_map<P: Placer, W: Sink>(planner: &Planner<P>, sink: &mut W) -> Result<Summary, IoError>
     requires { (W.state sink.old).has_failed ≡ false }
-    ensures shown { WritesAnswer (IsMap planner.now) (W.state sink.old).taken (W.state sink.new).taken result }
+    ensures shown { WritesAnswer (IsMap planner.now) (W.state sink.old) (W.state sink.new) result }
     ensures any_error { IfOk result (λ summary. summary.any_error ≡ false) }
-    ensures flushed { OnOk result ((W.state sink.new).is_flushed ≡ true) }
-    ensures fails { IsErr result ↔ ((W.state sink.new).has_failed ≡ true) }
-    ensures write { OnErr result (result ≡ Err IoError.Write) }
 {
     let mut text = Text::new();
     push_map_of_planner(&mut text, planner);
-    write_answer(&text, sink)?;
-    Ok(Summary { any_error: false })
+    match write_answer(&text, sink) {
+        Ok(()) => Ok(Summary { any_error: false }),
+        Err(error) => Err(error),
+    }
 }
 
 /// Appends the map of a planner's pool.

@@ -1,14 +1,15 @@
 -- The output of a command, which it writes to a sink.
-use Rattle.std.specs.Prelude.{◌≡◌, ◌⊎◌, ℕ, List, Option, Result, Ok, Err, OnOk, OnErr, codes, drop, take, if◌then◌else◌}
+use Rattle.std.specs.Prelude.{◌≡◌, ◌⊎◌, ◌↔◌, ℕ, true, List, Result, Ok, Err, IsErr, OnOk, OnErr, codes, drop, take, if◌then◌else◌}
 use Rattle.std.specs.Io.KnownBytes.{Appends}
 use Rattle.std.specs.Str.{bytes_eq}
 use Rattle.std.specs.Str.Parse.{digits_value}
 use Rattle.cc_word.specs.WordText.{IsWordText}
 use Rattle.cc_word.specs.declared.refusal.Refusal.{Refusal}
 use Rattle.cc_word.specs.declared.refusal.Refusal.TheVariants.{Syntax}
-use Rattle.cc_io.specs.Devices.{TakesBeginning}
+use Rattle.cc_io.specs.Devices.{OutputState, TakesBeginning}
 use Rattle.cc_io.specs.Text.{refusal_text, with_line_feed}
 use Rattle.cc_io.specs.declared.summary.IoError.{IoError}
+use Rattle.cc_io.specs.declared.summary.IoError.TheVariants.{Write}
 use Rattle.cc_io.specs.declared.summary.Summary.{Summary}
 
 -- IsRefusalLine holds if `answer` is the line of the refusal.
@@ -41,10 +42,13 @@ abbrev pub AnswersResult : {A : Type 0} → (IsAnswer : A → (answer : List ℕ
 AnswersResult IsAnswer (Ok value) answer = IsAnswer value answer
 AnswersResult IsAnswer (Err refusal) answer = IsRefusalLine refusal answer
 
--- WritesAnswer holds if output that satisfies `IsAnswer` was written: all of it if the call
--- succeeds, and otherwise a prefix of it.
-pub record WritesAnswer (IsAnswer : List ℕ → Type 0) (old new : Option (List ℕ)) (result : Result Summary IoError) : Type 0 where
+-- WritesAnswer holds if output that satisfies `IsAnswer` was written and flushed: all of it if the call
+-- succeeds, and otherwise a prefix of it. The call fails if and only if the sink does.
+pub record WritesAnswer (IsAnswer : List ℕ → Type 0) (old new : OutputState) (result : Result Summary IoError) : Type 0 where
   pub answer : List ℕ
   pub is_answer : IsAnswer answer
-  pub whole : OnOk result (Appends old new answer)
-  pub beginning : OnErr result (TakesBeginning old new answer)
+  pub whole : OnOk result (Appends old.taken new.taken answer)
+  pub beginning : OnErr result (TakesBeginning old.taken new.taken answer)
+  pub flushed : OnOk result (new.is_flushed ≡ true)
+  pub fails : IsErr result ↔ (new.has_failed ≡ true)
+  pub write : OnErr result (result ≡ Err Write)

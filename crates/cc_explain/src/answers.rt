@@ -3,7 +3,7 @@
 ghost use Rattle.std.specs.Prelude.{◌≡◌, ◌+◌, ◌≤◌, ◌++◌, ◌↔◌, [], false, true, length, IfOk, IfSome, IsErr, IsSome, OnOk, OnErr};
 ghost use Rattle.std.specs.Io.KnownBytes.{Appends};
 ghost use Rattle.std.specs.Str.Parse.{digits_value};
-ghost use Rattle.cc_io.specs.Devices.{TakesBeginning};
+ghost use Rattle.cc_io.specs.Devices.{SendsBytes};
 ghost use Rattle.cc_io.specs.Numbered.{with_digits};
 ghost use Rattle.cc_explain.specs.Answer.{IsRefusalLine, IsTypedWord, WritesAnswer, digits_in};
 
@@ -17,11 +17,8 @@ use cc_word::{Refusal, read_word, write_word};
 /// Errors: `Write` if and only if the sink fails. A prefix of the line is then written.
 pub fn write_refusal<W: Sink>(refusal: Refusal, sink: &mut W) -> Result<Summary, IoError>
     requires { (W.state sink.old).has_failed ≡ false }
-    ensures shown { WritesAnswer (IsRefusalLine refusal) (W.state sink.old).taken (W.state sink.new).taken result }
+    ensures shown { WritesAnswer (IsRefusalLine refusal) (W.state sink.old) (W.state sink.new) result }
     ensures any_error { IfOk result (λ summary. summary.any_error ≡ true) }
-    ensures flushed { OnOk result ((W.state sink.new).is_flushed ≡ true) }
-    ensures fails { IsErr result ↔ ((W.state sink.new).has_failed ≡ true) }
-    ensures write { OnErr result (result ≡ Err IoError.Write) }
 {
     let mut answer = Text::new();
     push_refusal(&mut answer, refusal);
@@ -70,10 +67,7 @@ pub(crate) fn push_word_digits(text: &mut Text, before: &[u8], word: u128)
 /// Errors: `Write` if and only if the sink fails. A prefix of the output is then written.
 pub fn write_answer<W: Sink>(answer: &Text, sink: &mut W) -> Result<(), IoError>
     requires { (W.state sink.old).has_failed ≡ false }
-    ensures ok { OnOk result (Appends (W.state sink.old).taken (W.state sink.new).taken answer.now) }
-    ensures err { OnErr result (TakesBeginning (W.state sink.old).taken (W.state sink.new).taken answer.now) }
-    ensures flushed { OnOk result ((W.state sink.new).is_flushed ≡ true) }
-    ensures fails { IsErr result ↔ ((W.state sink.new).has_failed ≡ true) }
+    ensures sends { SendsBytes (W.state sink.old) (W.state sink.new) answer.now result }
     ensures write { OnErr result (result ≡ Err IoError.Write) }
 {
     match write_all(sink, answer.bytes()) {

@@ -23,11 +23,8 @@ use cc_word::Refusal;
 /// Errors: `Write` if and only if the sink fails. A prefix of the output is then written.
 pub fn explain_word<W: Sink>(text: &[u8], sink: &mut W) -> Result<Summary, IoError>
     requires { (W.state sink.old).has_failed ≡ false }
-    ensures shown { WritesAnswer (IsExplanation text.now) (W.state sink.old).taken (W.state sink.new).taken result }
+    ensures shown { WritesAnswer (IsExplanation text.now) (W.state sink.old) (W.state sink.new) result }
     ensures any_error { IfOk result (λ summary. IsTrue summary.any_error ↔ (¬ IsTypedWord text.now)) }
-    ensures flushed { OnOk result ((W.state sink.new).is_flushed ≡ true) }
-    ensures fails { IsErr result ↔ ((W.state sink.new).has_failed ≡ true) }
-    ensures write { OnErr result (result ≡ Err IoError.Write) }
 {
     let mut answer = Text::new();
     let summary = push_explanation(&mut answer, text);

@@ -24,16 +24,15 @@ use cc_word::{Fields, Refusal, read_word, write_word};
 /// Errors: `Write` if and only if the sink fails. A prefix of the output is then written.
 pub fn show_word<W: Sink>(text: &[u8], sink: &mut W) -> Result<Summary, IoError>
     requires { (W.state sink.old).has_failed ≡ false }
-    ensures shown { WritesAnswer (IsListing text.now) (W.state sink.old).taken (W.state sink.new).taken result }
+    ensures shown { WritesAnswer (IsListing text.now) (W.state sink.old) (W.state sink.new) result }
     ensures any_error { IfOk result (λ summary. IsTrue summary.any_error ↔ (¬ IsWordText text.now)) }
-    ensures flushed { OnOk result ((W.state sink.new).is_flushed ≡ true) }
-    ensures fails { IsErr result ↔ ((W.state sink.new).has_failed ≡ true) }
-    ensures write { OnErr result (result ≡ Err IoError.Write) }
 {
     let mut answer = Text::new();
     let summary = push_answer(&mut answer, text);
-    write_answer(&answer, sink)?;
-    Ok(summary)
+    match write_answer(&answer, sink) {
+        Ok(()) => Ok(summary),
+        Err(error) => Err(error),
+    }
 }
 
 /// Appends the listing of the word, or the refusal of a string that is not a word. The summary

@@ -13,7 +13,7 @@ pub record TakesBeginning (old new : Option (List ℕ)) (bytes : List ℕ) : Typ
   pub within : count ≤ length bytes
   pub taken : Appends old new (take count bytes)
 
--- What a source says of itself: the unread bytes, if it says which they are; the maximum number of
+-- The state of a source: the unread bytes, if it says which they are; the maximum number of
 -- bytes that it can still give; and whether a call has failed.
 pub record InputState : Type 0 where
   pub unread : Option (List ℕ)
@@ -30,7 +30,7 @@ pub record ReadsPiece {E : Type 0} (old new : InputState) (room_now : List ℕ) 
   pub fails : IsErr result ↔ (new.has_failed ≡ true)
   pub stays : old.has_failed ≡ true → new.has_failed ≡ true
 
--- What a sink says of itself: the bytes taken so far, if it says which they are; whether the last call
+-- The state of a sink: the bytes taken so far, if it says which they are; whether the last call
 -- was a flush, and succeeded, which is always true of a sink that does not say so, such as
 -- `FromWriter` and `SliceSink`; and whether a call has failed.
 pub record OutputState : Type 0 where
@@ -98,11 +98,11 @@ pub record SinkState : Type 0 where
   pub calls_left : ℕ
   pub has_failed : Bool
 
--- What a source over a slice says of itself.
+-- The state of a source over a slice, in the words of every source.
 abbrev pub input_of : SourceState → InputState
 input_of s = record { unread = Some s.rest; most_unread = length s.rest; has_failed = s.has_failed }
 
--- What a sink over a slice says of itself.
+-- The state of a sink over a slice, in the words of every sink.
 abbrev pub output_of : SinkState → OutputState
 output_of s = record { taken = Some s.taken; is_flushed = true; has_failed = s.has_failed }
 

@@ -1,5 +1,5 @@
--- What a call does that replies to the entries of an input: the bytes that its sink took, by its
--- result. A crate says by a claim which replies the entries get.
+-- The bytes that a sink took from a call that replies to the entries of an input, by its result. A
+-- crate says by a claim which replies the entries get.
 use Rattle.std.specs.Prelude.{◌≡◌, ◌≤◌, ◌<◌, ℕ, Bool, not, ◌||◌, ◌==◌, List, [], ◌++◌, length, take, Option, Some, Result, Ok, Err, ◌⊎◌}
 use Rattle.std.specs.Io.KnownBytes.{Appends, Consumes, IsAtEnd}
 use Rattle.std.specs.List.{list_any}
@@ -73,9 +73,9 @@ ServesText Are frame room most pending text left taken taken_now (Err Write) =
     ⊎ (StopsInPage Are room most pending (frame.entries [] text) taken taken_now
     ⊎ (IsAtEnd left × StopsAfter Are frame pending text taken taken_now))
 
--- `Serves` holds if the bytes written are those for some text that the source gave, and the result is
--- that of the source and the sink. If the source says which bytes are unread, this text is a prefix of
--- them.
+-- `Serves` holds if the bytes written are those for some text that the source gave, and the result
+-- reports the failures of the source and the sink. If the source says which bytes are unread, this text
+-- is a prefix of them.
 pub record Serves (Are : Claim) (frame : Frame) (room most : ℕ) (pending : List ℕ) (input input_now : InputState) (output output_now : OutputState) (result : Result Summary IoError) : Type 0 where
   pub text : List ℕ
   pub given : Consumes input.unread input_now.unread text

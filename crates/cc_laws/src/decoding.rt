@@ -1,13 +1,10 @@
 //! Laws of every input of words. The contract of each function is a law, and its body is empty.
-ghost use Rattle.std.specs.Prelude.{◌≡◌, ◌↔◌, ◌%◌, ◌++◌, [], ◌∷◌, length, ℕ, Bool, List, Option, Result, Some};
+ghost use Rattle.std.specs.Prelude.{◌≡◌, ◌↔◌, ◌%◌, ◌++◌, [], ◌∷◌, length, ℕ, Bool, List, Option, Some};
 ghost use Rattle.std.specs.Io.KnownBytes.{Appends};
-ghost use Rattle.cc_io.specs.declared.summary.IoError.{IoError as IoErrorSpec};
-ghost use Rattle.cc_io.specs.declared.summary.Summary.{Summary as SummarySpec};
-ghost use Rattle.cc_decode.specs.Correct.{Lists, WritesListing};
+ghost use Rattle.cc_decode.specs.Correct.{WritesListing};
 ghost use Rattle.cc_decode.specs.Input.{left_of};
 ghost use Rattle.cc_decode.specs.Place.{header_of};
 ghost use Rattle.cc_laws.specs.ListingParts.{AreListingRows, RowsInParts};
-ghost use Rattle.cc_decode.specs.Skip.{ListsAfter};
 ghost use Rattle.cc_io.specs.declared.input_form.ByteOrder.{ByteOrder as ByteOrderSpec};
 ghost use Rattle.cc_io.specs.declared.input_form.InputForm.TheVariants as form;
 ghost use Rattle.cc_decode.specs.declared.options.Options.{Options as OptionsSpec};
@@ -35,11 +32,4 @@ pub fn listing_in_parts()
         → (AreListingRows options (text ++ more) rows any_error ↔ RowsInParts options text more rows any_error) }
     ensures line_feed { (text : List ℕ) → left_of form.Lines (text ++ 10 ∷ []) ≡ [] }
     ensures blocks { (order : ByteOrderSpec) (text : List ℕ) → length text % 16 ≡ 0 → left_of (form.Bytes order) text ≡ [] }
-{}
-
-/// Proves that if no bytes are skipped, `decode_words_after` promises what `decode_words` does, also
-/// at a failed read.
-pub fn skipping_none()
-    ensures { (options : OptionsSpec) (to_come left taken taken_now : Option (List ℕ)) (result : Result SummarySpec IoErrorSpec)
-        → (ListsAfter 0 options to_come left taken taken_now result ↔ Lists options to_come left taken taken_now result) }
 {}

@@ -1,10 +1,11 @@
 -- The output of a script, from that of its run.
-use Rattle.std.proofs.Common.{◌≡◌, ℕ, Bool, true, false, List, Option, Some, None, Result, Ok, MatchResult, refl, subst, sym}
+use Rattle.std.proofs.Common.{◌≡◌, ℕ, Bool, true, false, List, Option, Some, None, Result, Ok, MatchResult, subst, sym}
 use Rattle.std.specs.Prelude.{IfSome}
 use Rattle.std.specs.Borrow.{Bor}
 use Rattle.std.proofs.lemmas.Bool.{false≢true}
 use Rattle.clap.specs.Words.{Text}
 use Rattle.cc_word.specs.declared.refusal.Refusal.{Refusal}
+use Rattle.cc_io.specs.Devices.{InputState}
 use Rattle.cc_io.specs.declared.summary.Summary.{Summary}
 use Rattle.cc_bounds.specs.declared.align.Align.{Align}
 use Rattle.cc_values.specs.declared.op.Op.{Op}
@@ -19,7 +20,7 @@ use Rattle.cc_explain.specs.Refused.{WritesRefusal}
 use Rattle.cc_console.specs.declared.fault.Fault.{Fault}
 use Rattle.cc_console.specs.declared.input.InputName.{InputName}
 use Rattle.cc_console.proofs.DeviceLemmas.{from_input, on_devices-map}
-use Rattle.cc_runs.specs.Runs.{DrawsEnd, DrawsMap, DrawsPage, DrawsPool, DrawsRun, MapsFile, MeetsFrom, MeetsMain, ReportsRun, StarvesPlan, StarvesRun}
+use Rattle.cc_runs.specs.Runs.{DrawsMap, DrawsPage, DrawsPool, DrawsRun, MapsFile, MeetsFrom, MeetsMain, ReportsRun, StarvesPlan, StarvesRun}
 use Rattle.cc_runs.specs.declared.report.Report.{Report}
 
 -- ---- drawings
@@ -34,32 +35,16 @@ pub draws_map : (svg : Bool) (session : Session) (output output_now : Option (Li
 draws_map true session output output_now is drawn = absurd (false≢true (sym is))
 draws_map false session output output_now is drawn = drawn
 
--- The end of a drawing, for the traffic of the devices.
-pub draws_end : (svg : Bool) (opening : List Op) (start : State) (traffic : Traffic) (unread left output output_now : Option (List ℕ)) (summary : Summary)
-    (session : Session) → traffic.unread ≡ unread → traffic.left ≡ left → traffic.output ≡ output → traffic.output_now ≡ output_now
-    → RunsSession 65536 opening (record { machine = start; unread = unread; taken = None }) (Ok summary) session.tally
-    (record { machine = session.machine; unread = left; taken = None }) → DrawsPool svg session output output_now
-    → DrawsEnd svg opening start traffic summary
-draws_end svg opening start traffic unread left output output_now summary session u l o n runs drawn = record {
-  session = session;
-  runs = subst (λ (b : Option (List ℕ)). RunsSession 65536 opening (record { machine = start; unread = b; taken = None }) (Ok summary) session.tally (record { machine = session.machine; unread = traffic.left; taken = None })) (sym u)
-      (subst (λ (b : Option (List ℕ)). RunsSession 65536 opening (record { machine = start; unread = unread; taken = None }) (Ok summary) session.tally (record { machine = session.machine; unread = b; taken = None })) (sym l) runs);
-  drawn = subst (λ (b : Option (List ℕ)). DrawsPool svg session b traffic.output_now) (sym o)
-      (subst (λ (b : Option (List ℕ)). DrawsPool svg session output b) (sym n) drawn);
-}
-
 -- A drawing after a run that read an input.
 pub draws_input : (svg : Bool) (opening : List Op) (start new : State) (input : InputName) (console : Console) (bytes_of : InputName → Option (List ℕ))
-    (unread remaining left output output_now : Option (List ℕ)) (result : Result Summary Fault) → start ≡ new → console.input ≡ bytes_of → unread ≡ remaining
-    → IfSome (bytes_of input) (λ bytes. remaining ≡ Some bytes) → console.left ≡ left → console.output ≡ output → console.output_now ≡ output_now
-    → ((traffic : Traffic) → traffic.unread ≡ unread → traffic.left ≡ left → traffic.output ≡ output → traffic.output_now ≡ output_now
-    → OnDevices (DrawsRun svg opening start traffic) result)
+    (source : InputState) (remaining : Option (List ℕ)) (result : Result Summary Fault) → start ≡ new → console.input ≡ bytes_of → source.unread ≡ remaining
+    → IfSome (bytes_of input) (λ bytes. remaining ≡ Some bytes) → OnDevices (DrawsRun svg opening start (traffic_of console source)) result
     → OnDevices (FromInput input console (DrawsRun svg opening new)) result
-draws_input svg opening start new input console bytes_of unread remaining left output output_now result is same has told l o n draws =
-    on_devices-map (DrawsRun svg opening start (traffic_of console unread)) (FromInput input console (DrawsRun svg opening new))
-    (λ io holds. from_input input console (DrawsRun svg opening new) bytes_of unread remaining io same has told
-    (subst (λ (state : State). DrawsRun svg opening state (traffic_of console unread) io) is holds))
-    result (draws (traffic_of console unread) refl l o n)
+draws_input svg opening start new input console bytes_of source remaining result is same has told draws =
+    on_devices-map (DrawsRun svg opening start (traffic_of console source)) (FromInput input console (DrawsRun svg opening new))
+    (λ io holds. from_input input console (DrawsRun svg opening new) bytes_of source remaining io same has told
+    (subst (λ (state : State). DrawsRun svg opening state (traffic_of console source) io) is holds))
+    result draws
 
 -- ---- inputs
 
@@ -91,22 +76,22 @@ plan_starves report limit pool align file console numbers opening input is_pool 
 
 -- A run that read an input.
 pub runs_input : (report : Report) (opening : List Op) (pool : Option ℕ) (start new : State) (input : InputName) (console : Console)
-    (bytes_of : InputName → Option (List ℕ)) (unread remaining : Option (List ℕ)) (result : Result Summary Fault) → start ≡ new → console.input ≡ bytes_of
-    → unread ≡ remaining → IfSome (bytes_of input) (λ bytes. remaining ≡ Some bytes)
-    → OnDevices (ReportsRun report opening pool start (traffic_of console unread)) result
+    (bytes_of : InputName → Option (List ℕ)) (source : InputState) (remaining : Option (List ℕ)) (result : Result Summary Fault) → start ≡ new → console.input ≡ bytes_of
+    → source.unread ≡ remaining → IfSome (bytes_of input) (λ bytes. remaining ≡ Some bytes)
+    → OnDevices (ReportsRun report opening pool start (traffic_of console source)) result
     → OnDevices (FromInput input console (ReportsRun report opening pool new)) result
-runs_input report opening pool start new input console bytes_of unread remaining result is same has told runs =
-    on_devices-map (ReportsRun report opening pool start (traffic_of console unread)) (FromInput input console (ReportsRun report opening pool new))
-    (λ io holds. from_input input console (ReportsRun report opening pool new) bytes_of unread remaining io same has told
-    (subst (λ (state : State). ReportsRun report opening pool state (traffic_of console unread) io) is holds))
+runs_input report opening pool start new input console bytes_of source remaining result is same has told runs =
+    on_devices-map (ReportsRun report opening pool start (traffic_of console source)) (FromInput input console (ReportsRun report opening pool new))
+    (λ io holds. from_input input console (ReportsRun report opening pool new) bytes_of source remaining io same has told
+    (subst (λ (state : State). ReportsRun report opening pool state (traffic_of console source) io) is holds))
     result runs
 
 -- A run meets the main theorem.
 pub meets : (report : Report) (opening : List Op) (pool : Option ℕ) (start : State) (traffic : Traffic) (result : Result Summary Fault)
     → OnDevices (ReportsRun report opening pool start traffic) result
-    → OnDevices (MeetsFrom opening start traffic.unread traffic.left traffic.output traffic.output_now) result
+    → OnDevices (MeetsFrom opening start traffic.source.unread traffic.source_now.unread traffic.output.taken traffic.output_now.taken) result
 meets report opening pool start traffic result runs =
-    on_devices-map (ReportsRun report opening pool start traffic) (MeetsFrom opening start traffic.unread traffic.left traffic.output traffic.output_now)
+    on_devices-map (ReportsRun report opening pool start traffic) (MeetsFrom opening start traffic.source.unread traffic.source_now.unread traffic.output.taken traffic.output_now.taken)
     (λ io does. (does.session.machine, does.runs.main)) result runs
 
 -- So does a run that read an input.

@@ -3,6 +3,7 @@ use Rattle.std.specs.Prelude.{◌≡◌, ◌⊎◌, ⊤, ℕ, Bool, true, false,
 use Rattle.std.specs.Borrow.{Bor}
 use Rattle.std.specs.Io.KnownBytes.{Appends}
 use Rattle.clap.specs.Words.{Text}
+use Rattle.cc_io.specs.Devices.{InputState}
 use Rattle.cc_io.specs.declared.summary.IoError.{IoError}
 use Rattle.cc_io.specs.declared.summary.IoError.TheVariants.{Read, Write}
 use Rattle.cc_io.specs.declared.summary.Summary.{Summary}
@@ -37,24 +38,24 @@ MeetsFrom opening start unread left output output_now result =
 -- AnswersAll holds if the main theorem does of a run that came to its end: the whole output of the script was written.
 abbrev pub AnswersAll : (opening : List Op) (start : State) → Traffic → Type 0
 AnswersAll opening start traffic =
-    (summary : Summary) × MeetsFrom opening start traffic.unread traffic.left traffic.output traffic.output_now (Ok summary)
+    (summary : Summary) × MeetsFrom opening start traffic.source.unread traffic.source_now.unread traffic.output.taken traffic.output_now.taken (Ok summary)
 
 -- StarvesRun holds if memory ran out in a run before anything was written, or, if a summary is requested, after all was.
 abbrev pub StarvesRun : Report → (opening : List Op) (start : State) → InputName → Console → Type 0
 StarvesRun report opening start input console =
-    (console.output_now ≡ console.output)
-    ⊎ ((report.stats ≡ true) × (unread : Option (List ℕ)) × IfSome (console.input input) (λ bytes. unread ≡ Some bytes)
-    × AnswersAll opening start (traffic_of console unread))
+    (console.output_now.taken ≡ console.output.taken)
+    ⊎ ((report.stats ≡ true) × (source : InputState) × IfSome (console.input input) (λ bytes. source.unread ≡ Some bytes)
+    × AnswersAll opening start (traffic_of console source))
 
 -- ReportsRun holds if a machine in the state `start` took the operations of `opening` and then the script, the bytes written are
 -- its replies, up to a failure, and a run that came to its end was reported.
 pub record ReportsRun (report : Report) (opening : List Op) (pool : Option ℕ) (start : State) (traffic : Traffic) (result : Result Summary IoError) : Type 0 where
   pub session : Session
   pub runs :
-      RunsSession 65536 opening (record { machine = start; unread = traffic.unread; taken = traffic.output }) result session.tally
-      (record { machine = session.machine; unread = traffic.left; taken = traffic.output_now })
-  pub reported : OnOk result (traffic.errors_failed ≡ false → (first : List Reply) (exchanges : List Exchange)
-      → IsTally first exchanges session.tally → WritesReport report session first exchanges pool traffic.errors traffic.errors_now)
+      RunsSession 65536 opening (record { machine = start; unread = traffic.source.unread; taken = traffic.output.taken }) result session.tally
+      (record { machine = session.machine; unread = traffic.source_now.unread; taken = traffic.output_now.taken })
+  pub reported : OnOk result (traffic.errors_now.has_failed ≡ false → (first : List Reply) (exchanges : List Exchange)
+      → IsTally first exchanges session.tally → WritesReport report session first exchanges pool traffic.errors.taken traffic.errors_now.taken)
 
 -- MeetsMain holds if the main theorem does of a run on a new machine that read this input, if its bytes are known, up to the bytes
 -- `left`, and wrote to this output.
@@ -88,14 +89,14 @@ DrawsPool false session output output_now = DrawsMap session output output_now
 pub record DrawsEnd (svg : Bool) (opening : List Op) (start : State) (traffic : Traffic) (summary : Summary) : Type 0 where
   pub session : Session
   pub runs :
-      RunsSession 65536 opening (record { machine = start; unread = traffic.unread; taken = None }) (Ok summary) session.tally
-      (record { machine = session.machine; unread = traffic.left; taken = None })
-  pub drawn : DrawsPool svg session traffic.output traffic.output_now
+      RunsSession 65536 opening (record { machine = start; unread = traffic.source.unread; taken = None }) (Ok summary) session.tally
+      (record { machine = session.machine; unread = traffic.source_now.unread; taken = None })
+  pub drawn : DrawsPool svg session traffic.output.taken traffic.output_now.taken
 
 -- DrawsRun holds if the pool was drawn at the end of the run. Nothing was written if a read failed.
 abbrev pub DrawsRun : (svg : Bool) (opening : List Op) (start : State) → Traffic → Result Summary IoError → Type 0
 DrawsRun svg opening start traffic (Ok summary) = DrawsEnd svg opening start traffic summary
-DrawsRun svg opening start traffic (Err Read) = traffic.output_now ≡ traffic.output
+DrawsRun svg opening start traffic (Err Read) = traffic.output_now.taken ≡ traffic.output.taken
 DrawsRun svg opening start traffic (Err Write) = ⊤
 
 -- WithPool holds if `Does` holds for BASE and LENGTH, or if they are not numbers that a pool can have and are refused.

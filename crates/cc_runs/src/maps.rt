@@ -3,7 +3,8 @@ ghost use Rattle.std.specs.Prelude.{◌≡◌, ◌≢◌, ◌≤◌, ◌↔◌, 
 ghost use Rattle.cc_machine.specs.State.{initial_state};
 ghost use Rattle.cc_syntax.specs.Planning.{pool_of};
 ghost use Rattle.cc_syntax.specs.Tally.{IsTally};
-ghost use Rattle.cc_console.specs.Devices.{FromInput, OnDevices, OnOutput, Traffic};
+ghost use Rattle.cc_io.specs.Devices.{OutputState};
+ghost use Rattle.cc_console.specs.Devices.{FromInput, IsEnd, OnDevices, OnOutput, traffic_on};
 ghost use Rattle.cc_console.specs.Input.{IsFile, file_input};
 ghost use Rattle.cc_runs.specs.Runs.{DrawsRun, MapsFile};
 
@@ -41,19 +42,15 @@ pub fn map_file<M: RunMemory, I: Inputs, W: Sink>(
     requires source { (I.Opened.state source.old).has_failed ≡ false }
     requires inputs { I.has_refused inputs.old ≡ false }
     requires sink { (W.state sink.old).has_failed ≡ false }
-    ensures executes { OnOutput (I.bytes_of inputs.old) (W.state sink.old).taken (W.state sink.new).taken (I.Opened.state source.new).unread
+    ensures executes { OnOutput (I.bytes_of inputs.old) (I.Opened.state source.new) (W.state sink.old) (W.state sink.new)
         (MapsFile limit pool.entry align svg file.entry) result }
     ensures memory { result ≡ Err Fault.Memory → IsOk (pool_of pool.entry.base.now pool.entry.length.now) }
     ensures open { result ≡ Err Fault.Open → IsFile (file_input file.entry) }
-    ensures untouched { result ≡ Err Fault.Open → (W.state sink.new).taken ≡ (W.state sink.old).taken }
     ensures starved { result ≡ Err Fault.Memory → (W.state sink.new).taken ≡ (W.state sink.old).taken }
     ensures asked { I.last_asked inputs.new (file_input file.entry) Content.Pool ≡ false → (inputs.new ≡ inputs.old) × (source.new ≡ source.old) }
     ensures unused { ¬ IsOk (pool_of pool.entry.base.now pool.entry.length.now) → (inputs.new ≡ inputs.old) × (source.new ≡ source.old) }
-    ensures refused { (result ≡ Err Fault.Open) ↔ (I.has_refused inputs.new ≡ true) }
-    ensures read { (result ≡ Err Fault.Read) ↔ ((I.Opened.state source.new).has_failed ≡ true) }
     ensures allocates { (result ≡ Err Fault.Memory) ↔ (M.has_failed memory.new ≡ true) }
-    ensures write { (result ≡ Err Fault.Write) ↔ ((W.state sink.new).has_failed ≡ true) }
-    ensures flushed { OnOk result ((W.state sink.new).is_flushed ≡ true) }
+    ensures end { IsEnd (I.has_refused inputs.new) (I.Opened.state source.new) (W.state sink.old) (W.state sink.new) result }
 {
     match plan_numbers(pool.base.as_bytes(), pool.length.as_bytes()) {
         Ok((base, length)) => {
@@ -92,17 +89,13 @@ fn draw<M: RunMemory, I: Inputs, W: Sink>(
     requires source { (I.Opened.state source.old).has_failed ≡ false }
     requires inputs { I.has_refused inputs.old ≡ false }
     requires sink { (W.state sink.old).has_failed ≡ false }
-    ensures draws { OnOutput (I.bytes_of inputs.old) (W.state sink.old).taken (W.state sink.new).taken (I.Opened.state source.new).unread
+    ensures draws { OnOutput (I.bytes_of inputs.old) (I.Opened.state source.new) (W.state sink.old) (W.state sink.new)
         (λ console. FromInput input.entry console (DrawsRun svg opening.now (initial_state limit))) result }
     ensures open { result ≡ Err Fault.Open → IsFile input.entry }
-    ensures untouched { result ≡ Err Fault.Open → (W.state sink.new).taken ≡ (W.state sink.old).taken }
     ensures starved { result ≡ Err Fault.Memory → (W.state sink.new).taken ≡ (W.state sink.old).taken }
     ensures asked { I.last_asked inputs.new input.entry Content.Pool ≡ false → (inputs.new ≡ inputs.old) × (source.new ≡ source.old) }
-    ensures refused { (result ≡ Err Fault.Open) ↔ (I.has_refused inputs.new ≡ true) }
-    ensures read { (result ≡ Err Fault.Read) ↔ ((I.Opened.state source.new).has_failed ≡ true) }
     ensures allocates { (result ≡ Err Fault.Memory) ↔ (M.has_failed memory.new ≡ true) }
-    ensures write { (result ≡ Err Fault.Write) ↔ ((W.state sink.new).has_failed ≡ true) }
-    ensures flushed { OnOk result ((W.state sink.new).is_flushed ≡ true) }
+    ensures end { IsEnd (I.has_refused inputs.new) (I.Opened.state source.new) (W.state sink.old) (W.state sink.new) result }
 {
     let mut session = memory.session(limit)?;
     inputs.open(input, Content::Pool, source)?;
@@ -123,9 +116,8 @@ fn draw_end<M: RunMemory, S: Source, W: Sink>(
     requires memory { M.has_failed memory.old ≡ false }
     requires source { (S.state source.old).has_failed ≡ false }
     requires sink { (W.state sink.old).has_failed ≡ false }
-    ensures draws { (traffic : Traffic) → traffic.unread ≡ (S.state source.old).unread → traffic.left ≡ (S.state source.new).unread
-        → traffic.output ≡ (W.state sink.old).taken → traffic.output_now ≡ (W.state sink.new).taken
-        → OnDevices (DrawsRun svg opening.now session.old.machine traffic) result }
+    ensures draws { (errors errors_now : OutputState) → OnDevices (DrawsRun svg opening.now session.old.machine
+        (traffic_on (S.state source.old) (S.state source.new) (W.state sink.old) (W.state sink.new) errors errors_now)) result }
     ensures open { result ≢ Err Fault.Open }
     ensures starved { result ≡ Err Fault.Memory → (W.state sink.new).taken ≡ (W.state sink.old).taken }
     ensures read { (result ≡ Err Fault.Read) ↔ ((S.state source.new).has_failed ≡ true) }

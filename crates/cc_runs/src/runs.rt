@@ -3,7 +3,7 @@ ghost use Rattle.std.specs.Prelude.{◌≡◌, ◌≢◌, ◌≤◌, ◌↔◌, 
 ghost use Rattle.cc_machine.specs.State.{initial_state};
 ghost use Rattle.cc_syntax.specs.Planning.{plan_opening, pool_of};
 ghost use Rattle.cc_syntax.specs.Tally.{IsTally};
-ghost use Rattle.cc_console.specs.Devices.{FromInput, OnDevices};
+ghost use Rattle.cc_console.specs.Devices.{FromInput, IsEnd, OnDevices, console_of, traffic_on};
 ghost use Rattle.cc_console.specs.Input.{IsFile, file_input};
 ghost use Rattle.cc_runs.specs.Runs.{AnswersAll, MeetsFrom, MeetsMain, PlansFile, ReportsRun, StarvesPlan, StarvesRun};
 
@@ -40,33 +40,15 @@ pub fn run_file<M: RunMemory, I: Inputs, W: Sink, E: Sink>(
     requires inputs { I.has_refused inputs.old ≡ false }
     requires sink { (W.state sink.old).has_failed ≡ false }
     requires errors { (E.state errors.old).has_failed ≡ false }
-    ensures executes { OnDevices (FromInput (file_input file.entry) (record {
-      input = I.bytes_of inputs.old;
-      left = (I.Opened.state source.new).unread;
-      output = (W.state sink.old).taken;
-      output_now = (W.state sink.new).taken;
-      errors = (E.state errors.old).taken;
-      errors_now = (E.state errors.new).taken;
-      errors_failed = (E.state errors.new).has_failed;
-    }) (ReportsRun report [] None (initial_state limit))) result }
+    ensures executes { OnDevices (FromInput (file_input file.entry)
+        (console_of (I.bytes_of inputs.old) (I.Opened.state source.new) (W.state sink.old) (W.state sink.new) (E.state errors.old) (E.state errors.new)) (ReportsRun report [] None (initial_state limit))) result }
     ensures open { result ≡ Err Fault.Open → IsFile (file_input file.entry) }
-    ensures untouched { result ≡ Err Fault.Open → (W.state sink.new).taken ≡ (W.state sink.old).taken }
     ensures asked { I.last_asked inputs.new (file_input file.entry) Content.Script ≡ false → (inputs.new ≡ inputs.old) × (source.new ≡ source.old) }
-    ensures refused { (result ≡ Err Fault.Open) ↔ (I.has_refused inputs.new ≡ true) }
-    ensures read { (result ≡ Err Fault.Read) ↔ ((I.Opened.state source.new).has_failed ≡ true) }
     ensures allocates { (result ≡ Err Fault.Memory) ↔ (M.has_failed memory.new ≡ true) }
-    ensures write { (result ≡ Err Fault.Write) ↔ ((W.state sink.new).has_failed ≡ true) }
-    ensures starved { result ≡ Err Fault.Memory → StarvesRun report [] (initial_state limit) (file_input file.entry) (record {
-      input = I.bytes_of inputs.old;
-      left = (I.Opened.state source.new).unread;
-      output = (W.state sink.old).taken;
-      output_now = (W.state sink.new).taken;
-      errors = (E.state errors.old).taken;
-      errors_now = (E.state errors.new).taken;
-      errors_failed = (E.state errors.new).has_failed;
-    }) }
+    ensures starved { result ≡ Err Fault.Memory → StarvesRun report [] (initial_state limit) (file_input file.entry)
+        (console_of (I.bytes_of inputs.old) (I.Opened.state source.new) (W.state sink.old) (W.state sink.new) (E.state errors.old) (E.state errors.new)) }
     ensures main { OnDevices (MeetsMain limit [] (I.bytes_of inputs.old (file_input file.entry)) (I.Opened.state source.new).unread (W.state sink.old).taken (W.state sink.new).taken) result }
-    ensures flushed { OnOk result ((W.state sink.new).is_flushed ≡ true) }
+    ensures end { IsEnd (I.has_refused inputs.new) (I.Opened.state source.new) (W.state sink.old) (W.state sink.new) result }
     ensures unreported { OnErr result ((E.state errors.new).taken ≡ (E.state errors.old).taken) }
 {
     let input = file_input(file);
@@ -108,35 +90,17 @@ pub fn plan_file<M: RunMemory, I: Inputs, W: Sink, E: Sink>(
     requires inputs { I.has_refused inputs.old ≡ false }
     requires sink { (W.state sink.old).has_failed ≡ false }
     requires errors { (E.state errors.old).has_failed ≡ false }
-    ensures executes { OnDevices (PlansFile report limit pool.entry align file.entry (record {
-      input = I.bytes_of inputs.old;
-      left = (I.Opened.state source.new).unread;
-      output = (W.state sink.old).taken;
-      output_now = (W.state sink.new).taken;
-      errors = (E.state errors.old).taken;
-      errors_now = (E.state errors.new).taken;
-      errors_failed = (E.state errors.new).has_failed;
-    })) result }
+    ensures executes { OnDevices (PlansFile report limit pool.entry align file.entry
+        (console_of (I.bytes_of inputs.old) (I.Opened.state source.new) (W.state sink.old) (W.state sink.new) (E.state errors.old) (E.state errors.new))) result }
     ensures memory { result ≡ Err Fault.Memory → IsOk (pool_of pool.entry.base.now pool.entry.length.now) }
     ensures open { result ≡ Err Fault.Open → IsFile (file_input file.entry) }
-    ensures untouched { result ≡ Err Fault.Open → (W.state sink.new).taken ≡ (W.state sink.old).taken }
     ensures asked { I.last_asked inputs.new (file_input file.entry) Content.Script ≡ false → (inputs.new ≡ inputs.old) × (source.new ≡ source.old) }
     ensures unused { ¬ IsOk (pool_of pool.entry.base.now pool.entry.length.now) → (inputs.new ≡ inputs.old) × (source.new ≡ source.old) }
-    ensures refused { (result ≡ Err Fault.Open) ↔ (I.has_refused inputs.new ≡ true) }
-    ensures read { (result ≡ Err Fault.Read) ↔ ((I.Opened.state source.new).has_failed ≡ true) }
     ensures allocates { (result ≡ Err Fault.Memory) ↔ (M.has_failed memory.new ≡ true) }
-    ensures write { (result ≡ Err Fault.Write) ↔ ((W.state sink.new).has_failed ≡ true) }
-    ensures starved { result ≡ Err Fault.Memory → StarvesPlan report limit pool.entry align file.entry (record {
-      input = I.bytes_of inputs.old;
-      left = (I.Opened.state source.new).unread;
-      output = (W.state sink.old).taken;
-      output_now = (W.state sink.new).taken;
-      errors = (E.state errors.old).taken;
-      errors_now = (E.state errors.new).taken;
-      errors_failed = (E.state errors.new).has_failed;
-    }) }
+    ensures starved { result ≡ Err Fault.Memory → StarvesPlan report limit pool.entry align file.entry
+        (console_of (I.bytes_of inputs.old) (I.Opened.state source.new) (W.state sink.old) (W.state sink.new) (E.state errors.old) (E.state errors.new)) }
     ensures main { IfOk (pool_of pool.entry.base.now pool.entry.length.now) (λ numbers. OnDevices (MeetsMain limit (plan_opening numbers.0 numbers.1 align) (I.bytes_of inputs.old (file_input file.entry)) (I.Opened.state source.new).unread (W.state sink.old).taken (W.state sink.new).taken) result) }
-    ensures flushed { OnOk result ((W.state sink.new).is_flushed ≡ true) }
+    ensures end { IsEnd (I.has_refused inputs.new) (I.Opened.state source.new) (W.state sink.old) (W.state sink.new) result }
     ensures unreported { OnErr result ((E.state errors.new).taken ≡ (E.state errors.old).taken) }
     ensures silent { ¬ IsOk (pool_of pool.entry.base.now pool.entry.length.now) → errors.new ≡ errors.old }
 {
@@ -182,33 +146,15 @@ fn run<M: RunMemory, I: Inputs, W: Sink, E: Sink>(
     requires inputs { I.has_refused inputs.old ≡ false }
     requires sink { (W.state sink.old).has_failed ≡ false }
     requires errors { (E.state errors.old).has_failed ≡ false }
-    ensures runs { OnDevices (FromInput input.entry (record {
-      input = I.bytes_of inputs.old;
-      left = (I.Opened.state source.new).unread;
-      output = (W.state sink.old).taken;
-      output_now = (W.state sink.new).taken;
-      errors = (E.state errors.old).taken;
-      errors_now = (E.state errors.new).taken;
-      errors_failed = (E.state errors.new).has_failed;
-    }) (ReportsRun report opening.now pool (initial_state limit))) result }
+    ensures runs { OnDevices (FromInput input.entry
+        (console_of (I.bytes_of inputs.old) (I.Opened.state source.new) (W.state sink.old) (W.state sink.new) (E.state errors.old) (E.state errors.new)) (ReportsRun report opening.now pool (initial_state limit))) result }
     ensures open { result ≡ Err Fault.Open → IsFile input.entry }
-    ensures untouched { result ≡ Err Fault.Open → (W.state sink.new).taken ≡ (W.state sink.old).taken }
     ensures asked { I.last_asked inputs.new input.entry Content.Script ≡ false → (inputs.new ≡ inputs.old) × (source.new ≡ source.old) }
-    ensures refused { (result ≡ Err Fault.Open) ↔ (I.has_refused inputs.new ≡ true) }
-    ensures read { (result ≡ Err Fault.Read) ↔ ((I.Opened.state source.new).has_failed ≡ true) }
     ensures allocates { (result ≡ Err Fault.Memory) ↔ (M.has_failed memory.new ≡ true) }
-    ensures write { (result ≡ Err Fault.Write) ↔ ((W.state sink.new).has_failed ≡ true) }
-    ensures starved { result ≡ Err Fault.Memory → StarvesRun report opening.now (initial_state limit) input.entry (record {
-      input = I.bytes_of inputs.old;
-      left = (I.Opened.state source.new).unread;
-      output = (W.state sink.old).taken;
-      output_now = (W.state sink.new).taken;
-      errors = (E.state errors.old).taken;
-      errors_now = (E.state errors.new).taken;
-      errors_failed = (E.state errors.new).has_failed;
-    }) }
+    ensures starved { result ≡ Err Fault.Memory → StarvesRun report opening.now (initial_state limit) input.entry
+        (console_of (I.bytes_of inputs.old) (I.Opened.state source.new) (W.state sink.old) (W.state sink.new) (E.state errors.old) (E.state errors.new)) }
     ensures main { OnDevices (MeetsMain limit opening.now (I.bytes_of inputs.old input.entry) (I.Opened.state source.new).unread (W.state sink.old).taken (W.state sink.new).taken) result }
-    ensures flushed { OnOk result ((W.state sink.new).is_flushed ≡ true) }
+    ensures end { IsEnd (I.has_refused inputs.new) (I.Opened.state source.new) (W.state sink.old) (W.state sink.new) result }
     ensures unreported { OnErr result ((E.state errors.new).taken ≡ (E.state errors.old).taken) }
 {
     let mut session = memory.session(limit)?;
@@ -241,28 +187,14 @@ fn run_and_report<M: RunMemory, S: Source, W: Sink, E: Sink>(
     requires source { (S.state source.old).has_failed ≡ false }
     requires sink { (W.state sink.old).has_failed ≡ false }
     requires errors { (E.state errors.old).has_failed ≡ false }
-    ensures runs { OnDevices (ReportsRun report opening.now pool session.old.machine (record {
-      unread = (S.state source.old).unread;
-      left = (S.state source.new).unread;
-      output = (W.state sink.old).taken;
-      output_now = (W.state sink.new).taken;
-      errors = (E.state errors.old).taken;
-      errors_now = (E.state errors.new).taken;
-      errors_failed = (E.state errors.new).has_failed;
-    })) result }
+    ensures runs { OnDevices (ReportsRun report opening.now pool session.old.machine
+        (traffic_on (S.state source.old) (S.state source.new) (W.state sink.old) (W.state sink.new) (E.state errors.old) (E.state errors.new))) result }
     ensures open { result ≢ Err Fault.Open }
     ensures read { (result ≡ Err Fault.Read) ↔ ((S.state source.new).has_failed ≡ true) }
     ensures allocates { (result ≡ Err Fault.Memory) ↔ (M.has_failed memory.new ≡ true) }
     ensures write { (result ≡ Err Fault.Write) ↔ ((W.state sink.new).has_failed ≡ true) }
-    ensures starved { result ≡ Err Fault.Memory → (report.stats ≡ true) × AnswersAll opening.now session.old.machine (record {
-      unread = (S.state source.old).unread;
-      left = (S.state source.new).unread;
-      output = (W.state sink.old).taken;
-      output_now = (W.state sink.new).taken;
-      errors = (E.state errors.old).taken;
-      errors_now = (E.state errors.new).taken;
-      errors_failed = (E.state errors.new).has_failed;
-    }) }
+    ensures starved { result ≡ Err Fault.Memory → (report.stats ≡ true) × AnswersAll opening.now session.old.machine
+        (traffic_on (S.state source.old) (S.state source.new) (W.state sink.old) (W.state sink.new) (E.state errors.old) (E.state errors.new)) }
     ensures main { OnDevices (MeetsFrom opening.now session.old.machine (S.state source.old).unread (S.state source.new).unread (W.state sink.old).taken (W.state sink.new).taken) result }
     ensures flushed { OnOk result ((W.state sink.new).is_flushed ≡ true) }
     ensures unreported { OnErr result ((E.state errors.new).taken ≡ (E.state errors.old).taken) }

@@ -1,5 +1,7 @@
 //! Runs of scripts, with each reply written before the next line is taken.
 ghost use Rattle.std.specs.Prelude.{◌≡◌, ◌↔◌, [], Err, OnOk, false, true};
+ghost use Rattle.cc_io.specs.Devices.{AreReady, IsOutcome};
+ghost use Rattle.cc_session.specs.Main.{io_of};
 ghost use Rattle.cc_session.specs.Failures.{RunsScript, StopsInReply};
 ghost use Rattle.cc_session.specs.Laws.{KeepsLaws};
 ghost use Rattle.cc_syntax.specs.Planning.{plan_opening};
@@ -26,15 +28,12 @@ pub fn run_script<R: Source, W: Sink>(
     source: &mut R,
     sink: &mut W,
 ) -> Result<Summary, IoError>
-    requires source { (R.state source.old).has_failed ≡ false }
-    requires sink { (W.state sink.old).has_failed ≡ false }
+    requires { AreReady (R.state source.old) (W.state sink.old) }
     // The main theorem (`main`), and what was written before a failure (`fails`).
     ensures runs { RunsScript StopsInReply []
-        (record { machine = machine.old; unread = (R.state source.old).unread; taken = (W.state sink.old).taken }) result
-        (record { machine = machine.new; unread = (R.state source.new).unread; taken = (W.state sink.new).taken }) }
-    ensures read { (result ≡ Err IoError.Read) ↔ ((R.state source.new).has_failed ≡ true) }
-    ensures write { (result ≡ Err IoError.Write) ↔ ((W.state sink.new).has_failed ≡ true) }
-    ensures flushed { OnOk result ((W.state sink.new).is_flushed ≡ true) }
+        (io_of machine.old (R.state source.old) (W.state sink.old)) result
+        (io_of machine.new (R.state source.new) (W.state sink.new)) }
+    ensures outcome { IsOutcome (R.state source.new) (W.state sink.new) result }
     ensures laws { KeepsLaws machine.old machine.new }
 {
     run_script_after(&[], machine, source, sink)
@@ -58,14 +57,11 @@ pub fn plan_script<R: Source, W: Sink>(
     source: &mut R,
     sink: &mut W,
 ) -> Result<Summary, IoError>
-    requires source { (R.state source.old).has_failed ≡ false }
-    requires sink { (W.state sink.old).has_failed ≡ false }
+    requires { AreReady (R.state source.old) (W.state sink.old) }
     ensures runs { RunsScript StopsInReply (plan_opening base length align)
-        (record { machine = machine.old; unread = (R.state source.old).unread; taken = (W.state sink.old).taken }) result
-        (record { machine = machine.new; unread = (R.state source.new).unread; taken = (W.state sink.new).taken }) }
-    ensures read { (result ≡ Err IoError.Read) ↔ ((R.state source.new).has_failed ≡ true) }
-    ensures write { (result ≡ Err IoError.Write) ↔ ((W.state sink.new).has_failed ≡ true) }
-    ensures flushed { OnOk result ((W.state sink.new).is_flushed ≡ true) }
+        (io_of machine.old (R.state source.old) (W.state sink.old)) result
+        (io_of machine.new (R.state source.new) (W.state sink.new)) }
+    ensures outcome { IsOutcome (R.state source.new) (W.state sink.new) result }
     ensures laws { KeepsLaws machine.old machine.new }
 {
     run_script_after(&plan_opening(base, length, align), machine, source, sink)
@@ -85,14 +81,11 @@ pub fn run_script_after<R: Source, W: Sink>(
     source: &mut R,
     sink: &mut W,
 ) -> Result<Summary, IoError>
-    requires source { (R.state source.old).has_failed ≡ false }
-    requires sink { (W.state sink.old).has_failed ≡ false }
+    requires { AreReady (R.state source.old) (W.state sink.old) }
     ensures runs { RunsScript StopsInReply opening.now
-        (record { machine = machine.old; unread = (R.state source.old).unread; taken = (W.state sink.old).taken }) result
-        (record { machine = machine.new; unread = (R.state source.new).unread; taken = (W.state sink.new).taken }) }
-    ensures read { (result ≡ Err IoError.Read) ↔ ((R.state source.new).has_failed ≡ true) }
-    ensures write { (result ≡ Err IoError.Write) ↔ ((W.state sink.new).has_failed ≡ true) }
-    ensures flushed { OnOk result ((W.state sink.new).is_flushed ≡ true) }
+        (io_of machine.old (R.state source.old) (W.state sink.old)) result
+        (io_of machine.new (R.state source.new) (W.state sink.new)) }
+    ensures outcome { IsOutcome (R.state source.new) (W.state sink.new) result }
     ensures laws { KeepsLaws machine.old machine.new }
 {
     let mut tally = Tally::new();

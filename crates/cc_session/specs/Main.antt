@@ -2,6 +2,7 @@
 use Rattle.std.specs.Prelude.{◌≡◌, ℕ, Bool, List, ◌++◌, Option, IfOk, Result}
 use Rattle.std.specs.Io.KnownBytes.{Appends, Consumes, IsAtEnd}
 use Rattle.cc_word.specs.declared.refusal.Refusal.{Refusal}
+use Rattle.cc_io.specs.Devices.{InputState, OutputState}
 use Rattle.cc_io.specs.declared.summary.IoError.{IoError}
 use Rattle.cc_io.specs.declared.summary.Summary.{Summary}
 use Rattle.cc_values.specs.declared.op.Op.{Op}
@@ -25,6 +26,10 @@ pub record IoState : Type 0 where
   pub machine : State
   pub unread : Option (List ℕ)
   pub taken : Option (List ℕ)
+
+-- The state of this machine and of these devices.
+abbrev pub io_of : State → InputState → OutputState → IoState
+io_of machine input output = record { machine = machine; unread = input.unread; taken = output.taken }
 
 -- WritesOutput holds if the sink took the output of the script, and the source has no byte left.
 pub record WritesOutput (opening : List Op) (text : List ℕ) (before : IoState) (any_error : Bool) (after : IoState) : Type 0 where

@@ -2,10 +2,11 @@
 ghost use Rattle.std.specs.Prelude.{◌≡◌, ◌+◌, ◌≤◌, ◌<◌, ◌↔◌, [], Err, IfOk, IsErr, OnErr, OnOk, false, length, map, Ok, true};
 ghost use Rattle.std.specs.Io.KnownBytes.{Appends};
 ghost use Rattle.cc_io.specs.Answers.{AnswersInto};
-ghost use Rattle.cc_io.specs.Devices.{TakesBeginning};
+ghost use Rattle.cc_io.specs.Devices.{AreReady, IsOutcome, TakesBeginning};
 ghost use Rattle.cc_io.specs.Engine.{PassesPage};
 ghost use Rattle.cc_machine.specs.Run.{IsReached};
 ghost use Rattle.cc_session.specs.Failures.{StopsInReplies};
+ghost use Rattle.cc_session.specs.Main.{io_of};
 ghost use Rattle.cc_session.specs.Laws.{KeepsLaws};
 ghost use Rattle.cc_session.specs.Session.{Opens, RunsSession, TakesOperation};
 ghost use Rattle.cc_session.specs.Lending.{AnswersLine, RefusesRest};
@@ -89,18 +90,15 @@ pub fn run_session<R: Source, W: Sink, const N: usize>(
     sink: &mut W,
     page: &mut Page<N>,
 ) -> Result<Summary, IoError>
-    requires source { (R.state source.old).has_failed ≡ false }
-    requires sink { (W.state sink.old).has_failed ≡ false }
+    requires ready { AreReady (R.state source.old) (W.state sink.old) }
     requires fresh { IsTally [] [] tally.old }
     requires room { 193 ≤ N }
     // The main theorem (`main`), what was written before a failure (`fails`), and the counts of the
     // replies at `Ok` (`counts`).
     ensures runs { RunsSession N opening.now
-        (record { machine = machine.old; unread = (R.state source.old).unread; taken = (W.state sink.old).taken }) result tally.new
-        (record { machine = machine.new; unread = (R.state source.new).unread; taken = (W.state sink.new).taken }) }
-    ensures read { (result ≡ Err IoError.Read) ↔ ((R.state source.new).has_failed ≡ true) }
-    ensures write { (result ≡ Err IoError.Write) ↔ ((W.state sink.new).has_failed ≡ true) }
-    ensures flushed { OnOk result ((W.state sink.new).is_flushed ≡ true) }
+        (io_of machine.old (R.state source.old) (W.state sink.old)) result tally.new
+        (io_of machine.new (R.state source.new) (W.state sink.new)) }
+    ensures outcome { IsOutcome (R.state source.new) (W.state sink.new) result }
     ensures laws { KeepsLaws machine.old machine.new }
 {
     tell_reached(machine);
@@ -123,20 +121,17 @@ fn answer_script<R: Source, W: Sink, const N: usize>(
     sink: &mut W,
     page: &mut Page<N>,
 ) -> Result<Summary, IoError>
-    requires source { (R.state source.old).has_failed ≡ false }
-    requires sink { (W.state sink.old).has_failed ≡ false }
+    requires ready { AreReady (R.state source.old) (W.state sink.old) }
     requires reached { IsReached lent.old.machine.now }
     requires fresh { IsTally [] [] lent.old.tally.now }
     requires room { 193 ≤ N }
     ensures same_machine { lent.new.machine.ghost_name ≡ lent.old.machine.ghost_name }
     ensures same_tally { lent.new.tally.ghost_name ≡ lent.old.tally.ghost_name }
     ensures runs { RunsSession N opening.now
-        (record { machine = lent.old.machine.now; unread = (R.state source.old).unread; taken = (W.state sink.old).taken }) result lent.new.tally.now
-        (record { machine = lent.new.machine.now; unread = (R.state source.new).unread; taken = (W.state sink.new).taken }) }
+        (io_of lent.old.machine.now (R.state source.old) (W.state sink.old)) result lent.new.tally.now
+        (io_of lent.new.machine.now (R.state source.new) (W.state sink.new)) }
     ensures laws { KeepsLaws lent.old.machine.now lent.new.machine.now }
-    ensures read { (result ≡ Err IoError.Read) ↔ ((R.state source.new).has_failed ≡ true) }
-    ensures write { (result ≡ Err IoError.Write) ↔ ((W.state sink.new).has_failed ≡ true) }
-    ensures flushed { OnOk result ((W.state sink.new).is_flushed ≡ true) }
+    ensures outcome { IsOutcome (R.state source.new) (W.state sink.new) result }
 {
     page.clear();
     let opening_error = match take_opening(opening, lent.machine, lent.tally, sink, page) {

@@ -7,6 +7,7 @@ use Rattle.std.specs.Io.KnownBytes.{Appends}
 use Rattle.std.specs.Borrow.{Bor}
 use Rattle.clap.specs.Words.{Text}
 use Rattle.cc_word.specs.declared.refusal.Refusal.{Refusal}
+use Rattle.cc_io.specs.Devices.{OutputState}
 use Rattle.cc_io.specs.declared.summary.IoError.{IoError}
 use Rattle.cc_io.specs.declared.summary.Summary.{Summary}
 use Rattle.cc_io.specs.declared.format.Format.{Format}
@@ -41,7 +42,7 @@ decodes input format texts file console listing name result is_listing is_input 
     result lists
 
 -- The output of `round`, from that for the base that the text gives.
-pub with_base : (text : Option (Bor Text)) (base : Option ℕ) (output output_now : Option (List ℕ)) (Does : (base : Option ℕ) → Result Summary IoError → Type 0)
+pub with_base : (text : Option (Bor Text)) (base : Option ℕ) (output output_now : OutputState) (Does : (base : Option ℕ) → Result Summary IoError → Type 0)
     (result : Result Summary Fault) → place_in text ≡ Ok base → OnDevices (Does base) result → OnDevices (WithBase text output output_now Does) result
 with_base text base output output_now Does result is does =
     on_devices-map (Does base) (WithBase text output output_now Does)
@@ -51,20 +52,20 @@ with_base text base output output_now Does result is does =
 
 -- The hint on the list, beside its output.
 pub hinted_too : (text : Option (Bor Text)) (hints bare : Bool) (place : Option ℕ) (input : InputName) (console : Console) (result : Result Summary Fault)
-    → OnOk result (console.errors_failed ≡ false → Appends console.errors console.errors_now (hint_if (hints && (list_any is_bare (after_base text []) || bare))))
+    → OnOk result (console.errors_now.has_failed ≡ false → Appends console.errors.taken console.errors_now.taken (hint_if (hints && (list_any is_bare (after_base text []) || bare))))
     → OnDevices (FromInput input console (SeesLengths place bare)) result → OnDevices (FromInput input console (RoundsLengths text hints place)) result
 hinted_too text hints bare place input console (Ok summary) hinted f = record {
-  unread = f.unread;
+  source = f.source;
   known = f.known;
   does = record { bare = bare; rounds = f.does; hinted = hinted };
 }
 hinted_too text hints bare place input console (Err fault.Read) hinted f = record {
-  unread = f.unread;
+  source = f.source;
   known = f.known;
   does = record { bare = bare; rounds = f.does; hinted = tt };
 }
 hinted_too text hints bare place input console (Err fault.Write) hinted f = record {
-  unread = f.unread;
+  source = f.source;
   known = f.known;
   does = record { bare = bare; rounds = f.does; hinted = tt };
 }

@@ -32,7 +32,7 @@ pub fn ask<W: Sink, E: Sink>(
 ) -> Result<Summary, Fault>
     requires sink { (W.state sink.old).has_failed ≡ false }
     requires errors { (E.state errors.old).has_failed ≡ false }
-    ensures answers { OnDevices (AnswersQuestion question.entry (W.state sink.old).taken (W.state sink.new).taken) result }
+    ensures answers { OnDevices (AnswersQuestion question.entry (W.state sink.old) (W.state sink.new)) result }
     ensures hinted { OnOk result ((E.state errors.new).has_failed ≡ false → Appends (E.state errors.old).taken (E.state errors.new).taken (question_hint hints question.entry)) }
     ensures silent { ¬ IsTrue (has_hint hints question.entry) → errors.new ≡ errors.old }
     ensures unreported { OnErr result (errors.new ≡ errors.old) }
@@ -53,7 +53,7 @@ pub fn ask<W: Sink, E: Sink>(
 /// Writes the listing, line, rounding, explanation or drawing that a question requests.
 fn answer<W: Sink>(question: Question<'_>, sink: &mut W) -> Result<Summary, Fault>
     requires { (W.state sink.old).has_failed ≡ false }
-    ensures answers { OnDevices (AnswersQuestion question.entry (W.state sink.old).taken (W.state sink.new).taken) result }
+    ensures answers { OnDevices (AnswersQuestion question.entry (W.state sink.old) (W.state sink.new)) result }
     ensures open { result ≢ Err Fault.Open }
     ensures memory { result ≢ Err Fault.Memory }
     ensures read { result ≢ Err Fault.Read }
@@ -85,11 +85,8 @@ fn hint_question<E: Sink>(hints: bool, question: Question<'_>, errors: &mut E)
 /// Writes the listing, line, rounding, explanation or drawing that a question requests.
 fn answer_question<W: Sink>(question: Question<'_>, sink: &mut W) -> Result<Summary, IoError>
     requires { (W.state sink.old).has_failed ≡ false }
-    ensures answered { WritesAnswer (IsAnswerTo question.entry) (W.state sink.old).taken (W.state sink.new).taken result }
+    ensures answered { WritesAnswer (IsAnswerTo question.entry) (W.state sink.old) (W.state sink.new) result }
     ensures any_error { IfOk result (λ summary. IsTrue summary.any_error ↔ IsUnanswerable question.entry) }
-    ensures flushed { OnOk result ((W.state sink.new).is_flushed ≡ true) }
-    ensures fails { IsErr result ↔ ((W.state sink.new).has_failed ≡ true) }
-    ensures write { OnErr result (result ≡ Err IoError.Write) }
 {
     match question {
         Question::Show { word, as_line } => show(word, as_line, sink),
@@ -103,11 +100,8 @@ fn answer_question<W: Sink>(question: Question<'_>, sink: &mut W) -> Result<Summ
 /// Writes the listing of a word, or its one-line form.
 fn show<W: Sink>(word: &str, as_line: bool, sink: &mut W) -> Result<Summary, IoError>
     requires { (W.state sink.old).has_failed ≡ false }
-    ensures answered { WritesAnswer (IsAnswerTo (question.Show word.entry as_line)) (W.state sink.old).taken (W.state sink.new).taken result }
+    ensures answered { WritesAnswer (IsAnswerTo (question.Show word.entry as_line)) (W.state sink.old) (W.state sink.new) result }
     ensures any_error { IfOk result (λ summary. IsTrue summary.any_error ↔ IsUnanswerable (question.Show word.entry as_line)) }
-    ensures flushed { OnOk result ((W.state sink.new).is_flushed ≡ true) }
-    ensures fails { IsErr result ↔ ((W.state sink.new).has_failed ≡ true) }
-    ensures write { OnErr result (result ≡ Err IoError.Write) }
 {
     if as_line {
         show_line(word.as_bytes(), sink)
@@ -119,11 +113,8 @@ fn show<W: Sink>(word: &str, as_line: bool, sink: &mut W) -> Result<Summary, IoE
 /// Writes how setting bounds rounds a length, with the bounds granted from a base on if one is given.
 fn round<W: Sink>(base: Option<&str>, length: &str, sink: &mut W) -> Result<Summary, IoError>
     requires { (W.state sink.old).has_failed ≡ false }
-    ensures answered { WritesAnswer (IsAnswerTo (question.Round base.entry length.entry)) (W.state sink.old).taken (W.state sink.new).taken result }
+    ensures answered { WritesAnswer (IsAnswerTo (question.Round base.entry length.entry)) (W.state sink.old) (W.state sink.new) result }
     ensures any_error { IfOk result (λ summary. IsTrue summary.any_error ↔ IsUnanswerable (question.Round base.entry length.entry)) }
-    ensures flushed { OnOk result ((W.state sink.new).is_flushed ≡ true) }
-    ensures fails { IsErr result ↔ ((W.state sink.new).has_failed ≡ true) }
-    ensures write { OnErr result (result ≡ Err IoError.Write) }
 {
     match base {
         None => show_round(length.as_bytes(), sink),

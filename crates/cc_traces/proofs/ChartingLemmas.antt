@@ -24,26 +24,26 @@ takes_all old new unread unread_too left left_too summary u l takes has_memory =
 
 -- A chart that was written, for the traffic of the devices.
 pub charts_all : (old new : Charted) (traffic : Traffic) (unread left output output_now : Option (List ℕ)) (summary : Summary)
-    → traffic.unread ≡ unread → traffic.left ≡ left → traffic.output ≡ output → traffic.output_now ≡ output_now
+    → traffic.source.unread ≡ unread → traffic.source_now.unread ≡ left → traffic.output.taken ≡ output → traffic.output_now.taken ≡ output_now
     → TakesLines old unread left (Ok summary) new → new.replay.progress ≢ OutOfMemory
     → Appends output output_now (chart_text new.chart) → ChartsAll old traffic summary
 charts_all old new traffic unread left output output_now summary u l o n takes has_memory written = record {
   new = new;
-  all = takes_all old new unread traffic.unread left traffic.left summary u l takes has_memory;
-  written = subst (λ (b : Option (List ℕ)). Appends b traffic.output_now (chart_text new.chart)) (sym o)
+  all = takes_all old new unread traffic.source.unread left traffic.source_now.unread summary u l takes has_memory;
+  written = subst (λ (b : Option (List ℕ)). Appends b traffic.output_now.taken (chart_text new.chart)) (sym o)
       (subst (λ (b : Option (List ℕ)). Appends output b (chart_text new.chart)) (sym n) written);
 }
 
 -- A chart of which a prefix was written, for the traffic of the devices.
 pub stops_in_chart : (old new : Charted) (traffic : Traffic) (unread left output output_now : Option (List ℕ)) (summary : Summary)
-    → traffic.unread ≡ unread → traffic.left ≡ left → traffic.output ≡ output → traffic.output_now ≡ output_now
+    → traffic.source.unread ≡ unread → traffic.source_now.unread ≡ left → traffic.output.taken ≡ output → traffic.output_now.taken ≡ output_now
     → TakesLines old unread left (Ok summary) new → new.replay.progress ≢ OutOfMemory
     → TakesBeginning output output_now (chart_text new.chart) → StopsInChart old traffic
 stops_in_chart old new traffic unread left output output_now summary u l o n takes has_memory written = record {
   summary = summary;
   new = new;
-  all = takes_all old new unread traffic.unread left traffic.left summary u l takes has_memory;
-  written = subst (λ (b : Option (List ℕ)). TakesBeginning b traffic.output_now (chart_text new.chart)) (sym o)
+  all = takes_all old new unread traffic.source.unread left traffic.source_now.unread summary u l takes has_memory;
+  written = subst (λ (b : Option (List ℕ)). TakesBeginning b traffic.output_now.taken (chart_text new.chart)) (sym o)
       (subst (λ (b : Option (List ℕ)). TakesBeginning output b (chart_text new.chart)) (sym n) written);
 }
 

@@ -37,52 +37,52 @@ replays_all old new unread unread_too left left_too output output_now summary u 
 
 -- A summary that was written, for the traffic of the devices.
 pub sums_up_all : (text_of : ReplayState → List ℕ) (old new : ReplayState) (traffic : Traffic) (unread left output output_now : Option (List ℕ)) (summary : Summary)
-    → traffic.unread ≡ unread → traffic.left ≡ left → traffic.output ≡ output → traffic.output_now ≡ output_now
+    → traffic.source.unread ≡ unread → traffic.source_now.unread ≡ left → traffic.output.taken ≡ output → traffic.output_now.taken ≡ output_now
     → Replays old unread left None None (Ok summary) new → new.progress ≢ OutOfMemory → Appends output output_now (text_of new)
     → SumsUpAll text_of old traffic summary
 sums_up_all text_of old new traffic unread left output output_now summary u l o n replays has_memory written = record {
   new = new;
-  all = replays_all old new unread traffic.unread left traffic.left None None summary u l replays has_memory;
-  written = subst (λ (b : Option (List ℕ)). Appends b traffic.output_now (text_of new)) (sym o)
+  all = replays_all old new unread traffic.source.unread left traffic.source_now.unread None None summary u l replays has_memory;
+  written = subst (λ (b : Option (List ℕ)). Appends b traffic.output_now.taken (text_of new)) (sym o)
       (subst (λ (b : Option (List ℕ)). Appends output b (text_of new)) (sym n) written);
 }
 
 -- A summary of which a prefix was written, for the traffic of the devices.
 pub stops_in_summary : (text_of : ReplayState → List ℕ) (old new : ReplayState) (traffic : Traffic) (unread left output output_now : Option (List ℕ)) (summary : Summary)
-    → traffic.unread ≡ unread → traffic.left ≡ left → traffic.output ≡ output → traffic.output_now ≡ output_now
+    → traffic.source.unread ≡ unread → traffic.source_now.unread ≡ left → traffic.output.taken ≡ output → traffic.output_now.taken ≡ output_now
     → Replays old unread left None None (Ok summary) new → new.progress ≢ OutOfMemory → TakesBeginning output output_now (text_of new)
     → StopsInSummary text_of old traffic
 stops_in_summary text_of old new traffic unread left output output_now summary u l o n replays has_memory written = record {
   summary = summary;
   new = new;
-  all = replays_all old new unread traffic.unread left traffic.left None None summary u l replays has_memory;
-  written = subst (λ (b : Option (List ℕ)). TakesBeginning b traffic.output_now (text_of new)) (sym o)
+  all = replays_all old new unread traffic.source.unread left traffic.source_now.unread None None summary u l replays has_memory;
+  written = subst (λ (b : Option (List ℕ)). TakesBeginning b traffic.output_now.taken (text_of new)) (sym o)
       (subst (λ (b : Option (List ℕ)). TakesBeginning output b (text_of new)) (sym n) written);
 }
 
 -- A series that was written, for the traffic of the devices.
 pub samples_all : (old new : ReplayState) (traffic : Traffic) (unread left output output_then output_now : Option (List ℕ)) (summary : Summary)
-    → traffic.unread ≡ unread → traffic.left ≡ left → traffic.output ≡ output → traffic.output_now ≡ output_now
+    → traffic.source.unread ≡ unread → traffic.source_now.unread ≡ left → traffic.output.taken ≡ output → traffic.output_now.taken ≡ output_now
     → Replays old unread left output output_then (Ok summary) new → new.progress ≢ OutOfMemory → Appends output_then output_now (last_sample new)
     → SamplesAll old traffic summary
 samples_all old new traffic unread left output output_then output_now summary u l o n replays has_memory written = record {
   new = new;
   output_then = output_then;
-  all = subst (λ (b : Option (List ℕ)). ReplaysAll old traffic.unread traffic.left b output_then summary new) (sym o)
-      (replays_all old new unread traffic.unread left traffic.left output output_then summary u l replays has_memory);
+  all = subst (λ (b : Option (List ℕ)). ReplaysAll old traffic.source.unread traffic.source_now.unread b output_then summary new) (sym o)
+      (replays_all old new unread traffic.source.unread left traffic.source_now.unread output output_then summary u l replays has_memory);
   written = subst (λ (b : Option (List ℕ)). Appends output_then b (last_sample new)) (sym n) written;
 }
 
 -- A series that stops with an error, for the traffic of the devices.
 pub stops_sampling : (old new : ReplayState) (traffic : Traffic) (unread left output output_now : Option (List ℕ)) (error : IoError)
-    → traffic.unread ≡ unread → traffic.left ≡ left → traffic.output ≡ output → traffic.output_now ≡ output_now
+    → traffic.source.unread ≡ unread → traffic.source_now.unread ≡ left → traffic.output.taken ≡ output → traffic.output_now.taken ≡ output_now
     → Replays old unread left output output_now (Err error) new → Samples old traffic (Err error)
 stops_sampling old new traffic unread left output output_now error u l o n replays =
     by_error error (record {
       new = new;
-      replays = subst (λ (b : Option (List ℕ)). Replays old b traffic.left traffic.output traffic.output_now (Err error) new) (sym u)
-          (subst (λ (b : Option (List ℕ)). Replays old unread b traffic.output traffic.output_now (Err error) new) (sym l)
-          (subst (λ (b : Option (List ℕ)). Replays old unread left b traffic.output_now (Err error) new) (sym o)
+      replays = subst (λ (b : Option (List ℕ)). Replays old b traffic.source_now.unread traffic.output.taken traffic.output_now.taken (Err error) new) (sym u)
+          (subst (λ (b : Option (List ℕ)). Replays old unread b traffic.output.taken traffic.output_now.taken (Err error) new) (sym l)
+          (subst (λ (b : Option (List ℕ)). Replays old unread left b traffic.output_now.taken (Err error) new) (sym o)
           (subst (λ (b : Option (List ℕ)). Replays old unread left output b (Err error) new) (sym n) replays)));
     })
   where
@@ -92,15 +92,15 @@ stops_sampling old new traffic unread left output output_now error u l o n repla
 
 -- A series of whose last sample a prefix was written, for the traffic of the devices.
 pub stops_in_last : (old new : ReplayState) (traffic : Traffic) (unread left output output_then output_now : Option (List ℕ)) (summary : Summary)
-    → traffic.unread ≡ unread → traffic.left ≡ left → traffic.output ≡ output → traffic.output_now ≡ output_now
+    → traffic.source.unread ≡ unread → traffic.source_now.unread ≡ left → traffic.output.taken ≡ output → traffic.output_now.taken ≡ output_now
     → Replays old unread left output output_then (Ok summary) new → new.progress ≢ OutOfMemory → TakesBeginning output_then output_now (last_sample new)
     → Samples old traffic (Err Write)
 stops_in_last old new traffic unread left output output_then output_now summary u l o n replays has_memory written = inr (record {
   summary = summary;
   new = new;
   output_then = output_then;
-  all = subst (λ (b : Option (List ℕ)). ReplaysAll old traffic.unread traffic.left b output_then summary new) (sym o)
-      (replays_all old new unread traffic.unread left traffic.left output output_then summary u l replays has_memory);
+  all = subst (λ (b : Option (List ℕ)). ReplaysAll old traffic.source.unread traffic.source_now.unread b output_then summary new) (sym o)
+      (replays_all old new unread traffic.source.unread left traffic.source_now.unread output output_then summary u l replays has_memory);
   written = subst (λ (b : Option (List ℕ)). TakesBeginning output_then b (last_sample new)) (sym n) written;
 })
 

@@ -72,20 +72,20 @@ pub record TakesAll (old : Charted) (unread left : Option (List ℕ)) (summary :
 -- ChartsAll holds if the whole trace was taken in this way, and the chart was written.
 pub record ChartsAll (old : Charted) (traffic : Traffic) (summary : Summary) : Type 0 where
   pub new : Charted
-  pub all : TakesAll old traffic.unread traffic.left summary new
-  pub written : Appends traffic.output traffic.output_now (chart_text new.chart)
+  pub all : TakesAll old traffic.source.unread traffic.source_now.unread summary new
+  pub written : Appends traffic.output.taken traffic.output_now.taken (chart_text new.chart)
 
 -- StopsInChart holds if the whole trace was taken in this way, and a prefix of the chart was written.
 pub record StopsInChart (old : Charted) (traffic : Traffic) : Type 0 where
   pub summary : Summary
   pub new : Charted
-  pub all : TakesAll old traffic.unread traffic.left summary new
-  pub written : TakesBeginning traffic.output traffic.output_now (chart_text new.chart)
+  pub all : TakesAll old traffic.source.unread traffic.source_now.unread summary new
+  pub written : TakesBeginning traffic.output.taken traffic.output_now.taken (chart_text new.chart)
 
 -- Charts holds if the chart of the trace's replay was written, up to a failed write. Nothing was written if a read failed.
 abbrev pub Charts : (old : Charted) → Traffic → Result Summary IoError → Type 0
 Charts old traffic (Ok summary) = ChartsAll old traffic summary
-Charts old traffic (Err Read) = traffic.output_now ≡ traffic.output
+Charts old traffic (Err Read) = traffic.output_now.taken ≡ traffic.output.taken
 Charts old traffic (Err Write) = StopsInChart old traffic
 
 -- ChartsTrace holds if the trace was replayed on a heap of these settings that held nothing, and its chart was written.

@@ -56,41 +56,41 @@ pub record ReplaysAll (old : ReplayState) (unread left output output_now : Optio
 -- SumsUpAll holds if the replay took the whole trace, and the text of its end was written.
 pub record SumsUpAll (text_of : ReplayState → List ℕ) (old : ReplayState) (traffic : Traffic) (summary : Summary) : Type 0 where
   pub new : ReplayState
-  pub all : ReplaysAll old traffic.unread traffic.left None None summary new
-  pub written : Appends traffic.output traffic.output_now (text_of new)
+  pub all : ReplaysAll old traffic.source.unread traffic.source_now.unread None None summary new
+  pub written : Appends traffic.output.taken traffic.output_now.taken (text_of new)
 
 -- StopsInSummary holds if the replay took the whole trace, and a prefix of the text of its end was written.
 pub record StopsInSummary (text_of : ReplayState → List ℕ) (old : ReplayState) (traffic : Traffic) : Type 0 where
   pub summary : Summary
   pub new : ReplayState
-  pub all : ReplaysAll old traffic.unread traffic.left None None summary new
-  pub written : TakesBeginning traffic.output traffic.output_now (text_of new)
+  pub all : ReplaysAll old traffic.source.unread traffic.source_now.unread None None summary new
+  pub written : TakesBeginning traffic.output.taken traffic.output_now.taken (text_of new)
 
 -- SumsUp holds if the text of the end of the trace's replay was written, up to a failed write. Nothing was written if a read failed.
 abbrev pub SumsUp : (text_of : ReplayState → List ℕ) → (old : ReplayState) → Traffic → Result Summary IoError → Type 0
 SumsUp text_of old traffic (Ok summary) = SumsUpAll text_of old traffic summary
-SumsUp text_of old traffic (Err Read) = traffic.output_now ≡ traffic.output
+SumsUp text_of old traffic (Err Read) = traffic.output_now.taken ≡ traffic.output.taken
 SumsUp text_of old traffic (Err Write) = StopsInSummary text_of old traffic
 
 -- SamplesAll holds if the replay took the whole trace, and its series was written, with the last sample.
 pub record SamplesAll (old : ReplayState) (traffic : Traffic) (summary : Summary) : Type 0 where
   pub new : ReplayState
   pub output_then : Option (List ℕ)
-  pub all : ReplaysAll old traffic.unread traffic.left traffic.output output_then summary new
-  pub written : Appends output_then traffic.output_now (last_sample new)
+  pub all : ReplaysAll old traffic.source.unread traffic.source_now.unread traffic.output.taken output_then summary new
+  pub written : Appends output_then traffic.output_now.taken (last_sample new)
 
 -- StopsInLast holds if the replay took the whole trace, and its series was written, but of the last sample only a prefix.
 pub record StopsInLast (old : ReplayState) (traffic : Traffic) : Type 0 where
   pub summary : Summary
   pub new : ReplayState
   pub output_then : Option (List ℕ)
-  pub all : ReplaysAll old traffic.unread traffic.left traffic.output output_then summary new
-  pub written : TakesBeginning output_then traffic.output_now (last_sample new)
+  pub all : ReplaysAll old traffic.source.unread traffic.source_now.unread traffic.output.taken output_then summary new
+  pub written : TakesBeginning output_then traffic.output_now.taken (last_sample new)
 
 -- StopsSampling holds if the replay stopped with an error of a device, and the samples before it were written.
 pub record StopsSampling (old : ReplayState) (traffic : Traffic) (error : IoError) : Type 0 where
   pub new : ReplayState
-  pub replays : Replays old traffic.unread traffic.left traffic.output traffic.output_now (Err error) new
+  pub replays : Replays old traffic.source.unread traffic.source_now.unread traffic.output.taken traffic.output_now.taken (Err error) new
 
 -- Samples holds if the series of the trace's replay was written, up to a failure.
 abbrev pub Samples : (old : ReplayState) → Traffic → Result Summary IoError → Type 0

@@ -19,13 +19,13 @@ Writes old unread left output output_now result new =
 -- ScriptsAll holds if the whole trace was taken, its script was written, and no allocation failed.
 pub record ScriptsAll (old : ScriptState) (traffic : Traffic) (summary : Summary) : Type 0 where
   pub new : ScriptState
-  pub writes : Writes old traffic.unread traffic.left traffic.output traffic.output_now (Ok summary) new
+  pub writes : Writes old traffic.source.unread traffic.source_now.unread traffic.output.taken traffic.output_now.taken (Ok summary) new
   pub has_memory : new.progress ≢ OutOfMemory
 
 -- StopsScript holds if the script stopped with an error of a device, and the lines before it were written.
 pub record StopsScript (old : ScriptState) (traffic : Traffic) (error : IoError) : Type 0 where
   pub new : ScriptState
-  pub writes : Writes old traffic.unread traffic.left traffic.output traffic.output_now (Err error) new
+  pub writes : Writes old traffic.source.unread traffic.source_now.unread traffic.output.taken traffic.output_now.taken (Err error) new
 
 -- Scripts holds if the script of the trace was written, up to a failure.
 abbrev pub Scripts : (old : ScriptState) → Traffic → Result Summary IoError → Type 0

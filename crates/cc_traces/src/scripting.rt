@@ -24,7 +24,7 @@ pub(crate) fn script_input<M: TraceMemory, I: Inputs, W: Sink>(
     requires source { (I.Opened.state source.old).has_failed ≡ false }
     requires inputs { I.has_refused inputs.old ≡ false }
     requires sink { (W.state sink.old).has_failed ≡ false }
-    ensures scripts { OnOutput (I.bytes_of inputs.old) (W.state sink.old).taken (W.state sink.new).taken (I.Opened.state source.new).unread
+    ensures scripts { OnOutput (I.bytes_of inputs.old) (I.Opened.state source.new) (W.state sink.old) (W.state sink.new)
         (λ console. FromInput input.entry console (Scripts script.old)) result }
     ensures open { result ≡ Err Fault.Open → IsFile input.entry }
     ensures untouched { result ≡ Err Fault.Open → (W.state sink.new).taken ≡ (W.state sink.old).taken }
@@ -49,8 +49,8 @@ fn write_script<M: TraceMemory, S: Source, W: Sink>(
     requires memory { M.has_failed memory.old ≡ false }
     requires source { (S.state source.old).has_failed ≡ false }
     requires sink { (W.state sink.old).has_failed ≡ false }
-    ensures scripts { (traffic : Traffic) → traffic.unread ≡ (S.state source.old).unread → traffic.left ≡ (S.state source.new).unread
-        → traffic.output ≡ (W.state sink.old).taken → traffic.output_now ≡ (W.state sink.new).taken
+    ensures scripts { (traffic : Traffic) → traffic.source.unread ≡ (S.state source.old).unread → traffic.source_now.unread ≡ (S.state source.new).unread
+        → traffic.output.taken ≡ (W.state sink.old).taken → traffic.output_now.taken ≡ (W.state sink.new).taken
         → OnDevices (Scripts script.old traffic) result }
     ensures open { result ≢ Err Fault.Open }
     ensures read { (result ≡ Err Fault.Read) ↔ ((S.state source.new).has_failed ≡ true) }

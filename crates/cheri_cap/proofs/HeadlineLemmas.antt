@@ -82,17 +82,17 @@ script_starves (Decode input format texts file) terminals console script is star
 script_starves (Annotate file) terminals console script is starves = absurd (cc is)
 script_starves (RoundList base file) terminals console script is starves = absurd (cc is)
 
-starved : (script : Script) (bytes taken : List ℕ) (console : Console) (report : Report) → console.input script.input ≡ Some bytes → console.output ≡ Some taken
+starved : (script : Script) (bytes taken : List ℕ) (console : Console) (report : Report) → console.input script.input ≡ Some bytes → console.output.taken ≡ Some taken
     → StarvesRun report script.opening (initial_state script.limit) script.input console
-    → (console.output_now ≡ Some taken)
-    ⊎ ((summary : Summary) × MeetsFrom script.opening (initial_state script.limit) (Some bytes) console.left (Some taken) console.output_now (Ok summary))
+    → (console.output_now.taken ≡ Some taken)
+    ⊎ ((summary : Summary) × MeetsFrom script.opening (initial_state script.limit) (Some bytes) console.source_now.unread (Some taken) console.output_now.taken (Ok summary))
 starved script bytes taken console report has had (inl same) = inl (same ∙ had)
 starved script bytes taken console report has had (inr all) =
     let whole = all.3 in
     inr (
       whole.0,
-      met script.opening (initial_state script.limit) bytes taken all.1 console.left console.output console.output_now (Ok whole.0)
-          (read_bytes bytes (console.input script.input) all.1 has all.2) had whole.1,
+      met script.opening (initial_state script.limit) bytes taken all.1.unread console.source_now.unread console.output.taken console.output_now.taken (Ok whole.0)
+          (read_bytes bytes (console.input script.input) all.1.unread has all.2) had whole.1,
     )
 
 -- ---- the command's own input
@@ -124,11 +124,11 @@ input_is (RoundList base file) script is = absurd (cc is)
 pub runs_script : (invocation : Invocation) (terminals : Terminals) (console : Console) (failures : Failures) (ending : Ending)
     → EndsInvocation invocation terminals console failures ending → AnswersEveryScript invocation console failures ending
 runs_script invocation terminals console failures ending e script bytes taken is has had =
-    let meets : OnDevices (MeetsMain script.limit script.opening (console.input script.input) console.left console.output console.output_now) e.result =
-    subst (λ (found : Option Script). IfSome found (λ (s : Script). OnDevices (MeetsMain s.limit s.opening (console.input s.input) console.left console.output console.output_now) e.result)) is e.main in
+    let meets : OnDevices (MeetsMain script.limit script.opening (console.input script.input) console.source_now.unread console.output.taken console.output_now.taken) e.result =
+    subst (λ (found : Option Script). IfSome found (λ (s : Script). OnDevices (MeetsMain s.limit s.opening (console.input s.input) console.source_now.unread console.output.taken console.output_now.taken) e.result)) is e.main in
     record {
       result = e.result;
-      main = on_result script bytes taken (console.input script.input) console.left console.output console.output_now has had e.result meets;
+      main = on_result script bytes taken (console.input script.input) console.source_now.unread console.output.taken console.output_now.taken has had e.result meets;
       untouched = λ refused. e.untouched refused ∙ had;
       starved = λ ran_out.
           let starves = script_starves invocation terminals console script is (e.starves ran_out).1 in

@@ -2,6 +2,7 @@
 use Rattle.std.specs.Prelude.{ℕ, ◌≡◌, ◌⊎◌, ◌↔◌, true, false, List, [], Bool, Option, Some, Ok, Err, Result, IfSome, OnErr, OnOk}
 use Rattle.std.specs.Io.KnownBytes.{Appends}
 use Rattle.clap.specs.Words.{Row, Text}
+use Rattle.cc_io.specs.Devices.{InputState, OutputState}
 use Rattle.cc_io.specs.declared.summary.Summary.{Summary}
 use Rattle.cc_machine.specs.State.{initial_state}
 use Rattle.cc_console.specs.Devices.{Console, OnDevices}
@@ -31,6 +32,17 @@ pub record Failures : Type 0 where
   pub is_flushed : Bool
   pub last_asked : InputName → Content → Bool
 
+-- The failures of these devices.
+abbrev pub failures_of : (open_failed : Bool) → InputState → OutputState → (memory_failed : Bool) → (last_asked : InputName → Content → Bool) → Failures
+failures_of open_failed source output memory_failed last_asked = record {
+  open_failed = open_failed;
+  read_failed = source.has_failed;
+  write_failed = output.has_failed;
+  memory_failed = memory_failed;
+  is_flushed = output.is_flushed;
+  last_asked = last_asked;
+}
+
 -- TellsFailures holds if the result is an error of a device if and only if that device failed.
 pub record TellsFailures (failures : Failures) (result : Result Summary Fault) : Type 0 where
   pub opens : (result ≡ Err fault.Open) ↔ (failures.open_failed ≡ true)
@@ -51,18 +63,18 @@ pub record EndsInvocation (invocation : Invocation) (terminals : Terminals) (con
   pub executes : OnDevices (Executes invocation terminals console) result
   pub fails : TellsFailures failures result
   pub opens : result ≡ Err fault.Open → IfSome (input_of invocation) (λ asked. IsFile asked.input)
-  pub untouched : result ≡ Err fault.Open → console.output_now ≡ console.output
+  pub untouched : result ≡ Err fault.Open → console.output_now.taken ≡ console.output.taken
   pub asks : ReadsAsked (input_of invocation) failures
   pub main :
       IfSome (script_of invocation)
-      (λ script. OnDevices (MeetsMain script.limit script.opening (console.input script.input) console.left console.output console.output_now) result)
+      (λ script. OnDevices (MeetsMain script.limit script.opening (console.input script.input) console.source_now.unread console.output.taken console.output_now.taken) result)
   pub starves : result ≡ Err fault.Memory → RunsMachine invocation × StarvesCommand invocation terminals console
-  pub starved : ¬ IsReported terminals invocation → ¬ IsStreamed invocation → result ≡ Err fault.Memory → console.output_now ≡ console.output
+  pub starved : ¬ IsReported terminals invocation → ¬ IsStreamed invocation → result ≡ Err fault.Memory → console.output_now.taken ≡ console.output.taken
   pub flushed : OnOk result (failures.is_flushed ≡ true)
-  pub unreported : OnErr result (console.errors_now ≡ console.errors)
-  pub silent : ¬ IsReported terminals invocation → console.errors_now ≡ console.errors
+  pub unreported : OnErr result (console.errors_now.taken ≡ console.errors.taken)
+  pub silent : ¬ IsReported terminals invocation → console.errors_now.taken ≡ console.errors.taken
   pub hinted : IsHinted invocation
-      → OnOk result (console.errors_failed ≡ false → Appends console.errors console.errors_now (typed_hint terminals.errors invocation))
+      → OnOk result (console.errors_now.has_failed ≡ false → Appends console.errors.taken console.errors_now.taken (typed_hint terminals.errors invocation))
   pub ends : ending ≡ ending_of result
 
 -- ExecutesCommand holds if `EndsInvocation` does for the command that clap found.
@@ -108,4 +120,4 @@ pub record NoneFailed (failures : Failures) : Type 0 where
 abbrev pub AnswersEveryScript : Invocation → Console → Failures → Ending → Type 0
 AnswersEveryScript invocation console failures ending =
     (script : Script) (bytes taken : List ℕ) → script_of invocation ≡ Some script → console.input script.input ≡ Some bytes
-    → console.output ≡ Some taken → AnswersScript script bytes taken console.left console.output_now failures ending
+    → console.output.taken ≡ Some taken → AnswersScript script bytes taken console.source_now.unread console.output_now.taken failures ending

@@ -3,7 +3,7 @@ ghost use Rattle.std.specs.Prelude.{◌≡◌, ◌↔◌, false, true, Err, IfSo
 ghost use Rattle.clap.specs.Words.{Row, Text};
 ghost use Rattle.cc_console.specs.Invocation.{IsInvocation};
 ghost use Rattle.std.specs.Io.KnownBytes.{Appends};
-ghost use Rattle.cc_console.specs.Devices.{OnDevices};
+ghost use Rattle.cc_console.specs.Devices.{IsEnd, OnDevices, console_of};
 ghost use Rattle.cc_console.specs.Input.{IsFile};
 ghost use Rattle.cheri_cap.specs.Execution.{Executes, StarvesCommand};
 ghost use Rattle.cheri_cap.specs.Input.{IsHinted, IsReported, IsStreamed, IsUnasked, ReadsInput, RunsMachine, input_of, script_of, typed_hint};
@@ -44,15 +44,8 @@ pub fn execute<M: RunMemory + TraceMemory, I: Inputs, W: Sink, E: Sink>(
     requires sink { (W.state sink.old).has_failed ≡ false }
     requires errors { (E.state errors.old).has_failed ≡ false }
     // The command's bytes are written, and the summary says whether there is an error.
-    ensures executes { OnDevices (Executes invocation.entry terminals (record {
-      input = I.bytes_of inputs.old;
-      left = (I.Opened.state source.new).unread;
-      output = (W.state sink.old).taken;
-      output_now = (W.state sink.new).taken;
-      errors = (E.state errors.old).taken;
-      errors_now = (E.state errors.new).taken;
-      errors_failed = (E.state errors.new).has_failed;
-    })) result }
+    ensures executes { OnDevices (Executes invocation.entry terminals
+        (console_of (I.bytes_of inputs.old) (I.Opened.state source.new) (W.state sink.old) (W.state sink.new) (E.state errors.old) (E.state errors.new))) result }
     ensures memory { result ≡ Err Fault.Memory → RunsMachine invocation.entry }
     // Opening fails only for a FILE that is given and is not `-`.
     ensures open { result ≡ Err Fault.Open → IfSome (input_of invocation.entry) (λ asked. IsFile asked.input) }
@@ -61,15 +54,11 @@ pub fn execute<M: RunMemory + TraceMemory, I: Inputs, W: Sink, E: Sink>(
     ensures asked { IsUnasked (input_of invocation.entry) (I.last_asked inputs.new) → (inputs.new ≡ inputs.old) × (source.new ≡ source.old) }
     // A command without an input, or with refused arguments, uses neither inputs nor source.
     ensures unused { ¬ ReadsInput invocation.entry → (inputs.new ≡ inputs.old) × (source.new ≡ source.old) }
-    ensures refused { (result ≡ Err Fault.Open) ↔ (I.has_refused inputs.new ≡ true) }
     // The main theorem, for `run` and `plan`.
     ensures main { IfSome (script_of invocation.entry) (λ script. OnDevices (MeetsMain script.limit script.opening (I.bytes_of inputs.old script.input) (I.Opened.state source.new).unread (W.state sink.old).taken (W.state sink.new).taken) result) }
-    ensures read { (result ≡ Err Fault.Read) ↔ ((I.Opened.state source.new).has_failed ≡ true) }
     ensures allocates { (result ≡ Err Fault.Memory) ↔ (M.has_failed memory.new ≡ true) }
-    ensures write { (result ≡ Err Fault.Write) ↔ ((W.state sink.new).has_failed ≡ true) }
-    ensures flushed { OnOk result ((W.state sink.new).is_flushed ≡ true) }
     ensures unreported { OnErr result ((E.state errors.new).taken ≡ (E.state errors.old).taken) }
-    ensures untouched { result ≡ Err Fault.Open → (W.state sink.new).taken ≡ (W.state sink.old).taken }
+    ensures end { IsEnd (I.has_refused inputs.new) (I.Opened.state source.new) (W.state sink.old) (W.state sink.new) result }
     // At `Ok`, the hint on the argument of `show`, `round` or `explain` is written, if there is one
     // and standard error does not fail.
     ensures hinted { IsHinted invocation.entry → OnOk result ((E.state errors.new).has_failed ≡ false → Appends (E.state errors.old).taken (E.state errors.new).taken (typed_hint terminals.errors invocation.entry)) }
@@ -77,15 +66,8 @@ pub fn execute<M: RunMemory + TraceMemory, I: Inputs, W: Sink, E: Sink>(
     ensures silent { ¬ IsReported terminals invocation.entry → errors.new ≡ errors.old }
     // If memory runs out in `run` or `plan`, nothing was written, or, with `--stats`, the whole
     // output.
-    ensures stopped { result ≡ Err Fault.Memory → StarvesCommand invocation.entry terminals (record {
-      input = I.bytes_of inputs.old;
-      left = (I.Opened.state source.new).unread;
-      output = (W.state sink.old).taken;
-      output_now = (W.state sink.new).taken;
-      errors = (E.state errors.old).taken;
-      errors_now = (E.state errors.new).taken;
-      errors_failed = (E.state errors.new).has_failed;
-    }) }
+    ensures stopped { result ≡ Err Fault.Memory → StarvesCommand invocation.entry terminals
+        (console_of (I.bytes_of inputs.old) (I.Opened.state source.new) (W.state sink.old) (W.state sink.new) (E.state errors.old) (E.state errors.new)) }
     ensures starved { ¬ IsReported terminals invocation.entry → ¬ IsStreamed invocation.entry → result ≡ Err Fault.Memory → (W.state sink.new).taken ≡ (W.state sink.old).taken }
 {
     match invocation {

@@ -5,9 +5,9 @@ ghost use Rattle.clap.specs.Words.{App, FailsBy, Row, Text, kind_of, subcommand_
 ghost use Rattle.cc_console.specs.declared.outcome.Ending.TheVariants as ending;
 ghost use Rattle.cc_console.specs.declared.outcome.Ending.{Ending as EndingSpec};
 ghost use Rattle.cc_console.specs.declared.invocation.Invocation.{Invocation as InvocationSpec};
-ghost use Rattle.cheri_cap.specs.Ending.{AnswersEveryScript, ExecutesCommand, Failures};
+ghost use Rattle.cheri_cap.specs.Ending.{AnswersEveryScript, ExecutesCommand, failures_of};
 ghost use Rattle.cheri_cap.specs.Input.{IsUnasked, ReadsInput, input_of};
-ghost use Rattle.cc_console.specs.Devices.{Console};
+ghost use Rattle.cc_console.specs.Devices.{console_of};
 ghost use Rattle.cc_console.specs.Invocation.{IsInvocation, IsProgram, faults_of, is_taken};
 ghost use Rattle.cc_console.specs.Outcome.{EndsOn};
 
@@ -128,40 +128,14 @@ pub fn answer_words<M: RunMemory + TraceMemory, I: Inputs, W: Sink, E: Sink>(
     requires sink { (W.state sink.old).has_failed ≡ false }
     requires errors { (E.state errors.old).has_failed ≡ false }
     // A command line that is accepted ends as its command does on these devices.
-    ensures executes { IfOk result (λ end. (app : App) × IsProgram app × ExecutesCommand (subcommand_of app (texts words.now)) terminals (record {
-      input = I.bytes_of inputs.old;
-      left = (I.Opened.state source.new).unread;
-      output = (W.state sink.old).taken;
-      output_now = (W.state sink.new).taken;
-      errors = (E.state errors.old).taken;
-      errors_now = (E.state errors.new).taken;
-      errors_failed = (E.state errors.new).has_failed;
-    }) (record {
-      open_failed = I.has_refused inputs.new;
-      read_failed = (I.Opened.state source.new).has_failed;
-      write_failed = (W.state sink.new).has_failed;
-      memory_failed = M.has_failed memory.new;
-      is_flushed = (W.state sink.new).is_flushed;
-      last_asked = I.last_asked inputs.new;
-    }) end) }
+    ensures executes { IfOk result (λ end. (app : App) × IsProgram app × ExecutesCommand (subcommand_of app (texts words.now)) terminals
+        (console_of (I.bytes_of inputs.old) (I.Opened.state source.new) (W.state sink.old) (W.state sink.new) (E.state errors.old) (E.state errors.new))
+        (failures_of (I.has_refused inputs.new) (I.Opened.state source.new) (W.state sink.new) (M.has_failed memory.new) (I.last_asked inputs.new)) end) }
     // The main theorem of the program: from the arguments of `run` and `plan` to the bytes written
     // and the end. If a command line that is accepted has no result, memory ran out.
-    ensures runs_script { (app : App) × IsProgram app × MatchResult result (λ end. (invocation : InvocationSpec) × IsInvocation (subcommand_of app (texts words.now)) invocation × AnswersEveryScript invocation (record {
-      input = I.bytes_of inputs.old;
-      left = (I.Opened.state source.new).unread;
-      output = (W.state sink.old).taken;
-      output_now = (W.state sink.new).taken;
-      errors = (E.state errors.old).taken;
-      errors_now = (E.state errors.new).taken;
-      errors_failed = (E.state errors.new).has_failed;
-    }) (record {
-      open_failed = I.has_refused inputs.new;
-      read_failed = (I.Opened.state source.new).has_failed;
-      write_failed = (W.state sink.new).has_failed;
-      memory_failed = M.has_failed memory.new;
-      is_flushed = (W.state sink.new).is_flushed;
-      last_asked = I.last_asked inputs.new;
-    }) end) (λ error. is_taken app (texts words.now) ≡ true → M.has_failed memory.new ≡ true) }
+    ensures runs_script { (app : App) × IsProgram app × MatchResult result (λ end. (invocation : InvocationSpec) × IsInvocation (subcommand_of app (texts words.now)) invocation × AnswersEveryScript invocation
+        (console_of (I.bytes_of inputs.old) (I.Opened.state source.new) (W.state sink.old) (W.state sink.new) (E.state errors.old) (E.state errors.new))
+        (failures_of (I.has_refused inputs.new) (I.Opened.state source.new) (W.state sink.new) (M.has_failed memory.new) (I.last_asked inputs.new)) end) (λ error. is_taken app (texts words.now) ≡ true → M.has_failed memory.new ≡ true) }
     ensures asked { IfOk result (λ end. (app : App) × IsProgram app × (invocation : InvocationSpec) × IsInvocation (subcommand_of app (texts words.now)) invocation
         × (IsUnasked (input_of invocation) (I.last_asked inputs.new) → (inputs.new ≡ inputs.old) × (source.new ≡ source.old))
         × (¬ ReadsInput invocation → (inputs.new ≡ inputs.old) × (source.new ≡ source.old))) }
@@ -203,22 +177,9 @@ fn answer_invocation<M: RunMemory + TraceMemory, I: Inputs, W: Sink, E: Sink>(
     ensures accepted { result ≢ ending.Refused }
     ensures asked { IsUnasked (input_of invocation.entry) (I.last_asked inputs.new) → (inputs.new ≡ inputs.old) × (source.new ≡ source.old) }
     ensures unused { ¬ ReadsInput invocation.entry → (inputs.new ≡ inputs.old) × (source.new ≡ source.old) }
-    ensures executes { (found : Option (Text × List Row)) → IsInvocation found invocation.entry → ExecutesCommand found terminals (record {
-      input = I.bytes_of inputs.old;
-      left = (I.Opened.state source.new).unread;
-      output = (W.state sink.old).taken;
-      output_now = (W.state sink.new).taken;
-      errors = (E.state errors.old).taken;
-      errors_now = (E.state errors.new).taken;
-      errors_failed = (E.state errors.new).has_failed;
-    }) (record {
-      open_failed = I.has_refused inputs.new;
-      read_failed = (I.Opened.state source.new).has_failed;
-      write_failed = (W.state sink.new).has_failed;
-      memory_failed = M.has_failed memory.new;
-      is_flushed = (W.state sink.new).is_flushed;
-      last_asked = I.last_asked inputs.new;
-    }) result }
+    ensures executes { (found : Option (Text × List Row)) → IsInvocation found invocation.entry → ExecutesCommand found terminals
+        (console_of (I.bytes_of inputs.old) (I.Opened.state source.new) (W.state sink.old) (W.state sink.new) (E.state errors.old) (E.state errors.new))
+        (failures_of (I.has_refused inputs.new) (I.Opened.state source.new) (W.state sink.new) (M.has_failed memory.new) (I.last_asked inputs.new)) result }
 {
     let result = execute(memory, invocation, terminals, inputs, source, sink, errors);
     ending_of(result)

@@ -9,6 +9,9 @@ returns-in_err-map_err-clause-shown g c = record {
   is_answer = search rules;
   whole = search rules;
   beginning = search rules;
+  flushed = search rules;
+  fails = search rules;
+  write = search rules;
 }
 
 pub returns-in_err-map_err-2-clause-shown : goal.returns-in_err-map_err-2-clause-shown
@@ -17,6 +20,9 @@ returns-in_err-map_err-2-clause-shown g c = record {
   is_answer = search rules;
   whole = search rules;
   beginning = on_err _ (whole_begins _ _ _ _ (search rules) c.flush.ensures.keeps);
+  flushed = search rules;
+  fails = search rules;
+  write = search rules;
 }
 
 pub returns-clause-shown : goal.returns-clause-shown
@@ -25,4 +31,7 @@ returns-clause-shown g c = record {
   is_answer = search rules;
   whole = search rules;
   beginning = tt;
+  flushed = search rules;
+  fails = search rules;
+  write = search rules;
 }

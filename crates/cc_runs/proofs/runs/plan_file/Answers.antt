@@ -1,6 +1,6 @@
 use Rattle.std.proofs.Common.{◌≡◌, ◌∙◌, rules}
 use Rattle.cc_syntax.specs.Planning.{plan_opening, pool_of}
-use Rattle.cc_console.specs.Devices.{Console}
+use Rattle.cc_console.specs.Devices.{Console, console_of}
 use Rattle.cc_runs.proofs.RunLemmas.{plan_starves}
 use Rattle.cc_runs.proofs.runs.plan_file.Goals as goal
 
@@ -10,14 +10,6 @@ returns-in-Ok-clause-starved g c = λ ran_out.
     cc (c.as_bytes.ensures.value, c.as_bytes-2.ensures.value, c.plan_numbers.ensures) in
     let is_opening : c.plan_opening-opening.result ≡ plan_opening c.in-Ok.base c.in-Ok.length c.args.align =
     search rules in
-    let console : Console = record {
-      input = g.I.Inputs.bytes_of c.args.inputs.now;
-      left = (g.I.Opened.Source.state c.run.new.source).unread;
-      output = (g.W.Sink.state c.args.sink.now).taken;
-      output_now = (g.W.Sink.state c.run.new.sink).taken;
-      errors = (g.E.Sink.state c.args.errors.now).taken;
-      errors_now = (g.E.Sink.state c.run.new.errors).taken;
-      errors_failed = (g.E.Sink.state c.run.new.errors).has_failed;
-    } in
+    let console : Console = console_of (g.I.Inputs.bytes_of c.args.inputs.now) (g.I.Opened.Source.state c.run.new.source) (g.W.Sink.state c.args.sink.now) (g.W.Sink.state c.run.new.sink) (g.E.Sink.state c.args.errors.now) (g.E.Sink.state c.run.new.errors) in
     plan_starves c.args.report c.args.limit c.args.pool c.args.align c.args.file console _ _ _
     (texts ∙ c.in-Ok.is) is_opening c.file_input.ensures (c.run.ensures.starved ran_out)

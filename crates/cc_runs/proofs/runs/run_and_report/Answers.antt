@@ -1,5 +1,6 @@
 use Rattle.std.proofs.Common.{Err, ◌∙◌, ap}
 use Rattle.std.proofs.lemmas.Result.{err_from_is_err_and}
+use Rattle.cc_console.specs.Devices.{traffic_on}
 use Rattle.cc_runs.specs.Runs.{ReportsRun}
 use Rattle.cc_console.proofs.DeviceLemmas.{on_devices}
 use Rattle.cc_runs.proofs.RunLemmas.{meets}
@@ -9,15 +10,7 @@ pub returns-in_err-summary-clause-runs : goal.returns-in_err-summary-clause-runs
 returns-in_err-summary-clause-runs g c =
     let told = err_from_is_err_and c.from_residual.result c.from_residual.ensures.1 in
     on_devices
-    (ReportsRun c.args.report c.args.opening.now c.args.pool c.args.session.now.machine (record {
-      unread = (g.S.Source.state c.args.source.now).unread;
-      left = (g.S.Source.state c.run_session.new.source).unread;
-      output = (g.W.Sink.state c.args.sink.now).taken;
-      output_now = (g.W.Sink.state c.run_session.new.sink).taken;
-      errors = (g.E.Sink.state c.args.errors.now).taken;
-      errors_now = (g.E.Sink.state c.args.errors.now).taken;
-      errors_failed = (g.E.Sink.state c.args.errors.now).has_failed;
-    }))
+    (ReportsRun c.args.report c.args.opening.now c.args.pool c.args.session.now.machine (traffic_on (g.S.Source.state c.args.source.now) (g.S.Source.state c.run_session.new.source) (g.W.Sink.state c.args.sink.now) (g.W.Sink.state c.run_session.new.sink) (g.E.Sink.state c.args.errors.now) (g.E.Sink.state c.args.errors.now)))
     c.from_residual.result (Err c.in_err-summary.field-0.0) (told.1 ∙ ap Err told.2)
     (record {
       session = record { machine = c.run_session.new.machine; tally = c.run_session.new.tally };
@@ -41,15 +34,7 @@ returns-in_err-write_report-clause-starved g c = λ is. (
 pub returns-in_err-summary-clause-main : goal.returns-in_err-summary-clause-main
 returns-in_err-summary-clause-main g c =
     meets c.args.report c.args.opening.now c.args.pool c.args.session.now.machine
-    (record {
-      unread = (g.S.Source.state c.args.source.now).unread;
-      left = (g.S.Source.state c.run_session.new.source).unread;
-      output = (g.W.Sink.state c.args.sink.now).taken;
-      output_now = (g.W.Sink.state c.run_session.new.sink).taken;
-      errors = (g.E.Sink.state c.args.errors.now).taken;
-      errors_now = (g.E.Sink.state c.args.errors.now).taken;
-      errors_failed = (g.E.Sink.state c.args.errors.now).has_failed;
-    })
+    (traffic_on (g.S.Source.state c.args.source.now) (g.S.Source.state c.run_session.new.source) (g.W.Sink.state c.args.sink.now) (g.W.Sink.state c.run_session.new.sink) (g.E.Sink.state c.args.errors.now) (g.E.Sink.state c.args.errors.now))
     c.from_residual.result (returns-in_err-summary-clause-runs g c)
 
 pub returns-clause-main : goal.returns-clause-main

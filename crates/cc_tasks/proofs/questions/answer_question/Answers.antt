@@ -29,8 +29,8 @@ returns-in-Round-clause-any_error g c = question_told c.round.result c.args.ques
 
 pub returns-in-Explain-clause-answered : goal.returns-in-Explain-clause-answered
 returns-in-Explain-clause-answered g c =
-    subst (λ (q : Question). WritesAnswer (IsAnswerTo q) (g.W.Sink.state c.args.sink.now).taken (g.W.Sink.state c.explain_word.new.sink).taken c.explain_word.result) (sym c.in-Explain.is)
-    (subst (λ (text : List ℕ). WritesAnswer (IsExplanation text) (g.W.Sink.state c.args.sink.now).taken (g.W.Sink.state c.explain_word.new.sink).taken c.explain_word.result)
+    subst (λ (q : Question). WritesAnswer (IsAnswerTo q) (g.W.Sink.state c.args.sink.now) (g.W.Sink.state c.explain_word.new.sink) c.explain_word.result) (sym c.in-Explain.is)
+    (subst (λ (text : List ℕ). WritesAnswer (IsExplanation text) (g.W.Sink.state c.args.sink.now) (g.W.Sink.state c.explain_word.new.sink) c.explain_word.result)
     c.as_bytes.ensures.value c.explain_word.ensures.shown)
 
 pub returns-in-Explain-clause-any_error : goal.returns-in-Explain-clause-any_error
@@ -40,8 +40,8 @@ returns-in-Explain-clause-any_error g c =
 
 pub returns-in-DrawWindow-clause-answered : goal.returns-in-DrawWindow-clause-answered
 returns-in-DrawWindow-clause-answered g c =
-    subst (λ (q : Question). WritesAnswer (IsAnswerTo q) (g.W.Sink.state c.args.sink.now).taken (g.W.Sink.state c.draw_window.new.sink).taken c.draw_window.result) (sym c.in-DrawWindow.is)
-    (subst (λ (text : List ℕ). WritesAnswer (IsWindowDrawing text) (g.W.Sink.state c.args.sink.now).taken (g.W.Sink.state c.draw_window.new.sink).taken c.draw_window.result)
+    subst (λ (q : Question). WritesAnswer (IsAnswerTo q) (g.W.Sink.state c.args.sink.now) (g.W.Sink.state c.draw_window.new.sink) c.draw_window.result) (sym c.in-DrawWindow.is)
+    (subst (λ (text : List ℕ). WritesAnswer (IsWindowDrawing text) (g.W.Sink.state c.args.sink.now) (g.W.Sink.state c.draw_window.new.sink) c.draw_window.result)
     c.as_bytes-in-DrawWindow.ensures.value c.draw_window.ensures.shown)
 
 pub returns-in-DrawWindow-clause-any_error : goal.returns-in-DrawWindow-clause-any_error

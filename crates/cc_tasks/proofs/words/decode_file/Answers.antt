@@ -1,18 +1,10 @@
 use Rattle.std.proofs.Common.{◌∙◌, sym}
-use Rattle.cc_console.specs.Devices.{Console}
+use Rattle.cc_console.specs.Devices.{Console, console_of}
 use Rattle.cc_tasks.proofs.TaskLemmas.{decodes}
 use Rattle.cc_tasks.proofs.words.decode_file.Goals as goal
 
 pub returns-in-Ok-clause-decodes : goal.returns-in-Ok-clause-decodes
-returns-in-Ok-clause-decodes g c = λ errors errors_now errors_failed.
-    let console : Console = record {
-      input = g.I.Inputs.bytes_of c.args.inputs.now;
-      left = (g.I.Opened.Source.state c.list_words.new.source).unread;
-      output = (g.W.Sink.state c.args.sink.now).taken;
-      output_now = (g.W.Sink.state c.list_words.new.sink).taken;
-      errors = errors;
-      errors_now = errors_now;
-      errors_failed = errors_failed;
-    } in
+returns-in-Ok-clause-decodes g c = λ errors errors_now.
+    let console : Console = console_of (g.I.Inputs.bytes_of c.args.inputs.now) (g.I.Opened.Source.state c.list_words.new.source) (g.W.Sink.state c.args.sink.now) (g.W.Sink.state c.list_words.new.sink) errors errors_now in
     decodes c.args.input c.args.format c.args.texts c.args.file console _ _ c.list_words.result
-    (sym c.listing_of.ensures ∙ c.in-Ok.is) c.file_input.ensures (c.list_words.ensures.lists errors errors_now errors_failed)
+    (sym c.listing_of.ensures ∙ c.in-Ok.is) c.file_input.ensures (c.list_words.ensures.lists errors errors_now)

@@ -15,12 +15,12 @@ returns-in-Plan-clause-silent g c = λ unreported. c.plan_file.ensures.silent (�
 pub returns-in-Map-clause-executes : goal.returns-in-Map-clause-executes
 returns-in-Map-clause-executes g c =
     by_invocation _ _ c.in-Map.is c.args.terminals _ c.map_file.result
-    (c.map_file.ensures.executes (g.E.Sink.state c.args.errors.now).taken (g.E.Sink.state c.args.errors.now).taken (g.E.Sink.state c.args.errors.now).has_failed)
+    (c.map_file.ensures.executes (g.E.Sink.state c.args.errors.now) (g.E.Sink.state c.args.errors.now))
 
 pub returns-in-Replay-clause-executes : goal.returns-in-Replay-clause-executes
 returns-in-Replay-clause-executes g c =
     by_invocation _ _ c.in-Replay.is c.args.terminals _ c.replay_file.result
-    (c.replay_file.ensures.replays (g.E.Sink.state c.args.errors.now).taken (g.E.Sink.state c.args.errors.now).taken (g.E.Sink.state c.args.errors.now).has_failed)
+    (c.replay_file.ensures.replays (g.E.Sink.state c.args.errors.now) (g.E.Sink.state c.args.errors.now))
 
 pub returns-in-Replay-clause-starved : goal.returns-in-Replay-clause-starved
 returns-in-Replay-clause-starved g c = λ unreported unstreamed.
@@ -31,7 +31,7 @@ returns-in-Replay-clause-starved g c = λ unreported unstreamed.
 pub returns-in-Annotate-clause-executes : goal.returns-in-Annotate-clause-executes
 returns-in-Annotate-clause-executes g c =
     by_invocation _ _ c.in-Annotate.is c.args.terminals _ c.annotate_file.result
-    (c.annotate_file.ensures.annotates (g.E.Sink.state c.args.errors.now).taken (g.E.Sink.state c.args.errors.now).taken (g.E.Sink.state c.args.errors.now).has_failed)
+    (c.annotate_file.ensures.annotates (g.E.Sink.state c.args.errors.now) (g.E.Sink.state c.args.errors.now))
 
 pub returns-in-RoundList-clause-silent : goal.returns-in-RoundList-clause-silent
 returns-in-RoundList-clause-silent g c = λ unreported. c.round_file.ensures.silent (λ is. unreported (subst (IsReported c.args.terminals) (sym c.in-RoundList.is) is))
@@ -46,12 +46,12 @@ returns-in-RoundList-clause-executes g c =
 pub returns-then-is_ok-clause-executes : goal.returns-then-is_ok-clause-executes
 returns-then-is_ok-clause-executes g c =
     by_invocation _ _ c.in-Decode.is c.args.terminals _ c.decode_file-result.result
-    (c.decode_file-result.ensures.decodes (g.E.Sink.state c.args.errors.now).taken (g.E.Sink.state c.hint_on_file.new.errors).taken (g.E.Sink.state c.hint_on_file.new.errors).has_failed)
+    (c.decode_file-result.ensures.decodes (g.E.Sink.state c.args.errors.now) (g.E.Sink.state c.hint_on_file.new.errors))
 
 pub returns-else-terminals-clause-executes : goal.returns-else-terminals-clause-executes
 returns-else-terminals-clause-executes g c =
     by_invocation _ _ c.in-Decode.is c.args.terminals _ c.decode_file-result.result
-    (c.decode_file-result.ensures.decodes (g.E.Sink.state c.args.errors.now).taken (g.E.Sink.state c.args.errors.now).taken (g.E.Sink.state c.args.errors.now).has_failed)
+    (c.decode_file-result.ensures.decodes (g.E.Sink.state c.args.errors.now) (g.E.Sink.state c.args.errors.now))
 
 pub returns-in-Plan-clause-main : goal.returns-in-Plan-clause-main
 returns-in-Plan-clause-main g c =

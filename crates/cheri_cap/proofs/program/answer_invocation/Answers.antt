@@ -16,20 +16,20 @@ returns-clause-executes g c = λ found is_invocation. record {
     result = c.execute-result.result;
     executes = c.execute-result.ensures.executes;
     fails = record {
-      opens = c.execute-result.ensures.refused;
-      reads = c.execute-result.ensures.read;
-      writes = c.execute-result.ensures.write;
+      opens = c.execute-result.ensures.end.refused;
+      reads = c.execute-result.ensures.end.read;
+      writes = c.execute-result.ensures.end.write;
       allocates = c.execute-result.ensures.allocates;
     };
     opens = c.execute-result.ensures.open;
-    untouched = c.execute-result.ensures.untouched;
+    untouched = c.execute-result.ensures.end.untouched;
     asks = λ unasked.
         let same = c.execute-result.ensures.asked unasked in
         (ap g.I.Inputs.has_refused same.0 ∙ c.requires.inputs, ap (λ source. (g.I.Opened.Source.state source).has_failed) same.1 ∙ c.requires.source);
     main = c.execute-result.ensures.main;
     starves = λ is. (c.execute-result.ensures.memory is, c.execute-result.ensures.stopped is);
     starved = c.execute-result.ensures.starved;
-    flushed = c.execute-result.ensures.flushed;
+    flushed = c.execute-result.ensures.end.flushed;
     unreported = c.execute-result.ensures.unreported;
     silent = λ unreported. ap (λ errors. (g.E.Sink.state errors).taken) (c.execute-result.ensures.silent unreported);
     hinted = c.execute-result.ensures.hinted;

@@ -1,7 +1,7 @@
 use Rattle.clap.specs.Walk.{texts}
 use Rattle.clap.specs.Words.{subcommand_of}
-use Rattle.cc_console.specs.Devices.{Console}
-use Rattle.cheri_cap.specs.Ending.{Failures}
+use Rattle.cc_console.specs.Devices.{Console, console_of}
+use Rattle.cheri_cap.specs.Ending.{Failures, failures_of}
 use Rattle.cheri_cap.proofs.HeadlineLemmas.{runs_script}
 use Rattle.cheri_cap.proofs.program.answer_words.Goals as goal
 
@@ -24,23 +24,8 @@ pub returns-in-Ok-clause-runs_script : goal.returns-in-Ok-clause-runs_script
 returns-in-Ok-clause-runs_script g c =
     let told = c.in-Ok.ensures.read in
     let done = c.answer_invocation.ensures.executes (subcommand_of told.0 (texts c.args.words.now)) told.2 in
-    let console : Console = record {
-      input = g.I.Inputs.bytes_of c.args.inputs.now;
-      left = (g.I.Opened.Source.state c.answer_invocation.new.source).unread;
-      output = (g.W.Sink.state c.args.sink.now).taken;
-      output_now = (g.W.Sink.state c.answer_invocation.new.sink).taken;
-      errors = (g.E.Sink.state c.args.errors.now).taken;
-      errors_now = (g.E.Sink.state c.answer_invocation.new.errors).taken;
-      errors_failed = (g.E.Sink.state c.answer_invocation.new.errors).has_failed;
-    } in
-    let failures : Failures = record {
-      open_failed = g.I.Inputs.has_refused c.answer_invocation.new.inputs;
-      read_failed = (g.I.Opened.Source.state c.answer_invocation.new.source).has_failed;
-      write_failed = (g.W.Sink.state c.answer_invocation.new.sink).has_failed;
-      memory_failed = g.M.Memory.has_failed c.answer_invocation.new.memory;
-      is_flushed = (g.W.Sink.state c.answer_invocation.new.sink).is_flushed;
-      last_asked = g.I.Inputs.last_asked c.answer_invocation.new.inputs;
-    } in
+    let console : Console = console_of (g.I.Inputs.bytes_of c.args.inputs.now) (g.I.Opened.Source.state c.answer_invocation.new.source) (g.W.Sink.state c.args.sink.now) (g.W.Sink.state c.answer_invocation.new.sink) (g.E.Sink.state c.args.errors.now) (g.E.Sink.state c.answer_invocation.new.errors) in
+    let failures : Failures = failures_of (g.I.Inputs.has_refused c.answer_invocation.new.inputs) (g.I.Opened.Source.state c.answer_invocation.new.source) (g.W.Sink.state c.answer_invocation.new.sink) (g.M.Memory.has_failed c.answer_invocation.new.memory) (g.I.Inputs.last_asked c.answer_invocation.new.inputs) in
     (told.0, told.1, (done.invocation, done.is_invocation, runs_script done.invocation c.args.terminals console failures c.answer_invocation.result done.executed))
 
 pub returns-in-Err-clause-runs_script : goal.returns-in-Err-clause-runs_script
