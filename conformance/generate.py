@@ -126,7 +126,7 @@ def stored(base, top):
 
 
 def is_canonical(fields):
-    """Returns whether the fields are those of a capability: a sound span as it is stored, and an address in its window."""
+    """Returns whether a capability can have the fields: a sound span as it is stored, and an address in its window."""
     base, top = decode(fields)
     if fields["reserved"] or LAST_SEALING_TYPE < fields["otype"] < UNSEALED:
         return False

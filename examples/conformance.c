@@ -12,7 +12,7 @@
 #include <string.h>
 
 #if CHERI_CAP_RELEASE < 300
-#error "the header is that of an older release"
+#error "the header is of an older release"
 #endif
 
 // The capacity for the words of the table, and more.
@@ -322,8 +322,8 @@ static unsigned check_table(FILE *table)
     return rows;
 }
 
-// Checks the batch functions on all words of the table, with one array that is one element shorter: each result is that of
-// the function for one word.
+// Checks the batch functions on all words of the table, with one array that is one element shorter: each result equals
+// that of the function for one word.
 static void check_many(size_t count)
 {
     static cheri_cap_bounds bounds[CAPACITY];
@@ -353,7 +353,7 @@ static void check_many(size_t count)
 }
 
 // Checks the batch functions on memory that begins at an odd address, with the words of the table in either byte order. Each
-// result is that of the function for one word, and one array is one element shorter.
+// result equals that of the function for one word, and one array is one element shorter.
 static void check_memory(size_t count, bool big_endian)
 {
     static uint8_t bytes[1 + 16 * CAPACITY];

@@ -231,7 +231,7 @@ class CapInfo(gdb.Command):
     """Show the fields and the bounds of a capability: capinfo EXPRESSION, or capinfo WORD
 
 EXPRESSION is a value of 16 bytes, or a struct with one word. WORD is 32 hexadecimal digits, with or without 0x, or two
-halves of 16 digits joined by _ or :, the high one first. The lines are those of `cheri-cap show`."""
+halves of 16 digits joined by _ or :, the high one first. The lines equal those of `cheri-cap show`."""
 
     def __init__(self):
         super().__init__("capinfo", gdb.COMMAND_DATA, gdb.COMPLETE_EXPRESSION)

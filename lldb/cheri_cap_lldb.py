@@ -134,7 +134,7 @@ def of_value(value):
 def mapped(context):
     """Returns the ranges of memory that can be read, or None if they are not known.
 
-    They are those of a process or of a core file, and otherwise the sections of the program's file."""
+    They belong to a process or to a core file, and otherwise are the sections of the program's file."""
     target, process, ranges = context.GetTarget(), context.GetProcess(), []
     if process.IsValid():
         regions, region = process.GetMemoryRegions(), lldb.SBMemoryRegionInfo()
@@ -196,7 +196,7 @@ def capfind(debugger, command, context, result, _):
 def capinfo(debugger, command, context, result, _):
     """Show the fields and the bounds of a capability: capinfo EXPRESSION, a value of 16 bytes or a struct with one
     word, or capinfo WORD, 32 hexadecimal digits, with or without 0x, or two halves of 16 digits joined by _ or :, the
-    high one first. The lines are those of `cheri-cap show`."""
+    high one first. The lines equal those of `cheri-cap show`."""
     try:
         text = command.strip()
         if not text:

@@ -546,7 +546,7 @@ class Capability:
 
     @property
     def is_canonical(self) -> bool:
-        """Whether the word is that of a capability which derivation creates, sealed or not."""
+        """Whether a derivation can return the word, sealed or not."""
         return bool(_calls["is_canonical"](*self._halves()))
 
     @property

@@ -10,7 +10,7 @@
 #   seen          their names, sizes and times when they last had these checksums
 #
 # If `seen` matches the files, no file is read. Names are relative to the checkout, so that it can be moved and copied. The
-# times are those of the last change of any kind, which no program sets back.
+# times are of the last change of any kind, which no program sets back.
 
 : "${top:?}" "${who:?}"
 readonly NOT_BUILT=125
@@ -123,7 +123,7 @@ unlock_checkout() {
   for locked in "${locks[@]}"; do exec {locked}<&-; done
 }
 
-# Proves all crates in `order`, builds the product of the last, and stores the checksums. They are those of the sources that were
+# Proves all crates in `order`, builds the product of the last, and stores the checksums. They are of the sources that were
 # built, if all names, sizes and times are equal before and after:  build_all PRODUCT DIRECTORY FLAG..
 build_all() {
   local product=$1 kept=$2 why='not built yet' before found made_of

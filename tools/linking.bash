@@ -7,7 +7,7 @@ want_compiler() {
   type -P "$compiler" >/dev/null || stop "the C compiler $compiler is not found; set CC to another"
 }
 
-# Prints the name by which programs ask the loader for the library. Its number is that of the header, which increases if a
+# Prints the name by which programs ask the loader for the library. Its number equals the header's, which increases if a
 # change breaks callers.
 soname() {
   local line

@@ -69,8 +69,6 @@ RULES = [
 ]
 # what a rule may have at most, by the kind of prose: in all other comments a tenth of what there was before the pages were plain
 LIMITS = {"pages": 0, "help": 0, "header": 0, "public": 0, "other": 4}
-# kinds of prose in which a rule has a limit below crates/ alone, so far
-LATER = {name: ("pages", "other") for name in ("gets-error", "is-nothing", "is-that-of")}
 # a line that the program prints, in the help
 PRINTED = "lost      0x8 bytes before the request, and 0x9 behind it"
 
@@ -174,8 +172,7 @@ def faults():
     found = {kind: {file: unwrapped(text) for file, text in files.items()} for kind, files in prose().items()}
     for name, pattern, instead in RULES:
         for kind, files in found.items():
-            is_later = kind in LATER.get(name, ())
-            count = {file: len(rule_of(pattern).findall(text)) for file, text in files.items() if not is_later or file.startswith("crates/")}
+            count = {file: len(rule_of(pattern).findall(text)) for file, text in files.items()}
             if sum(count.values()) > LIMITS[kind]:
                 places = ", ".join(file for file, number in count.items() if number)
                 yield f"style: {kind}: {sum(count.values())} of {name} (at most {LIMITS[kind]}; write: {instead}): {places}"
