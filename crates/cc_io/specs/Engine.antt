@@ -1,4 +1,4 @@
--- The effects of the parts of the engine. No public clause cites this file.
+-- The effects of the parts of the engine. The clauses of `make_room` alone cite this file in public.
 use Rattle.std.specs.Prelude.{◌≡◌, ℕ, Bool, true, false, List, [], ◌++◌, take, Option, ◌⊎◌}
 use Rattle.std.specs.Io.KnownBytes.{Appends}
 use Rattle.std.specs.List.{list_any}

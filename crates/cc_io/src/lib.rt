@@ -26,7 +26,7 @@ pub use numbered::{
     end_with_decimal, end_with_hexadecimal, push_decimal, push_digits, push_hexadecimal,
 };
 pub use page::{Line, MOST_LINE, MOST_REPLY, MOST_WAITING, Page, Waiting, WholeLine};
-pub use pumping::{pump, write_and_flush};
+pub use pumping::{make_room, pump, write_and_flush};
 pub use refusals::refusal_bytes;
 pub use slice_devices::{SliceSink, SliceSource};
 pub use std_devices::{FromReader, FromWriter};

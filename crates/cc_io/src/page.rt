@@ -1,5 +1,5 @@
 //! Output bytes in fixed-size buffers: a reply, or replies that are pending.
-ghost use Rattle.std.specs.Prelude.{◌≡◌, ◌+◌, ◌-◌, ◌*◌, ◌/◌, ◌%◌, ◌^◌, ◌≤◌, ◌<◌, [], ◌∷◌, ◌++◌, length, take, drop, decimal, false};
+ghost use Rattle.std.specs.Prelude.{◌≡◌, ◌+◌, ◌-◌, ◌*◌, ◌/◌, ◌%◌, ◌^◌, ◌≤◌, ◌<◌, [], ◌∷◌, ◌++◌, length, take, decimal, false};
 ghost use Rattle.std.specs.Fmt.{digits};
 ghost use Rattle.cc_word.specs.WordText.{digits_of};
 ghost use Rattle.cc_word.specs.WordText.{hexadecimal};
@@ -87,17 +87,6 @@ impl<const N: usize> Page<N> {
         ensures { self.new ≡ [] }
     {
         self.len = 0;
-    }
-
-    /// Removes the first `count` bytes.
-    ///
-    /// Requires: the page has at least `count` bytes.
-    pub fn drop_front(&mut self, count: usize)
-        requires { count ≤ length self.old }
-        ensures { self.new ≡ drop count self.old }
-    {
-        self.room.copy_within(count..self.len, 0);
-        self.len -= count;
     }
 
     /// Appends bytes as they are.

@@ -200,9 +200,12 @@ fn end_rest<A: Answerer<N>, const N: usize>(
     answerer.end(rest, page)
 }
 
-/// Writes the page if `most` bytes do not fit on it, so that they fit.
+/// Writes the page and clears it if `most` bytes do not fit on it, so that they fit.
+///
+/// Requires: the sink has not failed; `most <= N`.
+/// Errors: `Failed` if and only if the sink fails. A prefix of the page is then written.
 #[inline(always)]
-fn make_room<W: Sink, const N: usize>(
+pub fn make_room<W: Sink, const N: usize>(
     most: usize,
     page: &mut Page<N>,
     sink: &mut W,

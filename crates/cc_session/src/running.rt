@@ -2,8 +2,7 @@
 ghost use Rattle.std.specs.Prelude.{◌≡◌, ◌+◌, ◌≤◌, ◌<◌, ◌↔◌, [], Err, IfOk, IsErr, OnErr, OnOk, false, length, map, Ok, true};
 ghost use Rattle.std.specs.Io.KnownBytes.{Appends};
 ghost use Rattle.cc_io.specs.Answers.{AnswersInto};
-ghost use Rattle.cc_io.specs.Devices.{AreReady, IsOutcome, TakesBeginning};
-ghost use Rattle.cc_io.specs.Engine.{PassesPage};
+ghost use Rattle.cc_io.specs.Devices.{AreReady, IsOutcome};
 ghost use Rattle.cc_machine.specs.Run.{IsReached};
 ghost use Rattle.cc_session.specs.Failures.{StopsInReplies};
 ghost use Rattle.cc_session.specs.Main.{io_of};
@@ -15,7 +14,7 @@ ghost use Rattle.cc_syntax.specs.Tally.{IsTally};
 use crate::answering::{answer_line, is_refusal};
 use crate::lent::Lent;
 use cc_io::{
-    Answerer, Failed, IoError, Lines, Page, Sink, Source, Summary, pump, refusal_bytes, write_all,
+    Answerer, Failed, IoError, Lines, Page, Sink, Source, Summary, make_room, pump, refusal_bytes,
 };
 use cc_machine::{Machine, Op};
 use cc_syntax::{Tally, reply_line};
@@ -166,33 +165,13 @@ fn take_opening<W: Sink, const N: usize>(
 {
     let mut any_error = false;
     for op in opening {
-        match make_room(page, sink) {
+        match make_room(193, page, sink) {
             Ok(()) => {}
             Err(Failed) => return Err(Failed),
         }
         any_error |= take_operation(op, machine, tally, page);
     }
     Ok(any_error)
-}
-
-/// Writes the page and clears it, if one more reply might not fit.
-fn make_room<W: Sink, const N: usize>(page: &mut Page<N>, sink: &mut W) -> Result<(), Failed>
-    requires sink { (W.state sink.old).has_failed ≡ false }
-    requires room { 193 ≤ N }
-    ensures ok { OnOk result (PassesPage (W.state sink.old).taken (W.state sink.new).taken page.old page.new) }
-    ensures room { OnOk result (length page.new + 193 ≤ N) }
-    ensures err { OnErr result (TakesBeginning (W.state sink.old).taken (W.state sink.new).taken page.old) }
-    ensures some { OnErr result (0 < length page.old) }
-    ensures fails { IsErr result ↔ ((W.state sink.new).has_failed ≡ true) }
-{
-    if 193 <= N - page.len() {
-        return Ok(());
-    }
-    match write_all(sink, page.bytes()) {
-        Ok(()) => page.clear(),
-        Err(Failed) => return Err(Failed),
-    }
-    Ok(())
 }
 
 /// Steps the machine by an operation, and appends the reply and a line feed to the page. Returns
