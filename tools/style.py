@@ -5,7 +5,8 @@ and public doc comments, and few in all other comments.
 Usage: tools/style.py [--where RULE]     --where RULE prints each place of one rule. docs/check fails if this one does.
 
 Prose is: Markdown without code blocks, code spans and link targets; the strings of help.rt; manual pages without literal displays;
-comments of src, specs, proofs, the header, C, Python and shell; the mistakes that mutants say. Names in backquotes are not counted,
+comments of src, specs, proofs, the header, C, Python and shell; the mistakes that mutants say; the sentences of crates.txt; the
+messages of tools. Names in backquotes are not counted,
 and neither is anything that the program prints.
 """
 import re
@@ -132,6 +133,12 @@ def script(text):
     return "\n".join(re.findall(r"^\s*#(?!!)(.*)$", text, flags=re.M))
 
 
+def messages(text):
+    """The strings of a script that have four words or more."""
+    found = (it[2] for it in re.finditer(r"""(["'])((?:(?!\1)[^\\\n]|\\.)*)\1""", text))
+    return "\n".join(code_spans(re.sub(r"\{[^{}]*\}", "x", it)) for it in found if len(re.findall(r"\b[a-z]+\b", it)) > 3 and " " in it)
+
+
 def prose():
     """The prose of each file, by its kind."""
 
@@ -143,7 +150,7 @@ def prose():
     plain = [it for folder in ("tests", "tools", "bench", "examples", "hardware") for it in (TOP / folder).iterdir() if it.is_file() and it.suffix in ("", ".bash")]
     plain += [TOP / it for it in ("install", "cheri-cap", ".ci/run", "docs/check")]
     return {
-        "pages": all_of(markdown, "*.md", "docs/*.md"),
+        "pages": all_of(markdown, "*.md", "docs/*.md") | all_of(script, "crates.txt"),
         "help": all_of(strings, "crates/*/src/help.rt") | all_of(manual, "man/*"),
         "header": all_of(c, "include/*.h", "include/*.hpp"),
         "public": all_of(lambda text: rattle(text, True), sources)
@@ -153,7 +160,8 @@ def prose():
         | all_of(antt, "crates/*/proofs/**/*.antt")
         | all_of(c, "examples/*.c", "examples/*.cpp", "bench/*.[ch]", "hardware/*.sv", "tests/hardware.d/*.sv")
         | all_of(script, "python/*.py", "gdb/*.py", "lldb/*.py", "conformance/*.py", "hardware/*.py")
-        | {str(it.relative_to(TOP)): script(it.read_text(encoding="utf-8")) for it in plain},
+        | {str(it.relative_to(TOP)): script(it.read_text(encoding="utf-8")) for it in plain}
+        | {f"strings of {it.relative_to(TOP)}": messages(it.read_text(encoding="utf-8")) for it in plain if it.parent.name == "tools" and it.name != "style.py"},
     }
 
 
