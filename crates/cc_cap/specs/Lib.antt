@@ -5,6 +5,7 @@ pub mod Defect
 pub mod Derivation
 pub mod Reach
 pub mod WordRules
+pub mod WordTelling
 pub mod LineText
 pub mod Many
 pub mod Bounds

@@ -4,7 +4,7 @@ use Rattle.std.specs.Int.{w128, from_be_bytes, from_le_bytes}
 use Rattle.std.specs.Str.Parse.{digits_value}
 use Rattle.cc_word.specs.WordText.{IsWordText}
 use Rattle.cc_io.specs.Frames.{Frame, lines, blocks}
-pub use Rattle.cc_explain.specs.Answer.{digits_in}
+pub use Rattle.cc_io.specs.Lines.{digits_in}
 use Rattle.cc_io.specs.declared.input_form.ByteOrder.{ByteOrder}
 use Rattle.cc_io.specs.declared.input_form.ByteOrder.TheVariants.{Little, Big}
 use Rattle.cc_io.specs.declared.input_form.InputForm.{InputForm}

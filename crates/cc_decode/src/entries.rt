@@ -4,8 +4,7 @@ ghost use Rattle.std.specs.Str.Parse.{digits_value};
 ghost use Rattle.cc_word.specs.WordText.{IsWordText};
 ghost use Rattle.cc_decode.specs.Input.{IsWordEntry, block_value, digits_in, word_of_entry};
 
-use cc_explain::digits_in;
-use cc_io::{ByteOrder, InputForm};
+use cc_io::{ByteOrder, InputForm, digits_in};
 use cc_word::read_word_fast;
 
 /// The length of a word in bytes.

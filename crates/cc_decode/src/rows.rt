@@ -4,7 +4,7 @@ ghost use Rattle.cc_word.specs.Word.{bit_of};
 ghost use Rattle.cc_word.specs.WordText.{digits_of, hexadecimal};
 ghost use Rattle.cc_cap.specs.LineText.{letter_of, letters_of, word_line_of, marks_of};
 ghost use Rattle.cc_word.specs.Permissions.{bits_of};
-ghost use Rattle.cc_explain.specs.Permissions.{permissions_text};
+ghost use Rattle.cc_io.specs.Permissions.{permissions_text};
 ghost use Rattle.cc_decode.specs.Decoder.{AppendsRow};
 ghost use Rattle.cc_decode.specs.Row.{columns_text, csv_text, fixed_text, padded, values_text};
 
@@ -14,8 +14,7 @@ use crate::writers::{
 use bitflags::Flags;
 use cc_bounds::{Span, exponent};
 use cc_cap::Decoded;
-use cc_explain::push_permissions;
-use cc_io::{Format, Line};
+use cc_io::{Format, Line, push_permissions};
 use cc_word::{Fields, Perms, SENTRY_TYPE, UNSEALED_TYPE};
 
 /// Appends the reply to a word in this format, without a line feed: at most 450 bytes.

@@ -1,4 +1,3 @@
-mod PermissionLemmas
 pub mod StepLemmas
 mod RequestLemmas
 mod TextLemmas

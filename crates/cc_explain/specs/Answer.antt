@@ -1,12 +1,12 @@
 -- The output of a command, which it writes to a sink.
-use Rattle.std.specs.Prelude.{◌≡◌, ◌⊎◌, ◌↔◌, ℕ, true, List, Result, Ok, Err, IsErr, OnOk, OnErr, codes, drop, take, if◌then◌else◌}
+use Rattle.std.specs.Prelude.{◌≡◌, ◌⊎◌, ◌↔◌, ℕ, true, List, Result, Ok, Err, IsErr, OnOk, OnErr}
 use Rattle.std.specs.Io.KnownBytes.{Appends}
-use Rattle.std.specs.Str.{bytes_eq}
 use Rattle.std.specs.Str.Parse.{digits_value}
 use Rattle.cc_word.specs.WordText.{IsWordText}
 use Rattle.cc_word.specs.declared.refusal.Refusal.{Refusal}
 use Rattle.cc_word.specs.declared.refusal.Refusal.TheVariants.{Syntax}
 use Rattle.cc_io.specs.Devices.{OutputState, TakesBeginning}
+use Rattle.cc_io.specs.Lines.{digits_in}
 use Rattle.cc_io.specs.Text.{refusal_text, with_line_feed}
 use Rattle.cc_io.specs.declared.summary.IoError.{IoError}
 use Rattle.cc_io.specs.declared.summary.IoError.TheVariants.{Write}
@@ -21,10 +21,6 @@ IsRefusalLine refusal answer = answer ≡ with_line_feed (refusal_text refusal)
 abbrev pub AnswersText : (IsAnswer : (word : ℕ) → (answer : List ℕ) → Type 0) → (text answer : List ℕ) → Type 0
 AnswersText IsAnswer text answer =
     (IsWordText text × IsAnswer (digits_value 16 text) answer) ⊎ ((¬ IsWordText text) × IsRefusalLine Syntax answer)
-
--- The digits of a string: the bytes after `0x` if it begins with `0x`, and otherwise all of them.
-abbrev pub digits_in : (text : List ℕ) → List ℕ
-digits_in text = if bytes_eq (take 2 text) (codes "0x") then drop 2 text else text
 
 -- IsTypedWord holds if the string is a word as it is typed: 32 hexadecimal digits of either case,
 -- with or without `0x` in front of them.

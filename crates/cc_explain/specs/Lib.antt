@@ -1,8 +1,6 @@
 -- In reading order.
 pub mod Answer
 pub mod Refused
-pub mod Permissions
-pub mod WordTelling
 pub mod Listing
 pub mod LineAnswer
 pub mod Steps

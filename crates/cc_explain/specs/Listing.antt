@@ -7,8 +7,8 @@ use Rattle.cc_bounds.specs.declared.span.Span.{Span}
 use Rattle.cc_bounds.specs.Decoding.{stored_exponent}
 use Rattle.cc_io.specs.Text.{with_line_feed}
 use Rattle.cc_explain.specs.Answer.{AnswersText}
-use Rattle.cc_explain.specs.Permissions.{permissions_text}
-use Rattle.cc_explain.specs.WordTelling.{TellsWord}
+use Rattle.cc_io.specs.Permissions.{permissions_text}
+use Rattle.cc_cap.specs.WordTelling.{TellsWord}
 
 -- A name, one space, a value and the line feed.
 abbrev pub line_of : (name value : List ℕ) → List ℕ

@@ -4,10 +4,11 @@ ghost use Rattle.std.specs.Prelude.{◌≡◌, ◌+◌, ◌≤◌, ◌++◌, ◌
 ghost use Rattle.std.specs.Io.KnownBytes.{Appends};
 ghost use Rattle.std.specs.Str.Parse.{digits_value};
 ghost use Rattle.cc_io.specs.Devices.{SendsBytes};
+ghost use Rattle.cc_io.specs.Lines.{digits_in};
 ghost use Rattle.cc_io.specs.Numbered.{with_digits};
-ghost use Rattle.cc_explain.specs.Answer.{IsRefusalLine, IsTypedWord, WritesAnswer, digits_in};
+ghost use Rattle.cc_explain.specs.Answer.{IsRefusalLine, IsTypedWord, WritesAnswer};
 
-use cc_io::{Failed, IoError, ROOM, Sink, Summary, Text, refusal_bytes, write_all};
+use cc_io::{Failed, IoError, ROOM, Sink, Summary, Text, digits_in, refusal_bytes, write_all};
 use cc_word::{Refusal, read_word, write_word};
 
 /// Writes the line of a refusal, `error CODE NAME`, and flushes the sink once after it. The summary
@@ -32,13 +33,6 @@ pub fn push_refusal(text: &mut Text, refusal: Refusal)
     ensures { IsRefusalLine refusal text.new }
 {
     text.push(refusal_bytes(refusal));
-}
-
-/// Returns the bytes of a string after `0x`, or all of them if it does not begin with `0x`.
-pub fn digits_in(text: &[u8]) -> &[u8]
-    ensures { result.now ≡ digits_in text.now }
-{
-    text.strip_prefix(b"0x").unwrap_or(text)
 }
 
 /// Returns the word of a string of 32 hexadecimal digits of either case, with or without `0x` in front

@@ -4,14 +4,13 @@ ghost use Rattle.cc_word.specs.Word.{bit_of, word_of};
 ghost use Rattle.cc_word.specs.WordText.{IsWordText, digits_of, hexadecimal};
 ghost use Rattle.cc_explain.specs.Answer.{WritesAnswer};
 ghost use Rattle.cc_explain.specs.Listing.{IsListing, IsWordListing, bounds_lines_of, field_lines_of, line_of, listing_of};
-ghost use Rattle.cc_explain.specs.Permissions.{permissions_text};
+ghost use Rattle.cc_io.specs.Permissions.{permissions_text};
 
 use crate::answers::{push_refusal, write_answer};
-use crate::permissions::push_permissions;
 use bitflags::Flags;
 use cc_bounds::{Span, exponent};
 use cc_cap::{Decoded, Perms};
-use cc_io::{IoError, Line, ROOM, Sink, Summary, Text};
+use cc_io::{IoError, Line, ROOM, Sink, Summary, Text, push_permissions};
 use cc_word::{Fields, Refusal, read_word, write_word};
 
 /// Writes the listing of a word, and flushes the sink once after the last line.

@@ -1,6 +1,7 @@
 -- The lines of an input, and the bytes after the last line feed.
-use Rattle.std.specs.Prelude.{◌≡◌, ◌≢◌, ℕ, List, [], ◌∷◌, ◌++◌, ◌==◌, if◌then◌else◌}
+use Rattle.std.specs.Prelude.{◌≡◌, ◌≢◌, ℕ, List, [], ◌∷◌, ◌++◌, ◌==◌, codes, drop, take, if◌then◌else◌}
 use Rattle.std.specs.List.{AllByRecursion}
+use Rattle.std.specs.Str.{bytes_eq}
 
 -- `IsLine` holds if `text` has no line feed.
 abbrev pub IsLine : List ℕ → Type 0
@@ -40,3 +41,7 @@ rest_of text = rest_from [] text
 pub record OneSplit (text : List ℕ) : Type 0 where
   pub splits : Splits text (lines_of text) (rest_of text)
   pub only : (lines : List (List ℕ)) (rest : List ℕ) → Splits text lines rest → (lines ≡ lines_of text) × (rest ≡ rest_of text)
+
+-- The digits of a string: the bytes after `0x` if it begins with `0x`, and otherwise all of them.
+abbrev pub digits_in : (text : List ℕ) → List ℕ
+digits_in text = if bytes_eq (take 2 text) (codes "0x") then drop 2 text else text

@@ -9,6 +9,7 @@ mod input_form;
 mod line_start;
 mod numbered;
 mod page;
+mod permissions;
 mod pumping;
 mod refusals;
 mod slice_devices;
@@ -20,12 +21,13 @@ pub use answerer::Answerer;
 pub use devices::{Failed, Sink, Source, write_all};
 pub use format::Format;
 pub use framing::{Blocks, Framing, Lines};
-pub use input_form::{ByteOrder, InputForm};
+pub use input_form::{ByteOrder, InputForm, digits_in};
 pub use line_start::{LineStart, split_at_line_feed};
 pub use numbered::{
     end_with_decimal, end_with_hexadecimal, push_decimal, push_digits, push_hexadecimal,
 };
 pub use page::{Line, MOST_LINE, MOST_REPLY, MOST_WAITING, Page, Waiting, WholeLine};
+pub use permissions::push_permissions;
 pub use pumping::{make_room, pump, write_and_flush};
 pub use refusals::refusal_bytes;
 pub use slice_devices::{SliceSink, SliceSource};

@@ -10,7 +10,7 @@ use Rattle.cc_bounds.proofs.DecodingLemmas.{DecodesTo-same}
 use Rattle.cc_cap.specs.LineText.{IsWordLine, word_line_of}
 use Rattle.cc_io.specs.Text.{rest_text, with_line_feed}
 use Rattle.cc_io.specs.Answers.{Answer, answers_text}
-use Rattle.cc_explain.specs.WordTelling.{TellsWord}
+use Rattle.cc_cap.specs.WordTelling.{TellsWord}
 use Rattle.cc_decode.specs.Correct.{WritesListing}
 use Rattle.cc_decode.specs.Input.{entries_of, left_of, word_of_entry}
 use Rattle.cc_decode.specs.Output.{IsAnswer, IsRowLine, IsWordAnswer, AreAnswers}

@@ -1,14 +1,14 @@
 //! The names of permissions and of refusals, which the functions for C return as numbers.
 ghost use Rattle.std.specs.Prelude.{◌≡◌, ◌≤◌, ◌↔◌, drop, length, IfSome, IsSome};
-ghost use Rattle.cc_explain.specs.Permissions.{permissions_text};
+ghost use Rattle.cc_io.specs.Permissions.{permissions_text};
 ghost use Rattle.cc_page.specs.Texts.{Holds, IsLineOfCode};
 ghost use Rattle.cc_word.specs.Refusal.{code_of};
 
 use crate::texts::put;
 use bitflags::Flags;
 use cc_cap::Perms;
-use cc_explain::{push_permissions, push_refusal};
-use cc_io::{Line, ROOM, Text};
+use cc_explain::push_refusal;
+use cc_io::{Line, ROOM, Text, push_permissions};
 use cc_word::Refusal;
 
 /// Writes the names of permissions, joined by `+`, or `-` for none, to the start of the bytes, and

@@ -23,7 +23,7 @@ use Rattle.cc_values.specs.declared.op.Op.TheVariants as o
 use Rattle.cc_values.specs.Values.{IsWord, words_of, index_in, address_in, length_in, flag_in, word_in, permissions_in, with_names, both, single}
 use Rattle.cc_syntax.specs.Commands.{align_in, slot_and, one, two, command_in, operation_of}
 use Rattle.cc_values.specs.Numbers.{number_of, within_limit}
-use Rattle.cc_explain.specs.Permissions.{names_of_set, permissions_text}
+use Rattle.cc_io.specs.Permissions.{names_of_set, permissions_text}
 use Rattle.cc_script.specs.Operations.{flag_text, op_text, IsInRange}
 use Rattle.cc_values.proofs.PieceLemmas.{one_join}
 use Rattle.cc_values.proofs.ReadBackLemmas.{decimal-read, hexadecimal-read, word-read}

@@ -4,7 +4,7 @@ use Rattle.cc_word.specs.WordText.{digits_of, hexadecimal}
 use Rattle.cc_bounds.specs.declared.align.Align.{Align}
 use Rattle.cc_bounds.specs.declared.align.Align.TheVariants.{One, Sixteen}
 use Rattle.cc_word.specs.Permissions.{bits_of}
-use Rattle.cc_explain.specs.Permissions.{permissions_text}
+use Rattle.cc_io.specs.Permissions.{permissions_text}
 use Rattle.cc_values.specs.declared.op.Op.{Op}
 use Rattle.cc_values.specs.declared.op.Op.TheVariants.{Show, Bounds, Exact, Addr, Inc, Perms, Flag, Seal, Unseal, Rebuild, Round, Pool, Alloc, Free, Sweep}
 

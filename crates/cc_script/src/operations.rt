@@ -2,14 +2,13 @@
 ghost use Rattle.std.specs.Prelude.{◌≡◌, ◌+◌, ◌≤◌, ◌++◌, codes, decimal, length, Ok, IfSome, SomeIff};
 ghost use Rattle.cc_word.specs.WordText.{digits_of, hexadecimal};
 ghost use Rattle.cc_word.specs.Permissions.{bits_of};
-ghost use Rattle.cc_explain.specs.Permissions.{permissions_text};
+ghost use Rattle.cc_io.specs.Permissions.{permissions_text};
 ghost use Rattle.cc_syntax.specs.Commands.{operation_of};
 ghost use Rattle.cc_script.specs.Operations.{IsInRange, flag_text, op_text, pool_align_text};
 
 use cc_bounds::{Align, Len};
 use cc_cap::Perms;
-use cc_explain::push_permissions;
-use cc_io::Line;
+use cc_io::{Line, push_permissions};
 use cc_syntax::MOST_BYTES;
 use cc_values::Op;
 

@@ -1,6 +1,6 @@
 use Rattle.std.proofs.Common.{◌≡◌, ℕ, List, [], ◌∷◌, ◌++◌, append_assoc}
 use Rattle.cc_word.specs.WordText.{hexadecimal}
-use Rattle.cc_explain.specs.Permissions.{permissions_text}
+use Rattle.cc_io.specs.Permissions.{permissions_text}
 use Rattle.cc_decode.specs.Row.{values_text}
 use Rattle.cc_decode.proofs.rows.push_csv_values.Goals as goal
 

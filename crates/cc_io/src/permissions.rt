@@ -2,11 +2,11 @@
 ghost use Rattle.std.specs.Prelude.{◌≡◌, ◌+◌, ◌≤◌, ◌++◌, length};
 ghost use Rattle.std.specs.List.{join_with_byte};
 ghost use Rattle.cc_word.specs.Permissions.{bits_of};
-ghost use Rattle.cc_explain.specs.Permissions.{names_of_set, permissions_text, names_length, rows_of};
+ghost use Rattle.cc_io.specs.Permissions.{names_of_set, permissions_text, names_length, rows_of};
 
+use crate::page::Line;
 use bitflags::{Flag, Flags};
-use cc_cap::Perms;
-use cc_io::Line;
+use cc_word::Perms;
 
 /// Appends the names of the permissions from bit 0 up, joined by `+`, or `-` if there are none: at
 /// most 125 bytes.

@@ -8,7 +8,7 @@ use Rattle.bitflags.specs.Sets.{Row}
 use Rattle.bitflags.specs.declared.traits.Flag.{Flag}
 use Rattle.cc_word.specs.Permissions.{bits_of}
 use Rattle.cc_word.specs.declared.perms.Perms.{Perms}
-use Rattle.cc_explain.specs.Permissions.{names_of_set, names_length, rows_of}
+use Rattle.cc_io.specs.Permissions.{names_of_set, names_length, rows_of}
 
 -- the names one after another: the first after this separator, and each other after a `+`
 abbrev pub separated : List ℕ → List (List ℕ) → List ℕ

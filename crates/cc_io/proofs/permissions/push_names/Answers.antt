@@ -2,10 +2,10 @@ use Rattle.std.proofs.Common.{◌≡◌, arith, ap, ◌∙◌, ◌++◌, length,
 use Rattle.std.proofs.lemmas.Bool.{eq-eqb, ne_eqb}
 use Rattle.std.specs.Int.RustNames.{bit_and}
 use Rattle.cc_word.specs.Permissions.{bits_of}
-use Rattle.cc_explain.specs.Permissions.{names_of_set, rows_of}
-use Rattle.cc_explain.proofs.PermissionLemmas.{separated-none, next_row, next_room, row_of, nothing, name_taken, name_passed, none_left}
-use Rattle.cc_explain.proofs.permissions.push_names.Goals.{then-contains, else-contains}
-use Rattle.cc_explain.proofs.permissions.push_names.Goals as goal
+use Rattle.cc_io.specs.Permissions.{names_of_set, rows_of}
+use Rattle.cc_io.proofs.PermissionLemmas.{separated-none, next_row, next_room, row_of, nothing, name_taken, name_passed, none_left}
+use Rattle.cc_io.proofs.permissions.push_names.Goals.{then-contains, else-contains}
+use Rattle.cc_io.proofs.permissions.push_names.Goals as goal
 
 pub loop-flag-init : goal.loop-flag-init
 loop-flag-init c = record {

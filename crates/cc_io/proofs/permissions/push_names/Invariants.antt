@@ -1,9 +1,9 @@
 use Rattle.std.proofs.Common.{◌≡◌, ◌+◌, ◌≤◌, ◌++◌, drop, length}
 use Rattle.std.specs.List.{join_with_byte}
 use Rattle.cc_word.specs.Permissions.{bits_of}
-use Rattle.cc_explain.specs.Permissions.{names_of_set, names_length, rows_of}
-use Rattle.cc_explain.proofs.PermissionLemmas.{separated}
-use Rattle.cc_explain.proofs.permissions.push_names.Given as goal
+use Rattle.cc_io.specs.Permissions.{names_of_set, names_length, rows_of}
+use Rattle.cc_io.proofs.PermissionLemmas.{separated}
+use Rattle.cc_io.proofs.permissions.push_names.Given as goal
 
 abbrev pub invariant-loop-flag : goal.invariant-loop-flag
 invariant-loop-flag l = record {
