@@ -30,7 +30,7 @@ def has(what, *programs):
     """Returns whether the programs are installed. If not, standard error says what is skipped."""
     lacking = [it for it in programs if not shutil.which(it)]
     if lacking:
-        print(f"tests/{Path(sys.argv[0]).name}: skipping {what}: {', '.join(lacking)} not found", file=sys.stderr)
+        print(f"{os.path.relpath(sys.argv[0], TOP)}: skipping {what}: {', '.join(lacking)} not found", file=sys.stderr)
     return not lacking
 
 
@@ -40,6 +40,14 @@ def run(*words, **how):
     if done.returncode:
         sys.exit(f"FAILED {words}: status {done.returncode}\n{done.stdout}{done.stderr}")
     return done.stdout
+
+
+def interpreter(*modules):
+    """Returns a Python that has these modules, or None: Debian's packages are for its own Python."""
+    for python in (sys.executable, "/usr/bin/python3"):
+        if not subprocess.run([python, "-c", f"import {', '.join(modules)}"], stderr=subprocess.DEVNULL).returncode:
+            return python
+    return None
 
 
 def rows(name="conformance"):

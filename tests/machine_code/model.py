@@ -86,7 +86,7 @@ def decode(f, address=None):
 class Granted:
     """What a request of [base, base + length) is granted; base of 64 bits, length of 128. in_range may be false."""
 
-    def __init__(self, base, length, first_e=None):
+    def __init__(self, base, length):
         self.in_range = z3.And(z3.ULE(length, bv(TWO64, 128)), z3.ULE(ext(base, 130) + ext(length, 130), bv(TWO64, 130)))
         n = bits(length, W - 1, 0)
         b = ext(base)
@@ -95,8 +95,6 @@ class Granted:
         e = bv(0, W)
         for place in range(13, 65):
             e = z3.If(bits(n, place, place) == 1, bv(place - 12, W), e)
-        if first_e is not None:
-            e = first_e
         self.ie = z3.Or(e != 0, bits(n, 12, 12) == 1)
 
         def rounded(e):
@@ -127,17 +125,22 @@ def flag_bit(condition):
 # ---- canonical words and windows
 
 
+def judged(f, base, top, is_same):
+    """The first reason why a word is not canonical, and whether it stores its bounds as setting bounds does, which gives the same fields."""
+    is_ordered, is_inside = z3.UGE(top, ext(base, 65)), z3.ULE(top, bv(TWO64, 65))
+    is_reserved = z3.And(z3.UGE(f.otype, 0x3FFF0), f.otype != 0x3FFFF)
+    reason = bv(0, 8)
+    for fails, number in (z3.Not(is_same), 5), (z3.Not(is_inside), 4), (z3.Not(is_ordered), 3), (is_reserved, 2), (f.reserved != 0, 1):
+        reason = z3.If(fails, bv(number, 8), reason)
+    return reason, z3.And(is_ordered, is_inside, is_same)
+
+
 def defect(f):
     """The first reason why a word is not one that setting bounds, moving the address and sealing can make; and its bounds."""
     base, top, e = decode(f)
-    span = ext(top, 128) - ext(base, 128)
-    made = Granted(base, span)
-    same = z3.And(made.exact, flag_bit(made.ie) == f.ie, made.t == f.t, made.b == f.b)
-    stored = z3.And(z3.UGE(top, ext(base, 65)), z3.ULE(top, bv(TWO64, 65)), same)
-    reason = z3.If(z3.ULT(top, ext(base, 65)), bv(3, 8), z3.If(z3.UGT(top, bv(TWO64, 65)), bv(4, 8), z3.If(same, bv(0, 8), bv(5, 8))))
-    reserved_type = z3.And(z3.UGE(f.otype, 0x3FFF0), f.otype != 0x3FFFF)
-    reason = z3.If(f.reserved != 0, bv(1, 8), z3.If(reserved_type, bv(2, 8), reason))
-    return reason, stored, base, top, e
+    made = Granted(base, ext(top, 128) - ext(base, 128))
+    is_same = z3.And(made.exact, flag_bit(made.ie) == f.ie, made.t == f.t, made.b == f.b)
+    return *judged(f, base, top, is_same), base, top, e
 
 
 def defect_short(f):
@@ -146,11 +149,8 @@ def defect_short(f):
     field = z3.Concat(bits(f.t, 2, 0), bits(f.b, 2, 0))
     b = z3.If(f.ie == 1, f.b & 0x3FF8, f.b)
     lost = bits(z3.LShR(ext(b, 128) << ext(e, 128), 64), 13, 0)
-    same = z3.Or(f.ie == 0, z3.And(z3.ULE(field, CAP_MAX_E), lost == 0))
-    stored = z3.And(z3.UGE(top, ext(base, 65)), z3.ULE(top, bv(TWO64, 65)), same)
-    reason = z3.If(z3.ULT(top, ext(base, 65)), bv(3, 8), z3.If(z3.UGT(top, bv(TWO64, 65)), bv(4, 8), z3.If(same, bv(0, 8), bv(5, 8))))
-    reserved_type = z3.And(z3.UGE(f.otype, 0x3FFF0), f.otype != 0x3FFFF)
-    return z3.If(f.reserved != 0, bv(1, 8), z3.If(reserved_type, bv(2, 8), reason)), stored, base, top, e
+    is_same = z3.Or(f.ie == 0, z3.And(z3.ULE(field, CAP_MAX_E), lost == 0))
+    return *judged(f, base, top, is_same), base, top, e
 
 
 def window(base, e):

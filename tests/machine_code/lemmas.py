@@ -1,0 +1,101 @@
+"""Facts about the model alone, for every input: those that functions.py uses in place of definitions, and the promises of the format."""
+import functions
+import model
+import z3
+from functions import BASE, FUNCTIONS, LENGTH, NUMBER, WORD, of_length, rounded
+from model import Fields, Granted, bits, bv, ext
+from prove import CASES
+
+END = ext(BASE) + bits(LENGTH, model.W - 1, 0)
+TWO64 = bv(model.TWO64, 65)
+
+
+def short():
+    """Words are canonical by the short form if and only if setting the bounds that they decode to stores their fields."""
+    (reason, stored, *_), (short_reason, short_stored, *_) = model.defect(WORD), model.defect_short(WORD)
+    return z3.And(reason == short_reason, stored == short_stored), "word"
+
+
+def same_bounds():
+    """A word decodes to the same bounds with another address if and only if that is in its window."""
+    (base, top, e), (other_base, other_top, _) = model.decode(WORD), model.decode(WORD, NUMBER)
+    return z3.And(base == other_base, top == other_top) == model.in_window(base, e, NUMBER), "word"
+
+
+def covers():
+    """The granted bounds cover the request, end at 2^64 or below, and lose less than a granule at each end."""
+    g = Granted(BASE, LENGTH)
+    covers = z3.And(z3.ULE(g.granted_base, BASE), z3.UGE(ext(g.granted_top), END), z3.ULE(g.granted_top, TWO64))
+    lost = z3.And(z3.ULT(ext(BASE) - ext(g.granted_base), g.granule), z3.ULT(ext(g.granted_top) - END, g.granule))
+    return z3.Implies(g.in_range, z3.And(covers, lost)), "length"
+
+
+def granted_word(g):
+    return Fields(model.word_high(bv(0, 16), bv(0, 2), bv(0, 1), bv(0x3FFFF, 18), model.flag_bit(g.ie), g.t, g.b), BASE)
+
+
+def decodes():
+    """The granted fields decode, at the request's base, to the granted bounds and exponent."""
+    g = Granted(BASE, LENGTH)
+    base, top, e = model.decode(granted_word(g))
+    return z3.Implies(g.in_range, z3.And(base == g.granted_base, top == g.granted_top, e == g.e)), "length"
+
+
+def sound():
+    """The granted fields are canonical at the request's base."""
+    g = Granted(BASE, LENGTH)
+    return z3.Implies(g.in_range, functions.canonical(granted_word(g))), "length"
+
+
+def rounds():
+    """The representable length is the next multiple of the granule, and granted exactly."""
+    g, n = of_length(), bits(LENGTH, model.W - 1, 0)
+    again = Granted(bv(0, 64), ext(rounded(g), 128))
+    is_next = z3.And(z3.UGE(rounded(g), n), z3.ULE(rounded(g), ext(TWO64)), z3.ULT(rounded(g) - n, g.granule), rounded(g) & (g.granule - 1) == 0)
+    return z3.Implies(g.in_range, z3.And(is_next, again.exact)), "length"
+
+
+def is_stored(base, top, e, ie):
+    """Both ends are multiples of the granule, of which there are at most 1,023; or without IE there are fewer than 4,096 bytes."""
+    unit, span = bv(1, model.W) << (e + 3), ext(top) - ext(base)
+    is_multiple = z3.And(ext(base) & (unit - 1) == 0, ext(top) & (unit - 1) == 0)
+    return z3.If(ie, z3.And(is_multiple, z3.ULT(span, unit << 10)), z3.And(e == 0, z3.ULT(span, 4096)))
+
+
+def stores():
+    """The bounds of any word, unless its top is below its base or above 2^64, are as is_stored says, by its exponent."""
+    base, top, e = model.decode(WORD)
+    return z3.Implies(z3.And(z3.ULE(ext(base, 65), top), z3.ULE(top, TWO64)), is_stored(base, top, e, WORD.ie == 1)), "word"
+
+
+def tightest():
+    """Any bounds that are stored so, cover the request and end at 2^64 or below cover the granted ones. By stores(), that is so of the
+    bounds of every word: so narrowing bounds gives nothing that the word did not have."""
+    base, top, e, ie = z3.BitVec("any_base", 64), z3.BitVec("any_top", 65), ext(z3.BitVec("any_e", 6)), z3.Bool("any_ie")
+    g = Granted(BASE, LENGTH)
+    is_covering = z3.And(g.in_range, z3.ULE(base, BASE), z3.UGE(ext(top), END), z3.ULE(top, TWO64), is_stored(base, top, e, ie))
+    return z3.Implies(is_covering, z3.And(z3.ULE(base, g.granted_base), z3.UGE(top, g.granted_top))), "length"
+
+
+def least():
+    """No word's bounds of at least `length` bytes that end at 2^64 or below are shorter than the representable length."""
+    g = of_length()
+    base, top, _ = model.decode(WORD)
+    span = ext(top) - ext(base)
+    given = z3.And(g.in_range, z3.ULE(ext(base, 65), top), z3.ULE(top, TWO64), z3.UGE(span, bits(LENGTH, model.W - 1, 0)))
+    return z3.Implies(given, z3.UGE(span, rounded(g))), "word"
+
+
+def shrinks(name):
+    """The word that a rule makes is canonical and a subset of the word. For setting bounds, that follows from tightest, decodes and sound."""
+
+    def lemma():
+        made = FUNCTIONS[name].result()
+        f = Fields(made["high"], made["low"])
+        return z3.Implies(made["refusal"] == 0, z3.And(functions.canonical(f), functions.subset(f, WORD))), "word"
+
+    return lemma
+
+
+LEMMAS = {it.__name__: it for it in (short, same_bounds, covers, decodes, sound, rounds, stores, tightest, least)}
+LEMMAS |= {f"shrinks_{name}": shrinks(name) for name in "set_address increment and_perms set_flag seal unseal".split()}

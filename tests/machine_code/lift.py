@@ -1,0 +1,250 @@
+"""Runs a function of a linked file on z3's bit vectors, one path at a time. x86.py and a64.py have the instructions of the processors; this
+file has what is common to them: the file, the memory, the paths, and the promises of the ABI."""
+import itertools
+
+import capstone
+import z3
+from elftools.elf.elffile import ELFFile
+from model import bits, bv
+
+PRUNE_EFFORT = 20_000_000  # in z3's own unit, which does not depend on the load of the machine
+STACK = 1 << 16
+
+
+class Refused(Exception):
+    """The code does something that has no meaning here, or that the ABI forbids."""
+
+
+class Image:
+    """The functions, the code and the constant data of an ELF file."""
+
+    def __init__(self, path):
+        with open(path, "rb") as file:
+            elf = ELFFile(file)
+            self.machine = elf["e_machine"]
+            loaded = [it for it in elf.iter_segments() if it["p_type"] == "PT_LOAD"]
+            self.segments = [(it["p_vaddr"], bytearray(it.data()), it["p_flags"]) for it in loaded]
+            tables = [it for it in elf.iter_sections() if it["sh_type"] in ("SHT_SYMTAB", "SHT_DYNSYM")]
+            found = (it for table in tables for it in table.iter_symbols() if it["st_info"]["type"] == "STT_FUNC" and it["st_shndx"] != "SHN_UNDEF")
+            self.functions = {it.name: it["st_value"] for it in found}
+            moved = [it for it in elf.iter_sections() if it["sh_type"] in ("SHT_RELA", "SHT_REL")]
+            # the loader changes these bytes
+            self.relocated = {it["r_offset"] + k for section in moved for it in section.iter_relocations() for k in range(8)}
+
+    def at(self, address, is_code):
+        """Returns the bytes of a segment that nobody writes from an address on, or None."""
+        for start, data, flags in self.segments:
+            if start <= address < start + len(data) and not flags & 2 and (flags & 1 or not is_code):
+                return data[address - start :]
+        return None
+
+    def constant(self, address):
+        found = None if address in self.relocated else self.at(address, False)
+        if found is None:
+            raise Refused(f"reads {address:#x}, which is not constant data of the file")
+        return found[0]
+
+    def patch(self, address, data):
+        for start, held, _ in self.segments:
+            if start <= address < start + len(held):
+                held[address - start : address - start + len(data)] = data
+
+
+def low(term, size):
+    return term if term.size() == size else bits(term, size - 1, 0)
+
+
+def wide(term, size):
+    return term if term.size() == size else z3.ZeroExt(size - term.size(), term)
+
+
+def signed(term, size):
+    return term if term.size() == size else z3.SignExt(size - term.size(), term)
+
+
+def top_bit(term):
+    return bits(term, term.size() - 1, term.size() - 1) == 1
+
+
+def bit_of(condition, size=1):
+    return z3.If(condition, bv(1, size), bv(0, size))
+
+
+_fresh = itertools.count()
+
+
+def unknown(size, why="undefined"):
+    """A value of which nothing is known: the manual leaves it undefined, or nobody has set it. A size of 0 is a flag."""
+    name = f"{why}!{next(_fresh)}"
+    return z3.BitVec(name, size) if size else z3.Bool(name)
+
+
+def pointer(name):
+    return z3.BitVec(name, 64)
+
+
+class Memory:
+    """Bytes of regions that do not overlap. A region is a pointer's name, and what may be read and written there: the offsets from the
+    pointer of (the first byte, the end of what may be written, the end of what may be read)."""
+
+    def __init__(self, image, regions, held=()):
+        self.image, self.regions, self.bytes = image, regions, dict(held)
+
+    def copy(self):
+        return Memory(self.image, self.regions, self.bytes)
+
+    def place(self, address):
+        address = z3.simplify(address)
+        if z3.is_bv_value(address):
+            return None, address.as_long()
+        for name in self.regions:
+            offset = z3.simplify(address - pointer(name))
+            if z3.is_bv_value(offset):
+                return name, offset.as_signed_long()
+        raise Refused(f"an address that depends on the data: {address}")
+
+    def load(self, address, size):
+        region, start = self.place(address)
+        if region is None:
+            found = [bv(self.image.constant(it), 8) for it in range(start, start + size)]
+        else:
+            first, _, end = self.regions[region]
+            if not first <= start <= start + size <= end:
+                raise Refused(f"reads {size} bytes at {region}{start:+d}, which are not its own")
+            found = [self.bytes.setdefault((region, it), unknown(8, f"{region}{it:+d}")) for it in range(start, start + size)]
+        return z3.simplify(z3.Concat(*reversed(found))) if size > 1 else found[0]
+
+    def store(self, address, term, size, lowest):
+        """`lowest` is the lowest address of the stack that may be written: what is below it does not stay."""
+        region, start = self.place(address)
+        if region == "SP" and start < self.place(lowest)[1]:
+            raise Refused("writes below the stack")
+        first, end, _ = self.regions.get(region, (0, 0, 0))
+        if not first <= start <= start + size <= end:
+            raise Refused(f"writes {size} bytes at {region}{start:+d}, which are not its own")
+        for k in range(size):
+            self.bytes[region, start + k] = z3.simplify(bits(term, 8 * k + 7, 8 * k))
+
+
+class State:
+    def __init__(self, regs, flags, memory, pc):
+        self.regs, self.flags, self.memory, self.pc = regs, flags, memory, pc
+        self.path, self.visited, self.calls, self.returned = [], set(), (), False
+
+    def copy(self):
+        other = State(dict(self.regs), dict(self.flags), self.memory.copy(), self.pc)
+        other.path, other.visited, other.calls = [*self.path], {*self.visited}, self.calls
+        return other
+
+
+class Lifter:
+    """A subclass has step(state, instruction), which changes the state and returns None, or for a jump its condition and its target."""
+
+    SAVED = STACK_POINTER = disassembler = None
+    POPPED = 0  # the bytes that the return itself takes from the stack
+
+    def __init__(self, image):
+        self.image, self.decoded = image, {}
+
+    def instruction(self, address):
+        if address not in self.decoded:
+            code = self.image.at(address, True)
+            one = next(self.disassembler.disasm(bytes(code[:16]), address, 1), None) if code else None
+            if one is None:
+                raise Refused(f"no instruction at {address:#x}")
+            self.decoded[address] = one
+        return self.decoded[address]
+
+    @staticmethod
+    def target(one):
+        """Returns where a jump or a call goes to, or None."""
+        leaves = one.group(capstone.CS_GRP_JUMP) or one.group(capstone.CS_GRP_CALL) or one.mnemonic == "bl"
+        return one.operands[-1].imm & 2**64 - 1 if leaves and one.operands else None
+
+    def code(self, entry):
+        """Returns the instructions that can follow an entry, by their addresses, in an order that does not depend on these."""
+        found, waiting = {}, [entry]
+        while waiting:
+            address = waiting.pop()
+            while address not in found:
+                found[address] = one = self.instruction(address)
+                if self.target(one) is not None:
+                    waiting.append(self.target(one))
+                if one.mnemonic in ("ret", "jmp", "b"):
+                    break
+                address += one.size
+        return found
+
+    def text(self, entry):
+        """Returns the code of a function without the places of its parts in the file: each instruction with the number of those that
+        can follow it, and the constants."""
+        found = self.code(entry)
+        number = {address: n for n, address in enumerate(found)}
+        lines = []
+        for address, one in found.items():
+            jump = self.target(one)
+            text = self.apart(one) if jump is None else (one.mnemonic, one.op_str.rpartition(",")[0], number[jump])
+            lines.append((number.get(address + one.size), text))
+        return lines
+
+    def apart(self, one):
+        """Returns the bytes of an instruction that is no jump. For the place of a constant they have the constant."""
+        return bytes(one.bytes)
+
+    def run(self, state):
+        """Returns the states in which the function has returned. Their paths exclude each other, and every input takes one."""
+        solver = z3.SolverFor("QF_BV")
+        solver.set("rlimit", PRUNE_EFFORT)
+        ends, waiting = [], [state]
+        while waiting:
+            state = waiting.pop()
+            while not state.returned:
+                if (state.calls, state.pc) in state.visited:
+                    raise Refused(f"a loop through {state.pc:#x}")
+                state.visited.add((state.calls, state.pc))
+                one = self.instruction(state.pc)
+                state.pc = one.address + one.size
+                jump = self.step(state, one)
+                if jump is None:
+                    continue
+                condition, target = z3.simplify(jump[0]), jump[1]
+                if z3.is_true(condition):
+                    state.pc = target
+                elif not z3.is_false(condition):
+                    taken = state.copy()
+                    taken.pc = target
+                    taken.path.append(condition)
+                    state.path.append(z3.simplify(z3.Not(condition)))
+                    if self.is_possible(solver, taken):
+                        waiting.append(taken)
+                    if not self.is_possible(solver, state):
+                        break
+            if state.returned:
+                ends.append(state)
+        return ends
+
+    @staticmethod
+    def is_possible(solver, state):
+        solver.push()
+        solver.add(*state.path)
+        found = solver.check()
+        solver.pop()
+        return found != z3.unsat
+
+    def returns(self, state, place, caller):
+        """Returns to `place`: after the last call, or to the caller of the function, whose address is `caller`. Then the saved registers and
+        the stack pointer must be as they were, which the ABI promises the caller."""
+        place = z3.simplify(place)
+        if state.calls and place.eq(bv(state.calls[-1], 64)):
+            *calls, back = state.calls
+            state.calls = tuple(calls)
+            return z3.BoolVal(True), back
+        if state.calls or not place.eq(pointer(caller)):
+            raise Refused("returns to somewhere else")
+        for name in self.SAVED:
+            if not z3.simplify(state.regs[name]).eq(pointer(f"{name}!entry")):
+                raise Refused(f"does not restore {name}")
+        if not z3.simplify(state.regs[self.STACK_POINTER] - self.POPPED).eq(pointer("SP")):
+            raise Refused("does not restore the stack pointer")
+        state.returned = True
+        return None

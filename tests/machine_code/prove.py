@@ -1,0 +1,287 @@
+"""Proves by z3 that the machine code of a function computes the terms of functions.py, for every input.
+
+All rests on the cases: the exponent's digits, or the place of the length's highest one, are constants in each, so that hardly any
+shift is by a variable. every_input() proves that the cases leave no input out.
+"""
+import functions
+import model
+import z3
+from functions import FUNCTIONS, HIGH, LENGTH, LENGTH_HIGH, LENGTH_LOW, LOW, OTHER_HIGH, PAIR
+from lift import Refused, wide
+from model import bits, bv
+
+EFFORT = 400_000_000  # of a query, in z3's own unit: some two minutes
+MANY = 60  # a term of more nodes is more than a comparison of fields
+
+
+class NotProved(Exception):
+    """The model of z3 is an input for which the two differ, or None if z3 did not decide."""
+
+    def __init__(self, where, found):
+        super().__init__(f"{'WRONG' if found is not None else 'not decided'}: {where}")
+        self.found = found
+
+
+def solver():
+    made = z3.Then("simplify", "propagate-values", "solve-eqs", "simplify", "bit-blast", "sat").solver()
+    made.set("rlimit", EFFORT)
+    return made
+
+
+def never(term, where, cases=(("", (), None),)):
+    """Raises NotProved unless the term is false for every input. A case is its name, the values of variables in it, and what else holds."""
+    for name, places, extra in cases:
+        one = term if extra is None else z3.And(extra, term)
+        one = z3.simplify(z3.substitute(one, *places) if places else one)
+        if not z3.is_false(one):
+            made = solver()
+            made.add(one)
+            said = made.check()
+            if said != z3.unsat:
+                raise NotProved(f"{where}{name and f' at {name}'}", made.model() if said == z3.sat else None)
+
+
+def is_always(term, cases):
+    try:
+        never(z3.Not(term), "", cases)
+    except NotProved as error:
+        if error.found is None:
+            raise
+        return False
+    return True
+
+
+# ---- the cases
+
+
+def word_cases(high):
+    def word(ie, t, b):
+        free = {name: z3.BitVec(f"{high}_{name}", size) for name, size in {"upper": 37, "t": 9, "b": 11}.items()}
+        plain = z3.Concat(free["upper"], bv(ie, 1), free["t"], t, free["b"], b)
+        return [(high, z3.simplify(plain ^ bv(model.MASK, 64)))]
+
+    t, b = z3.BitVec(f"{high}_t_digit", 3), z3.BitVec(f"{high}_b_digit", 3)
+    digits = [(f"E={n}", word(1, bv(n >> 3, 3), bv(n & 7, 3)), None) for n in range(56)]
+    return [("IE=0", word(0, t, b), None), *digits, ("E>55", word(1, bv(7, 3), b), None)]
+
+
+def length_cases():
+    def place(n):
+        return [(LENGTH_HIGH, bv(0, 64)), (LENGTH_LOW, wide(z3.Concat(bv(1, 1), z3.BitVec("length_rest", n)), 64))]
+
+    short = [(LENGTH_HIGH, bv(0, 64)), (LENGTH_LOW, wide(z3.BitVec("length_rest", 12), 64))]
+    ends = [("length>2^64", (), z3.UGT(LENGTH, bv(2**64, 128))), ("length=2^64", [(LENGTH_HIGH, bv(1, 64)), (LENGTH_LOW, bv(0, 64))], None)]
+    return [*ends, *((f"length>=2^{n}", place(n), None) for n in range(63, 11, -1)), ("length<2^12", short, None)]
+
+
+CASES = {"word": word_cases(HIGH), "other": word_cases(OTHER_HIGH), "length": length_cases()}
+
+
+def every_input():
+    """Proves that every input is in a case. In each, a bit of a variable is a constant, or free and no other bit."""
+
+    def held(places, extra):
+        said, free = [] if extra is None else [extra], []
+        for variable, term in places:
+            for k in range(64):
+                bit = z3.simplify(bits(term, k, k))
+                if z3.is_bv_value(bit):
+                    said.append(bits(variable, k, k) == bit)
+                else:
+                    free.append(bit.sexpr().replace("bvnot ", "").strip("()"))
+        assert len({*free}) == len(free)
+        return z3.And(*said)
+
+    for name, cases in CASES.items():
+        never(z3.Not(z3.Or(*[held(places, extra) for _, places, extra in cases])), f"the cases of a {name}")
+
+
+# ---- a function
+
+
+def machine_of(image, name):
+    """Returns the lifter of a file, and the address of a function in it."""
+    if image.machine == "EM_X86_64":
+        from x86 import X86 as Machine
+    else:
+        from a64 import A64 as Machine
+    if f"cheri_cap_{name}" not in image.functions:
+        raise Refused("the file has no such function")
+    return Machine(image), image.functions[f"cheri_cap_{name}"]
+
+
+def ends_of(image, name):
+    """Returns the ends of a function: the conditions of the path to it, and the fields of the result."""
+    function, arguments, (machine, entry) = FUNCTIONS[name], [], machine_of(image, name)
+    for one in function.inputs:
+        variable, size = one if isinstance(one, tuple) else (one, 64)
+        # the ABIs leave the bits above a narrow argument open
+        arguments.append(z3.Concat(z3.BitVec(f"junk_{64 - size}", 64 - size), bits(variable, size - 1, 0)) if size < 64 else variable)
+    cut = [(field, 8 * (offset + size) - 1, 8 * offset) for field, offset, size in function.layout]
+    ends = machine.call(entry, arguments, function.struct, function.in_memory)
+    return [(path, {field: z3.simplify(bits(result, high, lowest)) for field, high, lowest in cut}) for path, result in ends]
+
+
+def merged(ends, field):
+    """A field as one term: its value at the end that is reached."""
+    *others, (_, last) = ends
+    term = last[field]
+    for path, fields in reversed(others):
+        term = z3.If(z3.And(*path), fields[field], term)
+    return term
+
+
+def by_length(term, where, granted):
+    """never(), by the length's place, and by whether the exponent grows: then each exponent of the model is a constant."""
+    for grows in (z3.BoolVal(True), z3.BoolVal(False)):
+        never(z3.And(granted.grows == grows, z3.substitute(term, (granted.grows, grows))), where, CASES["length"])
+
+
+def by_cases(term, where, split):
+    if split == "length":
+        by_length(term, where, model.Granted(functions.BASE, LENGTH))
+    else:
+        never(term, where, *([CASES[split]] if split else []))
+
+
+def direct(name, ends, wanted):
+    differs = z3.Or(*[merged(ends, field) != wanted[field] for field in wanted])
+    by_cases(differs, "the result", *(FUNCTIONS[name].split or [None]))
+
+
+_variables = {}
+
+
+def variables(term):
+    """Returns the names of a term's variables. The term is kept, so that z3 gives its number to no other."""
+    if term.get_id() not in _variables:
+        is_variable = z3.is_const(term) and term.decl().kind() == z3.Z3_OP_UNINTERPRETED
+        found = {str(term)} if is_variable else set().union(*map(variables, term.children()))
+        _variables[term.get_id()] = found, term
+    return _variables[term.get_id()][0]
+
+
+def is_small(term, most=MANY):
+    seen, waiting = {}, [term]
+    while waiting and len(seen) <= most:
+        one = waiting.pop()
+        if one.get_id() not in seen:
+            seen[one.get_id()] = one
+            waiting += one.children()
+    return len(seen) <= most
+
+
+def bounded(name, ends, wanted):
+    """set_bounds_on and set_bounds_exact_on. First each refusal but INEXACT, by the word's exponent; then the result, by the length's place,
+    from no more than that the request ends at 2^64 or below, and those conditions of the path that are small or not about the word."""
+    g = model.Granted(LOW, LENGTH)
+    rough = lambda refusal: z3.If(refusal == model.INEXACT, bv(0, 8), refusal)
+    refusal, inexact = merged(ends, "refusal"), functions.narrowed(False)["refusal"]
+    never(rough(wanted["refusal"]) != inexact, "the model's refusal without INEXACT")
+    never(z3.Or(rough(refusal) != inexact, z3.And(rough(refusal) == 0, z3.Not(g.in_range))), "the refusal", CASES["word"])
+    made = functions.narrowed(False)["high"].arg(1)  # the word if no check fails
+    holds = g.exact if name == "set_bounds_exact_on" else z3.BoolVal(True)
+    given = {"refusal": z3.If(holds, bv(0, 8), bv(model.INEXACT, 8)), "high": functions.whole(holds, made), "low": functions.whole(holds, LOW)}
+    seen = {}
+    for path, fields in ends:
+        is_given = z3.simplify(rough(fields["refusal"]) == 0)
+        is_word = z3.Or(fields["high"] != 0, fields["low"] != 0)
+        if not z3.is_true(is_given):
+            never(z3.And(*path, z3.Not(is_given), is_word), "no word", CASES["word"])
+        if z3.is_false(is_given):
+            continue
+        kept = [it for it in path if "high" not in variables(it) or is_small(it)]
+        key = tuple(it.get_id() for it in [*kept, *fields.values()])
+        if key not in seen:
+            seen[key] = kept
+            by_length(z3.And(g.in_range, is_given, *kept, z3.Or(*[fields[it] != given[it] for it in given])), "the word", g)
+
+
+class Half:
+    """One of two words: its facts and its bounds, with a name for each."""
+
+    def __init__(self, f, name, cases):
+        self.name, self.cases, self.names = name, cases, PAIR[:2] if name == "word" else PAIR[2:]
+        self.names = {*map(str, self.names)}
+        self.base, self.top, _ = model.decode(f)
+        self.facts = {it: z3.Bool(f"{name}_{it}") for it in ("canonical", "in_bounds")}
+        self.meaning = {"canonical": functions.canonical(f), "in_bounds": functions.in_bounds(f)}
+        self.base_is, self.top_is = z3.BitVec(f"{name}_base", 64), z3.BitVec(f"{name}_top", 65)
+
+    def owns(self, term):
+        return bool(variables(term)) and variables(term) <= self.names
+
+    def abstract(self):
+        return [(self.meaning[it], self.facts[it]) for it in self.facts] + [(self.base, self.base_is), (self.top, self.top_is)]
+
+    def parts(self):
+        low, high = (bits(self.top, 63, 0), bits(self.top_is, 63, 0)), (bits(self.top, 64, 64), bits(self.top_is, 64, 64))
+        return [(self.base, self.base_is), (self.top, self.top_is), low, high]
+
+
+def between(terms, half):
+    """Returns the terms of one word that meet something else, where they are more than a few of its bits."""
+    found, seen = {}, {}
+
+    def walk(term):
+        if term.get_id() not in seen:
+            seen[term.get_id()] = term
+            for child in term.children():
+                if not half.owns(child):
+                    walk(child)
+                elif z3.is_bv(child) and not is_small(child, 20):
+                    found[child.get_id()] = child
+
+    for term in terms:
+        if not half.owns(term):
+            walk(term)
+    return found.values()
+
+
+def two_words(name, ends, wanted):
+    """Functions of two words. The conditions on one word alone prove facts about it, with its exponent known: whether it is canonical,
+    whether its address is in its bounds, and that a term of the code is its base or its top. Then these are names, and the others are
+    bits that are compared, without shifts."""
+    halves = [Half(functions.WORD, "word", CASES["word"]), Half(functions.OTHER, "other", CASES["other"])]
+    places = [it for half in halves for it in half.abstract()]
+    wanted = {field: z3.substitute(term, *places) for field, term in wanted.items()}
+    used = set().union(*map(variables, wanted.values()))
+    known = {}
+
+    def follows(own, term, half):
+        # the terms are kept with what z3 said, so that it gives their numbers to no others
+        key = *sorted(it.get_id() for it in own), term.get_id()
+        if key not in known:
+            known[key] = is_always(z3.Implies(z3.And(*own), term), half.cases), own, term
+        return known[key][0]
+
+    for path, fields in ends:
+        facts, places = [], []
+        for half in halves:
+            own = [it for it in path if half.owns(it)]
+            for it, fact in half.facts.items():
+                if str(fact) in used:
+                    if follows(own, half.meaning[it], half):
+                        facts.append(fact)
+                    elif follows(own, z3.Not(half.meaning[it]), half):
+                        facts.append(z3.Not(fact))
+            if str(half.base_is) in used:
+                for term in between([*path, *fields.values()], half):
+                    for meaning, is_named in half.parts():
+                        size = term.size()
+                        if meaning.size() <= size and follows(own, term == wide(meaning, size), half):
+                            places.append((term, wide(is_named, size)))
+                            break
+        light = [z3.substitute(it, *places) for it in path]
+        differs = z3.Or(*[z3.substitute(fields[it], *places) != wanted[it] for it in wanted])
+        never(z3.And(*facts, *filter(is_small, light), differs), "the result")
+
+
+WAYS = {"set_bounds_on": bounded, "set_bounds_exact_on": bounded, "is_subset": two_words, "seal": two_words, "unseal": two_words, "rebuild": two_words}
+
+
+def prove(name, ends):
+    """Raises NotProved, unless the ends of a function have the fields of the model."""
+    wanted = FUNCTIONS[name].result()
+    assert {*wanted} == {field for field, _, _ in FUNCTIONS[name].layout}
+    WAYS.get(name, direct)(name, ends, wanted)

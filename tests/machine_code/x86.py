@@ -1,0 +1,281 @@
+"""The x86-64 instructions that the functions have, and the System V ABI, by Intel's manual, volume 2. A flag that it leaves undefined
+becomes an unknown, and an instruction that is not here is refused."""
+import capstone
+import z3
+from capstone import x86_const as c
+from lift import STACK, Lifter, Memory, Refused, State, bit_of, low, pointer, signed, top_bit, unknown, wide
+from model import bits, bv
+
+FULL = "rax rbx rcx rdx rsi rdi rbp rsp".split() + [f"r{n}" for n in range(8, 16)]
+# the full register, the size and the lowest bit of each name
+PARTS = {name: (name, 64, 0) for name in FULL}
+for name in FULL[:8]:
+    PARTS |= {f"e{name[1:]}": (name, 32, 0), name[1:]: (name, 16, 0), f"{name[1:].removesuffix('x')}l": (name, 8, 0)}
+    if name.endswith("x"):
+        PARTS[f"{name[1]}h"] = name, 8, 8
+for name in FULL[8:]:
+    PARTS |= {f"{name}d": (name, 32, 0), f"{name}w": (name, 16, 0), f"{name}b": (name, 8, 0)}
+ARGUMENTS = "rdi rsi rdx rcx r8 r9".split()
+FLAGS = "CF ZF SF OF".split()
+RED_ZONE = 128
+# the other names of conditions, and the conditions that are the opposite of another
+SAME = {"c": "b", "nae": "b", "z": "e", "na": "be", "nge": "l", "ng": "le"}
+OPPOSITE = {"ae": "b", "nb": "b", "nc": "b", "ne": "e", "nz": "e", "a": "be", "nbe": "be", "ns": "s", "no": "o", "ge": "l", "nl": "l", "g": "le", "nle": "le"}
+
+
+def condition(name, flags):
+    if name in OPPOSITE:
+        return z3.Not(condition(OPPOSITE[name], flags))
+    cf, zf, sf, of = (flags[it] for it in FLAGS)
+    found = {"b": cf, "e": zf, "be": z3.Or(cf, zf), "s": sf, "o": of, "l": sf != of, "le": z3.Or(zf, sf != of)}.get(SAME.get(name, name))
+    if found is None:
+        raise Refused(f"condition {name}")
+    return found
+
+
+class X86(Lifter):
+    disassembler = capstone.Cs(capstone.CS_ARCH_X86, capstone.CS_MODE_64)
+    disassembler.detail = True
+    SAVED, STACK_POINTER, POPPED = "rbx rbp r12 r13 r14 r15".split(), "rsp", 8
+
+    # ---- operands
+
+    def read(self, state, name):
+        if name.startswith("xmm"):
+            return state.regs[name]
+        full, size, lowest = PARTS[name]
+        return bits(state.regs[full], lowest + size - 1, lowest) if size < 64 else state.regs[full]
+
+    def write(self, state, name, term):
+        if not name.startswith("xmm"):
+            name, size, lowest = PARTS[name]
+            assert term.size() == size
+            if size == 32:
+                term = wide(term, 64)
+            elif size < 32:
+                old = state.regs[name]
+                term = z3.Concat(bits(old, 63, lowest + size), term, *([bits(old, lowest - 1, 0)] if lowest else []))
+        state.regs[name] = z3.simplify(term)
+
+    def address(self, state, one, operand):
+        memory = operand.mem
+        names = [one.reg_name(it) for it in (memory.base, memory.index) if it]
+        if memory.segment or any(PARTS.get(it, (it, 64))[1] != 64 for it in names):
+            raise Refused(f"an address of {one.mnemonic} {one.op_str}")
+        total = bv(memory.disp, 64)
+        if memory.base:
+            name = one.reg_name(memory.base)
+            total += bv(one.address + one.size, 64) if name == "rip" else self.read(state, name)
+        return total + self.read(state, one.reg_name(memory.index)) * memory.scale if memory.index else total
+
+    def get(self, state, one, k, size=None):
+        operand = one.operands[k]
+        if operand.type == c.X86_OP_REG:
+            return self.read(state, one.reg_name(operand.reg))
+        if operand.type == c.X86_OP_IMM:
+            return bv(operand.imm, size or 8 * operand.size)
+        return state.memory.load(self.aligned(state, one, operand), operand.size)
+
+    def put(self, state, one, k, term):
+        operand = one.operands[k]
+        if operand.type == c.X86_OP_REG:
+            return self.write(state, one.reg_name(operand.reg), term)
+        state.memory.store(self.aligned(state, one, operand), term, operand.size, state.regs["rsp"] - RED_ZONE)
+
+    def aligned(self, state, one, operand):
+        """Returns an address. One of 16 bytes must be aligned, except in the moves that say otherwise."""
+        place = self.address(state, one, operand)
+        if operand.size == 16 and one.mnemonic not in ("movups", "movdqu", "movupd"):
+            region, offset = state.memory.place(place)
+            # at a call the stack pointer is 8 below a multiple of 16; nothing is known of the other pointers
+            if region not in (None, "SP") or (offset + 8 * (region == "SP")) % 16:
+                raise Refused("an access of 16 bytes that is not aligned")
+        return place
+
+    def apart(self, one):
+        constant = next((it for it in one.operands if it.type == c.X86_OP_MEM and it.mem.base == c.X86_REG_RIP), None)
+        if constant is None or one.mnemonic == "lea":
+            return bytes(one.bytes)
+        place, k = one.address + one.size + constant.mem.disp, one.disp_offset
+        held = [self.image.constant(it) for it in range(place, place + constant.size)]
+        return bytes(one.bytes[:k] + one.bytes[k + 4 :]), place % 16, bytes(held)
+
+    # ---- flags
+
+    def sized(self, state, result):
+        state.flags["ZF"], state.flags["SF"] = z3.simplify(result == 0), z3.simplify(top_bit(result))
+        return result
+
+    def added(self, state, a, b, carry):
+        size = a.size()
+        result = a + b + wide(carry, size)
+        state.flags["CF"] = z3.simplify(top_bit(wide(a, size + 1) + wide(b, size + 1) + wide(carry, size + 1)))
+        state.flags["OF"] = z3.simplify(top_bit((a ^ result) & (b ^ result)))
+        return self.sized(state, result)
+
+    def subtracted(self, state, a, b, borrow):
+        size = a.size()
+        result = a - b - wide(borrow, size)
+        is_plain = z3.is_bv_value(borrow) and not borrow.as_long()
+        state.flags["CF"] = z3.simplify(z3.ULT(a, b) if is_plain else z3.ULT(wide(a, size + 1), wide(b, size + 1) + wide(borrow, size + 1)))
+        state.flags["OF"] = z3.simplify(top_bit((a ^ b) & (a ^ result)))
+        return self.sized(state, result)
+
+    def shifted(self, state, count, result, out, overflow):
+        """Sets the flags after a shift: they stay if the count is 0."""
+        old = dict(state.flags)
+        self.sized(state, result)
+        state.flags |= {"CF": out, "OF": overflow}
+        for name in FLAGS:
+            state.flags[name] = z3.simplify(z3.If(count == 0, old[name], state.flags[name]))
+
+    def shift(self, state, name, a, count):
+        size = a.size()
+        n = wide(count, size) if size > 16 else low(count, size)
+        if name in ("shl", "sal"):
+            result = a << n
+            out, single = bits(wide(a, 2 * size) << wide(n, 2 * size), size, size) == 1, top_bit(result) != top_bit(a)
+        else:
+            by = z3.LShR if name == "shr" else lambda term, number: term >> number
+            result = by(a, n)
+            out = bits(by(z3.Concat(a, bv(0, 1)), wide(n, size + 1)), 0, 0) == 1
+            single = top_bit(a) if name == "shr" else z3.BoolVal(False)
+        if size < 32:  # past the size the carry is undefined
+            out = z3.If(z3.UGE(count, size), unknown(0), out)
+        self.shifted(state, count, result, out, z3.If(count == 1, single, unknown(0)))
+        return result
+
+    def double_shift(self, state, name, a, b, count):
+        size = a.size()
+        if size < 32:
+            raise Refused("a short double shift")
+        n = wide(count, 2 * size)
+        if name == "shld":
+            result, out = bits(z3.Concat(a, b) << n, 2 * size - 1, size), bits(wide(a, 2 * size) << n, size, size)
+        else:
+            result, out = low(z3.LShR(z3.Concat(b, a), n), size), bits(z3.LShR(z3.Concat(a, bv(0, 1)), wide(count, size + 1)), 0, 0)
+        self.shifted(state, count, result, out == 1, unknown(0))
+        return result
+
+    # ---- instructions
+
+    def step(self, state, one):
+        name, operands = one.mnemonic, one.operands
+        # an operand size of 16 bits is in the operands; the others are a lock or a repetition, except where they are of the instruction
+        if {0xF0, 0xF2, 0xF3} & {*one.prefix} and not name.startswith(("mov", "bsr", "nop")):
+            raise Refused(f"a prefix of {name}")
+        size = 8 * operands[0].size if operands else 0
+        get, put = lambda k, size=None: self.get(state, one, k, size), lambda term: self.put(state, one, 0, term)
+        is_vector = any(it.type == c.X86_OP_REG and one.reg_name(it.reg).startswith("xmm") for it in operands)
+        if name.startswith("j") or name == "call":
+            if operands[0].type != c.X86_OP_IMM:
+                raise Refused("a computed jump")
+            if name == "call":
+                state.calls += (state.pc,)
+                self.push(state, bv(state.pc, 64))
+            return z3.BoolVal(True) if name in ("jmp", "call") else condition(name[1:], state.flags), self.target(one)
+        if is_vector:
+            self.vector(state, one, name, get, put, size)
+        elif name in ("mov", "movabs"):
+            put(get(1, size))
+        elif name == "movzx":
+            put(wide(get(1), size))
+        elif name in ("movsx", "movsxd", "cdqe"):
+            put(signed(get(1), size))
+        elif name == "lea":
+            put(low(self.address(state, one, operands[1]), size))
+        elif name in ("add", "adc", "sub", "sbb", "cmp"):
+            carry = bit_of(state.flags["CF"]) if name in ("adc", "sbb") else bv(0, 1)
+            result = (self.added if name.startswith("ad") else self.subtracted)(state, get(0), get(1, size), carry)
+            if name != "cmp":
+                put(result)
+        elif name == "neg":
+            put(self.subtracted(state, bv(0, size), get(0), bv(0, 1)))
+        elif name in ("inc", "dec"):
+            kept = state.flags["CF"]
+            put((self.added if name == "inc" else self.subtracted)(state, get(0), bv(1, size), bv(0, 1)))
+            state.flags["CF"] = kept
+        elif name in ("and", "or", "xor", "test"):
+            a, b = get(0), get(1, size)
+            result = self.sized(state, a | b if name == "or" else a ^ b if name == "xor" else a & b)
+            state.flags["CF"] = state.flags["OF"] = z3.BoolVal(False)
+            if name != "test":
+                put(result)
+        elif name == "not":
+            put(~get(0))
+        elif name in ("shl", "shr", "sar", "sal", "shld", "shrd"):
+            is_double, a = len(name) == 4, get(0)
+            count = get(1 + is_double, 8) if len(operands) > 1 + is_double else bv(1, 8)
+            count = wide(count, 16) & (63 if size == 64 else 31)
+            put(self.double_shift(state, name, a, get(1), count) if is_double else self.shift(state, name, a, count))
+        elif name in ("bsr", "bsf"):
+            a, result = get(1), unknown(size)
+            for k in range(size) if name == "bsr" else reversed(range(size)):
+                result = z3.If(bits(a, k, k) == 1, bv(k, size), result)
+            state.flags = {"CF": unknown(0), "OF": unknown(0), "SF": unknown(0), "ZF": z3.simplify(a == 0)}
+            put(result)
+        elif name == "bt":
+            if operands[0].type != c.X86_OP_REG and operands[1].type != c.X86_OP_IMM:
+                raise Refused("bt of memory by a register")
+            state.flags["CF"] = z3.simplify(bits(z3.LShR(get(0), get(1, size) & (size - 1)), 0, 0) == 1)
+            state.flags["OF"], state.flags["SF"] = unknown(0), unknown(0)
+        elif name == "bswap":
+            put(z3.Concat(*[bits(get(0), 8 * k + 7, 8 * k) for k in range(size // 8)]))
+        elif name.startswith("cmov"):
+            put(z3.If(condition(name[4:], state.flags), get(1), get(0)))
+        elif name.startswith("set"):
+            put(bit_of(condition(name[3:], state.flags), 8))
+        elif name in ("push", "pop") and size == 64:
+            if name == "push":
+                self.push(state, get(0, 64))
+            else:
+                put(self.pop(state))
+        elif name == "ret" and not operands:
+            return self.returns(state, self.pop(state), "RETURN")
+        elif name not in ("nop", "endbr64"):
+            raise Refused(f"instruction {name} {one.op_str}")
+        return None
+
+    def vector(self, state, one, name, get, put, size):
+        if name in ("movups", "movupd", "movdqu", "movaps", "movapd", "movdqa"):
+            put(get(1))
+        elif name in ("movq", "movd"):
+            put(wide(low(get(1), 64 if name == "movq" else 32), size))
+        elif name in ("xorps", "pxor"):
+            put(get(0) ^ get(1))
+        elif name in ("andps", "pand"):
+            put(get(0) & get(1))
+        elif name in ("orps", "por"):
+            put(get(0) | get(1))
+        elif name == "psrlq" and one.operands[1].type == c.X86_OP_IMM:
+            count = one.operands[1].imm
+            put(z3.Concat(*[z3.LShR(half, count) if count < 64 else bv(0, 64) for half in (bits(get(0), 127, 64), bits(get(0), 63, 0))]))
+        elif name == "punpcklwd":
+            put(z3.Concat(*[bits(get(k), 16 * n + 15, 16 * n) for n in reversed(range(4)) for k in (1, 0)]))
+        else:
+            raise Refused(f"instruction {name} {one.op_str}")
+
+    def push(self, state, term):
+        state.regs["rsp"] = z3.simplify(state.regs["rsp"] - 8)
+        state.memory.store(state.regs["rsp"], term, 8, state.regs["rsp"])
+
+    def pop(self, state):
+        found = state.memory.load(state.regs["rsp"], 8)
+        state.regs["rsp"] = z3.simplify(state.regs["rsp"] + 8)
+        return found
+
+    # ---- the ABI
+
+    def call(self, entry, arguments, stacked, size):
+        """Returns the ends of a call, each with its result as one term. The arguments have 64 bits; `stacked` has the bytes of a large
+        struct; size is that of a result in memory, or 0."""
+        held = {("SP", k): bits(pointer("RETURN"), 8 * k + 7, 8 * k) for k in range(8)} | {("SP", 8 + k): byte for k, byte in enumerate(stacked)}
+        memory = Memory(self.image, {"SP": (-STACK, 0, 8 + len(stacked)), "OUT": (0, size, size)}, held)
+        regs = {name: pointer(f"{name}!entry") for name in FULL} | {f"xmm{n}": unknown(128, "xmm") for n in range(16)}
+        given = [pointer("OUT")] * bool(size) + arguments
+        regs |= dict(zip(ARGUMENTS, given, strict=False)) | {"rsp": pointer("SP")}
+        assert len(given) <= len(ARGUMENTS)
+        ends = self.run(State(regs, {name: unknown(0, name) for name in FLAGS}, memory, entry))
+        if size and not all(z3.simplify(end.regs["rax"]).eq(pointer("OUT")) for end in ends):
+            raise Refused("does not return the pointer to its result")
+        return [(end.path, end.memory.load(pointer("OUT"), size) if size else z3.Concat(end.regs["rdx"], end.regs["rax"])) for end in ends]
