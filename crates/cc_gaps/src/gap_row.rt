@@ -23,6 +23,7 @@ const GAPS_A_BLOCK: u32 = 24;
 const JOINED_GAPS: usize = 48;
 
 /// A gap is near a bound if it is shorter by at most this part of the bound.
+// otherwise each object that is cut from a large gap would have the bound computed again
 const NEAR: u64 = 1024;
 
 /// Gaps in the order of their addresses, in blocks of up to 64.

@@ -14,6 +14,7 @@ use crate::line_start::LineStart;
 use crate::summary::{IoError, Summary};
 
 /// The maximum number of bytes in one read.
+// on the stack: each page of a larger frame would be touched at every call
 const PIECE: usize = 16384;
 
 /// The number of bytes of an entry that an answerer sees. The further bytes of a longer entry are

@@ -129,6 +129,7 @@ fn values_of_digits(text: u8x32) -> u8x32
     ensures all { length result ≡ 32 }
     ensures values { Each2 IsValue text result }
 {
+    // by comparisons, since the first x86-64 looks up no table in a vector;
     // the digits 0 to 9 are moved to the last ten bytes, and from there to their values; any other
     // byte gets 16 or more
     let moved = text + u8x32::splat(u8::MAX - b'9');
