@@ -78,10 +78,11 @@ impl Set {
         ensures only { (span : SpanSpec) → StoresSpan fields.now span
             → result ≡ Some (record { granted = span; exact = true }) }
     {
-        if exponent(fields) < FIRST_LARGE_EXPONENT {
-            stored_set(fields)
+        let span = decode(fields);
+        if stores(fields, &span) {
+            Some(stored_encoding(fields, span))
         } else {
-            large_stored_set(*fields)
+            None
         }
     }
 
@@ -195,33 +196,6 @@ pub fn stores(fields: &Fields, bounds: &Span) -> bool
     } else {
         is_span(bounds) && every_bit_counts(fields)
     }
-}
-
-/// Returns the encoding that the fields store, as [`Set::of_fields`] does.
-#[inline(always)]
-fn stored_set(fields: &Fields) -> Option<Set>
-    ensures found { IfSome result (λ set. StoresSpan fields.now set.granted) }
-    ensures only { (span : SpanSpec) → StoresSpan fields.now span
-        → result ≡ Some (record { granted = span; exact = true }) }
-{
-    let span = decode(fields);
-    if stores(fields, &span) {
-        Some(stored_encoding(fields, span))
-    } else {
-        None
-    }
-}
-
-/// Returns the encoding that the fields store, apart from the code of smaller exponents: bounds of
-/// exponents from 51 up are rare.
-#[cold]
-#[inline(never)]
-fn large_stored_set(fields: Fields) -> Option<Set>
-    ensures found { IfSome result (λ set. StoresSpan fields set.granted) }
-    ensures only { (span : SpanSpec) → StoresSpan fields span
-        → result ≡ Some (record { granted = span; exact = true }) }
-{
-    stored_set(&fields)
 }
 
 /// Returns the encoding of the span that the fields store.

@@ -2,7 +2,7 @@ use Rattle.std.proofs.Common.{◌≡◌, ◌∙◌, Some, true, ap, subst, sym, 
 use Rattle.cc_bounds.specs.declared.span.Span.{Span}
 use Rattle.cc_bounds.specs.Encoding.{Encoding, StoresSpan}
 use Rattle.cc_bounds.proofs.FieldsLemmas.{stored-decodes}
-use Rattle.cc_bounds.proofs.encoding.stored_set.Goals as goal
+use Rattle.cc_bounds.proofs.encoding.Set.of_fields.Goals as goal
 
 pub returns-then-stores-clause-only : goal.returns-then-stores-clause-only
 returns-then-stores-clause-only c span h =
