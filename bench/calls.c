@@ -168,7 +168,10 @@ LOOP(write_word, library, char text[32], cheri_cap_write_word(randoms[i].high, r
 LOOP(write_word, plain, char text[32], plain_write_word(randoms[i].high, randoms[i].low, text), fold_text(text))
 #define WORD(words) words[i].high, words[i].low
 #define RULE(name, arguments) CALL(name, cheri_cap_made, name, arguments, r.high + 3 * r.low + r.refusal)
+RULE(set_address, (WORD(unsealed), addresses[i]))
 RULE(increment, (WORD(unsealed), addresses[i] - unsealed[i].low))
+RULE(and_perms, (WORD(unsealed), (uint16_t)lengths[i].low))
+RULE(set_flag, (WORD(unsealed), requests[i] % 2))
 RULE(set_bounds_on, (WORD(unsealed), 0, requests[i] / 4))
 RULE(seal, (WORD(unsealed), WORD(authorities)))
 RULE(unseal, (WORD(sealed), WORD(authorities)))
@@ -223,7 +226,10 @@ static const struct {
     ROW(represents_many),
     ROW(read_word),
     ROW(write_word),
+    ROW(set_address),
     ROW(increment),
+    ROW(and_perms),
+    ROW(set_flag),
     ROW(set_bounds_on),
     ROW(seal),
     ROW(unseal),

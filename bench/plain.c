@@ -358,7 +358,7 @@ static inline cheri_cap_made refused(uint8_t refusal)
     return (cheri_cap_made){0, 0, refusal};
 }
 
-cheri_cap_made plain_increment(uint64_t high, uint64_t low, uint64_t amount)
+static inline __attribute__((always_inline)) cheri_cap_made at_address(uint64_t high, uint64_t low, uint64_t address)
 {
     span bounds;
     if (!read_bounds(high, low, &bounds))
@@ -367,9 +367,40 @@ cheri_cap_made plain_increment(uint64_t high, uint64_t low, uint64_t amount)
         return refused(CHERI_CAP_REFUSAL_SEALED);
     unsigned width = bounds.exponent + 11;
     uint64_t start = ((bounds.base >> width) - 1) << width;
-    if ((low + amount - start) >> width >= 8)
+    if ((address - start) >> width >= 8)
         return refused(CHERI_CAP_REFUSAL_UNREPRESENTABLE);
-    return made(high, low + amount);
+    return made(high, address);
+}
+
+cheri_cap_made plain_set_address(uint64_t high, uint64_t low, uint64_t address)
+{
+    return at_address(high, low, address);
+}
+
+cheri_cap_made plain_increment(uint64_t high, uint64_t low, uint64_t amount)
+{
+    return at_address(high, low, low + amount);
+}
+
+// Returns the word with the upper half `changed`, which has the same bounds and type.
+static inline __attribute__((always_inline)) cheri_cap_made with_high(uint64_t high, uint64_t low, uint64_t changed)
+{
+    span bounds;
+    if (!read_bounds(high, low, &bounds))
+        return refused(CHERI_CAP_REFUSAL_CANONICAL);
+    if (is_sealed(high))
+        return refused(CHERI_CAP_REFUSAL_SEALED);
+    return made(changed, low);
+}
+
+cheri_cap_made plain_and_perms(uint64_t high, uint64_t low, uint16_t mask)
+{
+    return with_high(high, low, high & ((uint64_t)mask << 48 | UINT64_C(0xffffffffffff)));
+}
+
+cheri_cap_made plain_set_flag(uint64_t high, uint64_t low, bool flag)
+{
+    return with_high(high, low, (high & ~(UINT64_C(1) << 45)) | (uint64_t)flag << 45);
 }
 
 cheri_cap_made plain_set_bounds_on(uint64_t high, uint64_t low, uint64_t length_high, uint64_t length_low)
