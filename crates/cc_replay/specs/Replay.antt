@@ -84,6 +84,10 @@ abbrev pub time_after : Event → (time : ℕ) → ℕ
 time_after (Clock now) time = now
 time_after _ time = time
 
+-- The maximum number of bytes of a line of a series.
+abbrev pub most_sample : ℕ
+most_sample = 1301
+
 -- The line of a sample, or nothing.
 abbrev pub sample_text : (is_sampled : Bool) → ReplayState → List ℕ
 sample_text is_sampled state = if is_sampled then values_line (sample_rows state.time (figures_of state)) else []

@@ -9,7 +9,7 @@ ghost use Rattle.cc_formats.specs.declared.reading.Progress.TheVariants.{OutOfMe
 ghost use Rattle.cc_placer.specs.Alignment.{HasAlignment};
 ghost use Rattle.cc_heap.specs.Lost.{empty_run};
 ghost use Rattle.cc_heap.specs.Peaks.{without_peaks};
-ghost use Rattle.cc_replay.specs.Replay.{AppendsEntry, AppendsEvent, Refuses, TakesLine, TakesNext, TakesRest, begun, figures_of, last_sample, series_header, time_after};
+ghost use Rattle.cc_replay.specs.Replay.{AppendsEntry, AppendsEvent, Refuses, TakesLine, TakesNext, TakesRest, begun, figures_of, last_sample, most_sample, series_header, time_after};
 
 use crate::counts::{Count, Counts};
 use crate::series::{MOST_SAMPLE, push_sample, push_series_header};
@@ -149,7 +149,7 @@ impl<P: Placer> Replay<P> {
     /// Appends the sample of the end, if there is a series, there was an event, and the last has no
     /// sample.
     fn push_last<const N: usize>(&self, page: &mut Page<N>)
-        requires { length page.old + 1301 ≤ N }
+        requires { length page.old + most_sample ≤ N }
         ensures { page.new ≡ page.old ++ last_sample self.now }
     {
         if self.reading.each != 0 && !self.is_sampled {
@@ -176,7 +176,7 @@ impl<P: Placer> Replay<P> {
 
     /// Takes a line, and appends a sample if it is due. Returns whether the line is refused.
     fn take_line<const N: usize>(&mut self, line: &[u8], out: &mut Page<N>) -> bool
-        requires { length out.old + 1301 ≤ N }
+        requires { length out.old + most_sample ≤ N }
         ensures { AnswersInto TakesLine self.old line.now out.old out.new result self.new }
     {
         match self.progress {
@@ -188,7 +188,7 @@ impl<P: Placer> Replay<P> {
     /// Takes a line while lines are taken.
     #[tactic(auto, using(crate::proofs::ReplayLemmas::entry_answers))]
     fn take_next<const N: usize>(&mut self, line: &[u8], out: &mut Page<N>) -> bool
-        requires room { length out.old + 1301 ≤ N }
+        requires room { length out.old + most_sample ≤ N }
         ensures { AnswersInto TakesNext self.old line.now out.old out.new result self.new }
     {
         let entry = read_entry(self.reading.format, self.pending, line);
@@ -198,7 +198,7 @@ impl<P: Placer> Replay<P> {
     /// Counts a line and takes its entry.
     fn take_entry<const N: usize>(&mut self, entry: Entry, out: &mut Page<N>) -> bool
         requires aligned { IfOk entry.event (λ event. IfSome event HasAlignment) }
-        requires room { length out.old + 1301 ≤ N }
+        requires room { length out.old + most_sample ≤ N }
         ensures { AppendsEntry self.old entry out.old out.new result self.new }
     {
         self.counts = self.counts.with_line().with_failure(entry.is_failure);
@@ -225,7 +225,7 @@ impl<P: Placer> Replay<P> {
 
     /// Appends the header of the series, if there is one.
     fn push_header<const N: usize>(&self, page: &mut Page<N>)
-        requires { length page.old + 1301 ≤ N }
+        requires { length page.old + most_sample ≤ N }
         ensures { page.new ≡ page.old ++ series_header self.now }
     {
         if self.reading.each != 0 {
@@ -245,7 +245,7 @@ impl<P: Placer> Replay<P> {
     /// Has an event happen, counts what comes of it, and appends a sample if it is due.
     fn take_event<const N: usize>(&mut self, event: Event, out: &mut Page<N>) -> bool
         requires aligned { HasAlignment event }
-        requires room { length out.old + 1301 ≤ N }
+        requires room { length out.old + most_sample ≤ N }
         ensures { AppendsEvent self.old event out.old out.new result self.new }
     {
         let sweeps = self.run.totals().sweeps;
@@ -285,7 +285,7 @@ impl<P: Placer, const N: usize> Answerer<N> for Replay<P> {
 
     ghost Ended = { TakesRest };
 
-    ghost MOST = { 1301 };
+    ghost MOST = { most_sample };
 
     #[inline(always)]
     fn is_done(&self) -> bool {
@@ -294,7 +294,7 @@ impl<P: Placer, const N: usize> Answerer<N> for Replay<P> {
 
     #[inline(always)]
     fn most() -> usize {
-        1301
+        MOST_SAMPLE
     }
 
     fn answer(&mut self, entry: &[u8], out: &mut Page<N>) -> bool {
@@ -325,7 +325,7 @@ pub fn replay_trace<P: Placer, R: Source, W: Sink>(
     requires sink { (W.state series.old).has_failed ≡ false }
     // Each line is taken in order, as `TakesLine` says, and the sink took the header of the series
     // and the samples of the events that have one.
-    ensures replays { Pumps (λ _. false) TakesLine TakesRest lines 65536 1301 replay.old (series_header replay.old)
+    ensures replays { Pumps (λ _. false) TakesLine TakesRest lines 65536 most_sample replay.old (series_header replay.old)
         (R.state source.old).unread (R.state source.new).unread (W.state series.old).taken (W.state series.new).taken result replay.new }
     ensures read { (result ≡ Err IoError.Read) ↔ ((R.state source.new).has_failed ≡ true) }
     ensures write { (result ≡ Err IoError.Write) ↔ ((W.state series.new).has_failed ≡ true) }

@@ -1,5 +1,6 @@
 //! The samples of a series.
 ghost use Rattle.std.specs.Prelude.{◌≡◌, ◌≤◌, ◌+◌, ◌*◌, ◌^◌, ◌++◌, length};
+ghost use Rattle.cc_replay.specs.Replay.{most_sample};
 ghost use Rattle.cc_replay.specs.Rows.{names_line, rows_of, values_line};
 ghost use Rattle.cc_replay.specs.Summary.{sample_rows};
 
@@ -17,9 +18,9 @@ pub const MOST_SAMPLE: usize = 1301;
 ///
 /// Requires: 1,301 bytes of the page are free.
 pub fn push_series_header<const N: usize>(page: &mut Page<N>, figures: &Figures)
-    requires { length page.old + 1301 ≤ N }
+    requires { length page.old + most_sample ≤ N }
     ensures value { page.new ≡ page.old ++ names_line (sample_rows 0 figures.now) }
-    ensures fits { length page.new ≤ length page.old + 1301 }
+    ensures fits { length page.new ≤ length page.old + most_sample }
 {
     push_names(page, &sample_rows(0, figures));
 }
@@ -28,9 +29,9 @@ pub fn push_series_header<const N: usize>(page: &mut Page<N>, figures: &Figures)
 ///
 /// Requires: 1,301 bytes of the page are free.
 pub fn push_sample<const N: usize>(page: &mut Page<N>, time: u64, figures: &Figures)
-    requires { length page.old + 1301 ≤ N }
+    requires { length page.old + most_sample ≤ N }
     ensures value { page.new ≡ page.old ++ values_line (sample_rows time figures.now) }
-    ensures fits { length page.new ≤ length page.old + 1301 }
+    ensures fits { length page.new ≤ length page.old + most_sample }
 {
     push_values(page, &sample_rows(time, figures));
 }

@@ -14,7 +14,7 @@ use Rattle.cc_heap.specs.Lost.{empty_run}
 use Rattle.cc_heap.specs.Peaks.{without_peaks}
 use Rattle.cc_heap.specs.Totals.{capped_sum}
 use Rattle.cc_heap.specs.declared.settings.Settings.{Settings}
-use Rattle.cc_replay.specs.Replay.{ReplayState, TakesLine, TakesRest, begun, figures_of}
+use Rattle.cc_replay.specs.Replay.{ReplayState, TakesLine, TakesRest, begun, figures_of, most_sample}
 use Rattle.cc_formats.specs.declared.reading.Progress.TheVariants.{OutOfMemory}
 use Rattle.cc_formats.specs.declared.reading.Reading.{Reading}
 use Rattle.cc_replay.specs.declared.summary.Figures.{Figures}
@@ -61,7 +61,7 @@ pub record ChartsRest (old : Charted) (rest text : List ℕ) (is_error : Bool) (
 -- TakesLines holds if the lines that the source gave were taken, and the bytes after the last of them, until the replay and the chart
 -- were `new`. With a result that is `Ok` the source was read to its end.
 abbrev pub TakesLines : (old : Charted) (unread left : Option (List ℕ)) → Result Summary IoError → (new : Charted) → Type 0
-TakesLines old unread left result new = Pumps (λ (state : Charted). false) ChartsLine ChartsRest lines 65536 1301 old [] unread left None None result new
+TakesLines old unread left result new = Pumps (λ (state : Charted). false) ChartsLine ChartsRest lines 65536 most_sample old [] unread left None None result new
 
 -- TakesAll holds if the source gave the whole trace, and the lines were taken until one stopped the replay, if any
 -- did. No allocation failed.

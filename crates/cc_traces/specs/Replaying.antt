@@ -9,7 +9,7 @@ use Rattle.cc_io.specs.declared.summary.IoError.{IoError}
 use Rattle.cc_io.specs.declared.summary.IoError.TheVariants.{Read, Write}
 use Rattle.cc_io.specs.declared.summary.Summary.{Summary}
 use Rattle.cc_heap.specs.Lost.{empty_run}
-use Rattle.cc_replay.specs.Replay.{ReplayState, TakesLine, TakesRest, begun, figures_of, last_sample, series_header}
+use Rattle.cc_replay.specs.Replay.{ReplayState, TakesLine, TakesRest, begun, figures_of, last_sample, most_sample, series_header}
 use Rattle.cc_replay.specs.Rows.{table_text}
 use Rattle.cc_replay.specs.SizeTable.{sizes_text}
 use Rattle.cc_replay.specs.Summary.{summary_rows}
@@ -46,7 +46,7 @@ end_text false format state = summary_text format state
 -- The samples were written. With a result that is `Ok` the source was read to its end.
 abbrev pub Replays : (old : ReplayState) (unread left output output_now : Option (List ℕ)) → Result Summary IoError → (new : ReplayState) → Type 0
 Replays old unread left output output_now result new =
-    Pumps (λ (state : ReplayState). false) TakesLine TakesRest lines 65536 1301 old (series_header old) unread left output output_now result new
+    Pumps (λ (state : ReplayState). false) TakesLine TakesRest lines 65536 most_sample old (series_header old) unread left output output_now result new
 
 -- ReplaysAll holds if the replay took the whole trace, and no allocation failed.
 pub record ReplaysAll (old : ReplayState) (unread left output output_now : Option (List ℕ)) (summary : Summary) (new : ReplayState) : Type 0 where

@@ -3,6 +3,7 @@ ghost use Rattle.std.specs.Prelude.{◌≡◌, ◌≢◌, ◌≤◌, ◌+◌, �
 ghost use Rattle.cc_io.specs.Answers.{AnswersInto};
 ghost use Rattle.cc_console.specs.Devices.{FromInput, OnDevices, OnOutput, Traffic};
 ghost use Rattle.cc_console.specs.Input.{IsFile};
+ghost use Rattle.cc_replay.specs.Replay.{most_sample};
 ghost use Rattle.cc_traces.specs.Charting.{Charts, ChartsLine, ChartsRest, TakesLines, begun_chart, charted, levels_of};
 ghost use Rattle.cc_traces.specs.Settings.{IsForHeap};
 
@@ -12,7 +13,7 @@ use cc_console::{Content, Discard, Fault, InputName, Inputs};
 use cc_gaps::GapPlacer;
 use cc_io::{Answerer, IoError, Lines, Page, Sink, Source, Summary, Waiting, pump};
 use cc_placer::Placer;
-use cc_replay::{Figures, Progress, Reading, Replay, Settings};
+use cc_replay::{Figures, MOST_SAMPLE, Progress, Reading, Replay, Settings};
 use std::alloc::{AllocError, Global};
 use std::marker::Model;
 
@@ -65,7 +66,7 @@ impl<P: Placer> Charting<P> {
 
     /// Takes a line, and adds the levels of its event to the chart, if it is one.
     fn take_line<const N: usize>(&mut self, line: &[u8], out: &mut Page<N>) -> bool
-        requires { length out.old + 1301 ≤ N }
+        requires { length out.old + most_sample ≤ N }
         ensures { AnswersInto ChartsLine self.old line.now out.old out.new result self.new }
     {
         let events = self.replay.figures().counts.events;
@@ -77,7 +78,7 @@ impl<P: Placer> Charting<P> {
 
     /// Takes trailing bytes.
     fn take_rest<const N: usize>(&mut self, rest: &[u8], out: &mut Page<N>) -> bool
-        requires { length out.old + 1301 ≤ N }
+        requires { length out.old + most_sample ≤ N }
         ensures { AnswersInto ChartsRest self.old rest.now out.old out.new result self.new }
     {
         self.replay.end(rest, out)
@@ -113,7 +114,7 @@ impl<P: Placer, const N: usize> Answerer<N> for Charting<P> {
 
     ghost Ended = { ChartsRest };
 
-    ghost MOST = { 1301 };
+    ghost MOST = { most_sample };
 
     #[inline(always)]
     fn is_done(&self) -> bool {
@@ -121,7 +122,7 @@ impl<P: Placer, const N: usize> Answerer<N> for Charting<P> {
     }
 
     fn most() -> usize {
-        1301
+        MOST_SAMPLE
     }
 
     fn answer(&mut self, entry: &[u8], out: &mut Page<N>) -> bool {
