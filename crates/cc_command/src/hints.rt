@@ -1,6 +1,5 @@
 //! Hints after a run, one on each line: what the writer of a script might not see in its replies.
-ghost use Rattle.std.specs.Prelude.{◌≡◌, ◌+◌, ◌≤◌, ◌++◌, ◌↔◌, [], Err, IsErr, List, OnErr, OnOk, codes, false, length, option_map, true};
-ghost use Rattle.std.specs.Io.KnownBytes.{Appends};
+ghost use Rattle.std.specs.Prelude.{◌≡◌, ◌+◌, ◌≤◌, ◌++◌, [], Err, List, OnErr, false, length};
 ghost use Rattle.cc_io.specs.Devices.{SendsBytes};
 ghost use Rattle.cc_values.specs.declared.reply.Reply.{Reply};
 ghost use Rattle.std.specs.List.{list_any};

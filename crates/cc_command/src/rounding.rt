@@ -1,5 +1,5 @@
 //! The output of `round` for a length: how setting bounds rounds it, and with a base the bounds that the request is granted.
-ghost use Rattle.std.specs.Prelude.{◌≡◌, ◌↔◌, ◌≤◌, ◌+◌, ◌++◌, ℕ, IfOk, IsErr, IsTrue, List, None, Ok, OnErr, OnOk, codes, false, length, true};
+ghost use Rattle.std.specs.Prelude.{◌≡◌, ◌↔◌, ◌≤◌, ◌+◌, ◌++◌, ℕ, IfOk, IsErr, IsTrue, List, None, Ok, codes, false, length, true};
 ghost use Rattle.cc_bounds.specs.Granule.{IsGranted};
 ghost use Rattle.cc_bounds.specs.Span.{IsSpan};
 ghost use Rattle.cc_bounds.specs.declared.span.Span.{Span as SpanSpec};

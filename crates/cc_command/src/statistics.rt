@@ -1,6 +1,5 @@
 //! The summary of a run: a line for each number.
-ghost use Rattle.std.specs.Prelude.{◌≡◌, ◌+◌, ◌*◌, ◌≤◌, ◌^◌, ◌++◌, ◌↔◌, [], Err, IsErr, OnErr, OnOk, codes, false, length, true};
-ghost use Rattle.std.specs.Io.KnownBytes.{Appends};
+ghost use Rattle.std.specs.Prelude.{◌≡◌, ◌+◌, ◌*◌, ◌≤◌, ◌^◌, ◌++◌, [], Err, OnErr, false, length};
 ghost use Rattle.cc_io.specs.Devices.{SendsBytes};
 ghost use Rattle.cc_io.specs.Numbered.{line_with_decimal};
 ghost use Rattle.cc_command.specs.Statistics.{bytes_text, count_lines, counts_text, end_text, holes_text, hundredths_of, objects_text, percent_text, statistics_text};

@@ -11,12 +11,11 @@ use Rattle.cc_decode.specs.Input.{frame_of}
 use Rattle.cc_decode.specs.Output.{AreAnswers}
 use Rattle.cc_decode.specs.Place.{header_of}
 use Rattle.cc_decode.specs.Correct.{Lists}
-use Rattle.cc_decode.specs.Decoder.{AnswersPlainly, RefusesRest, plain_options}
-use Rattle.cc_decode.specs.declared.decoder.PlainDecoder.{PlainDecoder}
+use Rattle.cc_decode.specs.Decoder.{RefusesRest}
 use Rattle.cc_decode.specs.declared.options.Options.{Options}
 use Rattle.cc_decode.specs.Skip.{Skips}
 use Rattle.cc_decode.proofs.SkipLemmas.{lists_after}
-use Rattle.cc_decode.proofs.AnswerLemmas.{Answers, answers_plainly, are_answers}
+use Rattle.cc_decode.proofs.AnswerLemmas.{Answers, are_answers}
 
 -- the replies of a decoder are those of its options
 makes : {S : Type 0} (options_of : S → Options) (Answered : Relation S) → Answers options_of Answered → (old new : S)

@@ -18,9 +18,9 @@ use Rattle.cc_decode.specs.Skip.{Skips}
 use Rattle.cc_decode.specs.declared.options.Options.{Options}
 
 -- the source gave all bytes to be skipped except `rest`
-pub record Skipping (count rest : ℕ) (to_come left : Option (List ℕ)) : Type 0 where
+pub record Skipping (count rest : ℕ) (unread left : Option (List ℕ)) : Type 0 where
   pub text : List ℕ
-  pub given : Consumes to_come left text
+  pub given : Consumes unread left text
   pub counted : length text + rest ≡ count
 
 pub skipping_begins : (count : ℕ) (a : Option (List ℕ)) → Skipping count count a a
@@ -88,9 +88,9 @@ drop-filler zero ys = refl
 drop-filler (suc n) ys = drop-filler n ys
 
 -- the whole of a text whose first bytes were skipped
-record Whole (count : ℕ) (to_come left : Option (List ℕ)) (rest : List ℕ) : Type 0 where
+record Whole (count : ℕ) (unread left : Option (List ℕ)) (rest : List ℕ) : Type 0 where
   pub text : List ℕ
-  pub given : Consumes to_come left text
+  pub given : Consumes unread left text
   pub rest_is : rest ≡ drop count text
 
 whole : (count : ℕ) (a b c : Option (List ℕ)) (text rest : List ℕ) → Consumes a b text → (length text ≡ count) ⊎ ((length text < count) × IsAtEnd b) → Consumes b c rest

@@ -1,5 +1,5 @@
 -- The first bytes of an input, which are read and dropped. No public clause cites this file.
-use Rattle.std.specs.Prelude.{◌≡◌, ◌<◌, ◌↔◌, ℕ, true, List, length, Option, Result, ◌⊎◌, ⊤, OnOk, OnErr, IsErr}
+use Rattle.std.specs.Prelude.{◌≡◌, ◌<◌, ◌↔◌, ℕ, true, List, length, Result, ◌⊎◌, ⊤, OnOk, OnErr, IsErr}
 use Rattle.std.specs.Io.KnownBytes.{Consumes, IsAtEnd}
 use Rattle.cc_io.specs.Devices.{InputState}
 

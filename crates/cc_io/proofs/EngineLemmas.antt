@@ -41,9 +41,9 @@ pub record AnswersFirst {S : Type 0} (Answered : Relation S) (frame : Frame) (ro
 
 -- the effects up to a read: `pending` was written, and then the replies to the text that was given
 -- so far
-pub record Reads {S : Type 0} (Answered : Relation S) (frame : Frame) (old : S) (pending : List ℕ) (to_come left : Option (List ℕ)) (start : List ℕ) (taken taken_now : Option (List ℕ)) (any_error : Bool) (new : S) : Type 0 where
+pub record Reads {S : Type 0} (Answered : Relation S) (frame : Frame) (old : S) (pending : List ℕ) (unread left : Option (List ℕ)) (start : List ℕ) (taken taken_now : Option (List ℕ)) (any_error : Bool) (new : S) : Type 0 where
   pub text : List ℕ
-  pub given : Consumes to_come left text
+  pub given : Consumes unread left text
   pub opened : Option (List ℕ)
   pub opening : Appends taken opened pending
   pub answers : Answers Answered frame old [] text start opened taken_now any_error new

@@ -9,7 +9,7 @@ use Rattle.cc_io.specs.Devices.{InputState, IsOutcome, OutputState}
 use Rattle.cc_io.specs.Frames.{Frame}
 use Rattle.cc_io.specs.Answers.{Answer, AnswersAll, EndsWith, Relation, answers_text, seen}
 use Rattle.cc_io.specs.Correct.{Pumps, PumpsText, WritesOutput, StopsOnPage, StopsAfterAnswers}
-use Rattle.cc_io.specs.Serving.{Claim, WritesWhole, WritesReplies, StopsAtOnce, StopsInPage, StopsAfter, ServesText, Serves}
+use Rattle.cc_io.specs.Serving.{Claim, WritesWhole, StopsInPage, StopsAfter, ServesText, Serves}
 use Rattle.cc_io.specs.declared.summary.IoError.{IoError}
 use Rattle.cc_io.specs.declared.summary.IoError.TheVariants.{Read, Write}
 use Rattle.cc_io.specs.declared.summary.Summary.{Summary}

@@ -1,6 +1,6 @@
 -- The bytes that a sink took from a call that replies to the entries of an input, by its result. A
 -- crate says by a claim which replies the entries get.
-use Rattle.std.specs.Prelude.{◌≡◌, ◌≤◌, ◌<◌, ℕ, Bool, not, ◌||◌, ◌==◌, List, [], ◌++◌, length, take, Option, Some, Result, Ok, Err, ◌⊎◌}
+use Rattle.std.specs.Prelude.{◌≡◌, ◌≤◌, ◌<◌, ℕ, Bool, not, ◌||◌, ◌==◌, List, [], ◌++◌, length, take, Option, Result, Ok, Err, ◌⊎◌}
 use Rattle.std.specs.Io.KnownBytes.{Appends, Consumes, IsAtEnd}
 use Rattle.std.specs.List.{list_any}
 use Rattle.cc_io.specs.Text.{rest_text}

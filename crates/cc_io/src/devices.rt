@@ -1,5 +1,5 @@
 //! Sources and sinks of bytes.
-ghost use Rattle.std.specs.Prelude.{◌≡◌, ℕ, ◌+◌, ◌<◌, Bool, true, false, Option, List, [], length, IfOk, OnOk, OnErr, IsErr, ◌↔◌};
+ghost use Rattle.std.specs.Prelude.{◌≡◌, ◌+◌, ◌<◌, false, length, OnErr};
 ghost use Rattle.cc_io.specs.Devices.{Flushes, InputState, OutputState, ReadsPiece, WritesBytes, WritesPiece};
 
 /// The failure of a call of a source or a sink.

@@ -1,6 +1,5 @@
 //! The engine: reads entries from a source, and writes the replies to them to a sink.
 ghost use Rattle.std.specs.Prelude.{◌≡◌, ◌≤◌, ◌<◌, ◌+◌, ℕ, true, false, List, [], take, length, ◌↔◌, Err, IfOk, OnOk, OnErr, IsErr, ◌++◌};
-ghost use Rattle.std.specs.Io.KnownBytes.{Appends};
 ghost use Rattle.cc_io.specs.Devices.{AreReady, IsOutcome, SendsBytes, TakesBeginning, WritesBytes};
 ghost use Rattle.cc_io.specs.Answers.{AnswersInto, seen};
 ghost use Rattle.cc_io.specs.Correct.{Pumps, StopsOnPage};

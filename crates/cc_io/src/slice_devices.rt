@@ -1,6 +1,6 @@
 //! A source and a sink over borrowed slices, with a given size of chunks and a given call that
 //! fails.
-ghost use Rattle.std.specs.Prelude.{◌≡◌, ◌⊎◌, ◌+◌, ◌-◌, ◌<◌, ◌↔◌, Some, length, true, false, ℕ, List, [], min, IfOk, OnOk, OnErr, IsErr};
+ghost use Rattle.std.specs.Prelude.{◌≡◌, ◌⊎◌, ◌+◌, ◌-◌, ◌<◌, ◌↔◌, Some, length, true, false, [], min, IfOk, OnOk, IsErr};
 ghost use Rattle.std.specs.Option.{unwrap_or};
 ghost use Rattle.cc_io.specs.Devices.{FailsNext, Flushes, ReadsPiece, WritesPiece, input_of, output_of};
 

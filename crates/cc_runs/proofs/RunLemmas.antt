@@ -1,5 +1,5 @@
 -- The output of a script, from that of its run.
-use Rattle.std.proofs.Common.{◌≡◌, ℕ, Bool, true, false, List, Option, Some, None, Result, Ok, MatchResult, subst, sym}
+use Rattle.std.proofs.Common.{◌≡◌, ℕ, Bool, true, false, List, Option, Some, Result, Ok, MatchResult, subst, sym}
 use Rattle.std.specs.Prelude.{IfSome}
 use Rattle.std.specs.Borrow.{Bor}
 use Rattle.std.proofs.lemmas.Bool.{false≢true}
@@ -11,7 +11,6 @@ use Rattle.cc_bounds.specs.declared.align.Align.{Align}
 use Rattle.cc_values.specs.declared.op.Op.{Op}
 use Rattle.cc_machine.specs.State.{State, initial_state}
 use Rattle.cc_syntax.specs.Planning.{plan_opening, pool_of}
-use Rattle.cc_session.specs.Session.{RunsSession}
 use Rattle.cc_session.specs.declared.session.Session.{Session}
 use Rattle.cc_console.specs.declared.invocation.PoolTexts.{PoolTexts}
 use Rattle.cc_console.specs.Devices.{Console, FromInput, OnDevices, Traffic, traffic_of}

@@ -1,5 +1,5 @@
 //! Runs of scripts, with each reply written before the next line is taken.
-ghost use Rattle.std.specs.Prelude.{◌≡◌, ◌↔◌, [], Err, OnOk, false, true};
+ghost use Rattle.std.specs.Prelude.{[]};
 ghost use Rattle.cc_io.specs.Devices.{AreReady, IsOutcome};
 ghost use Rattle.cc_session.specs.Main.{io_of};
 ghost use Rattle.cc_session.specs.Failures.{RunsScript, StopsInReply};

@@ -194,9 +194,9 @@ module _ {X : Type 0} (name : Lent → X)
   lent_text room a b pending text left t u (Err Write) (inr (inr p)) =
       lent_end p.1.mid b (take 129 (rest_of text)) p.1.ending p.1.ends ∙ lent_all a p.1.mid (seen (lines_of text)) p.1.answers p.1.takes
 
-pub same_lent : (room : ℕ) (a b : Lent) (pending : List ℕ) (to_come left t u : Option (List ℕ)) (result : Result Summary IoError)
-    → Pumps (λ (state : Lent). false) AnswersLine RefusesRest lines room 193 a pending to_come left t u result b → IsSame a b
-same_lent room a b pending to_come left t u result p = record {
+pub same_lent : (room : ℕ) (a b : Lent) (pending : List ℕ) (unread left t u : Option (List ℕ)) (result : Result Summary IoError)
+    → Pumps (λ (state : Lent). false) AnswersLine RefusesRest lines room 193 a pending unread left t u result b → IsSame a b
+same_lent room a b pending unread left t u result p = record {
   machine = lent_text (λ (lent : Lent). lent.machine.ghost_name) (λ old line text error new r. r.same.machine) (λ old rest text error new r. r.same.machine)
       room a b pending p.text left t u result (runs_through (λ (state : Lent). false) _ _ _ _ _ _ _ _ _ _ _ _ _ refl p);
   tally = lent_text (λ (lent : Lent). lent.tally.ghost_name) (λ old line text error new r. r.same.tally) (λ old rest text error new r. r.same.tally)

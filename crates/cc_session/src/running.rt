@@ -1,5 +1,5 @@
 //! The run of a script from a source to a sink.
-ghost use Rattle.std.specs.Prelude.{◌≡◌, ◌+◌, ◌≤◌, ◌<◌, ◌↔◌, [], Err, IfOk, IsErr, OnErr, OnOk, false, length, map, Ok, true};
+ghost use Rattle.std.specs.Prelude.{◌≡◌, ◌+◌, ◌≤◌, ◌<◌, ◌↔◌, [], Err, IfOk, IsErr, OnErr, false, length, map, Ok, true};
 ghost use Rattle.std.specs.Io.KnownBytes.{Appends};
 ghost use Rattle.cc_io.specs.Answers.{AnswersInto};
 ghost use Rattle.cc_io.specs.Devices.{AreReady, IsOutcome};

@@ -1,5 +1,5 @@
 -- The output of `decode`, from that of its listing, and of `round`, from that for its base.
-use Rattle.std.proofs.Common.{◌≡◌, ℕ, Bool, false, ◌&&◌, ◌||◌, List, [], Option, Result, Ok, Err, MatchResult, subst, sym}
+use Rattle.std.proofs.Common.{◌≡◌, ℕ, Bool, false, ◌&&◌, ◌||◌, [], Option, Result, Ok, Err, MatchResult, subst, sym}
 use Rattle.std.specs.Prelude.{OnOk, is_err, true}
 use Rattle.std.proofs.lemmas.Bool.{false≢true}
 use Rattle.std.specs.List.{list_any}

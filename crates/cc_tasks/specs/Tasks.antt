@@ -1,5 +1,5 @@
 -- The output of the commands that run no script, by their input.
-use Rattle.std.specs.Prelude.{◌≡◌, ℕ, Bool, false, ◌&&◌, ◌||◌, List, [], OnOk, Option, IfSome, Result, Err, IfOk, IsTrue, ◌↔◌, MatchResult, OnErr}
+use Rattle.std.specs.Prelude.{◌≡◌, ℕ, Bool, false, ◌&&◌, ◌||◌, [], OnOk, Option, Result, IfOk, IsTrue, ◌↔◌, MatchResult}
 use Rattle.std.specs.Borrow.{Bor}
 use Rattle.std.specs.List.{list_any}
 use Rattle.std.specs.Io.KnownBytes.{Appends}

@@ -1,5 +1,5 @@
 //! `decode`, `annotate` and `round --list`: the call for the words or the lengths of an input.
-ghost use Rattle.std.specs.Prelude.{◌≡◌, ◌≢◌, ◌↔◌, IsTrue, false, true, Err, IsOk, OnErr, OnOk};
+ghost use Rattle.std.specs.Prelude.{◌≡◌, ◌≢◌, IsTrue, false, Err, IsOk, OnErr};
 ghost use Rattle.cc_console.specs.Devices.{FromInput, IsEnd, OnDevices, OnOutput, console_of};
 ghost use Rattle.cc_console.specs.Input.{IsFile, file_input};
 ghost use Rattle.cc_tasks.specs.Listing.{listing_in, place_in};
