@@ -23,7 +23,7 @@ import gdb.printing
 
 HERE = os.path.dirname(os.path.realpath(__file__))
 sys.path[1:1] = [HERE, os.path.join(os.path.dirname(HERE), "python")]
-from cheri_cap import Capability, Refusal  # noqa: E402
+from cheri_cap import Capability  # noqa: E402
 from cheri_cap_memory import (  # noqa: E402
     ADDRESSES,
     BYTES,
@@ -36,6 +36,7 @@ from cheri_cap_memory import (  # noqa: E402
     found_everywhere,
     mask_in,
     path_to_word,
+    refused_for,
     text_of,
     word_in,
 )
@@ -144,7 +145,7 @@ def of_value(value):
             tagged = bool(number_in(value["tag"]))
         for it in "refusal", "refusal_":
             if it in members and number_in(value[it]):
-                raise gdb.GdbError(f"refused: {Refusal(number_in(value[it])).name}")
+                raise gdb.GdbError(refused_for(number_in(value[it])))
         value = value[name] if name else value
     if by_members:
         return Capability(number_in(value["high"]) % ADDRESSES << 64 | number_in(value["low"]) % ADDRESSES), tagged

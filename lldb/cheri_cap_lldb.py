@@ -22,7 +22,7 @@ import lldb
 
 HERE = os.path.dirname(os.path.realpath(__file__))
 sys.path[1:1] = [HERE, os.path.join(os.path.dirname(HERE), "python")]
-from cheri_cap import Capability, Refusal  # noqa: E402
+from cheri_cap import Capability  # noqa: E402
 from cheri_cap_memory import (  # noqa: E402
     BYTES,
     KNOWN,
@@ -34,6 +34,7 @@ from cheri_cap_memory import (  # noqa: E402
     found_everywhere,
     mask_in,
     path_to_word,
+    refused_for,
     text_of,
     word_in,
 )
@@ -119,7 +120,7 @@ def of_value(value):
         for it in "refusal", "refusal_":
             code = value.GetChildMemberWithName(it).GetValueAsUnsigned(0)
             if code:
-                raise Refused(f"refused: {Refusal(code).name}")
+                raise Refused(refused_for(code))
         value = value.GetChildMemberWithName(name).GetNonSyntheticValue() if name else value
     if by_members:
         high, low = (value.GetChildMemberWithName(it).GetValueAsUnsigned() for it in ("high", "low"))

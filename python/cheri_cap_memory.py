@@ -7,7 +7,7 @@ read in blocks. If a block cannot be read, its pages are read one by one.
 import re
 from typing import Any, Callable, Iterator, List, Optional, Sequence, Tuple
 
-from cheri_cap import ByteOrder, Capability, find_holding, mask_of
+from cheri_cap import REFUSALS, ByteOrder, Capability, find_holding, mask_of
 
 BYTES = 16
 PAGE = 1 << 12
@@ -55,6 +55,11 @@ def could_be(cap: Capability) -> bool:
     return cap.is_canonical or cap.is_sentry and Capability.from_fields(cap.fields._replace(otype=_UNSEALED)).is_canonical
 
 
+def refused_for(code: int) -> str:
+    """Returns the text of a rule that refused, by the code of the reason."""
+    return f"refused: {REFUSALS.get(code, code)}"
+
+
 def text_of(cap: Capability, tagged: bool = True) -> str:
     """Returns the one-line form of a word, marked if it cannot be that of a capability."""
     return cap.line(tagged) + ("" if could_be(cap) else " (not canonical)")
@@ -72,12 +77,12 @@ def path_to_word(
     `high` and `low`; or None if the type has no word, or several.
 
     `members_of` returns the names and the types of a type's members, in the order of memory, and none for other types
-    than structs. A struct with the members `high` and then `low`, as cheri_cap_u128 has them, is read by these. A type
-    of 16 bytes without such a member is read as 16 bytes of memory. Any other struct has the word of its one member
-    that has a word."""
+    than structs. A struct with the members `high` and then `low`, of 8 bytes each, as cheri_cap_u128 has them, is read
+    by these. A type of 16 bytes without such a member is read as 16 bytes of memory. Any other struct has the word of
+    its one member that has a word."""
     members = members_of(kind)
     names = [name for name, _ in members]
-    if "high" in names and "low" in names:
+    if [size_of(it) for name, it in members if name in ("high", "low")] == [BYTES // 2, BYTES // 2]:
         return [], size_of(kind) != BYTES or names.index("high") < names.index("low")
     inner = [(name, path_to_word(it, members_of, size_of)) for name, it in members if members_of(it)]
     found = [(name, path) for name, path in inner if path]
