@@ -1,5 +1,5 @@
 -- The input that FILE names.
-use Rattle.std.specs.Prelude.{Bool, Option, Some, None, codes, if◌then◌else◌, ⊤}
+use Rattle.std.specs.Prelude.{Option, Some, None, codes, if◌then◌else◌, ⊤}
 use Rattle.std.specs.Borrow.{Bor}
 use Rattle.std.specs.Str.{bytes_eq}
 use Rattle.clap.specs.Words.{Text}
@@ -7,6 +7,8 @@ use Rattle.cc_console.specs.declared.input.Content.{Content}
 use Rattle.cc_console.specs.declared.input.Content.TheVariants.{Trace, Changes}
 use Rattle.cc_console.specs.declared.input.InputName.{InputName}
 use Rattle.cc_console.specs.declared.input.InputName.TheVariants.{Standard, File}
+use Rattle.cc_console.specs.declared.invocation.ReplayOutput.{ReplayOutput}
+use Rattle.cc_console.specs.declared.invocation.ReplayOutput.TheVariants.{Script}
 
 -- The input that FILE names: standard input for `-`, and if FILE is not given.
 abbrev pub file_input : Option (Bor Text) → InputName
@@ -18,6 +20,7 @@ abbrev pub IsFile : InputName → Type 0
 IsFile Standard = ⊥
 IsFile (File path) = ⊤
 
--- The content of the trace of `replay`: with `--script`, a trace whose script is written.
-abbrev pub trace_content : (to_script : Bool) → Content
-trace_content to_script = if to_script then Changes else Trace
+-- The content of the trace of `replay`, by its output.
+abbrev pub trace_content : Option ReplayOutput → Content
+trace_content (Some Script) = Changes
+trace_content _ = Trace

@@ -14,6 +14,8 @@ use Rattle.cc_bounds.specs.declared.align.Align.{Align}
 use Rattle.cc_bounds.specs.declared.align.Align.TheVariants.{One, Sixteen}
 use Rattle.cc_console.specs.declared.invocation.DecodeTexts.{DecodeTexts}
 use Rattle.cc_console.specs.declared.invocation.PoolTexts.{PoolTexts}
+use Rattle.cc_console.specs.declared.invocation.ReplayOutput.{ReplayOutput}
+use Rattle.cc_console.specs.declared.invocation.ReplayOutput.TheVariants.{Summary, Sizes, Chart, Script, Series}
 use Rattle.cc_console.specs.declared.invocation.ReplayTexts.{ReplayTexts}
 use Rattle.cc_console.specs.declared.invocation.SummaryFormat.{SummaryFormat}
 use Rattle.cc_console.specs.declared.invocation.SummaryFormat.TheVariants as summary
@@ -92,7 +94,7 @@ command_name_of (Ask question) = question_command question
 command_name_of (Run limit stats file) = codes "run"
 command_name_of (Plan limit pool align stats file) = codes "plan"
 command_name_of (Map limit pool align svg file) = codes "map"
-command_name_of (Replay align strict format texts file) = codes "replay"
+command_name_of (Replay align strict texts file) = codes "replay"
 command_name_of (Decode input format texts file) = codes "decode"
 command_name_of (Annotate file) = codes "annotate"
 command_name_of (RoundList base file) = codes "round"
@@ -117,18 +119,34 @@ pub record HasDecodeTexts (rows : List Row) (texts : DecodeTexts) : Type 0 where
   pub holds : first_of (codes "holds") rows ≡ option_map (λ text. text.now) texts.holds
   pub perms : first_of (codes "perms") rows ≡ option_map (λ text. text.now) texts.perms
 
--- `HasReplayTexts` holds if the texts are the values of these options, or `None` for those that are not given, and it says of
--- `--sizes`, `--svg` and `--script` whether they are given.
+-- The output of `replay` by the format of tables and the options that are given: the summary without one. `None` if two are given.
+abbrev pub replay_output : SummaryFormat → (sizes svg script : Bool) → (each : Option (Bor Text)) → Option ReplayOutput
+replay_output format false false false None = Some (Summary format)
+replay_output format true false false None = Some (Sizes format)
+replay_output format false true false None = Some Chart
+replay_output format false false true None = Some Script
+replay_output format false false false (Some text) = Some (Series text)
+replay_output format _ _ _ _ = None
+
+-- `HasOutput` holds if the values of `--summary`, `--sizes`, `--svg`, `--script` and `--each` give the output.
+pub record HasOutput (rows : List Row) (output : Option ReplayOutput) : Type 0 where
+  pub format : SummaryFormat
+  pub each : Option (Bor Text)
+  pub is_format : IsChosen summary_named summary.Text (first_of (codes "summary") rows) format
+  pub is_each : first_of (codes "each") rows ≡ option_map (λ text. text.now) each
+  pub is_output :
+      output
+      ≡ replay_output format (is_on (first_of (codes "sizes") rows)) (is_on (first_of (codes "svg") rows)) (is_on (first_of (codes "script") rows)) each
+
+-- `HasReplayTexts` holds if the texts are the values of these options, or `None` for those that are not given, and the options of
+-- the output give it.
 pub record HasReplayTexts (rows : List Row) (texts : ReplayTexts) : Type 0 where
   pub realloc : first_of (codes "realloc") rows ≡ option_map (λ text. text.now) texts.realloc
   pub sweep : first_of (codes "sweep") rows ≡ option_map (λ text. text.now) texts.sweep
   pub least : first_of (codes "min") rows ≡ option_map (λ text. text.now) texts.least
   pub pool : first_of (codes "pool") rows ≡ option_map (λ text. text.now) texts.pool
-  pub each : first_of (codes "each") rows ≡ option_map (λ text. text.now) texts.each
   pub format : first_of (codes "format") rows ≡ option_map (λ text. text.now) texts.format
-  pub sizes : texts.sizes ≡ is_on (first_of (codes "sizes") rows)
-  pub svg : texts.svg ≡ is_on (first_of (codes "svg") rows)
-  pub script : texts.script ≡ is_on (first_of (codes "script") rows)
+  pub output : HasOutput rows texts.output
 
 -- `HasBase` holds if the base is the value of `--base`, or `None` if it is not given.
 abbrev pub HasBase : List Row → Option (Bor Text) → Type 0
@@ -157,9 +175,9 @@ HasValues rows (Plan limit pool align stats file) =
 HasValues rows (Map limit pool align svg file) =
     IsLimit (first_of (codes "slots") rows) limit × IsChosen align_named One (first_of (codes "align") rows) align
     × IsGiven (first_of (codes "svg") rows) svg × HasPool rows pool × HasFile rows file
-HasValues rows (Replay align strict format texts file) =
+HasValues rows (Replay align strict texts file) =
     IsChosen align_named One (first_of (codes "align") rows) align × IsGiven (first_of (codes "strict") rows) strict
-    × IsChosen summary_named summary.Text (first_of (codes "summary") rows) format × HasReplayTexts rows texts × HasFile rows file
+    × HasReplayTexts rows texts × HasFile rows file
 HasValues rows (Decode input format texts file) =
     IsChosen format_named Columns (first_of (codes "format") rows) format
     × IsChosen input_named Lines (first_of (codes "bytes") rows) input × HasDecodeTexts rows texts × HasFile rows file

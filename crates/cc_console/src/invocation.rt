@@ -36,8 +36,22 @@ pub enum SummaryFormat {
     Json,
 }
 
-/// The values of the options of `replay` that are numbers, names, a policy or a pool, as they were typed, and whether `--sizes`,
-/// `--svg` and `--script` were given.
+/// The output of `replay`.
+#[derive(Clone, Copy)]
+pub enum ReplayOutput<'a> {
+    /// The summary, in this format.
+    Summary(SummaryFormat),
+    /// `--sizes`: the table of sizes, in this format.
+    Sizes(SummaryFormat),
+    /// `--svg`: the chart.
+    Chart,
+    /// `--script`: the script.
+    Script,
+    /// `--each`: the series, with the number of events from one sample to the next, as it was typed.
+    Series(&'a str),
+}
+
+/// The values of the options of `replay` that are numbers, names, a policy or a pool, as they were typed, and its output.
 #[derive(Clone, Copy)]
 pub struct ReplayTexts<'a> {
     /// The effect of a realloc.
@@ -48,16 +62,10 @@ pub struct ReplayTexts<'a> {
     pub least: Option<&'a str>,
     /// The base and the length of the pool.
     pub pool: Option<&'a str>,
-    /// The number of events from one sample to the next.
-    pub each: Option<&'a str>,
     /// The name of the trace's format.
     pub format: Option<&'a str>,
-    /// Whether the table of sizes takes the place of the summary.
-    pub sizes: bool,
-    /// Whether the chart takes the place of the summary.
-    pub svg: bool,
-    /// Whether the script takes the place of the summary.
-    pub script: bool,
+    /// The output; `None` if two of `--sizes`, `--svg`, `--script` and `--each` are given.
+    pub output: Option<ReplayOutput<'a>>,
 }
 
 /// A command and its values.
@@ -107,8 +115,6 @@ pub enum Invocation<'a> {
         align: Align,
         /// Whether no line is taken after one that is refused.
         strict: bool,
-        /// The format of the summary, or of the table of sizes.
-        format: SummaryFormat,
         /// The values of the other options, as they were typed.
         texts: ReplayTexts<'a>,
         /// The trace's file; `None` and `-` are standard input.

@@ -26,7 +26,9 @@ pub use error_writer::ErrorWriter;
 pub use fault::Fault;
 pub use help::{EXPLAIN_CHOICE, ROUND_CHOICE};
 pub use input::{Content, InputName, Inputs, file_input};
-pub use invocation::{DecodeTexts, Invocation, PoolTexts, ReplayTexts, SummaryFormat};
+pub use invocation::{
+    DecodeTexts, Invocation, PoolTexts, ReplayOutput, ReplayTexts, SummaryFormat,
+};
 pub use memory::{GlobalMemory, Memory};
 pub use outcome::{Ending, ending_of, ending_status, finish, status, tell};
 pub use process_inputs::{ProcessInputs, no_input};

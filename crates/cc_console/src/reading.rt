@@ -10,7 +10,7 @@ use crate::invocation::Invocation;
 use crate::question::Question;
 use crate::values::{
     align_of, base_of, decode_texts, format_of, input_of, is_given, is_on, limit_of, pool_texts,
-    replay_texts, summary_of, value_of, wanted_text,
+    replay_texts, value_of, wanted_text,
 };
 use clap::error::ErrorKind;
 use clap::{ArgMatches, Error};
@@ -265,7 +265,6 @@ fn read_replay<'a>(matches: &ArgMatches<'a>) -> Invocation<'a>
     Invocation::Replay {
         align: align_of(matches),
         strict: is_given(matches, "strict"),
-        format: summary_of(matches),
         texts: replay_texts(matches),
         file: value_of(matches, "file"),
     }

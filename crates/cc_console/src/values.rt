@@ -1,9 +1,9 @@
 //! The values that clap found for arguments and options.
 ghost use Rattle.std.specs.Prelude.{◌≡◌, Some, codes, option_map, unwrap_or};
 ghost use Rattle.clap.specs.Words.{first_of, found_of, rows_of};
-ghost use Rattle.cc_console.specs.Invocation.{HasChoice, HasDecodeTexts, HasFlag, HasLimit, HasPool, HasPoolTexts, HasReplayTexts, HasText, IsChosen, IsGiven, IsLimit, align_named, format_named, input_named, is_on, summary_named};
+ghost use Rattle.cc_console.specs.Invocation.{HasChoice, HasDecodeTexts, HasFlag, HasLimit, HasOutput, HasPool, HasPoolTexts, HasReplayTexts, HasText, IsChosen, IsGiven, IsLimit, align_named, format_named, input_named, is_on, summary_named};
 
-use crate::invocation::{DecodeTexts, PoolTexts, ReplayTexts, SummaryFormat};
+use crate::invocation::{DecodeTexts, PoolTexts, ReplayOutput, ReplayTexts, SummaryFormat};
 use cc_bounds::Align;
 use cc_io::{ByteOrder, Format, InputForm};
 use clap::ArgMatches;
@@ -59,9 +59,9 @@ pub(crate) fn decode_texts<'a>(matches: &ArgMatches<'a>) -> DecodeTexts<'a>
     }
 }
 
-/// Returns the values of the options of `replay` that are numbers, names, a policy or a pool, and whether `--sizes`, `--svg`
-/// and `--script` were given.
+/// Returns the values of the options of `replay` that are numbers, names, a policy or a pool, and its output.
 pub(crate) fn replay_texts<'a>(matches: &ArgMatches<'a>) -> ReplayTexts<'a>
+    requires { HasChoice summary_named (codes "summary") (rows_of (found_of matches.now)) }
     ensures { HasReplayTexts (rows_of (found_of matches.now)) result }
 {
     ReplayTexts {
@@ -69,11 +69,28 @@ pub(crate) fn replay_texts<'a>(matches: &ArgMatches<'a>) -> ReplayTexts<'a>
         sweep: value_of(matches, "sweep"),
         least: value_of(matches, "min"),
         pool: value_of(matches, "pool"),
-        each: value_of(matches, "each"),
         format: value_of(matches, "format"),
-        sizes: is_on(matches, "sizes"),
-        svg: is_on(matches, "svg"),
-        script: is_on(matches, "script"),
+        output: output_of(matches),
+    }
+}
+
+/// Returns the output of `replay`, or `None` if two of `--sizes`, `--svg`, `--script` and `--each` are given.
+fn output_of<'a>(matches: &ArgMatches<'a>) -> Option<ReplayOutput<'a>>
+    requires { HasChoice summary_named (codes "summary") (rows_of (found_of matches.now)) }
+    ensures { HasOutput (rows_of (found_of matches.now)) result }
+{
+    let format = summary_of(matches);
+    let sizes = is_on(matches, "sizes");
+    let svg = is_on(matches, "svg");
+    let script = is_on(matches, "script");
+    let each = value_of(matches, "each");
+    match (sizes, svg, script, each) {
+        (false, false, false, None) => Some(ReplayOutput::Summary(format)),
+        (true, false, false, None) => Some(ReplayOutput::Sizes(format)),
+        (false, true, false, None) => Some(ReplayOutput::Chart),
+        (false, false, true, None) => Some(ReplayOutput::Script),
+        (false, false, false, Some(each)) => Some(ReplayOutput::Series(each)),
+        _ => None,
     }
 }
 

@@ -17,9 +17,11 @@ use Rattle.cc_bounds.specs.Span.{IsSpan}
 use Rattle.cc_heap.specs.declared.reallocation.Reallocation.{Reallocation}
 use Rattle.cc_heap.specs.declared.reallocation.Reallocation.TheVariants.{Move}
 use Rattle.cc_heap.specs.declared.settings.Settings.{Settings}
+use Rattle.cc_console.specs.declared.invocation.ReplayOutput.{ReplayOutput}
+use Rattle.cc_console.specs.declared.invocation.ReplayOutput.TheVariants.{Summary, Sizes, Chart, Script, Series}
 use Rattle.cc_console.specs.declared.invocation.ReplayTexts.{ReplayTexts}
 use Rattle.cc_explain.specs.Refused.{changed}
-use Rattle.cc_traces.specs.ReplayTexts.{are_two, each_in, format_in, least_in, not_zero, realloc_in, replay_in, span_given, span_in, sweep_in}
+use Rattle.cc_traces.specs.ReplayTexts.{format_in, least_in, not_zero, output_in, realloc_in, replay_in, span_given, span_in, sweep_in}
 
 -- The two results have both values.
 pub parts_of_both : {A B : Type 0} (first : Result A Refusal) (second : Result B Refusal) (found : A × B) → both first second ≡ Ok found
@@ -58,39 +60,41 @@ moves_found sweeping each pool format realloc found told holds =
     let naming = parts_of_both pool (both format realloc) found.1.1 placing.1 in
     of_value (λ effect. effect ≡ Move) realloc found.1.1.1.1 holds (parts_of_both format realloc found.1.1.1 naming.1).1
 
-none_given : (sizes svg script : Bool) (each : ℕ) → each_in sizes svg script None ≡ Ok each → 0 ≡ each
-none_given sizes svg script each e = by_two (are_two sizes svg script) e
-  where
-    by_two : (two : Bool) → (if two then Err Syntax else Ok 0) ≡ Ok each → 0 ≡ each
-    by_two true e = cc e
-    by_two false e = cc e
+-- The output of the texts is the requested one.
+output_given : (given : Option ReplayOutput) (found : ReplayOutput × ℕ) → output_in given ≡ Ok found → given ≡ Some found.0
+output_given None found e = cc e
+output_given (Some (Series text)) found e =
+    let made = from_changed _ (not_zero (address_in text.now)) found e in ap (λ (pair : ReplayOutput × ℕ). Some pair.0) made.2
+output_given (Some (Summary format)) found e = let same : (Summary format, 0) ≡ found = cc e in ap (λ (pair : ReplayOutput × ℕ). Some pair.0) same
+output_given (Some (Sizes format)) found e = let same : (Sizes format, 0) ≡ found = cc e in ap (λ (pair : ReplayOutput × ℕ). Some pair.0) same
+output_given (Some Chart) found e = let same : (Chart, 0) ≡ found = cc e in ap (λ (pair : ReplayOutput × ℕ). Some pair.0) same
+output_given (Some Script) found e = let same : (Script, 0) ≡ found = cc e in ap (λ (pair : ReplayOutput × ℕ). Some pair.0) same
 
--- Without `--each` there is no series.
-pub no_series : (align : Align) (strict : Bool) (texts : ReplayTexts) (found : Settings × Reading) → replay_in align strict texts ≡ Ok found → texts.each ≡ None
-    → found.1.each ≡ 0
-no_series align strict texts found e none =
-    let made = from_changed _ (both (both (sweep_in texts.sweep) (least_in texts.least)) (both (each_in texts.sizes texts.svg texts.script texts.each) (both (span_given texts.pool) (both (format_in texts.format) (realloc_in texts.script texts.realloc))))) found e in
-    let outer = parts_of_both (both (sweep_in texts.sweep) (least_in texts.least)) (both (each_in texts.sizes texts.svg texts.script texts.each) (both (span_given texts.pool) (both (format_in texts.format) (realloc_in texts.script texts.realloc)))) made.0 made.1 in
-    let inner = parts_of_both (each_in texts.sizes texts.svg texts.script texts.each) (both (span_given texts.pool) (both (format_in texts.format) (realloc_in texts.script texts.realloc))) made.0.1 outer.1 in
-    let same : 0 ≡ made.0.1.0 = none_given texts.sizes texts.svg texts.script made.0.1.0 (ap (each_in texts.sizes texts.svg texts.script) (sym none) ∙ inner.0) in
-    ap (λ pair. pair.1.each) (sym made.2) ∙ sym same
+pub output_found : {A C : Type 0} (sweeping : Result A Refusal) (given : Option ReplayOutput) (placing : Result C Refusal)
+    (found : A × ((ReplayOutput × ℕ) × C)) → both sweeping (both (output_in given) placing) ≡ Ok found → given ≡ Some found.1.0.0
+output_found sweeping given placing found told =
+    let later = parts_of_both sweeping (both (output_in given) placing) found told in
+    output_given given found.1.0 (parts_of_both (output_in given) placing found.1 later.1).0
 
 -- A refusal of one of the texts.
 pub replay_refused : (align : Align) (strict : Bool) (texts : ReplayTexts) (refusal : Refusal)
-    → both (both (sweep_in texts.sweep) (least_in texts.least)) (both (each_in texts.sizes texts.svg texts.script texts.each) (both (span_given texts.pool) (both (format_in texts.format) (realloc_in texts.script texts.realloc)))) ≡ Err refusal
+    → both (both (sweep_in texts.sweep) (least_in texts.least)) (both (output_in texts.output) (both (span_given texts.pool) (both (format_in texts.format) (realloc_in texts.output texts.realloc)))) ≡ Err refusal
     → Err refusal ≡ replay_in align strict texts
 replay_refused align strict texts refusal told = ap (changed _) (sym told)
 
 -- The values of all texts.
-pub replay_found : (align : Align) (strict : Bool) (texts : ReplayTexts) (policy : Policy) (least each : ℕ) (pool : Span) (format : TraceFormat)
+pub replay_found : (align : Align) (strict : Bool) (texts : ReplayTexts) (policy : Policy) (least : ℕ) (output : ReplayOutput) (each : ℕ) (pool : Span) (format : TraceFormat)
     (realloc : Reallocation)
-    → both (both (sweep_in texts.sweep) (least_in texts.least)) (both (each_in texts.sizes texts.svg texts.script texts.each) (both (span_given texts.pool) (both (format_in texts.format) (realloc_in texts.script texts.realloc))))
-    ≡ Ok ((policy, least), (each, (pool, (format, realloc))))
+    → both (both (sweep_in texts.sweep) (least_in texts.least)) (both (output_in texts.output) (both (span_given texts.pool) (both (format_in texts.format) (realloc_in texts.output texts.realloc))))
+    ≡ Ok ((policy, least), ((output, each), (pool, (format, realloc))))
     → Ok (
-      record { limit = 2 ^ 24; pool = pool; align = align; policy = policy; least_quarantine = least; realloc = realloc },
-      record { format = format; is_strict = strict; each = each },
+      output,
+      (
+        record { limit = 2 ^ 24; pool = pool; align = align; policy = policy; least_quarantine = least; realloc = realloc },
+        record { format = format; is_strict = strict; each = each },
+      ),
     ) ≡ replay_in align strict texts
-replay_found align strict texts policy least each pool format realloc told = ap (changed _) (sym told)
+replay_found align strict texts policy least output each pool format realloc told = ap (changed _) (sym told)
 
 -- The span of a text with a colon, and the refusal of one without.
 pub span_split : (text base size : List ℕ) (result : Result Span Refusal) → base ≡ before_first (λ byte. byte == 58) text → size ≡ after_first (λ byte. byte == 58) text
@@ -105,29 +109,6 @@ span_unsplit text none =
     rw test refl
 
 -- ---- the number of `--each`
-
-any_given : (sizes svg script : Bool)
-    → (sizes ≡ true) ⊎ (((sizes ≡ false) × (svg ≡ true)) ⊎ ((sizes ≡ false) × (svg ≡ false) × (script ≡ true))) → sizes || (svg || script) ≡ true
-any_given true svg script any = refl
-any_given false true script any = refl
-any_given false false true any = refl
-any_given false false false any = elim any [ inl e ↦ cc e | inr rest ↦ elim rest [ inl e ↦ cc e.1 | inr e ↦ cc e.2 ] ]
-
--- A series beside another output.
-pub each_excluded : (sizes svg script : Bool) (text : Option (Bor Text)) (found : Bor Text) → text ≡ Some found
-    → (sizes ≡ true) ⊎ (((sizes ≡ false) × (svg ≡ true)) ⊎ ((sizes ≡ false) × (svg ≡ false) × (script ≡ true)))
-    → Err Syntax ≡ each_in sizes svg script text
-each_excluded sizes svg script text found is any = rw (is, any_given sizes svg script any) refl
-
--- The number of a series.
-pub each_read : (sizes svg script : Bool) (text : Option (Bor Text)) (found : Bor Text) (read : Result ℕ Refusal) → text ≡ Some found
-    → (sizes ≡ false) × (svg ≡ false) × (script ≡ false) → read ≡ address_in found.now → not_zero read ≡ each_in sizes svg script text
-each_read sizes svg script text found read is none reads = rw (reads, is, none.0, none.1, none.2) refl
-
--- No series.
-pub none_asked : (sizes svg script two : Bool) (text : Option (Bor Text)) → text ≡ None → two ≡ are_two sizes svg script
-    → (if two then Err Syntax else Ok 0) ≡ each_in sizes svg script text
-none_asked sizes svg script two text is two_is = rw (two_is, is) refl
 
 -- A number of a series that is not 0.
 pub not_zero_some : (number : ℕ) → (number ≡ 0 → ⊥) → Ok number ≡ not_zero (Ok number)

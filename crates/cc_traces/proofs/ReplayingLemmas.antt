@@ -1,5 +1,5 @@
 -- The output of `replay`, from that of its parts.
-use Rattle.std.proofs.Common.{◌≡◌, ◌≢◌, ℕ, Bool, true, false, zero, suc, List, Option, None, Result, Ok, Err, MatchResult, refl, subst, sym, inl, inr}
+use Rattle.std.proofs.Common.{◌≡◌, ◌≢◌, ℕ, Bool, List, Option, Some, None, Result, Ok, Err, MatchResult, refl, subst, sym, inl, inr}
 use Rattle.std.specs.Borrow.{Bor}
 use Rattle.clap.specs.Words.{Text}
 use Rattle.cc_word.specs.declared.refusal.Refusal.{Refusal}
@@ -9,18 +9,20 @@ use Rattle.cc_io.specs.Devices.{TakesBeginning}
 use Rattle.cc_io.specs.declared.summary.IoError.{IoError}
 use Rattle.cc_io.specs.declared.summary.IoError.TheVariants.{Read, Write}
 use Rattle.cc_io.specs.declared.summary.Summary.{Summary}
-use Rattle.cc_replay.specs.Replay.{ReplayState, last_sample}
+use Rattle.cc_heap.specs.Lost.{empty_run}
+use Rattle.cc_replay.specs.Replay.{ReplayState, begun, last_sample}
 use Rattle.cc_formats.specs.declared.reading.Progress.TheVariants.{OutOfMemory}
 use Rattle.cc_formats.specs.declared.reading.Reading.{Reading}
 use Rattle.cc_heap.specs.declared.settings.Settings.{Settings}
+use Rattle.cc_console.specs.declared.invocation.ReplayOutput.{ReplayOutput}
+use Rattle.cc_console.specs.declared.invocation.ReplayOutput.TheVariants.{Sizes, Chart, Script, Series}
+use Rattle.cc_console.specs.declared.invocation.ReplayOutput.TheVariants as output
 use Rattle.cc_console.specs.declared.invocation.ReplayTexts.{ReplayTexts}
 use Rattle.cc_console.specs.declared.invocation.SummaryFormat.{SummaryFormat}
 use Rattle.cc_console.specs.Devices.{Console, FromInput, OnDevices, Traffic}
 use Rattle.cc_console.specs.Input.{file_input}
-use Rattle.cc_traces.specs.Charting.{ChartsTrace}
 use Rattle.cc_traces.specs.ReplayTexts.{replay_in}
-use Rattle.cc_traces.specs.Scripting.{ScriptsTrace}
-use Rattle.cc_traces.specs.Replaying.{Replays, ReplaysAll, ReplaysTrace, Samples, SamplesAll, StopsInSummary, StopsSampling, SumsUp, SumsUpAll, WithReplay, WritesReplay, WritesTrace}
+use Rattle.cc_traces.specs.Replaying.{IsStreaming, IsTable, Replays, ReplaysAll, ReplaysTrace, Samples, SamplesAll, StopsInSummary, StopsSampling, SumsUp, SumsUpAll, WithReplay, WritesReplay}
 use Rattle.cc_explain.specs.Refused.{WritesRefusal}
 use Rattle.cc_console.specs.declared.fault.Fault.{Fault}
 use Rattle.cc_console.specs.declared.input.InputName.{InputName}
@@ -104,50 +106,45 @@ stops_in_last old new traffic unread left output output_then output_now summary 
   written = subst (λ (b : Option (List ℕ)). TakesBeginning output_then b (last_sample new)) (sym n) written;
 })
 
--- The summary, if no samples are asked for.
-pub sums_up : (each : ℕ) (text_of : ReplayState → List ℕ) (old : ReplayState) (traffic : Traffic) (result : Result Summary Fault) → each ≡ 0
-    → OnDevices (SumsUp text_of old traffic) result → OnDevices (WritesReplay each text_of old traffic) result
-sums_up zero text_of old traffic result none holds = holds
-sums_up (suc less) text_of old traffic result none holds = cc none
-
--- The series, if samples are asked for.
-pub samples : (each : ℕ) (text_of : ReplayState → List ℕ) (old : ReplayState) (traffic : Traffic) (result : Result Summary Fault) → each ≢ 0
-    → OnDevices (Samples old traffic) result → OnDevices (WritesReplay each text_of old traffic) result
-samples zero text_of old traffic result some holds = absurd (some refl)
-samples (suc less) text_of old traffic result some holds = holds
-
 -- The replay that the texts ask for, from that of these settings.
-pub with_replay : (align : Align) (strict : Bool) (format : SummaryFormat) (texts : ReplayTexts) (file : Option (Bor Text)) (console : Console)
-    (found : Settings × Reading) (input : InputName) (result : Result Summary Fault) → replay_in align strict texts ≡ Ok found → input ≡ file_input file
-    → OnDevices (FromInput input console (ReplaysTrace texts.sizes texts.svg texts.script format found.0 found.1)) result
-    → OnDevices (WithReplay align strict texts console (λ settings reading. FromInput (file_input file) console (ReplaysTrace texts.sizes texts.svg texts.script format settings reading))) result
-with_replay align strict format texts file console found input result is_found is_input holds =
-    on_devices-map (FromInput input console (ReplaysTrace texts.sizes texts.svg texts.script format found.0 found.1))
-    (WithReplay align strict texts console (λ settings reading. FromInput (file_input file) console (ReplaysTrace texts.sizes texts.svg texts.script format settings reading)))
+pub with_replay : (align : Align) (strict : Bool) (texts : ReplayTexts) (file : Option (Bor Text)) (console : Console)
+    (found : ReplayOutput × (Settings × Reading)) (input : InputName) (result : Result Summary Fault) → replay_in align strict texts ≡ Ok found → input ≡ file_input file
+    → OnDevices (FromInput input console (ReplaysTrace found.0 found.1.0 found.1.1)) result
+    → OnDevices (WithReplay align strict texts console (λ output settings reading. FromInput (file_input file) console (ReplaysTrace output settings reading))) result
+with_replay align strict texts file console found input result is_found is_input holds =
+    on_devices-map (FromInput input console (ReplaysTrace found.0 found.1.0 found.1.1))
+    (WithReplay align strict texts console (λ output settings reading. FromInput (file_input file) console (ReplaysTrace output settings reading)))
     (λ io done.
-    subst (λ (given : Result (Settings × Reading) Refusal). MatchResult given
-    (λ pair. FromInput (file_input file) console (ReplaysTrace texts.sizes texts.svg texts.script format pair.0 pair.1) io)
+    subst (λ (given : Result (ReplayOutput × (Settings × Reading)) Refusal). MatchResult given
+    (λ found. FromInput (file_input file) console (ReplaysTrace found.0 found.1.0 found.1.1) io)
     (λ refusal. WritesRefusal console.output console.output_now refusal io)) (sym is_found)
-    (subst (λ (name : InputName). FromInput name console (ReplaysTrace texts.sizes texts.svg texts.script format found.0 found.1) io) is_input done))
+    (subst (λ (name : InputName). FromInput name console (ReplaysTrace found.0 found.1.0 found.1.1) io) is_input done))
     result holds
 
--- What is written without a script and a chart, with a chart, and with a script.
-pub as_text : (sizes svg script : Bool) (format : SummaryFormat) (settings : Settings) (reading : Reading) (input : InputName) (console : Console) (result : Result Summary Fault)
-    → script ≡ false → svg ≡ false → OnDevices (FromInput input console (WritesTrace sizes format settings reading)) result
-    → OnDevices (FromInput input console (ReplaysTrace sizes svg script format settings reading)) result
-as_text sizes svg script format settings reading input console result unscripted off holds =
-    subst (λ (c : Bool). OnDevices (FromInput input console (ReplaysTrace sizes svg c format settings reading)) result) (sym unscripted)
-    (subst (λ (s : Bool). OnDevices (FromInput input console (ReplaysTrace sizes s false format settings reading)) result) (sym off) holds)
+-- What is written for another output than a chart and a script.
+pub as_replay : (output : ReplayOutput) (settings : Settings) (reading : Reading) (input : InputName) (console : Console) (result : Result Summary Fault)
+    → output ≢ Script → output ≢ Chart → OnDevices (FromInput input console (WritesReplay output (begun (empty_run settings) reading))) result
+    → OnDevices (FromInput input console (ReplaysTrace output settings reading)) result
+as_replay (output.Summary format) settings reading input console result unscripted uncharted holds = holds
+as_replay (Sizes format) settings reading input console result unscripted uncharted holds = holds
+as_replay (Series text) settings reading input console result unscripted uncharted holds = holds
+as_replay Script settings reading input console result unscripted uncharted holds = absurd (unscripted refl)
+as_replay Chart settings reading input console result unscripted uncharted holds = absurd (uncharted refl)
 
-pub as_chart : (sizes svg script : Bool) (format : SummaryFormat) (settings : Settings) (reading : Reading) (input : InputName) (console : Console) (result : Result Summary Fault)
-    → script ≡ false → svg ≡ true → OnDevices (FromInput input console (ChartsTrace settings reading)) result
-    → OnDevices (FromInput input console (ReplaysTrace sizes svg script format settings reading)) result
-as_chart sizes svg script format settings reading input console result unscripted on holds =
-    subst (λ (c : Bool). OnDevices (FromInput input console (ReplaysTrace sizes svg c format settings reading)) result) (sym unscripted)
-    (subst (λ (s : Bool). OnDevices (FromInput input console (ReplaysTrace sizes s false format settings reading)) result) (sym on) holds)
+-- The series, for another output than a table.
+pub samples : (kind : ReplayOutput) (old : ReplayState) (traffic : Traffic) (result : Result Summary Fault)
+    → ((format : SummaryFormat) → kind ≢ output.Summary format) → ((format : SummaryFormat) → kind ≢ Sizes format)
+    → OnDevices (Samples old traffic) result → OnDevices (WritesReplay kind old traffic) result
+samples (output.Summary format) old traffic result unsummed unsized holds = absurd (unsummed format refl)
+samples (Sizes format) old traffic result unsummed unsized holds = absurd (unsized format refl)
+samples (Series text) old traffic result unsummed unsized holds = holds
+samples Script old traffic result unsummed unsized holds = holds
+samples Chart old traffic result unsummed unsized holds = holds
 
-pub as_script : (sizes svg script : Bool) (format : SummaryFormat) (settings : Settings) (reading : Reading) (input : InputName) (console : Console) (result : Result Summary Fault)
-    → script ≡ true → OnDevices (FromInput input console (ScriptsTrace settings reading)) result
-    → OnDevices (FromInput input console (ReplaysTrace sizes svg script format settings reading)) result
-as_script sizes svg script format settings reading input console result scripted holds =
-    subst (λ (c : Bool). OnDevices (FromInput input console (ReplaysTrace sizes svg c format settings reading)) result) (sym scripted) holds
+-- An output other than a chart that is not written while the trace is read is a table.
+pub is_table : (kind : ReplayOutput) → kind ≢ Chart → (IsStreaming (Some kind) → ⊥) → IsTable kind
+is_table (output.Summary format) uncharted unstreamed = tt
+is_table (Sizes format) uncharted unstreamed = tt
+is_table (Series text) uncharted unstreamed = absurd (unstreamed tt)
+is_table Script uncharted unstreamed = absurd (unstreamed tt)
+is_table Chart uncharted unstreamed = absurd (uncharted refl)

@@ -1,5 +1,5 @@
 -- The heap and the reading that the arguments of `replay` request.
-use Rattle.std.specs.Prelude.{ℕ, Bool, true, ◌^◌, ◌==◌, ◌&&◌, ◌||◌, nat_lt, codes, length, List, Option, Some, None, Result, Ok, Err, zero, suc, if◌then◌else◌}
+use Rattle.std.specs.Prelude.{ℕ, Bool, ◌^◌, ◌==◌, nat_lt, codes, length, List, Option, Some, None, Result, Ok, Err, zero, suc, if◌then◌else◌}
 use Rattle.std.specs.Borrow.{Bor}
 use Rattle.std.specs.Str.{bytes_eq}
 use Rattle.std.specs.List.{after_first, before_first, position_or_len}
@@ -20,6 +20,8 @@ use Rattle.cc_formats.specs.declared.reading.Reading.{Reading}
 use Rattle.cc_heap.specs.declared.reallocation.Reallocation.{Reallocation}
 use Rattle.cc_heap.specs.declared.reallocation.Reallocation.TheVariants.{Move, Keep}
 use Rattle.cc_heap.specs.declared.settings.Settings.{Settings}
+use Rattle.cc_console.specs.declared.invocation.ReplayOutput.{ReplayOutput}
+use Rattle.cc_console.specs.declared.invocation.ReplayOutput.TheVariants.{Script, Series}
 use Rattle.cc_console.specs.declared.invocation.ReplayTexts.{ReplayTexts}
 use Rattle.cc_explain.specs.Refused.{changed}
 
@@ -39,15 +41,12 @@ not_zero (Ok zero) = Err OutOfRange
 not_zero (Ok (suc less)) = Ok (suc less)
 not_zero (Err refusal) = Err refusal
 
--- Whether at least two of the three are given.
-abbrev pub are_two : (sizes svg script : Bool) → Bool
-are_two sizes svg script = sizes && svg || (sizes && script || svg && script)
-
--- The number of events from one sample to the next that `--each` gives, or 0 if there is no series. A series
--- excludes `--sizes`, `--svg` and `--script`, as each of these does the others.
-abbrev pub each_in : (sizes svg script : Bool) → Option (Bor Text) → Result ℕ Refusal
-each_in sizes svg script None = if are_two sizes svg script then Err Syntax else Ok 0
-each_in sizes svg script (Some text) = if sizes || (svg || script) then Err Syntax else not_zero (address_in text.now)
+-- The output, and the number of events from one sample of a series to the next, or 0 without a series. No output means that
+-- two were asked for.
+abbrev pub output_in : Option ReplayOutput → Result (ReplayOutput × ℕ) Refusal
+output_in None = Err Syntax
+output_in (Some (Series text)) = changed (λ each. (Series text, each)) (not_zero (address_in text.now))
+output_in (Some output) = Ok (output, 0)
 
 -- The span of a base and a length with a colon between.
 abbrev pub span_in : (text : List ℕ) → Result Span Refusal
@@ -83,24 +82,27 @@ realloc_named name =
     else Err Syntax
 
 -- The effect, which a script has only if it moves the object.
-abbrev pub in_script : (script : Bool) → Result Reallocation Refusal → Result Reallocation Refusal
-in_script true (Ok Keep) = Err Syntax
-in_script _ found = found
+abbrev pub in_output : Option ReplayOutput → Result Reallocation Refusal → Result Reallocation Refusal
+in_output (Some Script) (Ok Keep) = Err Syntax
+in_output _ found = found
 
 -- The effect of a reallocation that `--realloc` names: it moves the object if the option is not given.
-abbrev pub realloc_in : (script : Bool) → Option (Bor Text) → Result Reallocation Refusal
-realloc_in script None = Ok Move
-realloc_in script (Some text) = in_script script (realloc_named text.now)
+abbrev pub realloc_in : Option ReplayOutput → Option (Bor Text) → Result Reallocation Refusal
+realloc_in output None = Ok Move
+realloc_in output (Some text) = in_output output (realloc_named text.now)
 
--- The settings of the heap and how the trace is read, or the first error. `Syntax` comes first: a text is not a
+-- The output, the settings of the heap and how the trace is read, or the first error. `Syntax` comes first: a text is not a
 -- number, not a policy, not a pool or not one of the names, or two of `--sizes`, `--svg`, `--script` and `--each`
 -- are given, or `--script` with `--realloc keep`. Then comes that a pool ends past 2^64, and then that a number is
 -- out of range.
-abbrev pub replay_in : Align → (strict : Bool) → ReplayTexts → Result (Settings × Reading) Refusal
+abbrev pub replay_in : Align → (strict : Bool) → ReplayTexts → Result (ReplayOutput × (Settings × Reading)) Refusal
 replay_in align strict texts =
     changed
     (λ found. (
-      record { limit = 2 ^ 24; pool = found.1.1.0; align = align; policy = found.0.0; least_quarantine = found.0.1; realloc = found.1.1.1.1 },
-      record { format = found.1.1.1.0; is_strict = strict; each = found.1.0 },
+      found.1.0.0,
+      (
+        record { limit = 2 ^ 24; pool = found.1.1.0; align = align; policy = found.0.0; least_quarantine = found.0.1; realloc = found.1.1.1.1 },
+        record { format = found.1.1.1.0; is_strict = strict; each = found.1.0.1 },
+      ),
     ))
-    (both (both (sweep_in texts.sweep) (least_in texts.least)) (both (each_in texts.sizes texts.svg texts.script texts.each) (both (span_given texts.pool) (both (format_in texts.format) (realloc_in texts.script texts.realloc)))))
+    (both (both (sweep_in texts.sweep) (least_in texts.least)) (both (output_in texts.output) (both (span_given texts.pool) (both (format_in texts.format) (realloc_in texts.output texts.realloc)))))

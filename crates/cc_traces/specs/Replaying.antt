@@ -1,5 +1,5 @@
 -- The output of `replay`, by its trace.
-use Rattle.std.specs.Prelude.{◌≡◌, ◌≢◌, ◌⊎◌, ℕ, Bool, true, false, zero, suc, List, Option, None, Result, Ok, Err, MatchResult}
+use Rattle.std.specs.Prelude.{◌≡◌, ◌≢◌, ◌⊎◌, ℕ, Bool, false, ⊤, List, Option, Some, None, Result, Ok, Err, MatchResult}
 use Rattle.std.specs.Io.KnownBytes.{Appends}
 use Rattle.cc_bounds.specs.declared.align.Align.{Align}
 use Rattle.cc_io.specs.Correct.{Pumps}
@@ -18,12 +18,16 @@ use Rattle.cc_formats.specs.declared.reading.Reading.{Reading}
 use Rattle.cc_heap.specs.declared.settings.Settings.{Settings}
 use Rattle.cc_replay.specs.declared.table.Format.{Format}
 use Rattle.cc_replay.specs.declared.table.Format.TheVariants.{Text, Csv, Json}
+use Rattle.cc_console.specs.declared.invocation.ReplayOutput.{ReplayOutput}
+use Rattle.cc_console.specs.declared.invocation.ReplayOutput.TheVariants as output
 use Rattle.cc_console.specs.declared.invocation.ReplayTexts.{ReplayTexts}
 use Rattle.cc_console.specs.declared.invocation.SummaryFormat.{SummaryFormat}
 use Rattle.cc_console.specs.declared.invocation.SummaryFormat.TheVariants as summary
 use Rattle.cc_console.specs.Devices.{Console, Traffic}
 use Rattle.cc_traces.specs.Charting.{ChartsTrace}
 use Rattle.cc_traces.specs.Scripting.{ScriptsTrace}
+use Rattle.cc_traces.specs.declared.replaying.Table.{Table}
+use Rattle.cc_traces.specs.declared.replaying.Table.TheVariants as table
 use Rattle.cc_traces.specs.ReplayTexts.{replay_in}
 use Rattle.cc_explain.specs.Refused.{WritesRefusal}
 
@@ -37,10 +41,10 @@ table_format summary.Json = Json
 abbrev pub summary_text : SummaryFormat → ReplayState → List ℕ
 summary_text format state = table_text (table_format format) (summary_rows (figures_of state))
 
--- The text of the end of a replay: the table of sizes if it is requested, and otherwise the summary.
-abbrev pub end_text : (sizes : Bool) → SummaryFormat → ReplayState → List ℕ
-end_text true format state = sizes_text (table_format format) state.run.sizes
-end_text false format state = summary_text format state
+-- The text of a table of a replay: the summary, or the table of sizes.
+abbrev pub end_text : Table → SummaryFormat → ReplayState → List ℕ
+end_text table.Summary format state = summary_text format state
+end_text table.Sizes format state = sizes_text (table_format format) state.run.sizes
 
 -- Replays holds if the replay took the lines that the source gave, and the bytes after the last of them, until it had the state `new`.
 -- The samples were written. With a result that is `Ok` the source was read to its end.
@@ -98,27 +102,33 @@ Samples old traffic (Ok summary) = SamplesAll old traffic summary
 Samples old traffic (Err Read) = StopsSampling old traffic Read
 Samples old traffic (Err Write) = StopsSampling old traffic Write ⊎ StopsInLast old traffic
 
--- WritesReplay holds if the text of the end was written, or the series, if samples were requested.
-abbrev pub WritesReplay : (each : ℕ) → (text_of : ReplayState → List ℕ) → (old : ReplayState) → Traffic → Result Summary IoError → Type 0
-WritesReplay zero text_of old traffic result = SumsUp text_of old traffic result
-WritesReplay (suc less) text_of old traffic result = Samples old traffic result
+-- WritesReplay holds if the table of the output was written, or for another output the series.
+abbrev pub WritesReplay : ReplayOutput → (old : ReplayState) → Traffic → Result Summary IoError → Type 0
+WritesReplay (output.Summary format) old traffic result = SumsUp (end_text table.Summary format) old traffic result
+WritesReplay (output.Sizes format) old traffic result = SumsUp (end_text table.Sizes format) old traffic result
+WritesReplay _ old traffic result = Samples old traffic result
 
--- WritesTrace holds if the trace was replayed on a heap of these settings that held nothing, and the table of sizes, the summary or
--- the series was written.
-abbrev pub WritesTrace : (sizes : Bool) → SummaryFormat → Settings → Reading → Traffic → Result Summary IoError → Type 0
-WritesTrace sizes format settings reading traffic result =
-    WritesReplay reading.each (end_text sizes format) (begun (empty_run settings) reading) traffic result
+-- ReplaysTrace holds if the trace was replayed on a heap of these settings that held nothing, and this output of it was written.
+abbrev pub ReplaysTrace : ReplayOutput → Settings → Reading → Traffic → Result Summary IoError → Type 0
+ReplaysTrace output.Script settings reading traffic result = ScriptsTrace settings reading traffic result
+ReplaysTrace output.Chart settings reading traffic result = ChartsTrace settings reading traffic result
+ReplaysTrace output settings reading traffic result = WritesReplay output (begun (empty_run settings) reading) traffic result
 
--- ReplaysTrace holds if the trace was replayed, and its script or its chart was written, if it is requested, or otherwise the text or
--- the series.
-abbrev pub ReplaysTrace : (sizes svg script : Bool) → SummaryFormat → Settings → Reading → Traffic → Result Summary IoError → Type 0
-ReplaysTrace sizes svg true format settings reading traffic result = ScriptsTrace settings reading traffic result
-ReplaysTrace sizes true false format settings reading traffic result = ChartsTrace settings reading traffic result
-ReplaysTrace sizes false false format settings reading traffic result = WritesTrace sizes format settings reading traffic result
+-- IsStreaming holds if the output is written while the trace is read: a script or a series.
+abbrev pub IsStreaming : Option ReplayOutput → Type 0
+IsStreaming (Some output.Script) = ⊤
+IsStreaming (Some (output.Series text)) = ⊤
+IsStreaming _ = ⊥
 
--- WithReplay holds if `Does` holds for the settings and the reading of a replay, or if one of their texts is refused.
-abbrev pub WithReplay : Align → (strict : Bool) → ReplayTexts → Console → (Does : Settings → Reading → Result Summary IoError → Type 0)
+-- IsTable holds if the output is a table: the summary, or the table of sizes.
+abbrev pub IsTable : ReplayOutput → Type 0
+IsTable (output.Summary format) = ⊤
+IsTable (output.Sizes format) = ⊤
+IsTable _ = ⊥
+
+-- WithReplay holds if `Does` holds for the output, the settings and the reading of a replay, or if one of their texts is refused.
+abbrev pub WithReplay : Align → (strict : Bool) → ReplayTexts → Console → (Does : ReplayOutput → Settings → Reading → Result Summary IoError → Type 0)
     → Result Summary IoError → Type 0
 WithReplay align strict texts console Does result =
-    MatchResult (replay_in align strict texts) (λ found. Does found.0 found.1 result)
+    MatchResult (replay_in align strict texts) (λ found. Does found.0 found.1.0 found.1.1 result)
     (λ refusal. WritesRefusal console.output console.output_now refusal result)

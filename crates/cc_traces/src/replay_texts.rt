@@ -1,12 +1,13 @@
 //! The heap and the reading that the arguments of `replay` request.
-ghost use Rattle.std.specs.Prelude.{◌≡◌, ◌^◌, true, IfOk};
+ghost use Rattle.std.specs.Prelude.{◌≡◌, ◌^◌, IfOk, Some};
 ghost use Rattle.cc_bounds.specs.Span.{IsSpan};
+ghost use Rattle.cc_console.specs.declared.invocation.ReplayOutput.TheVariants.{Script};
 ghost use Rattle.cc_heap.specs.declared.reallocation.Reallocation.TheVariants.{Move};
-ghost use Rattle.cc_traces.specs.ReplayTexts.{are_two, each_in, format_in, format_named, in_script, least_in, realloc_in, realloc_named, replay_in, span_given, span_in, sweep_in};
+ghost use Rattle.cc_traces.specs.ReplayTexts.{format_in, format_named, in_output, least_in, output_in, realloc_in, realloc_named, replay_in, span_given, span_in, sweep_in};
 
 use cc_bounds::{Align, Span};
 use cc_command::read_request;
-use cc_console::ReplayTexts;
+use cc_console::{ReplayOutput, ReplayTexts};
 use cc_replay::{Policy, Reading, Reallocation, Settings, Share, TraceFormat, read_policy};
 use cc_syntax::{both, read_address};
 use cc_word::Refusal;
@@ -20,49 +21,47 @@ const ALL_ABOVE: Span = Span {
     top: 1 << 64,
 };
 
-/// Returns the settings of the heap, and how the trace is read.
+/// Returns the output, the settings of the heap, and how the trace is read.
 ///
-/// Errors, in order: `Syntax` if a text is not a number, not a policy, not a pool or not one of the names, if
-/// two of `--sizes`, `--svg`, `--script` and `--each` are given, or `--script` with `--realloc keep`;
+/// Errors, in order: `Syntax` if a text is not a number, not a policy, not a pool or not one of the names,
+/// if two of `--sizes`, `--svg`, `--script` and `--each` are given, or `--script` with `--realloc keep`;
 /// `OutOfBounds` if the pool ends past 2^64; `OutOfRange` if a number is too large, or the number of `--each`
 /// is 0.
-pub(crate) fn replay_of(
+pub(crate) fn replay_of<'a>(
     align: Align,
     strict: bool,
-    texts: ReplayTexts<'_>,
-) -> Result<(Settings, Reading), Refusal>
+    texts: ReplayTexts<'a>,
+) -> Result<(ReplayOutput<'a>, (Settings, Reading)), Refusal>
     ensures value { result ≡ replay_in align strict texts.entry }
-    ensures limit { IfOk result (λ found. found.0.limit ≡ 2 ^ 24) }
-    ensures pool { IfOk result (λ found. IsSpan found.0.pool) }
-    ensures moves { texts.entry.script ≡ true → IfOk result (λ found. found.0.realloc ≡ Move) }
+    ensures output { IfOk result (λ found. texts.entry.output ≡ Some found.0) }
+    ensures limit { IfOk result (λ found. found.1.0.limit ≡ 2 ^ 24) }
+    ensures pool { IfOk result (λ found. IsSpan found.1.0.pool) }
+    ensures moves { texts.entry.output ≡ Some Script → IfOk result (λ found. found.1.0.realloc ≡ Move) }
 {
     let sweeping = both(policy_of(texts.sweep), least_of(texts.least));
     let naming = both(
         format_of(texts.format),
-        realloc_of(texts.script, texts.realloc),
+        realloc_of(texts.output, texts.realloc),
     );
     let placing = both(pool_of(texts.pool), naming);
-    match both(
-        sweeping,
-        both(
-            each_of(texts.sizes, texts.svg, texts.script, texts.each),
-            placing,
-        ),
-    ) {
-        Ok(((policy, least_quarantine), (each, (pool, (format, realloc))))) => Ok((
-            Settings {
-                limit: MOST_HELD,
-                pool,
-                align,
-                policy,
-                least_quarantine,
-                realloc,
-            },
-            Reading {
-                format,
-                is_strict: strict,
-                each,
-            },
+    match both(sweeping, both(output_of(texts.output), placing)) {
+        Ok(((policy, least_quarantine), ((output, each), (pool, (format, realloc))))) => Ok((
+            output,
+            (
+                Settings {
+                    limit: MOST_HELD,
+                    pool,
+                    align,
+                    policy,
+                    least_quarantine,
+                    realloc,
+                },
+                Reading {
+                    format,
+                    is_strict: strict,
+                    each,
+                },
+            ),
         )),
         Err(refusal) => Err(refusal),
     }
@@ -91,28 +90,19 @@ fn least_of(text: Option<&str>) -> Result<u64, Refusal>
     }
 }
 
-/// Returns the number of events from one sample to the next, or 0 if `--each` is not given. `--sizes`, `--svg`, `--script`
-/// and `--each` exclude each other.
-fn each_of(sizes: bool, svg: bool, script: bool, text: Option<&str>) -> Result<u64, Refusal>
-    ensures { result ≡ each_in sizes svg script text.entry }
+/// Returns the output, and the number of events from one sample of a series to the next, or 0 without a series.
+fn output_of<'a>(output: Option<ReplayOutput<'a>>) -> Result<(ReplayOutput<'a>, u64), Refusal>
+    ensures { result ≡ output_in output.entry }
 {
-    match text {
-        Some(_) if sizes || svg || script => Err(Refusal::Syntax),
-        None if are_two(sizes, svg, script) => Err(Refusal::Syntax),
-        Some(text) => match read_address(text.as_bytes()) {
+    match output {
+        None => Err(Refusal::Syntax),
+        Some(ReplayOutput::Series(text)) => match read_address(text.as_bytes()) {
             Ok(0) => Err(Refusal::OutOfRange),
-            Ok(each) => Ok(each),
+            Ok(each) => Ok((ReplayOutput::Series(text), each)),
             Err(refusal) => Err(refusal),
         },
-        None => Ok(0),
+        Some(output) => Ok((output, 0)),
     }
-}
-
-/// Returns whether at least two of the three are given.
-fn are_two(sizes: bool, svg: bool, script: bool) -> bool
-    ensures { result ≡ are_two sizes svg script }
-{
-    sizes && svg || (sizes && script || svg && script)
 }
 
 /// Returns the format of the trace that `--format` names, or the crate's own.
@@ -143,24 +133,27 @@ fn read_format(name: &[u8]) -> Result<TraceFormat, Refusal>
 }
 
 /// Returns the effect of a reallocation that `--realloc` names, or that it moves the object. `--script` excludes `keep`.
-fn realloc_of(script: bool, text: Option<&str>) -> Result<Reallocation, Refusal>
-    ensures value { result ≡ realloc_in script text.entry }
-    ensures moves { script ≡ true → IfOk result (λ realloc. realloc ≡ Move) }
+fn realloc_of(output: Option<ReplayOutput<'_>>, text: Option<&str>) -> Result<Reallocation, Refusal>
+    ensures value { result ≡ realloc_in output.entry text.entry }
+    ensures moves { output.entry ≡ Some Script → IfOk result (λ realloc. realloc ≡ Move) }
 {
     match text {
-        Some(text) => in_script(script, read_realloc(text.as_bytes())),
+        Some(text) => in_output(output, read_realloc(text.as_bytes())),
         None => Ok(Reallocation::Move),
     }
 }
 
-/// Returns an effect, unless a script cannot have it.
-fn in_script(script: bool, found: Result<Reallocation, Refusal>) -> Result<Reallocation, Refusal>
-    ensures value { result ≡ in_script script found }
-    ensures moves { script ≡ true → IfOk result (λ realloc. realloc ≡ Move) }
+/// Returns an effect, unless the output cannot have it.
+fn in_output(
+    output: Option<ReplayOutput<'_>>,
+    found: Result<Reallocation, Refusal>,
+) -> Result<Reallocation, Refusal>
+    ensures value { result ≡ in_output output.entry found }
+    ensures moves { output.entry ≡ Some Script → IfOk result (λ realloc. realloc ≡ Move) }
 {
-    match found {
-        Ok(Reallocation::Keep) if script => Err(Refusal::Syntax),
-        found => found,
+    match (output, found) {
+        (Some(ReplayOutput::Script), Ok(Reallocation::Keep)) => Err(Refusal::Syntax),
+        (_, found) => found,
     }
 }
 

@@ -6,7 +6,9 @@ ghost use Rattle.cc_console.specs.Devices.{FromInput, OnDevices, OnOutput, Traff
 ghost use Rattle.cc_console.specs.Input.{IsFile, file_input, trace_content};
 ghost use Rattle.cc_traces.specs.Charting.{ChartsTrace};
 ghost use Rattle.cc_traces.specs.ReplayTexts.{replay_in};
-ghost use Rattle.cc_traces.specs.Replaying.{ReplaysTrace, Samples, SumsUp, WithReplay, WritesReplay, WritesTrace, end_text, summary_text, table_format};
+ghost use Rattle.cc_traces.specs.Replaying.{IsStreaming, IsTable, ReplaysTrace, Samples, SumsUp, WithReplay, WritesReplay, end_text, summary_text, table_format};
+ghost use Rattle.cc_heap.specs.Lost.{empty_run};
+ghost use Rattle.cc_replay.specs.Replay.{begun};
 ghost use Rattle.cc_traces.specs.Scripting.{ScriptsTrace};
 ghost use Rattle.cc_traces.specs.Settings.{IsForHeap, IsForScript};
 
@@ -17,16 +19,26 @@ use crate::scripting::script_input;
 use cc_bounds::Align;
 use cc_command::write_refusal;
 use cc_console::{
-    Content, Discard, Fault, InputName, Inputs, ReplayTexts, SummaryFormat, file_input,
+    Content, Discard, Fault, InputName, Inputs, ReplayOutput, ReplayTexts, SummaryFormat,
+    file_input,
 };
 use cc_gaps::GapPlacer;
 use cc_io::{IoError, Sink, Source, Summary};
 use cc_placer::Placer;
 use cc_replay::{Format, Progress, Reading, Replay, Settings, write_sizes, write_summary};
 
-/// Replays the trace that FILE names on a heap with exact bounds, and writes the summary, or in place of it
-/// the table of sizes (`--sizes`), the chart (`--svg`), the script (`--script`) or the series (`--each`). Two
-/// of these together are refused.
+/// A table of the numbers of a replay.
+#[derive(Clone, Copy)]
+pub(crate) enum Table {
+    /// The summary.
+    Summary,
+    /// The table of sizes.
+    Sizes,
+}
+
+/// Replays the trace that FILE names on a heap with exact bounds, and writes its output: the summary, or in
+/// place of it the table of sizes (`--sizes`), the chart (`--svg`), the script (`--script`) or the series
+/// (`--each`). Two of these together are refused.
 ///
 /// The texts are read first. If one is refused, the output is that refusal, and nothing is read.
 ///
@@ -40,7 +52,6 @@ pub fn replay_file<M: TraceMemory, I: Inputs, W: Sink>(
     memory: &mut M,
     align: Align,
     strict: bool,
-    format: SummaryFormat,
     texts: ReplayTexts<'_>,
     inputs: &mut I,
     source: &mut I::Opened,
@@ -52,12 +63,12 @@ pub fn replay_file<M: TraceMemory, I: Inputs, W: Sink>(
     requires inputs { I.has_refused inputs.old ≡ false }
     requires sink { (W.state sink.old).has_failed ≡ false }
     ensures replays { OnOutput (I.bytes_of inputs.old) (I.Opened.state source.new) (W.state sink.old) (W.state sink.new)
-        (λ console. WithReplay align strict texts.entry console (λ settings reading. FromInput (file_input file.entry) console (ReplaysTrace texts.entry.sizes texts.entry.svg texts.entry.script format settings reading))) result }
+        (λ console. WithReplay align strict texts.entry console (λ output settings reading. FromInput (file_input file.entry) console (ReplaysTrace output settings reading))) result }
     ensures memory { result ≡ Err Fault.Memory → IsOk (replay_in align strict texts.entry) }
     ensures open { result ≡ Err Fault.Open → IsFile (file_input file.entry) }
     ensures untouched { result ≡ Err Fault.Open → (W.state sink.new).taken ≡ (W.state sink.old).taken }
-    ensures starved { texts.entry.each ≡ None → texts.entry.script ≡ false → result ≡ Err Fault.Memory → (W.state sink.new).taken ≡ (W.state sink.old).taken }
-    ensures asked { I.last_asked inputs.new (file_input file.entry) (trace_content texts.entry.script) ≡ false → (inputs.new ≡ inputs.old) × (source.new ≡ source.old) }
+    ensures starved { ¬ IsStreaming texts.entry.output → result ≡ Err Fault.Memory → (W.state sink.new).taken ≡ (W.state sink.old).taken }
+    ensures asked { I.last_asked inputs.new (file_input file.entry) (trace_content texts.entry.output) ≡ false → (inputs.new ≡ inputs.old) × (source.new ≡ source.old) }
     ensures unused { ¬ IsOk (replay_in align strict texts.entry) → (inputs.new ≡ inputs.old) × (source.new ≡ source.old) }
     ensures refused { (result ≡ Err Fault.Open) ↔ (I.has_refused inputs.new ≡ true) }
     ensures read { (result ≡ Err Fault.Read) ↔ ((I.Opened.state source.new).has_failed ≡ true) }
@@ -66,40 +77,33 @@ pub fn replay_file<M: TraceMemory, I: Inputs, W: Sink>(
     ensures flushed { OnOk result ((W.state sink.new).is_flushed ≡ true) }
 {
     match replay_of(align, strict, texts) {
-        Ok((settings, reading)) => {
+        Ok((output, (settings, reading))) => {
             let input = file_input(file);
-            if texts.script {
-                return to_script(memory, settings, reading, inputs, source, input, sink);
+            match output {
+                ReplayOutput::Script => {
+                    to_script(memory, settings, reading, inputs, source, input, sink)
+                }
+                ReplayOutput::Chart => {
+                    chart(memory, settings, reading, inputs, source, input, sink)
+                }
+                _ => replay(
+                    memory, output, settings, reading, inputs, source, input, sink,
+                ),
             }
-            if texts.svg {
-                return chart(memory, settings, reading, inputs, source, input, sink);
-            }
-            replay(
-                memory,
-                settings,
-                reading,
-                texts.sizes,
-                format,
-                inputs,
-                source,
-                input,
-                sink,
-            )
         }
         Err(refusal) => Ok(write_refusal(refusal, sink)?),
     }
 }
 
-/// Replays a trace on a heap of these settings, and writes the summary or the table of sizes, or the series if
-/// samples are requested.
+/// Replays a trace on a heap of these settings, and writes the table of the output, or for another output the
+/// series.
 // not inlined, so that other commands do not touch the pages of its buffers on the stack
 #[inline(never)]
 fn replay<M: TraceMemory, I: Inputs, W: Sink>(
     memory: &mut M,
+    output: ReplayOutput<'_>,
     settings: Settings,
     reading: Reading,
-    sizes: bool,
-    format: SummaryFormat,
     inputs: &mut I,
     source: &mut I::Opened,
     input: InputName<'_>,
@@ -111,10 +115,10 @@ fn replay<M: TraceMemory, I: Inputs, W: Sink>(
     requires inputs { I.has_refused inputs.old ≡ false }
     requires sink { (W.state sink.old).has_failed ≡ false }
     ensures replays { OnOutput (I.bytes_of inputs.old) (I.Opened.state source.new) (W.state sink.old) (W.state sink.new)
-        (λ console. FromInput input.entry console (WritesTrace sizes format settings reading)) result }
+        (λ console. FromInput input.entry console (WritesReplay output.entry (begun (empty_run settings) reading))) result }
     ensures open { result ≡ Err Fault.Open → IsFile input.entry }
     ensures untouched { result ≡ Err Fault.Open → (W.state sink.new).taken ≡ (W.state sink.old).taken }
-    ensures starved { reading.each ≡ 0 → result ≡ Err Fault.Memory → (W.state sink.new).taken ≡ (W.state sink.old).taken }
+    ensures starved { IsTable output.entry → result ≡ Err Fault.Memory → (W.state sink.new).taken ≡ (W.state sink.old).taken }
     ensures asked { I.last_asked inputs.new input.entry Content.Trace ≡ false → (inputs.new ≡ inputs.old) × (source.new ≡ source.old) }
     ensures refused { (result ≡ Err Fault.Open) ↔ (I.has_refused inputs.new ≡ true) }
     ensures read { (result ≡ Err Fault.Read) ↔ ((I.Opened.state source.new).has_failed ≡ true) }
@@ -122,27 +126,14 @@ fn replay<M: TraceMemory, I: Inputs, W: Sink>(
     ensures write { (result ≡ Err Fault.Write) ↔ ((W.state sink.new).has_failed ≡ true) }
     ensures flushed { OnOk result ((W.state sink.new).is_flushed ≡ true) }
 {
-    let each = reading.each;
     let mut replay = memory.begin_replay(settings, reading)?;
-    replay_input(
-        memory,
-        each,
-        sizes,
-        format,
-        &mut replay,
-        inputs,
-        source,
-        input,
-        sink,
-    )
+    replay_input(memory, output, &mut replay, inputs, source, input, sink)
 }
 
-/// Replays the trace of an input, and writes the summary or the table of sizes, or the series if samples are requested.
+/// Replays the trace of an input, and writes the table of the output, or for another output the series.
 fn replay_input<M: TraceMemory, I: Inputs, W: Sink>(
     memory: &mut M,
-    each: u64,
-    sizes: bool,
-    format: SummaryFormat,
+    output: ReplayOutput<'_>,
     replay: &mut Replay<GapPlacer>,
     inputs: &mut I,
     source: &mut I::Opened,
@@ -154,10 +145,10 @@ fn replay_input<M: TraceMemory, I: Inputs, W: Sink>(
     requires inputs { I.has_refused inputs.old ≡ false }
     requires sink { (W.state sink.old).has_failed ≡ false }
     ensures replays { OnOutput (I.bytes_of inputs.old) (I.Opened.state source.new) (W.state sink.old) (W.state sink.new)
-        (λ console. FromInput input.entry console (WritesReplay each (end_text sizes format) replay.old)) result }
+        (λ console. FromInput input.entry console (WritesReplay output.entry replay.old)) result }
     ensures open { result ≡ Err Fault.Open → IsFile input.entry }
     ensures untouched { result ≡ Err Fault.Open → (W.state sink.new).taken ≡ (W.state sink.old).taken }
-    ensures starved { each ≡ 0 → result ≡ Err Fault.Memory → (W.state sink.new).taken ≡ (W.state sink.old).taken }
+    ensures starved { IsTable output.entry → result ≡ Err Fault.Memory → (W.state sink.new).taken ≡ (W.state sink.old).taken }
     ensures asked { I.last_asked inputs.new input.entry Content.Trace ≡ false → (inputs.new ≡ inputs.old) × (source.new ≡ source.old) }
     ensures refused { (result ≡ Err Fault.Open) ↔ (I.has_refused inputs.new ≡ true) }
     ensures read { (result ≡ Err Fault.Read) ↔ ((I.Opened.state source.new).has_failed ≡ true) }
@@ -166,10 +157,12 @@ fn replay_input<M: TraceMemory, I: Inputs, W: Sink>(
     ensures flushed { OnOk result ((W.state sink.new).is_flushed ≡ true) }
 {
     inputs.open(input, Content::Trace, source)?;
-    if each == 0 {
-        sum_up(memory, sizes, format, replay, source, sink)
-    } else {
-        sample(memory, replay, source, sink)
+    match output {
+        ReplayOutput::Summary(format) => {
+            sum_up(memory, Table::Summary, format, replay, source, sink)
+        }
+        ReplayOutput::Sizes(format) => sum_up(memory, Table::Sizes, format, replay, source, sink),
+        _ => sample(memory, replay, source, sink),
     }
 }
 
@@ -238,10 +231,10 @@ fn to_script<M: TraceMemory, I: Inputs, W: Sink>(
     script_input(memory, &mut script, inputs, source, input, sink)
 }
 
-/// Replays a trace, and writes the text of its end.
+/// Replays a trace, and writes a table of its numbers.
 fn sum_up<M: TraceMemory, S: Source, W: Sink>(
     memory: &mut M,
-    sizes: bool,
+    table: Table,
     format: SummaryFormat,
     replay: &mut Replay<GapPlacer>,
     source: &mut S,
@@ -252,7 +245,7 @@ fn sum_up<M: TraceMemory, S: Source, W: Sink>(
     requires sink { (W.state sink.old).has_failed ≡ false }
     ensures sums_up { (traffic : Traffic) → traffic.source.unread ≡ (S.state source.old).unread → traffic.source_now.unread ≡ (S.state source.new).unread
         → traffic.output.taken ≡ (W.state sink.old).taken → traffic.output_now.taken ≡ (W.state sink.new).taken
-        → OnDevices (SumsUp (end_text sizes format) replay.old traffic) result }
+        → OnDevices (SumsUp (end_text table format) replay.old traffic) result }
     ensures open { result ≢ Err Fault.Open }
     ensures starved { result ≡ Err Fault.Memory → (W.state sink.new).taken ≡ (W.state sink.old).taken }
     ensures read { (result ≡ Err Fault.Read) ↔ ((S.state source.new).has_failed ≡ true) }
@@ -264,28 +257,27 @@ fn sum_up<M: TraceMemory, S: Source, W: Sink>(
     if let Progress::OutOfMemory = replay.progress() {
         return Err(Fault::Memory);
     }
-    write_end(sizes, format, replay, sink)?;
+    write_table(table, format, replay, sink)?;
     Ok(summary)
 }
 
-/// Writes the table of sizes of a replay if it is requested, and otherwise the summary.
-fn write_end<P: Placer, W: Sink>(
-    sizes: bool,
+/// Writes a table of the numbers of a replay.
+fn write_table<P: Placer, W: Sink>(
+    table: Table,
     format: SummaryFormat,
     replay: &Replay<P>,
     sink: &mut W,
 ) -> Result<(), IoError>
     requires { (W.state sink.old).has_failed ≡ false }
-    ensures ok { OnOk result (Appends (W.state sink.old).taken (W.state sink.new).taken (end_text sizes format replay.now)) }
-    ensures err { OnErr result (TakesBeginning (W.state sink.old).taken (W.state sink.new).taken (end_text sizes format replay.now)) }
+    ensures ok { OnOk result (Appends (W.state sink.old).taken (W.state sink.new).taken (end_text table format replay.now)) }
+    ensures err { OnErr result (TakesBeginning (W.state sink.old).taken (W.state sink.new).taken (end_text table format replay.now)) }
     ensures flushed { OnOk result ((W.state sink.new).is_flushed ≡ true) }
     ensures fails { IsErr result ↔ ((W.state sink.new).has_failed ≡ true) }
     ensures write { OnErr result (result ≡ Err IoError.Write) }
 {
-    if sizes {
-        write_sizes(replay.sizes(), table_format(format), sink)
-    } else {
-        write_figures(format, replay, sink)
+    match table {
+        Table::Summary => write_figures(format, replay, sink),
+        Table::Sizes => write_sizes(replay.sizes(), table_format(format), sink),
     }
 }
 

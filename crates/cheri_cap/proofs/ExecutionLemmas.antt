@@ -18,16 +18,6 @@ pub by_invocation : (one other : Invocation) → one ≡ other → (terminals : 
 by_invocation one other same terminals console result holds =
     subst (λ (invocation : Invocation). OnDevices (Executes invocation terminals console) result) (sym same) holds
 
--- A value that is not given is `None`.
-pub not_given : {A : Type 0} (value : Option A) → (IsSome value → ⊥) → value ≡ None
-not_given None absent = refl
-not_given (Some value) absent = absurd (absent refl)
-
--- A flag that is not on is off.
-pub not_on : (flag : Bool) → (IsTrue flag → ⊥) → flag ≡ false
-not_on true off = absurd (off refl)
-not_on false off = refl
-
 -- A claim on the script of a pool, from one on its numbers.
 pub on_pool : (found : Result (ℕ × ℕ) Refusal) (limit : ℕ) (align : Align) (input : InputName) (P : Script → Type 0)
     → IfOk found (λ numbers. P (record { limit = limit; opening = plan_opening numbers.0 numbers.1 align; input = input }))

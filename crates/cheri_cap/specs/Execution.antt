@@ -21,8 +21,8 @@ Executes (Run limit stats file) terminals console result =
     FromInput (file_input file) console (ReportsRun (report_of stats terminals) [] None (initial_state limit)) result
 Executes (Plan limit pool align stats file) terminals console result = PlansFile (report_of stats terminals) limit pool align file console result
 Executes (Map limit pool align svg file) terminals console result = MapsFile limit pool align svg file console result
-Executes (Replay align strict format texts file) terminals console result =
-    WithReplay align strict texts console (λ settings reading. FromInput (file_input file) console (ReplaysTrace texts.sizes texts.svg texts.script format settings reading)) result
+Executes (Replay align strict texts file) terminals console result =
+    WithReplay align strict texts console (λ output settings reading. FromInput (file_input file) console (ReplaysTrace output settings reading)) result
 Executes (Decode input format texts file) terminals console result =
     WithListing input format texts console (λ skipped options. FromInput (file_input file) console (ListsWords skipped options)) result
 Executes (Annotate file) terminals console result = FromInput (file_input file) console AnnotatesWords result

@@ -14,6 +14,7 @@ use Rattle.cc_tasks.specs.Listing.{listing_in, place_in}
 use Rattle.cc_tasks.specs.Questions.{has_hint, question_hint}
 use Rattle.cc_runs.specs.declared.report.Terminals.{Terminals}
 use Rattle.cc_traces.specs.ReplayTexts.{replay_in}
+use Rattle.cc_traces.specs.Replaying.{IsStreaming}
 
 -- ReadsInput holds if the command reads an input: BASE and LENGTH of `plan` and `map` are an address and a length, and the numbers and
 -- names of `decode` and `replay`, and the base of `round`, are such.
@@ -22,7 +23,7 @@ ReadsInput (Ask question) = ⊥
 ReadsInput (Run limit stats file) = ⊤
 ReadsInput (Plan limit pool align stats file) = IsOk (pool_of pool.base.now pool.length.now)
 ReadsInput (Map limit pool align svg file) = IsOk (pool_of pool.base.now pool.length.now)
-ReadsInput (Replay align strict format texts file) = IsOk (replay_in align strict texts)
+ReadsInput (Replay align strict texts file) = IsOk (replay_in align strict texts)
 ReadsInput (Decode input format texts file) = IsOk (listing_in input format texts)
 ReadsInput (Annotate file) = ⊤
 ReadsInput (RoundList base file) = IsOk (place_in base)
@@ -34,14 +35,14 @@ RunsMachine (Ask question) = ⊥
 RunsMachine (Run limit stats file) = ⊤
 RunsMachine (Plan limit pool align stats file) = IsOk (pool_of pool.base.now pool.length.now)
 RunsMachine (Map limit pool align svg file) = IsOk (pool_of pool.base.now pool.length.now)
-RunsMachine (Replay align strict format texts file) = IsOk (replay_in align strict texts)
+RunsMachine (Replay align strict texts file) = IsOk (replay_in align strict texts)
 RunsMachine (Decode input format texts file) = ⊥
 RunsMachine (Annotate file) = ⊥
 RunsMachine (RoundList base file) = ⊥
 
 -- IsStreamed holds if the command writes a series or a script, while it reads a trace: `replay` with `--each` or `--script`.
 abbrev pub IsStreamed : Invocation → Type 0
-IsStreamed (Replay align strict format texts file) = IsSome texts.each ⊎ IsTrue texts.script
+IsStreamed (Replay align strict texts file) = IsStreaming texts.output
 IsStreamed _ = ⊥
 
 -- The hint on the texts that were typed, or nothing if there is none.
@@ -79,7 +80,7 @@ abbrev pub input_of : Invocation → Option Asked
 input_of (Run limit stats file) = Some (record { input = file_input file; content = content.Script })
 input_of (Plan limit pool align stats file) = Some (record { input = file_input file; content = content.Script })
 input_of (Map limit pool align svg file) = Some (record { input = file_input file; content = content.Pool })
-input_of (Replay align strict format texts file) = Some (record { input = file_input file; content = trace_content texts.script })
+input_of (Replay align strict texts file) = Some (record { input = file_input file; content = trace_content texts.output })
 input_of (Decode input format texts file) = Some (record { input = file_input file; content = content.Words })
 input_of (Annotate file) = Some (record { input = file_input file; content = content.Words })
 input_of (RoundList base file) = Some (record { input = file_input (Some file); content = content.Words })

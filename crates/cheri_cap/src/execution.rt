@@ -98,12 +98,9 @@ pub fn execute<M: RunMemory + TraceMemory, I: Inputs, W: Sink, E: Sink>(
         Invocation::Replay {
             align,
             strict,
-            format,
             texts,
             file,
-        } => replay_file(
-            memory, align, strict, format, texts, inputs, source, file, sink,
-        ),
+        } => replay_file(memory, align, strict, texts, inputs, source, file, sink),
         Invocation::Decode {
             input,
             format,

@@ -1,4 +1,4 @@
-use Rattle.std.proofs.Common.{subst, sym, inl, inr}
+use Rattle.std.proofs.Common.{subst, sym}
 use Rattle.std.specs.Prelude.{IfSome}
 use Rattle.cc_console.specs.Devices.{OnDevices}
 use Rattle.cc_console.specs.Input.{file_input}
@@ -6,7 +6,7 @@ use Rattle.cc_console.specs.declared.invocation.Invocation.{Invocation}
 use Rattle.cc_runs.specs.Runs.{MeetsMain}
 use Rattle.cc_syntax.specs.Planning.{pool_of}
 use Rattle.cheri_cap.specs.Input.{IsReported, IsStreamed, ReadsInput, Script, script_of}
-use Rattle.cheri_cap.proofs.ExecutionLemmas.{by_invocation, not_given, not_on, on_pool}
+use Rattle.cheri_cap.proofs.ExecutionLemmas.{by_invocation, on_pool}
 use Rattle.cheri_cap.proofs.execution.execute.Goals as goal
 
 pub returns-in-Plan-clause-silent : goal.returns-in-Plan-clause-silent
@@ -24,9 +24,7 @@ returns-in-Replay-clause-executes g c =
 
 pub returns-in-Replay-clause-starved : goal.returns-in-Replay-clause-starved
 returns-in-Replay-clause-starved g c = λ unreported unstreamed.
-    c.replay_file.ensures.starved
-    (not_given c.in-Replay.texts.each (λ some. unstreamed (subst IsStreamed (sym c.in-Replay.is) (inl some))))
-    (not_on c.in-Replay.texts.script (λ on. unstreamed (subst IsStreamed (sym c.in-Replay.is) (inr on))))
+    c.replay_file.ensures.starved (λ streams. unstreamed (subst IsStreamed (sym c.in-Replay.is) streams))
 
 pub returns-in-Annotate-clause-executes : goal.returns-in-Annotate-clause-executes
 returns-in-Annotate-clause-executes g c =
