@@ -105,8 +105,7 @@ class Granted:
 
         below, above = rounded(e)
         grows = bits(above - below, 10, 10) == 1
-        self.grows = z3.And(self.ie, grows)
-        e = z3.If(self.grows, e + 1, e)
+        e = z3.If(z3.And(self.ie, grows), e + 1, e)
         below, above = rounded(e)
         self.e = e
         self.granted_base = bits(z3.If(self.ie, below << (e + 3), b), 63, 0)

@@ -28,17 +28,50 @@ def solver():
     return made
 
 
-def never(term, where, cases=(("", (), None),)):
-    """Raises NotProved unless the term is false for every input. A case is its name, the values of variables in it, and what else holds."""
+def refute(term, where):
+    """Raises NotProved unless the term is false for every input."""
+    if not z3.is_false(term):
+        made = solver()
+        made.add(term)
+        said = made.check()
+        if said != z3.unsat:
+            raise NotProved(where, made.model() if said == z3.sat else None)
+
+
+def never(term, where, cases=(("", (), None),), split=lambda term: [term]):
+    """Does so in each case: its name, the values of variables in it, and what else holds."""
     for name, places, extra in cases:
         one = term if extra is None else z3.And(extra, term)
-        one = z3.simplify(z3.substitute(one, *places) if places else one)
-        if not z3.is_false(one):
-            made = solver()
-            made.add(one)
-            said = made.check()
-            if said != z3.unsat:
-                raise NotProved(f"{where}{name and f' at {name}'}", made.model() if said == z3.sat else None)
+        for part in split(z3.simplify(z3.substitute(one, *places) if places else one)):
+            refute(part, f"{where}{name and f' at {name}'}")
+
+
+def by_shifts(term):
+    """Yields the parts of a term that differ by the value of an amount by which it shifts, unless it depends on a word."""
+    waiting = [(term, z3.BoolVal(True))]
+    while waiting:
+        term, given = waiting.pop()
+        amount = next((it for it in amounts(term) if "high" not in variables(it)), None)
+        if amount is None:
+            yield z3.And(given, term)
+            continue
+        made = solver()
+        made.add(given)
+        if made.check() != z3.unsat:
+            value = made.model().eval(amount, model_completion=True)
+            waiting += [(term, z3.And(given, amount != value)), (z3.simplify(z3.substitute(term, (amount, value))), z3.And(given, amount == value))]
+
+
+def amounts(term):
+    """Yields the amounts of shifts that are not constants."""
+    seen, waiting = {}, [term]
+    while waiting:
+        one = waiting.pop()
+        if one.get_id() not in seen:
+            seen[one.get_id()] = one
+            waiting += one.children()
+            if one.decl().kind() in (z3.Z3_OP_BSHL, z3.Z3_OP_BLSHR, z3.Z3_OP_BASHR) and not z3.is_bv_value(one.arg(1)):
+                yield one.arg(1)
 
 
 def is_always(term, cases):
@@ -131,15 +164,10 @@ def merged(ends, field):
     return term
 
 
-def by_length(term, where, granted):
-    """never(), by the length's place, and by whether the exponent grows: then each exponent of the model is a constant."""
-    for grows in (z3.BoolVal(True), z3.BoolVal(False)):
-        never(z3.And(granted.grows == grows, z3.substitute(term, (granted.grows, grows))), where, CASES["length"])
-
-
 def by_cases(term, where, split):
     if split == "length":
-        by_length(term, where, model.Granted(functions.BASE, LENGTH))
+        # the place leaves an exponent two values, or three
+        never(term, where, CASES["length"], by_shifts)
     else:
         never(term, where, *([CASES[split]] if split else []))
 
@@ -194,7 +222,7 @@ def bounded(name, ends, wanted):
         key = tuple(it.get_id() for it in [*kept, *fields.values()])
         if key not in seen:
             seen[key] = kept
-            by_length(z3.And(g.in_range, is_given, *kept, z3.Or(*[fields[it] != given[it] for it in given])), "the word", g)
+            by_cases(z3.And(g.in_range, is_given, *kept, z3.Or(*[fields[it] != given[it] for it in given])), "the word", "length")
 
 
 class Half:
