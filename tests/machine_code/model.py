@@ -1,4 +1,4 @@
-"""CHERI Concentrate for 128-bit capabilities, as z3 terms, from its published definition alone (CHERI ISA version 9).
+"""CHERI Concentrate for 128-bit capabilities, as z3 terms, from docs/FORMAT.md and include/cheri_cap.h alone.
 
 Nothing here comes from the library's code. tests/hardware compares the reference in SystemVerilog with these terms. A word is two
 terms of 64 bits. W is the width in which ends of bounds are computed: wide enough that no sum or shift below loses a bit that counts.

@@ -13,7 +13,7 @@ import tempfile
 from pathlib import Path
 
 HERE = Path(__file__).resolve().parent
-# the old and the new text in model.py, and a function that shows it
+# the old and the new text in model.py or functions.py, and a function that shows it
 MODEL = (
     ("carry = one(z3.ULT(t_low", "carry = one(z3.ULE(t_low", "decode"),
     ("z3.ULT(e, CAP_MAX_E - 1)", "z3.ULT(e, CAP_MAX_E)", "decode"),
@@ -25,6 +25,7 @@ MODEL = (
     ("z3.UGE(f.otype, 0x3FFF0)", "z3.UGE(f.otype, 0x3FFF1)", "is_canonical"),
     ("z3.ULE(top, bv(TWO64, 65))", "z3.ULT(top, bv(TWO64, 65))", "represents"),
     ("bits(above, 8, 0), bits(digits, 5, 3)", "bits(above, 8, 0), bits(digits, 2, 0)", "set_bounds"),
+    ("(g.exact, INEXACT)", "(z3.Not(g.exact), INEXACT)", "set_bounds_exact_on"),
 )
 # the borrow is left out of the carry of sbb and sbc
 LIFTER = {
@@ -131,7 +132,8 @@ def main():
 
     path, count, seed = sys.argv[1], int((sys.argv[2:] or ["0"])[0]), int((sys.argv[3:] or ["1"])[0])
     for old, new, name in MODEL:
-        print(f"model: {new}: {said(PROVE, path, name, change=('model.py', old, new))[:150]}", flush=True)
+        file = next(it for it in ("model.py", "functions.py") if old in (HERE / it).read_text())
+        print(f"{file}: {new}: {said(PROVE, path, name, change=(file, old, new))[:150]}", flush=True)
     image, chance, places, counted = lift.Image(path), random.Random(seed), [], {}
     for name in prove.FUNCTIONS:
         machine, entry = prove.machine_of(image, name)

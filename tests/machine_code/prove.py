@@ -57,7 +57,10 @@ def by_shifts(term):
             continue
         made = solver()
         made.add(given)
-        if made.check() != z3.unsat:
+        said = made.check()
+        if said == z3.unknown:
+            raise NotProved(f"the values of {amount}", None)
+        if said == z3.sat:
             value = made.model().eval(amount, model_completion=True)
             waiting += [(term, z3.And(given, amount != value)), (z3.simplify(z3.substitute(term, (amount, value))), z3.And(given, amount == value))]
 
@@ -121,7 +124,9 @@ def every_input():
                 if z3.is_bv_value(bit):
                     said.append(bits(variable, k, k) == bit)
                 else:
-                    free.append(bit.sexpr().replace("bvnot ", "").strip("()"))
+                    bit = bit.arg(0) if bit.decl().kind() == z3.Z3_OP_BNOT else bit
+                    assert bit.decl().kind() == z3.Z3_OP_EXTRACT and z3.is_const(bit.arg(0)) and str(bit.arg(0)) not in functions.NAMES.split()
+                    free.append(bit.sexpr())
         assert len({*free}) == len(free)
         return z3.And(*said)
 
@@ -210,6 +215,7 @@ def bounded(name, ends, wanted):
     made = functions.narrowed(False)["high"].arg(1)  # the word if no check fails
     holds = g.exact if name == "set_bounds_exact_on" else z3.BoolVal(True)
     given = {"refusal": z3.If(holds, bv(0, 8), bv(model.INEXACT, 8)), "high": functions.whole(holds, made), "low": functions.whole(holds, LOW)}
+    never(z3.And(inexact == 0, z3.Or(*[wanted[it] != given[it] for it in given])), "the model's word")
     seen = {}
     for path, fields in ends:
         is_given = z3.simplify(rough(fields["refusal"]) == 0)
@@ -311,5 +317,5 @@ WAYS = {"set_bounds_on": bounded, "set_bounds_exact_on": bounded, "is_subset": t
 def prove(name, ends):
     """Raises NotProved, unless the ends of a function have the fields of the model."""
     wanted = FUNCTIONS[name].result()
-    assert {*wanted} == {field for field, _, _ in FUNCTIONS[name].layout}
+    assert ends and {*wanted} == {field for field, _, _ in FUNCTIONS[name].layout}
     WAYS.get(name, direct)(name, ends, wanted)

@@ -60,7 +60,9 @@ class X86(Lifter):
     def address(self, state, one, operand):
         memory = operand.mem
         names = [one.reg_name(it) for it in (memory.base, memory.index) if it]
-        if memory.segment or any(PARTS.get(it, (it, 64))[1] != 64 for it in names):
+        # the address of a constant might reach others than those that apart() sees
+        is_hidden = one.mnemonic == "lea" and memory.base == c.X86_REG_RIP
+        if memory.segment or is_hidden or any(PARTS.get(it, (it, 64))[1] != 64 for it in names):
             raise Refused(f"an address of {one.mnemonic} {one.op_str}")
         total = bv(memory.disp, 64)
         if memory.base:
@@ -94,7 +96,7 @@ class X86(Lifter):
 
     def apart(self, one):
         constant = next((it for it in one.operands if it.type == c.X86_OP_MEM and it.mem.base == c.X86_REG_RIP), None)
-        if constant is None or one.mnemonic == "lea":
+        if constant is None:
             return bytes(one.bytes)
         place, k = one.address + one.size + constant.mem.disp, one.disp_offset
         held = [self.image.constant(it) for it in range(place, place + constant.size)]
