@@ -77,7 +77,7 @@ script_starves (Plan limit pool align stats file) terminals console script is st
     (report_of stats terminals, pool_starves (pool_of pool.base.now pool.length.now) (report_of stats terminals) limit align (file_input file) console script is starves)
 script_starves (Ask question) terminals console script is starves = absurd (cc is)
 script_starves (Map limit pool align svg file) terminals console script is starves = absurd (cc is)
-script_starves (Replay align strict format texts file) terminals console script is starves = absurd (cc is)
+script_starves (Replay align strict texts file) terminals console script is starves = absurd (cc is)
 script_starves (Decode input format texts file) terminals console script is starves = absurd (cc is)
 script_starves (Annotate file) terminals console script is starves = absurd (cc is)
 script_starves (RoundList base file) terminals console script is starves = absurd (cc is)
@@ -115,7 +115,7 @@ input_is (Run limit stats file) script is =
 input_is (Plan limit pool align stats file) script is = pool_input (pool_of pool.base.now pool.length.now) limit align (file_input file) script is
 input_is (Ask question) script is = absurd (cc is)
 input_is (Map limit pool align svg file) script is = absurd (cc is)
-input_is (Replay align strict format texts file) script is = absurd (cc is)
+input_is (Replay align strict texts file) script is = absurd (cc is)
 input_is (Decode input format texts file) script is = absurd (cc is)
 input_is (Annotate file) script is = absurd (cc is)
 input_is (RoundList base file) script is = absurd (cc is)
