@@ -171,8 +171,9 @@ def merged(ends, field):
 
 def by_cases(term, where, split):
     if split == "length":
-        # the place leaves an exponent two values, or three
-        never(term, where, CASES["length"], by_shifts)
+        # the place leaves an exponent two values, or three; where no variable has a value, it would have many
+        never(term, where, [it for it in CASES["length"] if it[1]], by_shifts)
+        never(term, where, [it for it in CASES["length"] if not it[1]])
     else:
         never(term, where, *([CASES[split]] if split else []))
 
