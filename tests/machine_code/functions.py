@@ -12,7 +12,7 @@ HALVES, PAIR, REQUEST = [HIGH, LOW], [HIGH, LOW, OTHER_HIGH, OTHER_LOW], [LENGTH
 
 class Function:
     """inputs: the variables of 64 bits, or (variable, its lowest bits that count). layout: (field, offset, bytes) of the result. result():
-    the terms of the fields. split: the cases of prove.py that it is proved by. struct: the bytes of a struct that it takes."""
+    the terms of the fields. split: the cases of prove.py that it is proved by, unless it is in WAYS there. struct: the bytes of a struct that it takes."""
 
     def __init__(self, inputs, layout, result, *split, struct=()):
         self.inputs, self.layout, self.result, self.split, self.struct = inputs, layout, result, split, [*struct]

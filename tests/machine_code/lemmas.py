@@ -22,6 +22,19 @@ def same_bounds():
     return z3.And(base == other_base, top == other_top) == model.in_window(base, e, NUMBER), "word"
 
 
+def first_to_last():
+    """An address is in the window if and only if it is one from the first to the last, through 2^64 - 1 and on from 0."""
+    (base, _, e), ends = model.decode(WORD), functions.window()
+    return z3.ULE(NUMBER - ends["first"], ends["last"] - ends["first"]) == model.in_window(base, e, NUMBER), "word"
+
+
+def derivable():
+    """A canonical word decodes to the same bounds at its base: setting these there gives its fields, by short(), and its address can be set
+    then, by same_bounds()."""
+    (base, top, e), (base_there, top_there, e_there) = model.decode(WORD), model.decode(WORD, model.decode(WORD)[0])
+    return z3.Implies(functions.canonical(WORD), z3.And(base == base_there, top == top_there, e == e_there)), "word"
+
+
 def covers():
     """The granted bounds cover the request, end at 2^64 or below, and lose less than a granule at each end."""
     g = Granted(BASE, LENGTH)
@@ -87,7 +100,8 @@ def least():
 
 
 def shrinks(name):
-    """The word that a rule makes is canonical and a subset of the word. For setting bounds, that follows from tightest, decodes and sound."""
+    """The word that a rule makes is canonical and a subset of the word. For setting bounds, that follows from tightest, decodes and sound;
+    rebuild() checks both."""
 
     def lemma():
         made = FUNCTIONS[name].result()
@@ -97,5 +111,5 @@ def shrinks(name):
     return lemma
 
 
-LEMMAS = {it.__name__: it for it in (short, same_bounds, covers, decodes, sound, rounds, stores, tightest, least)}
+LEMMAS = {it.__name__: it for it in (short, same_bounds, first_to_last, derivable, covers, decodes, sound, rounds, stores, tightest, least)}
 LEMMAS |= {f"shrinks_{name}": shrinks(name) for name in "set_address increment and_perms set_flag seal unseal".split()}

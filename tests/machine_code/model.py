@@ -84,7 +84,7 @@ def decode(f, address=None):
 
 
 class Granted:
-    """What a request of [base, base + length) is granted; base of 64 bits, length of 128. in_range may be false."""
+    """What a request of [base, base + length) is granted; base of 64 bits, length of 128. If in_range is false, no other member means anything."""
 
     def __init__(self, base, length):
         self.in_range = z3.And(z3.ULE(length, bv(TWO64, 128)), z3.ULE(ext(base, 130) + ext(length, 130), bv(TWO64, 130)))
@@ -125,7 +125,8 @@ def flag_bit(condition):
 
 
 def judged(f, base, top, is_same):
-    """The first reason why a word is not canonical, and whether it stores its bounds as setting bounds does, which gives the same fields."""
+    """The first reason why a word is not canonical, and whether setting its bounds stores them as it does. is_same is whether that gives the
+    same fields, for bounds that can be set."""
     is_ordered, is_inside = z3.UGE(top, ext(base, 65)), z3.ULE(top, bv(TWO64, 65))
     is_reserved = z3.And(z3.UGE(f.otype, 0x3FFF0), f.otype != 0x3FFFF)
     reason = bv(0, 8)
@@ -135,7 +136,7 @@ def judged(f, base, top, is_same):
 
 
 def defect(f):
-    """The first reason why a word is not one that setting bounds, moving the address and sealing can make; and its bounds."""
+    """The first reason why a word is not one that a derivation can make, whether setting its bounds stores them as it does, and its bounds."""
     base, top, e = decode(f)
     made = Granted(base, ext(top, 128) - ext(base, 128))
     is_same = z3.And(made.exact, flag_bit(made.ie) == f.ie, made.t == f.t, made.b == f.b)
@@ -153,7 +154,8 @@ def defect_short(f):
 
 
 def window(base, e):
-    """The first address of the window of bounds, and how many addresses it has; of W bits, to be read modulo 2^64."""
+    """The first address of the window of bounds, to be read modulo 2^64, and how many addresses it has; of W bits. At exponents of at least
+    50 it has every address."""
     start = (z3.LShR(ext(base), e + 11) - 1) << (e + 11)
     return start, bv(1, W) << (e + 14)
 

@@ -38,43 +38,11 @@ def refute(term, where):
             raise NotProved(where, made.model() if said == z3.sat else None)
 
 
-def never(term, where, cases=(("", (), None),), split=lambda term: [term]):
+def never(term, where, cases=(("", (), None),)):
     """Does so in each case: its name, the values of variables in it, and what else holds."""
     for name, places, extra in cases:
         one = term if extra is None else z3.And(extra, term)
-        for part in split(z3.simplify(z3.substitute(one, *places) if places else one)):
-            refute(part, f"{where}{name and f' at {name}'}")
-
-
-def by_shifts(term):
-    """Yields the parts of a term that differ by the value of an amount by which it shifts, unless it depends on a word."""
-    waiting = [(term, z3.BoolVal(True))]
-    while waiting:
-        term, given = waiting.pop()
-        amount = next((it for it in amounts(term) if "high" not in variables(it)), None)
-        if amount is None:
-            yield z3.And(given, term)
-            continue
-        made = solver()
-        made.add(given)
-        said = made.check()
-        if said == z3.unknown:
-            raise NotProved(f"the values of {amount}", None)
-        if said == z3.sat:
-            value = made.model().eval(amount, model_completion=True)
-            waiting += [(term, z3.And(given, amount != value)), (z3.simplify(z3.substitute(term, (amount, value))), z3.And(given, amount == value))]
-
-
-def amounts(term):
-    """Yields the amounts of shifts that are not constants."""
-    seen, waiting = {}, [term]
-    while waiting:
-        one = waiting.pop()
-        if one.get_id() not in seen:
-            seen[one.get_id()] = one
-            waiting += one.children()
-            if one.decl().kind() in (z3.Z3_OP_BSHL, z3.Z3_OP_BLSHR, z3.Z3_OP_BASHR) and not z3.is_bv_value(one.arg(1)):
-                yield one.arg(1)
+        refute(z3.simplify(z3.substitute(one, *places) if places else one), f"{where}{name and f' at {name}'}")
 
 
 def is_always(term, cases):
@@ -169,18 +137,13 @@ def merged(ends, field):
     return term
 
 
-def by_cases(term, where, split):
-    if split == "length":
-        # the place leaves an exponent two values, or three; where no variable has a value, it would have many
-        never(term, where, [it for it in CASES["length"] if it[1]], by_shifts)
-        never(term, where, [it for it in CASES["length"] if not it[1]])
-    else:
-        never(term, where, *([CASES[split]] if split else []))
+def by_cases(term, where, *split):
+    never(term, where, *(CASES[it] for it in split))
 
 
 def direct(name, ends, wanted):
     differs = z3.Or(*[merged(ends, field) != wanted[field] for field in wanted])
-    by_cases(differs, "the result", *(FUNCTIONS[name].split or [None]))
+    by_cases(differs, "the result", *FUNCTIONS[name].split)
 
 
 _variables = {}
@@ -319,4 +282,5 @@ def prove(name, ends):
     """Raises NotProved, unless the ends of a function have the fields of the model."""
     wanted = FUNCTIONS[name].result()
     assert ends and {*wanted} == {field for field, _, _ in FUNCTIONS[name].layout}
+    never(z3.Not(z3.Or(*[z3.And(*path) for path, _ in ends])), "an input without a path")
     WAYS.get(name, direct)(name, ends, wanted)
