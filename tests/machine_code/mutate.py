@@ -130,7 +130,7 @@ def main():
     import lift
     import prove
 
-    path, count, seed = sys.argv[1], int((sys.argv[2:] or ["0"])[0]), int((sys.argv[3:] or ["1"])[0])
+    path, count, seed = str(Path(sys.argv[1]).resolve()), int((sys.argv[2:] or ["0"])[0]), int((sys.argv[3:] or ["1"])[0])
     for old, new, name in MODEL:
         file = next(it for it in ("model.py", "functions.py") if old in (HERE / it).read_text())
         print(f"{file}: {new}: {said(PROVE, path, name, change=(file, old, new))[:150]}", flush=True)
