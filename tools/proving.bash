@@ -204,7 +204,7 @@ prove_crate() {
   local status=0
   TMPDIR=$apart/tmp prove_over "$libraries" "$apart" "$1" "$2" >"$apart/said-$1" 2>&1 || status=$?
   ((status)) || keep_library "$1"
-  printf '%s %s\n' "$1" "$status" >"$apart/ended"
+  printf '%s %s.\n' "$1" "$status" >"$apart/ended"
 }
 
 # Returns whether the library of each crate below one is there.
@@ -240,8 +240,9 @@ begin_ready() {
 # Waits for the end of a proof, and sets `name` and `status` to what it reports. One that ends without a report has failed.
 await_proof() {
   local line='' part='' gone=''
-  # the timeout can come in the middle of a line
-  until IFS= read -r -t "$LOOKS_EACH" -u "$ended" part; do
+  # the timeout can come in the middle of a line, and take away its line feed: a report ends in a period
+  until [[ $line == *. ]]; do
+    if IFS= read -r -t "$LOOKS_EACH" -u "$ended" part; then line+=$part && continue; fi
     heed_signal
     line+=$part
     for name in "${!running[@]}"; do
@@ -253,7 +254,7 @@ await_proof() {
     ((SECONDS - told < TELLS_EACH)) || { told=$SECONDS && say "$proved of ${#order[@]} crates are proved after $((SECONDS - start)) s"; }
   done
   heed_signal
-  read -r name status <<<"$line$part"
+  read -r name status <<<"${line%.}"
 }
 
 # Proves all crates in `order` except the last. A proof that the system killed, most likely for memory, is tried once more, and then
