@@ -7,7 +7,7 @@ use Rattle.cc_formats.specs.declared.reading.Progress.TheVariants.{Running, OutO
 use Rattle.cc_formats.specs.declared.reading.Reading.{Reading}
 use Rattle.cc_heap.specs.declared.settings.Settings.{Settings}
 use Rattle.cc_replay.specs.Replay.{figures_of}
-use Rattle.cc_traces.specs.Charting.{Charted, ChartsLine, ChartsRest, begun_chart, charted, peakless}
+use Rattle.cli_replay.specs.Charting.{Charted, ChartsLine, ChartsRest, begun_chart, charted, peakless}
 use Rattle.cc_laws.proofs.OneReplayLemmas.{IsOnce, line_leads, rest_leads}
 
 record LeadsThrough (old : Charted) (entries : List (List ℕ)) : Type 0 where

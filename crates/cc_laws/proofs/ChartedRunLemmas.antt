@@ -27,7 +27,7 @@ use Rattle.cc_replay.specs.Counts.{with_kind, with_refusal}
 use Rattle.cc_replay.specs.Replay.{ReplayState, TakesEntry, TakesLine, TakesLineIn, TakesRestIn, at_entry, event_before, events_in, figures_of, next_entry}
 use Rattle.cc_laws.specs.ChartedRun.{HasLevels, RunsWithLevels, ShowsRun}
 use Rattle.cc_laws.proofs.SeenLemmas.{events_seen}
-use Rattle.cc_traces.specs.Charting.{Charted, ChartsLine, ChartsRest, begun_chart, levels_of, peakless}
+use Rattle.cli_replay.specs.Charting.{Charted, ChartsLine, ChartsRest, begun_chart, levels_of, peakless}
 
 -- ---- the number of events
 

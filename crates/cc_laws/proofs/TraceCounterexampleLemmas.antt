@@ -23,7 +23,7 @@ use Rattle.cc_replay.specs.Replay.{ReplayState, begun}
 use Rattle.cc_changes.specs.Changes.{AreChangesOf, Change}
 use Rattle.cc_changes.specs.Changes.Change.{Sweep}
 use Rattle.cc_changes.specs.Operations.{no_numbers, operation_lines, operations_of}
-use Rattle.cc_traces.specs.Charting.{begun_chart}
+use Rattle.cli_replay.specs.Charting.{begun_chart}
 use Rattle.cc_laws.specs.ChartedRun.{HasLevels, RunsWithLevels, ShowsRun}
 use Rattle.cc_laws.specs.OneOutcome.{AreAlikeReplays}
 use Rattle.cc_laws.specs.Translation.{HasScript, IsFollowed, IsReadAs, IsTranslated, PlacesAlike}

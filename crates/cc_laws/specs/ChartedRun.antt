@@ -11,7 +11,7 @@ use Rattle.cc_heap.specs.Peaks.{without_peaks}
 use Rattle.cc_heap.specs.Run.{Moment, Passes, greatest, usage_in}
 use Rattle.cc_heap.specs.Totals.{capped_sum}
 use Rattle.cc_formats.specs.declared.reading.Progress.TheVariants.{Running}
-use Rattle.cc_traces.specs.Charting.{Charted}
+use Rattle.cli_replay.specs.Charting.{Charted}
 
 -- HasLevels holds if the heap `old` passes some states on its way to `new`. The levels are the largest live,
 -- quarantined and held bytes over these states and `new`, and the high-water mark of `new`.

@@ -9,7 +9,7 @@ ghost use Rattle.cc_replay.specs.Replay.{events_in};
 ghost use Rattle.cc_formats.specs.declared.reading.Progress.TheVariants.{OutOfMemory};
 ghost use Rattle.cc_formats.specs.declared.reading.Reading.{Reading};
 ghost use Rattle.cc_laws.specs.ChartedRun.{ShowsRun};
-ghost use Rattle.cc_traces.specs.Charting.{Charted, ChartsLine, ChartsRest, begun_chart};
+ghost use Rattle.cli_replay.specs.Charting.{Charted, ChartsLine, ChartsRest, begun_chart};
 
 /// Proves that the chart of a replay shows the trace's own events, in order, if memory did not run out.
 ///

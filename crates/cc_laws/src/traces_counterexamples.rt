@@ -17,7 +17,7 @@ ghost use Rattle.cc_heap.specs.Lost.{empty_run};
 ghost use Rattle.cc_replay.specs.Replay.{begun};
 ghost use Rattle.cc_changes.specs.Changes.{AreChangesOf};
 ghost use Rattle.cc_changes.specs.Changes.Change.{Sweep};
-ghost use Rattle.cc_traces.specs.Charting.{begun_chart};
+ghost use Rattle.cli_replay.specs.Charting.{begun_chart};
 ghost use Rattle.cc_laws.specs.ChartedRun.{HasLevels, RunsWithLevels, ShowsRun};
 ghost use Rattle.cc_laws.specs.OneOutcome.{AreAlikeReplays};
 ghost use Rattle.cc_laws.specs.Translation.{HasScript, IsFollowed, IsReadAs, IsTranslated, PlacesAlike};

@@ -3,15 +3,15 @@ use Rattle.std.proofs.Common.{◌≡◌, ℕ, Bool, true, false, Option, Some, N
 use Rattle.std.specs.Prelude.{IfOk, IfSome, IsSome, IsTrue}
 use Rattle.cc_word.specs.declared.refusal.Refusal.{Refusal}
 use Rattle.cc_bounds.specs.declared.align.Align.{Align}
-use Rattle.cc_console.specs.declared.input.InputName.{InputName}
+use Rattle.cli.specs.declared.input.InputName.{InputName}
 use Rattle.cheri_cap.specs.Input.{Script, pool_script}
 use Rattle.cc_syntax.specs.Planning.{plan_opening}
 use Rattle.cc_io.specs.declared.summary.Summary.{Summary}
-use Rattle.cc_console.specs.declared.invocation.Invocation.{Invocation}
-use Rattle.cc_console.specs.Devices.{Console, OnDevices}
-use Rattle.cc_console.specs.declared.fault.Fault.{Fault}
+use Rattle.cli.specs.declared.invocation.Invocation.{Invocation}
+use Rattle.cli.specs.Devices.{Console, OnDevices}
+use Rattle.cli.specs.declared.fault.Fault.{Fault}
 use Rattle.cheri_cap.specs.Execution.{Executes}
-use Rattle.cc_runs.specs.declared.report.Terminals.{Terminals}
+use Rattle.cli_scripts.specs.declared.report.Terminals.{Terminals}
 
 pub by_invocation : (one other : Invocation) → one ≡ other → (terminals : Terminals) (console : Console) (result : Result Summary Fault)
     → OnDevices (Executes other terminals console) result → OnDevices (Executes one terminals console) result

@@ -6,24 +6,24 @@ use Rattle.std.proofs.lemmas.Bool.{false≢true}
 use Rattle.cc_io.specs.declared.summary.IoError.{IoError}
 use Rattle.cc_io.specs.declared.summary.Summary.{Summary}
 use Rattle.cc_machine.specs.State.{State, initial_state}
-use Rattle.cc_console.specs.Devices.{Console, OnDevices}
-use Rattle.cc_console.specs.Outcome.{ending_of}
-use Rattle.cc_console.specs.declared.invocation.Invocation.{Invocation}
-use Rattle.cc_console.specs.declared.invocation.Invocation.TheVariants.{Annotate, Ask, Decode, Map, Plan, Replay, RoundList, Run}
-use Rattle.cc_console.specs.declared.input.Content.TheVariants as content
-use Rattle.cc_console.specs.declared.input.InputName.{InputName}
-use Rattle.cc_console.specs.Input.{file_input}
+use Rattle.cli.specs.Devices.{Console, OnDevices}
+use Rattle.cli.specs.Outcome.{ending_of}
+use Rattle.cli.specs.declared.invocation.Invocation.{Invocation}
+use Rattle.cli.specs.declared.invocation.Invocation.TheVariants.{Annotate, Ask, Decode, Map, Plan, Replay, RoundList, Run}
+use Rattle.cli.specs.declared.input.Content.TheVariants as content
+use Rattle.cli.specs.declared.input.InputName.{InputName}
+use Rattle.cli.specs.Input.{file_input}
 use Rattle.cc_syntax.specs.Planning.{plan_opening, pool_of}
 use Rattle.cc_word.specs.declared.refusal.Refusal.{Refusal}
 use Rattle.cc_values.specs.declared.op.Op.{Op}
 use Rattle.cc_bounds.specs.declared.align.Align.{Align}
-use Rattle.cc_console.specs.declared.outcome.Ending.{Ending}
-use Rattle.cc_console.specs.declared.fault.Fault.{Fault}
-use Rattle.cc_console.specs.declared.fault.Fault.TheVariants as fault
-use Rattle.cc_runs.specs.Report.{report_of}
-use Rattle.cc_runs.specs.Runs.{MeetsFrom, MeetsMain, StarvesRun}
-use Rattle.cc_runs.specs.declared.report.Report.{Report}
-use Rattle.cc_runs.specs.declared.report.Terminals.{Terminals}
+use Rattle.cli.specs.declared.outcome.Ending.{Ending}
+use Rattle.cli.specs.declared.fault.Fault.{Fault}
+use Rattle.cli.specs.declared.fault.Fault.TheVariants as fault
+use Rattle.cli_scripts.specs.Report.{report_of}
+use Rattle.cli_scripts.specs.Runs.{MeetsFrom, MeetsMain, StarvesRun}
+use Rattle.cli_scripts.specs.declared.report.Report.{Report}
+use Rattle.cli_scripts.specs.declared.report.Terminals.{Terminals}
 use Rattle.cheri_cap.specs.Execution.{StarvesCommand}
 use Rattle.cheri_cap.specs.Ending.{AnswersEveryScript, AnswersScript, EndsInvocation, Failures, NoneFailed, ReadsAsked, RunsToEnd, TellsFailures}
 use Rattle.cheri_cap.specs.Input.{Asked, Script, input_of, pool_script, script_of}

@@ -6,11 +6,11 @@ use Rattle.clap.specs.declared.error.Error.{Error}
 use Rattle.clap.specs.declared.error.kind.ErrorKind.{ErrorKind}
 use Rattle.clap.specs.declared.error.kind.ErrorKind.TheVariants.{OutOfMemory}
 use Rattle.cc_io.specs.declared.summary.Summary.{Summary}
-use Rattle.cc_console.specs.declared.outcome.Ending.{Ending}
-use Rattle.cc_console.specs.declared.outcome.Ending.TheVariants.{Refused, Stopped}
-use Rattle.cc_console.specs.declared.fault.Fault.{Fault}
-use Rattle.cc_console.specs.declared.fault.Fault.TheVariants as fault
-use Rattle.cc_console.specs.Outcome.{EndsBy, EndsOn, ending_of}
+use Rattle.cli.specs.declared.outcome.Ending.{Ending}
+use Rattle.cli.specs.declared.outcome.Ending.TheVariants.{Refused, Stopped}
+use Rattle.cli.specs.declared.fault.Fault.{Fault}
+use Rattle.cli.specs.declared.fault.Fault.TheVariants as fault
+use Rattle.cli.specs.Outcome.{EndsBy, EndsOn, ending_of}
 
 -- An error that refuses the command line does not mean that memory ran out.
 pub refused_not_for_memory :

@@ -5,22 +5,22 @@ use Rattle.clap.specs.Words.{Row, Text}
 use Rattle.cc_io.specs.Devices.{InputState, OutputState}
 use Rattle.cc_io.specs.declared.summary.Summary.{Summary}
 use Rattle.cc_machine.specs.State.{initial_state}
-use Rattle.cc_console.specs.Devices.{Console, OnDevices}
+use Rattle.cli.specs.Devices.{Console, OnDevices}
 use Rattle.cheri_cap.specs.Execution.{Executes, StarvesCommand}
-use Rattle.cc_console.specs.Invocation.{IsInvocation}
+use Rattle.cli.specs.Invocation.{IsInvocation}
 use Rattle.cheri_cap.specs.Input.{Asked, IsHinted, IsReported, IsStreamed, IsUnasked, RunsMachine, Script, input_of, script_of, typed_hint}
-use Rattle.cc_console.specs.Input.{IsFile}
-use Rattle.cc_console.specs.Outcome.{ending_of}
-use Rattle.cc_console.specs.declared.input.Content.{Content}
-use Rattle.cc_console.specs.declared.input.Content.TheVariants as content
-use Rattle.cc_console.specs.declared.input.InputName.{InputName}
-use Rattle.cc_runs.specs.Runs.{MeetsFrom, MeetsMain}
-use Rattle.cc_console.specs.declared.invocation.Invocation.{Invocation}
-use Rattle.cc_console.specs.declared.outcome.Ending.{Ending}
-use Rattle.cc_console.specs.declared.outcome.Ending.TheVariants.{Answered}
-use Rattle.cc_console.specs.declared.fault.Fault.{Fault}
-use Rattle.cc_console.specs.declared.fault.Fault.TheVariants as fault
-use Rattle.cc_runs.specs.declared.report.Terminals.{Terminals}
+use Rattle.cli.specs.Input.{IsFile}
+use Rattle.cli.specs.Outcome.{ending_of}
+use Rattle.cli.specs.declared.input.Content.{Content}
+use Rattle.cli.specs.declared.input.Content.TheVariants as content
+use Rattle.cli.specs.declared.input.InputName.{InputName}
+use Rattle.cli_scripts.specs.Runs.{MeetsFrom, MeetsMain}
+use Rattle.cli.specs.declared.invocation.Invocation.{Invocation}
+use Rattle.cli.specs.declared.outcome.Ending.{Ending}
+use Rattle.cli.specs.declared.outcome.Ending.TheVariants.{Answered}
+use Rattle.cli.specs.declared.fault.Fault.{Fault}
+use Rattle.cli.specs.declared.fault.Fault.TheVariants as fault
+use Rattle.cli_scripts.specs.declared.report.Terminals.{Terminals}
 
 -- The devices after the program: whether an input was not opened, a read failed, a write failed, and an allocation failed; whether the
 -- output is flushed; and whether the last input that was requested is this one.

@@ -3,15 +3,15 @@ use Rattle.std.specs.Prelude.{[], ⊤, None, Result, Some}
 use Rattle.cc_io.specs.declared.summary.IoError.{IoError}
 use Rattle.cc_io.specs.declared.summary.Summary.{Summary}
 use Rattle.cc_machine.specs.State.{initial_state}
-use Rattle.cc_console.specs.declared.invocation.Invocation.{Invocation}
-use Rattle.cc_console.specs.declared.invocation.Invocation.TheVariants.{Annotate, Ask, Decode, Map, Plan, Replay, RoundList, Run}
-use Rattle.cc_console.specs.Devices.{Console, FromInput}
-use Rattle.cc_console.specs.Input.{file_input}
-use Rattle.cc_traces.specs.Replaying.{ReplaysTrace, WithReplay}
-use Rattle.cc_tasks.specs.Tasks.{AnnotatesWords, AnswersQuestion, ListsWords, RoundsLengths, WithBase, WithListing}
-use Rattle.cc_runs.specs.Report.{report_of}
-use Rattle.cc_runs.specs.Runs.{MapsFile, PlansFile, ReportsRun, StarvesPlan, StarvesRun}
-use Rattle.cc_runs.specs.declared.report.Terminals.{Terminals}
+use Rattle.cli.specs.declared.invocation.Invocation.{Invocation}
+use Rattle.cli.specs.declared.invocation.Invocation.TheVariants.{Annotate, Ask, Decode, Map, Plan, Replay, RoundList, Run}
+use Rattle.cli.specs.Devices.{Console, FromInput}
+use Rattle.cli.specs.Input.{file_input}
+use Rattle.cli_replay.specs.Replaying.{ReplaysTrace, WithReplay}
+use Rattle.cli_words.specs.Tasks.{AnnotatesWords, AnswersQuestion, ListsWords, RoundsLengths, WithBase, WithListing}
+use Rattle.cli_scripts.specs.Report.{report_of}
+use Rattle.cli_scripts.specs.Runs.{MapsFile, PlansFile, ReportsRun, StarvesPlan, StarvesRun}
+use Rattle.cli_scripts.specs.declared.report.Terminals.{Terminals}
 
 -- Executes holds if the bytes written and the summary are what the command defines for its input, up to a
 -- failure.

@@ -4,17 +4,17 @@ use Rattle.cc_word.specs.declared.refusal.Refusal.{Refusal}
 use Rattle.cc_bounds.specs.declared.align.Align.{Align}
 use Rattle.cc_values.specs.declared.op.Op.{Op}
 use Rattle.cc_syntax.specs.Planning.{plan_opening, pool_of}
-use Rattle.cc_console.specs.declared.input.Content.{Content}
-use Rattle.cc_console.specs.declared.input.Content.TheVariants as content
-use Rattle.cc_console.specs.declared.input.InputName.{InputName}
-use Rattle.cc_console.specs.declared.invocation.Invocation.{Invocation}
-use Rattle.cc_console.specs.declared.invocation.Invocation.TheVariants.{Annotate, Ask, Decode, Map, Plan, Replay, RoundList, Run}
-use Rattle.cc_console.specs.Input.{file_input, trace_content}
-use Rattle.cc_tasks.specs.Listing.{listing_in, place_in}
-use Rattle.cc_tasks.specs.Questions.{has_hint, question_hint}
-use Rattle.cc_runs.specs.declared.report.Terminals.{Terminals}
-use Rattle.cc_traces.specs.ReplayTexts.{replay_in}
-use Rattle.cc_traces.specs.Replaying.{IsStreaming}
+use Rattle.cli.specs.declared.input.Content.{Content}
+use Rattle.cli.specs.declared.input.Content.TheVariants as content
+use Rattle.cli.specs.declared.input.InputName.{InputName}
+use Rattle.cli.specs.declared.invocation.Invocation.{Invocation}
+use Rattle.cli.specs.declared.invocation.Invocation.TheVariants.{Annotate, Ask, Decode, Map, Plan, Replay, RoundList, Run}
+use Rattle.cli.specs.Input.{file_input, trace_content}
+use Rattle.cli_words.specs.Listing.{listing_in, place_in}
+use Rattle.cli_words.specs.Questions.{has_hint, question_hint}
+use Rattle.cli_scripts.specs.declared.report.Terminals.{Terminals}
+use Rattle.cli_replay.specs.ReplayTexts.{replay_in}
+use Rattle.cli_replay.specs.Replaying.{IsStreaming}
 
 -- ReadsInput holds if the command reads an input: BASE and LENGTH of `plan` and `map` are an address and a length, and the numbers and
 -- names of `decode` and `replay`, and the base of `round`, are such.

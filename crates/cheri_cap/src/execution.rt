@@ -1,19 +1,19 @@
 //! Executes a command on given devices.
 ghost use Rattle.std.specs.Prelude.{◌≡◌, ◌↔◌, false, true, Err, IfSome, Option, List, OnErr, OnOk};
 ghost use Rattle.clap.specs.Words.{Row, Text};
-ghost use Rattle.cc_console.specs.Invocation.{IsInvocation};
+ghost use Rattle.cli.specs.Invocation.{IsInvocation};
 ghost use Rattle.std.specs.Io.KnownBytes.{Appends};
-ghost use Rattle.cc_console.specs.Devices.{IsEnd, OnDevices, console_of};
-ghost use Rattle.cc_console.specs.Input.{IsFile};
+ghost use Rattle.cli.specs.Devices.{IsEnd, OnDevices, console_of};
+ghost use Rattle.cli.specs.Input.{IsFile};
 ghost use Rattle.cheri_cap.specs.Execution.{Executes, StarvesCommand};
 ghost use Rattle.cheri_cap.specs.Input.{IsHinted, IsReported, IsStreamed, IsUnasked, ReadsInput, RunsMachine, input_of, script_of, typed_hint};
-ghost use Rattle.cc_runs.specs.Runs.{MeetsMain};
+ghost use Rattle.cli_scripts.specs.Runs.{MeetsMain};
 
-use cc_console::{Fault, Inputs, Invocation};
+use cli::{Fault, Inputs, Invocation};
 use cc_io::{Sink, Summary};
-use cc_runs::{Report, RunMemory, Terminals, map_file, plan_file, run_file};
-use cc_tasks::{annotate_file, ask, decode_file, hint_on_file, round_file};
-use cc_traces::{TraceMemory, replay_file};
+use cli_scripts::{Report, RunMemory, Terminals, map_file, plan_file, run_file};
+use cli_words::{annotate_file, ask, decode_file, hint_on_file, round_file};
+use cli_replay::{TraceMemory, replay_file};
 
 /// Executes a command: reads its input, writes its output to `sink`, and reports a run on `errors`. If standard error
 /// is a terminal, hints are written there too: on the word of `show`, and on the numbers of `round`, its list and

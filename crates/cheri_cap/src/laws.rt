@@ -7,9 +7,9 @@ ghost use Rattle.cc_machine.specs.State.{State, initial_state};
 ghost use Rattle.cc_session.specs.Laws.{KeepsLaws};
 ghost use Rattle.cc_session.specs.Main.{IsBetween};
 ghost use Rattle.cc_session.specs.Output.{commands_of};
-ghost use Rattle.cc_console.specs.declared.fault.Fault.TheVariants as fault;
-ghost use Rattle.cc_console.specs.declared.outcome.Ending.{Ending};
-ghost use Rattle.cc_console.specs.declared.outcome.Ending.TheVariants.{Answered, Stopped};
+ghost use Rattle.cli.specs.declared.fault.Fault.TheVariants as fault;
+ghost use Rattle.cli.specs.declared.outcome.Ending.{Ending};
+ghost use Rattle.cli.specs.declared.outcome.Ending.TheVariants.{Answered, Stopped};
 ghost use Rattle.cheri_cap.specs.Ending.{AnswersScript, Failures, NoneFailed, RunsToEnd};
 ghost use Rattle.cheri_cap.specs.Input.{Script};
 

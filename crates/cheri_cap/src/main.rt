@@ -7,8 +7,8 @@ mod laws;
 mod program;
 
 use crate::program::answer_arguments;
-use cc_console::finish;
-use cc_runs::Terminals;
+use cli::finish;
+use cli_scripts::Terminals;
 use std::io::IsTerminal;
 use std::process::ExitCode;
 

@@ -2,23 +2,23 @@
 ghost use Rattle.std.specs.Prelude.{◌≡◌, ◌≢◌, ◌↔◌, IfErr, IfOk, MatchResult, OnErr, false, true, List, Option};
 ghost use Rattle.clap.specs.Walk.{texts};
 ghost use Rattle.clap.specs.Words.{App, FailsBy, Row, Text, kind_of, subcommand_of};
-ghost use Rattle.cc_console.specs.declared.outcome.Ending.TheVariants as ending;
-ghost use Rattle.cc_console.specs.declared.outcome.Ending.{Ending as EndingSpec};
-ghost use Rattle.cc_console.specs.declared.invocation.Invocation.{Invocation as InvocationSpec};
+ghost use Rattle.cli.specs.declared.outcome.Ending.TheVariants as ending;
+ghost use Rattle.cli.specs.declared.outcome.Ending.{Ending as EndingSpec};
+ghost use Rattle.cli.specs.declared.invocation.Invocation.{Invocation as InvocationSpec};
 ghost use Rattle.cheri_cap.specs.Ending.{AnswersEveryScript, ExecutesCommand, failures_of};
 ghost use Rattle.cheri_cap.specs.Input.{IsUnasked, ReadsInput, input_of};
-ghost use Rattle.cc_console.specs.Devices.{console_of};
-ghost use Rattle.cc_console.specs.Invocation.{IsInvocation, IsProgram, faults_of, is_taken};
-ghost use Rattle.cc_console.specs.Outcome.{EndsOn};
+ghost use Rattle.cli.specs.Devices.{console_of};
+ghost use Rattle.cli.specs.Invocation.{IsInvocation, IsProgram, faults_of, is_taken};
+ghost use Rattle.cli.specs.Outcome.{EndsOn};
 
 use crate::execution::execute;
-use cc_console::{
+use cli::{
     Ending, ErrorWriter, Fault, GlobalMemory, Inputs, Invocation, Memory, ProcessInputs, ending_of,
     no_input, tell,
 };
 use cc_io::{FromWriter, Sink};
-use cc_runs::{RunMemory, Terminals};
-use cc_traces::TraceMemory;
+use cli_scripts::{RunMemory, Terminals};
+use cli_replay::TraceMemory;
 use clap::Error;
 use clap::error::ErrorKind;
 use either::{Either, Left, Right};

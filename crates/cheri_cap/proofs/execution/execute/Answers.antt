@@ -1,9 +1,9 @@
 use Rattle.std.proofs.Common.{subst, sym}
 use Rattle.std.specs.Prelude.{IfSome}
-use Rattle.cc_console.specs.Devices.{OnDevices}
-use Rattle.cc_console.specs.Input.{file_input}
-use Rattle.cc_console.specs.declared.invocation.Invocation.{Invocation}
-use Rattle.cc_runs.specs.Runs.{MeetsMain}
+use Rattle.cli.specs.Devices.{OnDevices}
+use Rattle.cli.specs.Input.{file_input}
+use Rattle.cli.specs.declared.invocation.Invocation.{Invocation}
+use Rattle.cli_scripts.specs.Runs.{MeetsMain}
 use Rattle.cc_syntax.specs.Planning.{pool_of}
 use Rattle.cheri_cap.specs.Input.{IsReported, IsStreamed, ReadsInput, Script, script_of}
 use Rattle.cheri_cap.proofs.ExecutionLemmas.{by_invocation, on_pool}

@@ -1,7 +1,7 @@
 use Rattle.std.proofs.Common.{◌∙◌, ap, subst, sym}
 use Rattle.std.specs.Prelude.{◌≢◌}
-use Rattle.cc_console.specs.declared.outcome.Ending.{Ending}
-use Rattle.cc_console.specs.declared.outcome.Ending.TheVariants.{Refused}
+use Rattle.cli.specs.declared.outcome.Ending.{Ending}
+use Rattle.cli.specs.declared.outcome.Ending.TheVariants.{Refused}
 use Rattle.cheri_cap.proofs.OutcomeLemmas.{answer_not_refused}
 use Rattle.cheri_cap.proofs.program.answer_invocation.Goals as goal
 

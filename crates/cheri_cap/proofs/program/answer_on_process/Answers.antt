@@ -2,7 +2,7 @@ use Rattle.std.proofs.Common.{inl}
 use Rattle.std.proofs.lemmas.Bool.{false_from_ne_true}
 use Rattle.clap.specs.Walk.{texts}
 use Rattle.clap.specs.Words.{kind_of}
-use Rattle.cc_console.specs.Invocation.{faults_of, is_taken}
+use Rattle.cli.specs.Invocation.{faults_of, is_taken}
 use Rattle.cheri_cap.proofs.OutcomeLemmas.{ends_by_error, refused_not_for_memory}
 use Rattle.cheri_cap.proofs.program.answer_on_process.Goals as goal
 

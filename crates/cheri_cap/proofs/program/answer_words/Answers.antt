@@ -1,6 +1,6 @@
 use Rattle.clap.specs.Walk.{texts}
 use Rattle.clap.specs.Words.{subcommand_of}
-use Rattle.cc_console.specs.Devices.{Console, console_of}
+use Rattle.cli.specs.Devices.{Console, console_of}
 use Rattle.cheri_cap.specs.Ending.{Failures, failures_of}
 use Rattle.cheri_cap.proofs.HeadlineLemmas.{runs_script}
 use Rattle.cheri_cap.proofs.program.answer_words.Goals as goal

@@ -1,0 +1,92 @@
+-- The values of `explain` that are accepted together, and the errors of the program's arguments.
+use Rattle.std.proofs.Common.{◌≡◌, Bool, true, false, List, [], ◌∷◌, Option, Some, None, inl, inr, is_some, refl, subst, sym, option_map}
+use Rattle.std.specs.Prelude.{◌&&◌, Result, Ok, Err, not, unwrap_or}
+use Rattle.std.specs.Borrow.{Bor}
+use Rattle.std.specs.Result.{IfErr}
+use Rattle.clap.specs.Kinds.{or_else}
+use Rattle.clap.specs.Walk.{Text}
+use Rattle.clap.specs.Words.{App, FailsBy, HasKind, Kinds, fault_of, kind_of, subcommand_of, takes}
+use Rattle.clap.specs.declared.error.Error.{Error}
+use Rattle.clap.specs.declared.error.kind.ErrorKind.{ErrorKind}
+use Rattle.clap.specs.declared.error.kind.ErrorKind.TheVariants.{OutOfMemory}
+use Rattle.cli.specs.Invocation.{choice_fault, choice_fault_in, faults_of, is_taken, kinds_in, list_fault}
+
+-- ---- the values of `explain`
+
+-- WORD excludes the options of a length.
+pub word_alone : (size base : Option Text) (svg : Bool) → choice_fault true (is_some size) (is_some base) svg ≡ None
+    → (size ≡ None) × (base ≡ None)
+word_alone None None svg e = (refl, refl)
+word_alone None (Some text) svg e = cc e
+word_alone (Some text) base svg e = cc e
+
+-- Without WORD, `--length` is required, and excludes `--svg`.
+pub length_wanted : (size base : Option Text) (svg : Bool) → choice_fault false (is_some size) (is_some base) svg ≡ None
+    → ((text : Text) × (size ≡ Some text)) × (svg ≡ false)
+length_wanted None base svg e = cc e
+length_wanted (Some text) base true e = cc e
+length_wanted (Some text) base false e = ((text, refl), refl)
+
+-- The default of a text that is not given.
+pub text_or : (given : Option (Bor Text)) (other : Bor Text)
+    → (unwrap_or given other).now ≡ unwrap_or (option_map (λ text. text.now) given) other.now
+text_or None other = refl
+text_or (Some text) other = refl
+
+-- `--list` excludes N.
+pub list_alone : (size : Option Text) → list_fault true (is_some size) ≡ None → size ≡ None
+list_alone None e = refl
+list_alone (Some text) e = cc e
+
+-- Without `--list`, N is required.
+pub size_wanted : (size : Option Text) → list_fault false (is_some size) ≡ None → (text : Text) × (size ≡ Some text)
+size_wanted None e = cc e
+size_wanted (Some text) e = (text, refl)
+
+-- A text is given if and only if it has a value.
+pub is_some-now : (found : Option (Bor Text)) → is_some found ≡ is_some (option_map (λ text. text.now) found)
+is_some-now None = refl
+is_some-now (Some text) = refl
+
+-- ---- the program's arguments
+
+both_true : (a b : Bool) → (a && b) ≡ true → (a ≡ true) × (b ≡ true)
+both_true true b e = (refl, e)
+both_true false b e = cc e
+
+none_given : (choice : Option ErrorKind) → not (is_some choice) ≡ true → choice ≡ None
+none_given None e = refl
+none_given (Some kind) e = cc e
+
+-- Arguments that are accepted are accepted by clap, and their values have no error.
+pub taken_parts : (app : App) (words : List Text) → is_taken app words ≡ true
+    → (takes app words ≡ true) × (choice_fault_in (subcommand_of app words) ≡ None)
+taken_parts app words taken =
+    let parts = both_true (takes app words) (not (is_some (choice_fault_in (subcommand_of app words)))) taken in
+    (parts.0, none_given (choice_fault_in (subcommand_of app words)) parts.1)
+
+first_kind : (first second : Kinds) (e : Error) → HasKind first e → HasKind (or_else first second) e
+first_kind [] second e (inl memory) = inl memory
+first_kind [] second e (inr among) = absurd among
+first_kind (k ∷ ks) second e has = has
+
+-- An error of clap's is one of the program's.
+pub clap_fails : (app : App) (words : List Text) (e : Error) → HasKind (fault_of app words) e → HasKind (faults_of app words) e
+clap_fails app words e has = first_kind (fault_of app words) (kinds_in (choice_fault_in (subcommand_of app words))) e has
+
+-- If clap has no error, the values of `explain` decide.
+pub choice_fails : {T : Type 0} (app : App) (words : List Text) (r : Result T Error) → fault_of app words ≡ []
+    → FailsBy (kinds_in (choice_fault_in (subcommand_of app words))) r → FailsBy (faults_of app words) r
+choice_fails app words r faultless told =
+    subst (λ (kinds : Kinds). FailsBy (or_else kinds (kinds_in (choice_fault_in (subcommand_of app words)))) r) (sym faultless) told
+
+-- If the values of `explain` have no error, an error means that memory ran out.
+pub choice_refuses : {T : Type 0} (choice : Option ErrorKind) (r : Result T Error) (Q : Error → Type 0) → FailsBy (kinds_in choice) r
+    → ((e : Error) → (choice ≡ None → kind_of e ≡ OutOfMemory) → Q e) → IfErr r Q
+choice_refuses choice (Ok value) Q told make = tt
+choice_refuses choice (Err e) Q told make = make e (memory choice told)
+  where
+    memory : (choice : Option ErrorKind) → HasKind (kinds_in choice) e → choice ≡ None → kind_of e ≡ OutOfMemory
+    memory None (inl is) none = is
+    memory None (inr among) none = absurd among
+    memory (Some kind) has none = cc none

@@ -1,0 +1,26 @@
+-- The input that FILE names.
+use Rattle.std.specs.Prelude.{Option, Some, None, codes, if◌then◌else◌, ⊤}
+use Rattle.std.specs.Borrow.{Bor}
+use Rattle.std.specs.Str.{bytes_eq}
+use Rattle.clap.specs.Words.{Text}
+use Rattle.cli.specs.declared.input.Content.{Content}
+use Rattle.cli.specs.declared.input.Content.TheVariants.{Trace, Changes}
+use Rattle.cli.specs.declared.input.InputName.{InputName}
+use Rattle.cli.specs.declared.input.InputName.TheVariants.{Standard, File}
+use Rattle.cli.specs.declared.invocation.ReplayOutput.{ReplayOutput}
+use Rattle.cli.specs.declared.invocation.ReplayOutput.TheVariants.{Script}
+
+-- The input that FILE names: standard input for `-`, and if FILE is not given.
+abbrev pub file_input : Option (Bor Text) → InputName
+file_input None = Standard
+file_input (Some path) = if bytes_eq path.now (codes "-") then Standard else File path
+
+-- IsFile holds if the input is a file.
+abbrev pub IsFile : InputName → Type 0
+IsFile Standard = ⊥
+IsFile (File path) = ⊤
+
+-- The content of the trace of `replay`, by its output.
+abbrev pub trace_content : Option ReplayOutput → Content
+trace_content (Some Script) = Changes
+trace_content _ = Trace

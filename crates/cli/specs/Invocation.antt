@@ -1,0 +1,284 @@
+-- The command lines that are accepted, and the command that each requests.
+use Rattle.std.specs.Prelude.{cond, ⊤, true, false, ◌≡◌, ◌≤◌, ◌⊎◌, ◌↔◌, ◌&&◌, ◌||◌, ℕ, Bool, IsTrue, not, List, [], ◌∷◌, Option, Some, None, IfSome, IsSome, is_some, codes, option_map, unwrap_or, if◌then◌else◌}
+use Rattle.std.specs.Borrow.{Bor}
+use Rattle.std.specs.Option.{option_map_or}
+use Rattle.std.specs.Str.{bytes_eq}
+use Rattle.std.specs.Str.Parse.{IsNumeral, digits_value, without_leading_plus}
+pub use Rattle.cli.specs.Usage.{IsProgram, choice_option, flag_option, format_names, order_names, program, slots_option, summary_names}
+use Rattle.clap.specs.Kinds.{or_else}
+use Rattle.clap.specs.Walk.{texts}
+use Rattle.clap.specs.Words.{App, Kinds, Row, Text, fault_of, first_of, one_of, subcommand_of, takes}
+use Rattle.clap.specs.declared.error.kind.ErrorKind.{ErrorKind}
+use Rattle.clap.specs.declared.error.kind.ErrorKind.TheVariants.{ArgumentConflict, MissingRequiredArgument}
+use Rattle.cc_bounds.specs.declared.align.Align.{Align}
+use Rattle.cc_bounds.specs.declared.align.Align.TheVariants.{One, Sixteen}
+use Rattle.cli.specs.declared.invocation.DecodeTexts.{DecodeTexts}
+use Rattle.cli.specs.declared.invocation.PoolTexts.{PoolTexts}
+use Rattle.cli.specs.declared.invocation.ReplayOutput.{ReplayOutput}
+use Rattle.cli.specs.declared.invocation.ReplayOutput.TheVariants.{Summary, Sizes, Chart, Script, Series}
+use Rattle.cli.specs.declared.invocation.ReplayTexts.{ReplayTexts}
+use Rattle.cli.specs.declared.invocation.SummaryFormat.{SummaryFormat}
+use Rattle.cli.specs.declared.invocation.SummaryFormat.TheVariants as summary
+use Rattle.cc_io.specs.declared.input_form.ByteOrder.TheVariants.{Little, Big}
+use Rattle.cc_io.specs.declared.input_form.InputForm.{InputForm}
+use Rattle.cc_io.specs.declared.input_form.InputForm.TheVariants.{Lines, Bytes}
+use Rattle.cc_io.specs.declared.format.Format.{Format}
+use Rattle.cc_io.specs.declared.format.Format.TheVariants.{Columns, Csv, Fixed}
+use Rattle.cc_io.specs.declared.format.Format.TheVariants as format
+use Rattle.cli.specs.declared.invocation.Invocation.{Invocation}
+use Rattle.cli.specs.declared.invocation.Invocation.TheVariants.{Annotate, Ask, Decode, Map, Plan, Replay, RoundList, Run}
+use Rattle.cli.specs.declared.question.Question.{Question}
+use Rattle.cli.specs.declared.question.Question.TheVariants.{DrawWindow, Explain, ExplainLength, Round, Show}
+
+-- ---- the command and the values that clap found
+
+-- The value of decimal digits, with or without a leading plus.
+abbrev pub decimal_value : Text → ℕ
+decimal_value text = digits_value 10 (without_leading_plus text)
+
+-- `IsLimit` holds if the limit is the value of `--slots`, or 4,096 if it is not given, and is from 1 to 65,536.
+pub record IsLimit (given : Option Text) (limit : ℕ) : Type 0 where
+  pub value : limit ≡ option_map_or decimal_value given 4096
+  pub from_one : 1 ≤ limit
+  pub at_most : limit ≤ 65536
+
+-- `IsChosen` holds if the value is the one that the given text names, or the default if no text is given.
+abbrev pub IsChosen : {A : Type 0} → (named : Text → Option A) → (default : A) → (given : Option Text) → A → Type 0
+IsChosen named default None value = value ≡ default
+IsChosen named default (Some text) value = named text ≡ Some value
+
+-- The alignment that a text names, if it names one.
+abbrev pub align_named : Text → Option Align
+align_named text = if bytes_eq text (codes "1") then Some One else if bytes_eq text (codes "16") then Some Sixteen else None
+
+-- The format that a text names, if it names one.
+abbrev pub format_named : Text → Option Format
+format_named text =
+    if bytes_eq text (codes "columns") then Some Columns
+    else if bytes_eq text (codes "text") then Some format.Text
+    else if bytes_eq text (codes "fixed") then Some Fixed
+    else if bytes_eq text (codes "csv") then Some Csv
+    else None
+
+-- The format of a summary that a text names, if it names one.
+abbrev pub summary_named : Text → Option SummaryFormat
+summary_named text =
+    if bytes_eq text (codes "text") then Some summary.Text
+    else if bytes_eq text (codes "csv") then Some summary.Csv
+    else if bytes_eq text (codes "json") then Some summary.Json
+    else None
+
+-- The input form of raw bytes in the order that a text names, if it names one.
+abbrev pub input_named : Text → Option InputForm
+input_named text = if bytes_eq text (codes "little") then Some (Bytes Little) else if bytes_eq text (codes "big") then Some (Bytes Big) else None
+
+-- `IsGiven` holds if `given` says whether the value of an option is `true`, which clap has for an option that was given.
+abbrev pub IsGiven : (value : Option Text) → Bool → Type 0
+IsGiven value given = IsTrue given ↔ (value ≡ Some (codes "true"))
+
+-- Whether the value of an option without one is `true`, which clap has if the option was given.
+abbrev pub is_on : (value : Option Text) → Bool
+is_on value = option_map_or (λ text. bytes_eq text (codes "true")) value false
+
+-- The name of the command that asks the question.
+abbrev pub question_command : Question → Text
+question_command (Show word as_line) = codes "show"
+question_command (Round base size) = codes "round"
+question_command (Explain word) = codes "explain"
+question_command (DrawWindow word) = codes "explain"
+question_command (ExplainLength base size) = codes "explain"
+
+-- The name of the command.
+abbrev pub command_name_of : Invocation → Text
+command_name_of (Ask question) = question_command question
+command_name_of (Run limit stats file) = codes "run"
+command_name_of (Plan limit pool align stats file) = codes "plan"
+command_name_of (Map limit pool align svg file) = codes "map"
+command_name_of (Replay align strict texts file) = codes "replay"
+command_name_of (Decode input format texts file) = codes "decode"
+command_name_of (Annotate file) = codes "annotate"
+command_name_of (RoundList base file) = codes "round"
+
+-- `HasPool` holds if the texts of the pool are the values of BASE and LENGTH.
+abbrev pub HasPool : List Row → PoolTexts → Type 0
+HasPool rows pool = (first_of (codes "base") rows ≡ Some pool.base.now) × (first_of (codes "length") rows ≡ Some pool.length.now)
+
+-- `HasFile` holds if the file is the value of FILE, or `None` if FILE is not given.
+abbrev pub HasFile : List Row → Option (Bor Text) → Type 0
+HasFile rows file = first_of (codes "file") rows ≡ option_map (λ text. text.now) file
+
+-- `HasWordAlone` holds if WORD has this value, and `--length` and `--base` have none.
+abbrev pub HasWordAlone : List Row → (word : Text) → Type 0
+HasWordAlone rows word =
+    (first_of (codes "word") rows ≡ Some word) × (first_of (codes "length") rows ≡ None) × (first_of (codes "base") rows ≡ None)
+
+-- `HasDecodeTexts` holds if the texts are the values of these options, or `None` for those that are not given.
+pub record HasDecodeTexts (rows : List Row) (texts : DecodeTexts) : Type 0 where
+  pub skip : first_of (codes "skip") rows ≡ option_map (λ text. text.now) texts.skip
+  pub at : first_of (codes "at") rows ≡ option_map (λ text. text.now) texts.at
+  pub holds : first_of (codes "holds") rows ≡ option_map (λ text. text.now) texts.holds
+  pub perms : first_of (codes "perms") rows ≡ option_map (λ text. text.now) texts.perms
+
+-- The output of `replay` by the format of tables and the options that are given: the summary without one. `None` if two are given.
+abbrev pub replay_output : SummaryFormat → (sizes svg script : Bool) → (each : Option (Bor Text)) → Option ReplayOutput
+replay_output format false false false None = Some (Summary format)
+replay_output format true false false None = Some (Sizes format)
+replay_output format false true false None = Some Chart
+replay_output format false false true None = Some Script
+replay_output format false false false (Some text) = Some (Series text)
+replay_output format _ _ _ _ = None
+
+-- `HasOutput` holds if the values of `--summary`, `--sizes`, `--svg`, `--script` and `--each` give the output.
+pub record HasOutput (rows : List Row) (output : Option ReplayOutput) : Type 0 where
+  pub format : SummaryFormat
+  pub each : Option (Bor Text)
+  pub is_format : IsChosen summary_named summary.Text (first_of (codes "summary") rows) format
+  pub is_each : first_of (codes "each") rows ≡ option_map (λ text. text.now) each
+  pub is_output :
+      output
+      ≡ replay_output format (is_on (first_of (codes "sizes") rows)) (is_on (first_of (codes "svg") rows)) (is_on (first_of (codes "script") rows)) each
+
+-- `HasReplayTexts` holds if the texts are the values of these options, or `None` for those that are not given, and the options of
+-- the output give it.
+pub record HasReplayTexts (rows : List Row) (texts : ReplayTexts) : Type 0 where
+  pub realloc : first_of (codes "realloc") rows ≡ option_map (λ text. text.now) texts.realloc
+  pub sweep : first_of (codes "sweep") rows ≡ option_map (λ text. text.now) texts.sweep
+  pub least : first_of (codes "min") rows ≡ option_map (λ text. text.now) texts.least
+  pub pool : first_of (codes "pool") rows ≡ option_map (λ text. text.now) texts.pool
+  pub format : first_of (codes "format") rows ≡ option_map (λ text. text.now) texts.format
+  pub output : HasOutput rows texts.output
+
+-- `HasBase` holds if the base is the value of `--base`, or `None` if it is not given.
+abbrev pub HasBase : List Row → Option (Bor Text) → Type 0
+HasBase rows base = first_of (codes "base") rows ≡ option_map (λ text. text.now) base
+
+-- `HasTexts` holds if the texts of the question are the values that clap found. The arguments of `explain` that the
+-- question has no text for have no value, and a missing `--base` is `0`.
+abbrev pub HasTexts : List Row → Question → Type 0
+HasTexts rows (Show word as_line) = (first_of (codes "word") rows ≡ Some word.now) × IsGiven (first_of (codes "line") rows) as_line
+HasTexts rows (Round base size) =
+    HasBase rows base × (first_of (codes "list") rows ≡ None) × (first_of (codes "length") rows ≡ Some size.now)
+HasTexts rows (Explain word) = HasWordAlone rows word.now × (is_on (first_of (codes "svg") rows) ≡ false)
+HasTexts rows (DrawWindow word) = HasWordAlone rows word.now × (is_on (first_of (codes "svg") rows) ≡ true)
+HasTexts rows (ExplainLength base size) =
+    (first_of (codes "word") rows ≡ None) × (first_of (codes "length") rows ≡ Some size.now)
+    × (base.now ≡ unwrap_or (first_of (codes "base") rows) (codes "0")) × (is_on (first_of (codes "svg") rows) ≡ false)
+
+-- `HasValues` holds if the values of the command are those that clap found.
+abbrev pub HasValues : List Row → Invocation → Type 0
+HasValues rows (Ask question) = HasTexts rows question
+HasValues rows (Run limit stats file) =
+    IsLimit (first_of (codes "slots") rows) limit × IsGiven (first_of (codes "stats") rows) stats × HasFile rows file
+HasValues rows (Plan limit pool align stats file) =
+    IsLimit (first_of (codes "slots") rows) limit × IsChosen align_named One (first_of (codes "align") rows) align
+    × IsGiven (first_of (codes "stats") rows) stats × HasPool rows pool × HasFile rows file
+HasValues rows (Map limit pool align svg file) =
+    IsLimit (first_of (codes "slots") rows) limit × IsChosen align_named One (first_of (codes "align") rows) align
+    × IsGiven (first_of (codes "svg") rows) svg × HasPool rows pool × HasFile rows file
+HasValues rows (Replay align strict texts file) =
+    IsChosen align_named One (first_of (codes "align") rows) align × IsGiven (first_of (codes "strict") rows) strict
+    × HasReplayTexts rows texts × HasFile rows file
+HasValues rows (Decode input format texts file) =
+    IsChosen format_named Columns (first_of (codes "format") rows) format
+    × IsChosen input_named Lines (first_of (codes "bytes") rows) input × HasDecodeTexts rows texts × HasFile rows file
+HasValues rows (Annotate file) = HasFile rows file
+HasValues rows (RoundList base file) =
+    HasBase rows base × (first_of (codes "list") rows ≡ Some file.now) × (first_of (codes "length") rows ≡ None)
+
+-- `IsInvocation` holds if clap found this command, with these values.
+abbrev pub IsInvocation : Option (Text × List Row) → Invocation → Type 0
+IsInvocation found invocation = (rows : List Row) × (found ≡ Some (command_name_of invocation, rows)) × HasValues rows invocation
+
+-- ---- the values of `explain` and of `round` that are accepted together, which clap does not check
+
+-- The kind of error of the given values, if there is one: WORD excludes `--length` and `--base`, one of WORD and
+-- `--length` is required, and `--length` excludes `--svg`.
+abbrev pub choice_fault : (has_word has_length has_base has_svg : Bool) → Option ErrorKind
+choice_fault has_word has_length has_base has_svg =
+    if has_word then (if has_length || has_base then Some ArgumentConflict else None)
+    else if not has_length then Some MissingRequiredArgument
+    else if has_svg then Some ArgumentConflict else None
+
+-- The kind of error of the values of `explain` in these rows, if there is one.
+abbrev pub choice_fault_of : List Row → Option ErrorKind
+choice_fault_of rows =
+    choice_fault (is_some (first_of (codes "word") rows)) (is_some (first_of (codes "length") rows)) (is_some (first_of (codes "base") rows))
+    (is_on (first_of (codes "svg") rows))
+
+-- The kind of error of the given values, if there is one: one of N and `--list` is required, and each excludes the other.
+abbrev pub list_fault : (has_list has_length : Bool) → Option ErrorKind
+list_fault has_list has_length =
+    if has_list then (if has_length then Some ArgumentConflict else None)
+    else if has_length then None else Some MissingRequiredArgument
+
+-- The kind of error of the values of `round` in these rows, if there is one.
+abbrev pub list_fault_of : List Row → Option ErrorKind
+list_fault_of rows = list_fault (is_some (first_of (codes "list") rows)) (is_some (first_of (codes "length") rows))
+
+-- The kind of error of the values of the command that clap found, if there is one: only `explain` and `round` have one.
+abbrev pub choice_fault_in : Option (Text × List Row) → Option ErrorKind
+choice_fault_in None = None
+choice_fault_in (Some found) =
+    if bytes_eq found.0 (codes "explain") then choice_fault_of found.1
+    else if bytes_eq found.0 (codes "round") then list_fault_of found.1
+    else None
+
+-- Whether the arguments are accepted: clap accepts them, and their values have no error.
+abbrev pub is_taken : App → List Text → Bool
+is_taken app words = takes app words && not (is_some (choice_fault_in (subcommand_of app words)))
+
+-- The list of the kind of an error, if there is one.
+abbrev pub kinds_in : Option ErrorKind → Kinds
+kinds_in None = []
+kinds_in (Some kind) = kind ∷ []
+
+-- The kinds of error that the arguments can give: clap's, or the kind for `explain` or `round` if clap has none.
+abbrev pub faults_of : App → List Text → Kinds
+faults_of app words = or_else (fault_of app words) (kinds_in (choice_fault_in (subcommand_of app words)))
+
+-- ---- the values that a command needs
+
+-- `HasText` holds if the name has a value.
+abbrev pub HasText : Text → List Row → Type 0
+HasText name rows = (text : Text) × (first_of name rows ≡ Some text)
+
+-- `HasPoolTexts` holds if BASE and LENGTH have values.
+abbrev pub HasPoolTexts : List Row → Type 0
+HasPoolTexts rows = HasText (codes "base") rows × HasText (codes "length") rows
+
+-- `IsLimitText` holds if the text is a decimal number from 1 to 65,536, with or without a leading plus.
+pub record IsLimitText (text : Text) : Type 0 where
+  pub numeral : IsNumeral 10 (without_leading_plus text)
+  pub from_one : 1 ≤ decimal_value text
+  pub at_most : decimal_value text ≤ 65536
+
+-- `HasLimit` holds if `--slots` has no value, or a number from 1 to 65,536, which is read as it is written.
+pub record HasLimit (rows : List Row) : Type 0 where
+  pub read : one_of (codes "slots") rows ≡ first_of (codes "slots") rows
+  pub limit : IfSome (first_of (codes "slots") rows) IsLimitText
+
+-- `HasFlag` holds if clap has no value, `true` or `false` for this option, and it is read as it is written.
+pub record HasFlag (name : Text) (rows : List Row) : Type 0 where
+  pub read : one_of name rows ≡ first_of name rows
+  pub value : IfSome (first_of name rows) (λ text. (text ≡ codes "true") ⊎ (text ≡ codes "false"))
+
+-- `HasChoice` holds if the option has no value, or one that names a choice.
+abbrev pub HasChoice : {A : Type 0} → (named : Text → Option A) → (name : Text) → List Row → Type 0
+HasChoice named name rows = IfSome (first_of name rows) (λ text. IsSome (named text))
+
+-- `HasWanted` holds if the command of this name is one of the program's, and has the values that it needs.
+abbrev pub HasWanted : Text → List Row → Type 0
+HasWanted name rows =
+    cond (bytes_eq name (codes "show")) (HasText (codes "word") rows × HasFlag (codes "line") rows)
+    (cond (bytes_eq name (codes "round")) (list_fault_of rows ≡ None)
+    (cond (bytes_eq name (codes "run")) (HasLimit rows × HasFlag (codes "stats") rows)
+    (cond (bytes_eq name (codes "plan")) (HasPoolTexts rows × HasLimit rows × HasChoice align_named (codes "align") rows × HasFlag (codes "stats") rows)
+    (cond (bytes_eq name (codes "map")) (HasPoolTexts rows × HasLimit rows × HasChoice align_named (codes "align") rows × HasFlag (codes "svg") rows)
+    (cond (bytes_eq name (codes "replay")) (HasChoice align_named (codes "align") rows × HasFlag (codes "strict") rows × HasChoice summary_named (codes "summary") rows)
+    (cond (bytes_eq name (codes "decode")) (HasChoice format_named (codes "format") rows × HasChoice input_named (codes "bytes") rows)
+    (cond (bytes_eq name (codes "annotate")) ⊤
+    (cond (bytes_eq name (codes "explain")) (choice_fault_of rows ≡ None) ⊥))))))))
+
+-- `HasItsTexts` holds if clap found a command of the program, with the values that it needs.
+abbrev pub HasItsTexts : Option (Text × List Row) → Type 0
+HasItsTexts found = (name : Text) × (rows : List Row) × (found ≡ Some (name, rows)) × HasWanted name rows

@@ -1,0 +1,76 @@
+//! The inputs that commands read.
+ghost use Rattle.std.specs.Prelude.{◌≡◌, ◌↔◌, ℕ, Bool, List, Option, Some, IfErr, IfSome, IsErr, OnOk, false, true};
+ghost use Rattle.cli.specs.declared.input.Content.{Content as ContentSpec};
+ghost use Rattle.cli.specs.declared.input.InputName.{InputName as InputNameSpec};
+ghost use Rattle.cli.specs.Input.{IsFile, file_input};
+
+use crate::fault::Fault;
+use cc_io::Source;
+
+/// The name of an input.
+#[derive(Clone, Copy)]
+pub enum InputName<'a> {
+    /// Standard input.
+    Standard,
+    /// The file of this name.
+    File(&'a str),
+}
+
+/// The content of an input. It decides the maximum length of the input, and the notices for a user at a terminal.
+#[derive(Clone, Copy)]
+pub enum Content {
+    /// A script whose replies are written. A notice says that it is awaited.
+    Script,
+    /// A script whose pool is drawn.
+    Pool,
+    /// Words or lengths.
+    Words,
+    /// A trace. A notice shows how much of it has been read.
+    Trace,
+    /// A trace whose script is written.
+    Changes,
+}
+
+/// The inputs of commands.
+pub trait Inputs {
+    /// The source of an input.
+    type Opened: Source;
+
+    // The bytes of an input, if they are known.
+    ghost bytes_of: { Self → InputNameSpec → Option (List ℕ) };
+
+    // Whether the last input that was requested is this one, with this content.
+    ghost last_asked: { Self → InputNameSpec → ContentSpec → Bool };
+
+    // The last input that was requested was not opened.
+    ghost has_refused: { Self → Bool };
+
+    /// Makes a source read an input from its start. A failure of the source before that is
+    /// forgotten.
+    ///
+    /// Errors: `Open` if a file cannot be opened.
+    fn open(
+        &mut self,
+        input: InputName<'_>,
+        content: Content,
+        source: &mut Self::Opened,
+    ) -> Result<(), Fault>
+        ensures opened { OnOk result (IfSome (bytes_of self.old input.entry) (λ bytes. (Self.Opened.state source.new).unread ≡ Some bytes)) }
+        ensures fails { IfErr result (λ fault. (fault ≡ Fault.Open) × IsFile input.entry) }
+        ensures asked { last_asked self.new input.entry content ≡ true }
+        ensures refused { IsErr result ↔ (has_refused self.new ≡ true) }
+        ensures unfailed { (Self.Opened.state source.new).has_failed ≡ false };
+
+    /// Returns the first four bytes of the regular file of this name, or `None` if they cannot be read.
+    fn start_of(&self, path: &str) -> Option<[u8; 4]>;
+}
+
+/// Returns the input that FILE names: standard input for `-`, and if FILE is not given.
+pub fn file_input<'a>(file: Option<&'a str>) -> InputName<'a>
+    ensures { result ≡ file_input file.entry }
+{
+    match file {
+        None | Some("-") => InputName::Standard,
+        Some(path) => InputName::File(path),
+    }
+}

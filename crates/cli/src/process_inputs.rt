@@ -1,0 +1,143 @@
+//! The files and the standard input of the process, as inputs of commands.
+ghost use Rattle.std.specs.Prelude.{◌≡◌, None, IfErr, IfOk, IsTrue, false, true, ◌↔◌};
+ghost use Rattle.either.specs.Either.{is_left};
+ghost use Rattle.cli.specs.Input.{IsFile};
+
+use crate::error_writer::ErrorWriter;
+use crate::fault::Fault;
+use crate::input::{Content, InputName, Inputs};
+use crate::notices::announce;
+use crate::watched::Watched;
+use cc_io::{FromReader, FromWriter, Source};
+use either::{Either, Left, Right};
+use std::fs::{self, OpenFile};
+use std::io::{self, Empty, Read};
+use std::rt::Files;
+
+/// The files and the standard input of the process.
+#[derive(Drop)]
+pub struct ProcessInputs<'a, R> {
+    rt: &'a R,
+    is_typed: bool,
+    is_watched: bool,
+    has_refused: bool,
+}
+
+impl<'a, R: Files + Input + Eprint> ProcessInputs<'a, R> {
+    /// Creates the inputs of the process. If `is_typed`, a user at the terminal types the standard input, and if `is_watched`,
+    /// standard error shows how much of a file has been read.
+    pub fn new(rt: &'a R, is_typed: bool, is_watched: bool) -> Self
+        ensures { ⟦<ProcessInputs<'a, R> as Inputs>⟧.has_refused result ≡ false }
+    {
+        ProcessInputs {
+            rt,
+            is_typed,
+            is_watched,
+            has_refused: false,
+        }
+    }
+}
+
+/// Creates a source of no input.
+pub fn no_input<R: Read>() -> FromReader<Either<R, Empty>>
+    ensures { (⟦<FromReader<Either<R, Empty>> as Source>⟧.state result).has_failed ≡ false }
+{
+    FromReader::new(Right(io::empty()))
+}
+
+impl<'a, R: Files + Input + Eprint> Inputs for ProcessInputs<'a, R> {
+    type Opened = FromReader<Either<Either<Watched<'a, R, R::File>, R::Reader>, Empty>>;
+
+    // No contract of std says which bytes a file holds.
+    ghost bytes_of = { λ _ _. None };
+
+    // The name of the last input is not kept.
+    ghost last_asked = { λ _ _ _. true };
+
+    ghost has_refused = { λ inputs. inputs.has_refused };
+
+    fn open(
+        &mut self,
+        input: InputName<'_>,
+        content: Content,
+        source: &mut FromReader<Either<Either<Watched<'a, R, R::File>, R::Reader>, Empty>>,
+    ) -> Result<(), Fault> {
+        let is_typed = self.is_typed && matches!(content, Content::Script);
+        let is_watched = self.is_watched && matches!(content, Content::Trace);
+        match open_input(self.rt, is_typed, is_watched, input) {
+            Ok(reader) => {
+                self.has_refused = false;
+                *source = FromReader::with_limit(Left(reader), limit_of(content));
+                Ok(())
+            }
+            Err(fault) => {
+                self.has_refused = true;
+                *source = no_input();
+                Err(fault)
+            }
+        }
+    }
+
+    // Other files are not opened: a pipe has been read to its end, and waits for another writer.
+    fn start_of(&self, path: &str) -> Option<[u8; 4]> {
+        match fs::metadata(self.rt, path) {
+            Ok(metadata) if metadata.is_file() => {}
+            _ => return None,
+        }
+        let Ok(mut file) = fs::open(self.rt, path) else {
+            return None;
+        };
+        let mut start = [0; 4];
+        match file.read_exact(&mut start) {
+            Ok(()) => Some(start),
+            Err(_) => None,
+        }
+    }
+}
+
+/// Returns the number of bytes below which an input has to stay. For all but scripts it is more than any file or pipe gives.
+fn limit_of(content: Content) -> usize {
+    match content {
+        Content::Script | Content::Pool => 1 << 30,
+        Content::Words | Content::Trace | Content::Changes => 1 << 62,
+    }
+}
+
+/// Opens an input of the process: a file of this name, or standard input.
+///
+/// Errors: `Open` if a file cannot be opened.
+///
+/// That the file is the one of this name is tested, and not proved.
+fn open_input<'a, R: Files + Input + Eprint>(
+    rt: &'a R,
+    is_typed: bool,
+    is_watched: bool,
+    input: InputName<'_>,
+) -> Result<Either<Watched<'a, R, R::File>, R::Reader>, Fault>
+    ensures kind { IfOk result (λ reader. IsTrue (is_left reader) ↔ IsFile input.entry) }
+    ensures fails { IfErr result (λ fault. (fault ≡ Fault.Open) × IsFile input.entry) }
+{
+    match input {
+        InputName::File(path) => match fs::open(rt, path) {
+            Ok(file) => {
+                let length = if is_watched { length_of(&file) } else { 0 };
+                Ok(Left(Watched::new(rt, file, length)))
+            }
+            Err(_) => Err(Fault::Open),
+        },
+        InputName::Standard => {
+            if is_typed {
+                announce(&mut FromWriter::new(ErrorWriter { to: rt }));
+            }
+            Ok(Right(rt.reader()))
+        }
+    }
+}
+
+/// Returns the length of a regular file in bytes, or 0 if it is another kind of file.
+fn length_of<F: OpenFile>(file: &F) -> u64 {
+    match file.metadata() {
+        Ok(metadata) if metadata.is_file() => metadata.len(),
+        _ => 0,
+    }
+}

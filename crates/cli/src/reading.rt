@@ -1,0 +1,309 @@
+//! Parses the arguments of the command line, and reads them as an `Invocation`, or returns an error of clap's.
+ghost use Rattle.std.specs.Prelude.{◌≡◌, ◌∷◌, [], IfErr, IfOk, None, codes, is_some, true};
+ghost use Rattle.clap.specs.Walk.{texts};
+ghost use Rattle.clap.specs.Words.{App, FailsBy, first_of, found_of, kind_of, rows_of, subcommand_of, subcommand_rows_of};
+ghost use Rattle.cli.specs.Invocation.{HasChoice, HasFlag, HasItsTexts, HasLimit, HasPoolTexts, HasText, HasValues, HasWanted, IsInvocation, IsProgram, align_named, choice_fault_in, choice_fault_of, command_name_of, faults_of, format_named, format_names, input_named, is_taken, kinds_in, list_fault_of, order_names, summary_named, summary_names};
+
+use crate::commands::{bare_round_command, explain_command, program};
+use crate::help::{EXPLAIN_CHOICE, ROUND_CHOICE};
+use crate::invocation::Invocation;
+use crate::question::Question;
+use crate::values::{
+    align_of, base_of, decode_texts, format_of, input_of, is_given, is_on, limit_of, pool_texts,
+    replay_texts, value_of, wanted_text,
+};
+use clap::error::ErrorKind;
+use clap::{ArgMatches, Error};
+use std::alloc::{AllocError, Global};
+
+/// Reads the program's arguments, its own name first, as a command and its values.
+///
+/// Errors: a mistake in the arguments, a request for help or for the version, or an allocation that fails. The kind of
+/// the error says which.
+pub fn read_words<'a>(alloc: Global, words: &'a [&'a str]) -> Result<Invocation<'a>, Error>
+    ensures read { IfOk result (λ invocation. (app : App) × IsProgram app × IsInvocation (subcommand_of app (texts words.now)) invocation) }
+    ensures refused { IfErr result (λ error.
+        (app : App) × IsProgram app × (is_taken app (texts words.now) ≡ true → kind_of error ≡ ErrorKind.OutOfMemory)) }
+    ensures kinds { (app : App) × IsProgram app × FailsBy (faults_of app (texts words.now)) result }
+{
+    match parse_words(alloc, words) {
+        Ok(matches) => Ok(invocation_of(&matches)),
+        Err(error) => Err(error),
+    }
+}
+
+/// Parses the program's arguments as one of its commands with the values that it needs.
+fn parse_words<'a>(alloc: Global, words: &'a [&'a str]) -> Result<ArgMatches<'a>, Error>
+    ensures read { IfOk result (λ matches.
+        (app : App) × IsProgram app × (subcommand_rows_of matches ≡ subcommand_of app (texts words.now)) × HasItsTexts (subcommand_rows_of matches)) }
+    ensures refused { IfErr result (λ error.
+        (app : App) × IsProgram app × (is_taken app (texts words.now) ≡ true → kind_of error ≡ ErrorKind.OutOfMemory)) }
+    ensures kinds { (app : App) × IsProgram app × FailsBy (faults_of app (texts words.now)) result }
+{
+    let mut command = program(alloc, aligns(), formats(), orders(), summaries())?;
+    match command.try_get_matches_from_mut(words) {
+        Ok(matches) => chosen(alloc, matches),
+        Err(error) => Err(error),
+    }
+}
+
+/// Returns the values that `--align` accepts.
+fn aligns<'a>() -> &'a [&'a str]
+    ensures { texts result.now ≡ codes "1" ∷ codes "16" ∷ [] }
+{
+    &["1", "16"]
+}
+
+/// Returns the values that `--format` accepts.
+fn formats<'a>() -> &'a [&'a str]
+    ensures { texts result.now ≡ format_names }
+{
+    &["columns", "text", "fixed", "csv"]
+}
+
+/// Returns the values that `--bytes` accepts.
+fn orders<'a>() -> &'a [&'a str]
+    ensures { texts result.now ≡ order_names }
+{
+    &["little", "big"]
+}
+
+/// Returns the values that `--summary` accepts.
+fn summaries<'a>() -> &'a [&'a str]
+    ensures { texts result.now ≡ summary_names }
+{
+    &["text", "csv", "json"]
+}
+
+/// Returns what clap found, or the error of the values of `explain` or of `round` that exclude each other or are missing.
+fn chosen<'a>(alloc: Global, matches: ArgMatches<'a>) -> Result<ArgMatches<'a>, Error>
+    ensures read { IfOk result (λ chosen. (chosen ≡ matches.entry) × (choice_fault_in (subcommand_rows_of matches.entry) ≡ None)) }
+    ensures kinds { FailsBy (kinds_in (choice_fault_in (subcommand_rows_of matches.entry))) result }
+{
+    match choice_fault(&matches) {
+        None => Ok(matches),
+        Some(kind) => Err(choice_error(alloc, &matches, kind)?),
+    }
+}
+
+/// Returns the kind of error of the values of `explain` or of `round`, if there is one.
+fn choice_fault(matches: &ArgMatches<'_>) -> Option<ErrorKind>
+    ensures { result ≡ choice_fault_in (subcommand_rows_of matches.now) }
+{
+    if let Some(explain) = matches.subcommand_matches("explain") {
+        return word_fault(explain);
+    }
+    list_fault(matches.subcommand_matches("round")?)
+}
+
+/// Returns the kind of error of the values of `round`, if there is one: one of N and `--list` is required, and each
+/// excludes the other.
+fn list_fault(round: &ArgMatches<'_>) -> Option<ErrorKind>
+    ensures { result ≡ list_fault_of (rows_of (found_of round.now)) }
+{
+    match (has_value(round, "list"), has_value(round, "length")) {
+        (true, true) => Some(ErrorKind::ArgumentConflict),
+        (false, false) => Some(ErrorKind::MissingRequiredArgument),
+        _ => None,
+    }
+}
+
+/// Returns the kind of error of the values of `explain`, if there is one: WORD excludes `--length` and `--base`, and
+/// without WORD `--length` is required, which excludes `--svg`.
+fn word_fault(explain: &ArgMatches<'_>) -> Option<ErrorKind>
+    ensures { result ≡ choice_fault_of (rows_of (found_of explain.now)) }
+{
+    let has_length = has_value(explain, "length");
+    if has_value(explain, "word") {
+        if has_length || has_value(explain, "base") {
+            Some(ErrorKind::ArgumentConflict)
+        } else {
+            None
+        }
+    } else if !has_length {
+        Some(ErrorKind::MissingRequiredArgument)
+    } else if is_on(explain, "svg") {
+        Some(ErrorKind::ArgumentConflict)
+    } else {
+        None
+    }
+}
+
+/// Returns the error that says which values `round` or `explain` accepts together.
+fn choice_error(
+    alloc: Global,
+    matches: &ArgMatches<'_>,
+    kind: ErrorKind,
+) -> Result<Error, AllocError>
+    ensures { IfOk result (λ error. kind_of error ≡ kind) }
+{
+    match matches.subcommand_matches("round") {
+        Some(_) => bare_round_command(alloc).error(kind, ROUND_CHOICE),
+        None => explain_command(alloc)?.error(kind, EXPLAIN_CHOICE),
+    }
+}
+
+/// Returns whether an argument has a value.
+fn has_value(matches: &ArgMatches<'_>, name: &str) -> bool
+    ensures { result ≡ is_some (first_of name.now (rows_of (found_of matches.now))) }
+{
+    value_of(matches, name).is_some()
+}
+
+/// Returns the invocation of the command that clap found, by its name.
+fn invocation_of<'a>(matches: &ArgMatches<'a>) -> Invocation<'a>
+    requires { HasItsTexts (subcommand_rows_of matches.now) }
+    ensures { IsInvocation (subcommand_rows_of matches.now) result }
+{
+    match matches.subcommand() {
+        Some((name, values)) => read_command(name, values),
+        None => unreachable!(),
+    }
+}
+
+/// Returns the invocation of the command of this name with these values.
+fn read_command<'a>(name: &str, matches: &ArgMatches<'a>) -> Invocation<'a>
+    requires { HasWanted name.now (rows_of (found_of matches.now)) }
+    ensures command { command_name_of result ≡ name.now }
+    ensures values { HasValues (rows_of (found_of matches.now)) result }
+{
+    match name {
+        "show" => read_show(matches),
+        "round" => read_round(matches),
+        "run" => read_run(matches),
+        "plan" => read_plan(matches),
+        "map" => read_map(matches),
+        "replay" => read_replay(matches),
+        "decode" => read_decode(matches),
+        "annotate" => read_annotate(matches),
+        "explain" => read_explain(matches),
+        _ => unreachable!(),
+    }
+}
+
+fn read_show<'a>(matches: &ArgMatches<'a>) -> Invocation<'a>
+    requires word { HasText (codes "word") (rows_of (found_of matches.now)) }
+    requires line { HasFlag (codes "line") (rows_of (found_of matches.now)) }
+    ensures command { command_name_of result ≡ codes "show" }
+    ensures values { HasValues (rows_of (found_of matches.now)) result }
+{
+    Invocation::Ask(Question::Show {
+        word: wanted_text(matches, "word"),
+        as_line: is_given(matches, "line"),
+    })
+}
+
+fn read_round<'a>(matches: &ArgMatches<'a>) -> Invocation<'a>
+    requires { list_fault_of (rows_of (found_of matches.now)) ≡ None }
+    ensures command { command_name_of result ≡ codes "round" }
+    ensures values { HasValues (rows_of (found_of matches.now)) result }
+{
+    let base = value_of(matches, "base");
+    match value_of(matches, "list") {
+        Some(file) => Invocation::RoundList { base, file },
+        None => Invocation::Ask(Question::Round {
+            base,
+            length: wanted_text(matches, "length"),
+        }),
+    }
+}
+
+fn read_run<'a>(matches: &ArgMatches<'a>) -> Invocation<'a>
+    requires limit { HasLimit (rows_of (found_of matches.now)) }
+    requires stats { HasFlag (codes "stats") (rows_of (found_of matches.now)) }
+    ensures command { command_name_of result ≡ codes "run" }
+    ensures values { HasValues (rows_of (found_of matches.now)) result }
+{
+    Invocation::Run {
+        limit: limit_of(matches),
+        stats: is_given(matches, "stats"),
+        file: value_of(matches, "file"),
+    }
+}
+
+fn read_plan<'a>(matches: &ArgMatches<'a>) -> Invocation<'a>
+    requires pool { HasPoolTexts (rows_of (found_of matches.now)) }
+    requires limit { HasLimit (rows_of (found_of matches.now)) }
+    requires align { HasChoice align_named (codes "align") (rows_of (found_of matches.now)) }
+    requires stats { HasFlag (codes "stats") (rows_of (found_of matches.now)) }
+    ensures command { command_name_of result ≡ codes "plan" }
+    ensures values { HasValues (rows_of (found_of matches.now)) result }
+{
+    Invocation::Plan {
+        limit: limit_of(matches),
+        pool: pool_texts(matches),
+        align: align_of(matches),
+        stats: is_given(matches, "stats"),
+        file: value_of(matches, "file"),
+    }
+}
+
+fn read_map<'a>(matches: &ArgMatches<'a>) -> Invocation<'a>
+    requires pool { HasPoolTexts (rows_of (found_of matches.now)) }
+    requires limit { HasLimit (rows_of (found_of matches.now)) }
+    requires align { HasChoice align_named (codes "align") (rows_of (found_of matches.now)) }
+    requires svg { HasFlag (codes "svg") (rows_of (found_of matches.now)) }
+    ensures command { command_name_of result ≡ codes "map" }
+    ensures values { HasValues (rows_of (found_of matches.now)) result }
+{
+    Invocation::Map {
+        limit: limit_of(matches),
+        pool: pool_texts(matches),
+        align: align_of(matches),
+        svg: is_given(matches, "svg"),
+        file: value_of(matches, "file"),
+    }
+}
+
+fn read_replay<'a>(matches: &ArgMatches<'a>) -> Invocation<'a>
+    requires align { HasChoice align_named (codes "align") (rows_of (found_of matches.now)) }
+    requires strict { HasFlag (codes "strict") (rows_of (found_of matches.now)) }
+    requires summary { HasChoice summary_named (codes "summary") (rows_of (found_of matches.now)) }
+    ensures command { command_name_of result ≡ codes "replay" }
+    ensures values { HasValues (rows_of (found_of matches.now)) result }
+{
+    Invocation::Replay {
+        align: align_of(matches),
+        strict: is_given(matches, "strict"),
+        texts: replay_texts(matches),
+        file: value_of(matches, "file"),
+    }
+}
+
+fn read_decode<'a>(matches: &ArgMatches<'a>) -> Invocation<'a>
+    requires format { HasChoice format_named (codes "format") (rows_of (found_of matches.now)) }
+    requires order { HasChoice input_named (codes "bytes") (rows_of (found_of matches.now)) }
+    ensures command { command_name_of result ≡ codes "decode" }
+    ensures values { HasValues (rows_of (found_of matches.now)) result }
+{
+    Invocation::Decode {
+        input: input_of(matches),
+        format: format_of(matches),
+        texts: decode_texts(matches),
+        file: value_of(matches, "file"),
+    }
+}
+
+fn read_annotate<'a>(matches: &ArgMatches<'a>) -> Invocation<'a>
+    ensures command { command_name_of result ≡ codes "annotate" }
+    ensures values { HasValues (rows_of (found_of matches.now)) result }
+{
+    Invocation::Annotate {
+        file: value_of(matches, "file"),
+    }
+}
+
+fn read_explain<'a>(matches: &ArgMatches<'a>) -> Invocation<'a>
+    requires { choice_fault_of (rows_of (found_of matches.now)) ≡ None }
+    ensures command { command_name_of result ≡ codes "explain" }
+    ensures values { HasValues (rows_of (found_of matches.now)) result }
+{
+    match value_of(matches, "word") {
+        Some(word) if is_on(matches, "svg") => Invocation::Ask(Question::DrawWindow { word }),
+        Some(word) => Invocation::Ask(Question::Explain { word }),
+        None => Invocation::Ask(Question::ExplainLength {
+            base: base_of(matches),
+            length: wanted_text(matches, "length"),
+        }),
+    }
+}

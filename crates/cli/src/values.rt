@@ -1,0 +1,169 @@
+//! The values that clap found for arguments and options.
+ghost use Rattle.std.specs.Prelude.{◌≡◌, Some, codes, option_map, unwrap_or};
+ghost use Rattle.clap.specs.Words.{first_of, found_of, rows_of};
+ghost use Rattle.cli.specs.Invocation.{HasChoice, HasDecodeTexts, HasFlag, HasLimit, HasOutput, HasPool, HasPoolTexts, HasReplayTexts, HasText, IsChosen, IsGiven, IsLimit, align_named, format_named, input_named, is_on, summary_named};
+
+use crate::invocation::{DecodeTexts, PoolTexts, ReplayOutput, ReplayTexts, SummaryFormat};
+use cc_bounds::Align;
+use cc_io::{ByteOrder, Format, InputForm};
+use clap::ArgMatches;
+
+/// The value of `--slots` if it is not given.
+const DEFAULT_LIMIT: u32 = 4096;
+
+/// Returns the value of an argument or of an option, if it has one.
+pub(crate) fn value_of<'a>(matches: &ArgMatches<'a>, name: &str) -> Option<&'a str>
+    ensures { first_of name.now (rows_of (found_of matches.now)) ≡ option_map (λ text. text.now) result }
+{
+    matches.get_str(name)
+}
+
+/// Returns the value of `--base`, or `0`.
+pub(crate) fn base_of<'a>(matches: &ArgMatches<'a>) -> &'a str
+    ensures { result.now ≡ unwrap_or (first_of (codes "base") (rows_of (found_of matches.now))) (codes "0") }
+{
+    value_of(matches, "base").unwrap_or("0")
+}
+
+/// Returns the value of an argument that has one.
+pub(crate) fn wanted_text<'a>(matches: &ArgMatches<'a>, name: &str) -> &'a str
+    requires { HasText name.now (rows_of (found_of matches.now)) }
+    ensures { first_of name.now (rows_of (found_of matches.now)) ≡ Some result.now }
+{
+    match value_of(matches, name) {
+        Some(text) => text,
+        None => unreachable!(),
+    }
+}
+
+/// Returns the values of BASE and LENGTH.
+pub(crate) fn pool_texts<'a>(matches: &ArgMatches<'a>) -> PoolTexts<'a>
+    requires { HasPoolTexts (rows_of (found_of matches.now)) }
+    ensures { HasPool (rows_of (found_of matches.now)) result }
+{
+    PoolTexts {
+        base: wanted_text(matches, "base"),
+        length: wanted_text(matches, "length"),
+    }
+}
+
+/// Returns the values of the options of `decode` that are numbers or names.
+pub(crate) fn decode_texts<'a>(matches: &ArgMatches<'a>) -> DecodeTexts<'a>
+    ensures { HasDecodeTexts (rows_of (found_of matches.now)) result }
+{
+    DecodeTexts {
+        skip: value_of(matches, "skip"),
+        at: value_of(matches, "at"),
+        holds: value_of(matches, "holds"),
+        perms: value_of(matches, "perms"),
+    }
+}
+
+/// Returns the values of the options of `replay` that are numbers, names, a policy or a pool, and its output.
+pub(crate) fn replay_texts<'a>(matches: &ArgMatches<'a>) -> ReplayTexts<'a>
+    requires { HasChoice summary_named (codes "summary") (rows_of (found_of matches.now)) }
+    ensures { HasReplayTexts (rows_of (found_of matches.now)) result }
+{
+    ReplayTexts {
+        realloc: value_of(matches, "realloc"),
+        sweep: value_of(matches, "sweep"),
+        least: value_of(matches, "min"),
+        pool: value_of(matches, "pool"),
+        format: value_of(matches, "format"),
+        output: output_of(matches),
+    }
+}
+
+/// Returns the output of `replay`, or `None` if two of `--sizes`, `--svg`, `--script` and `--each` are given.
+fn output_of<'a>(matches: &ArgMatches<'a>) -> Option<ReplayOutput<'a>>
+    requires { HasChoice summary_named (codes "summary") (rows_of (found_of matches.now)) }
+    ensures { HasOutput (rows_of (found_of matches.now)) result }
+{
+    let format = summary_of(matches);
+    let sizes = is_on(matches, "sizes");
+    let svg = is_on(matches, "svg");
+    let script = is_on(matches, "script");
+    let each = value_of(matches, "each");
+    match (sizes, svg, script, each) {
+        (false, false, false, None) => Some(ReplayOutput::Summary(format)),
+        (true, false, false, None) => Some(ReplayOutput::Sizes(format)),
+        (false, true, false, None) => Some(ReplayOutput::Chart),
+        (false, false, true, None) => Some(ReplayOutput::Script),
+        (false, false, false, Some(each)) => Some(ReplayOutput::Series(each)),
+        _ => None,
+    }
+}
+
+/// Returns whether an option without a value was given.
+pub(crate) fn is_given(matches: &ArgMatches<'_>, name: &str) -> bool
+    requires { HasFlag name.now (rows_of (found_of matches.now)) }
+    ensures { IsGiven (first_of name.now (rows_of (found_of matches.now))) result }
+{
+    matches.get_flag(name)
+}
+
+/// Returns whether an option without a value was given, for any matches.
+pub(crate) fn is_on(matches: &ArgMatches<'_>, name: &str) -> bool
+    ensures { result ≡ is_on (first_of name.now (rows_of (found_of matches.now))) }
+{
+    match value_of(matches, name) {
+        Some("true") => true,
+        _ => false,
+    }
+}
+
+/// Returns the value of `--slots`, or 4,096.
+pub(crate) fn limit_of(matches: &ArgMatches<'_>) -> u32
+    requires { HasLimit (rows_of (found_of matches.now)) }
+    ensures { IsLimit (first_of (codes "slots") (rows_of (found_of matches.now))) result }
+{
+    matches.get_one("slots").unwrap_or(DEFAULT_LIMIT)
+}
+
+/// Returns the value of `--align`, or 1.
+pub(crate) fn align_of(matches: &ArgMatches<'_>) -> Align
+    requires { HasChoice align_named (codes "align") (rows_of (found_of matches.now)) }
+    ensures { IsChosen align_named Align.One (first_of (codes "align") (rows_of (found_of matches.now))) result }
+{
+    match value_of(matches, "align") {
+        Some("16") => Align::Sixteen,
+        _ => Align::One,
+    }
+}
+
+/// Returns the value of `--format`, or columns.
+pub(crate) fn format_of(matches: &ArgMatches<'_>) -> Format
+    requires { HasChoice format_named (codes "format") (rows_of (found_of matches.now)) }
+    ensures { IsChosen format_named Format.Columns (first_of (codes "format") (rows_of (found_of matches.now))) result }
+{
+    match value_of(matches, "format") {
+        Some("text") => Format::Text,
+        Some("fixed") => Format::Fixed,
+        Some("csv") => Format::Csv,
+        _ => Format::Columns,
+    }
+}
+
+/// Returns the value of `--summary`, or text.
+pub(crate) fn summary_of(matches: &ArgMatches<'_>) -> SummaryFormat
+    requires { HasChoice summary_named (codes "summary") (rows_of (found_of matches.now)) }
+    ensures { IsChosen summary_named SummaryFormat.Text (first_of (codes "summary") (rows_of (found_of matches.now))) result }
+{
+    match value_of(matches, "summary") {
+        Some("csv") => SummaryFormat::Csv,
+        Some("json") => SummaryFormat::Json,
+        _ => SummaryFormat::Text,
+    }
+}
+
+/// Returns raw bytes in the order that `--bytes` names, or lines of digits if it is not given.
+pub(crate) fn input_of(matches: &ArgMatches<'_>) -> InputForm
+    requires { HasChoice input_named (codes "bytes") (rows_of (found_of matches.now)) }
+    ensures { IsChosen input_named InputForm.Lines (first_of (codes "bytes") (rows_of (found_of matches.now))) result }
+{
+    match value_of(matches, "bytes") {
+        None => InputForm::Lines,
+        Some("big") => InputForm::Bytes(ByteOrder::Big),
+        Some(_) => InputForm::Bytes(ByteOrder::Little),
+    }
+}

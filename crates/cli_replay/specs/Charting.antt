@@ -1,0 +1,93 @@
+-- The output of `replay --svg`: a chart of the heap of a trace over its events.
+use Rattle.std.specs.Prelude.{ℕ, Bool, ◌≡◌, ◌≢◌, ◌+◌, ◌==◌, max, List, [], Option, None, Result, Ok, Err, if◌then◌else◌, false}
+use Rattle.std.specs.Io.KnownBytes.{Appends}
+use Rattle.cc_io.specs.Correct.{Pumps}
+use Rattle.cc_io.specs.Devices.{TakesBeginning}
+use Rattle.cc_io.specs.Frames.{lines}
+use Rattle.cc_io.specs.declared.summary.IoError.{IoError}
+use Rattle.cc_io.specs.declared.summary.IoError.TheVariants.{Read, Write}
+use Rattle.cc_io.specs.declared.summary.Summary.{Summary}
+use Rattle.cc_chart.specs.declared.levels.Levels.{Levels}
+use Rattle.cc_chart.specs.Chart.{Chart, no_chart, with_event}
+use Rattle.cc_chart.specs.Drawing.{chart_text}
+use Rattle.cc_heap.specs.Lost.{empty_run}
+use Rattle.cc_heap.specs.Peaks.{without_peaks}
+use Rattle.cc_heap.specs.Totals.{capped_sum}
+use Rattle.cc_heap.specs.declared.settings.Settings.{Settings}
+use Rattle.cc_replay.specs.Replay.{ReplayState, TakesLine, TakesRest, begun, figures_of, most_sample}
+use Rattle.cc_formats.specs.declared.reading.Progress.TheVariants.{OutOfMemory}
+use Rattle.cc_formats.specs.declared.reading.Reading.{Reading}
+use Rattle.cc_replay.specs.declared.summary.Figures.{Figures}
+use Rattle.cli.specs.Devices.{Traffic}
+
+-- A replay, and the chart of its heap.
+pub record Charted : Type 0 where
+  pub replay : ReplayState
+  pub chart : Chart
+
+-- A replay of a heap that held nothing, and a chart of no events.
+abbrev pub begun_chart : Settings → Reading → Charted
+begun_chart settings reading = record { replay = begun (empty_run settings) reading; chart = no_chart }
+
+-- The replay with no peaks of bytes, so that those after a line are of its event alone.
+abbrev pub peakless : ReplayState → ReplayState
+peakless state = record state { run = record state.run { heap = without_peaks state.run.heap } }
+
+-- The levels of an event, from the numbers after it, if the peaks were forgotten before it: the larger of each peak
+-- and of the heap's number, and the high-water mark.
+abbrev pub levels_of : Figures → Levels
+levels_of figures = record {
+  live = max figures.totals.peak_live figures.usage.live;
+  quarantine = max figures.totals.peak_quarantine figures.usage.quarantine;
+  held = max figures.totals.peak_held (capped_sum (figures.usage.live + figures.usage.quarantine));
+  high = figures.totals.high;
+}
+
+-- The chart with the levels of the last line, if the line is an event.
+abbrev pub charted : (events_before : ℕ) → Figures → Chart → Chart
+charted events_before figures chart =
+    if figures.counts.events == events_before then chart else with_event (levels_of figures) chart
+
+-- ChartsLine holds if the line is taken, and the levels of its event, if it is one, join the chart.
+pub record ChartsLine (old : Charted) (line text : List ℕ) (is_error : Bool) (new : Charted) : Type 0 where
+  pub takes : TakesLine (peakless old.replay) line text is_error new.replay
+  pub chart : new.chart ≡ charted old.replay.counts.events (figures_of new.replay) old.chart
+
+-- ChartsRest holds if the trailing bytes are taken, and the chart stays the same.
+pub record ChartsRest (old : Charted) (rest text : List ℕ) (is_error : Bool) (new : Charted) : Type 0 where
+  pub takes : TakesRest old.replay rest text is_error new.replay
+  pub chart : new.chart ≡ old.chart
+
+-- TakesLines holds if the lines that the source gave were taken, and the bytes after the last of them, until the replay and the chart
+-- were `new`. With a result that is `Ok` the source was read to its end.
+abbrev pub TakesLines : (old : Charted) (unread left : Option (List ℕ)) → Result Summary IoError → (new : Charted) → Type 0
+TakesLines old unread left result new = Pumps (λ (state : Charted). false) ChartsLine ChartsRest lines 65536 most_sample old [] unread left None None result new
+
+-- TakesAll holds if the source gave the whole trace, and the lines were taken until one stopped the replay, if any
+-- did. No allocation failed.
+pub record TakesAll (old : Charted) (unread left : Option (List ℕ)) (summary : Summary) (new : Charted) : Type 0 where
+  pub takes : TakesLines old unread left (Ok summary) new
+  pub has_memory : new.replay.progress ≢ OutOfMemory
+
+-- ChartsAll holds if the whole trace was taken in this way, and the chart was written.
+pub record ChartsAll (old : Charted) (traffic : Traffic) (summary : Summary) : Type 0 where
+  pub new : Charted
+  pub all : TakesAll old traffic.source.unread traffic.source_now.unread summary new
+  pub written : Appends traffic.output.taken traffic.output_now.taken (chart_text new.chart)
+
+-- StopsInChart holds if the whole trace was taken in this way, and a prefix of the chart was written.
+pub record StopsInChart (old : Charted) (traffic : Traffic) : Type 0 where
+  pub summary : Summary
+  pub new : Charted
+  pub all : TakesAll old traffic.source.unread traffic.source_now.unread summary new
+  pub written : TakesBeginning traffic.output.taken traffic.output_now.taken (chart_text new.chart)
+
+-- Charts holds if the chart of the trace's replay was written, up to a failed write. Nothing was written if a read failed.
+abbrev pub Charts : (old : Charted) → Traffic → Result Summary IoError → Type 0
+Charts old traffic (Ok summary) = ChartsAll old traffic summary
+Charts old traffic (Err Read) = traffic.output_now.taken ≡ traffic.output.taken
+Charts old traffic (Err Write) = StopsInChart old traffic
+
+-- ChartsTrace holds if the trace was replayed on a heap of these settings that held nothing, and its chart was written.
+abbrev pub ChartsTrace : Settings → Reading → Traffic → Result Summary IoError → Type 0
+ChartsTrace settings reading traffic result = Charts (begun_chart settings reading) traffic result

@@ -1,0 +1,108 @@
+-- The heap and the reading that the arguments of `replay` request.
+use Rattle.std.specs.Prelude.{ℕ, Bool, ◌^◌, ◌==◌, nat_lt, codes, length, List, Option, Some, None, Result, Ok, Err, zero, suc, if◌then◌else◌}
+use Rattle.std.specs.Borrow.{Bor}
+use Rattle.std.specs.Str.{bytes_eq}
+use Rattle.std.specs.List.{after_first, before_first, position_or_len}
+use Rattle.clap.specs.Words.{Text}
+use Rattle.cc_word.specs.declared.refusal.Refusal.{Refusal}
+use Rattle.cc_word.specs.declared.refusal.Refusal.TheVariants.{OutOfRange, Syntax}
+use Rattle.cc_bounds.specs.declared.align.Align.{Align}
+use Rattle.cc_bounds.specs.declared.span.Span.{Span}
+use Rattle.cc_values.specs.Values.{address_in, both}
+use Rattle.cc_command.specs.Request.{request_in}
+use Rattle.cc_replay.specs.PolicyText.{policy_in}
+use Rattle.cc_formats.specs.declared.formats.TraceFormat.{TraceFormat}
+use Rattle.cc_formats.specs.declared.formats.TraceFormat.TheVariants.{Own, Mtrace, Heaptrack, Ltrace}
+use Rattle.cc_heap.specs.declared.policy.Policy.{Policy}
+use Rattle.cc_heap.specs.declared.policy.Policy.TheVariants.{Percent}
+use Rattle.cc_heap.specs.declared.policy.Share.TheVariants.{Held}
+use Rattle.cc_formats.specs.declared.reading.Reading.{Reading}
+use Rattle.cc_heap.specs.declared.reallocation.Reallocation.{Reallocation}
+use Rattle.cc_heap.specs.declared.reallocation.Reallocation.TheVariants.{Move, Keep}
+use Rattle.cc_heap.specs.declared.settings.Settings.{Settings}
+use Rattle.cli.specs.declared.invocation.ReplayOutput.{ReplayOutput}
+use Rattle.cli.specs.declared.invocation.ReplayOutput.TheVariants.{Script, Series}
+use Rattle.cli.specs.declared.invocation.ReplayTexts.{ReplayTexts}
+use Rattle.cc_explain.specs.Refused.{changed}
+
+-- The policy that `--sweep` names: 25 percent of the held bytes if the option is not given.
+abbrev pub sweep_in : Option (Bor Text) → Result Policy Refusal
+sweep_in None = Ok (Percent 25 Held)
+sweep_in (Some text) = policy_in text.now
+
+-- The number of quarantined bytes that `--min` gives, or 0.
+abbrev pub least_in : Option (Bor Text) → Result ℕ Refusal
+least_in None = Ok 0
+least_in (Some text) = address_in text.now
+
+-- The number, or `OutOfRange` if it is 0.
+abbrev pub not_zero : Result ℕ Refusal → Result ℕ Refusal
+not_zero (Ok zero) = Err OutOfRange
+not_zero (Ok (suc less)) = Ok (suc less)
+not_zero (Err refusal) = Err refusal
+
+-- The output, and the number of events from one sample of a series to the next, or 0 without a series. No output means that
+-- two were asked for.
+abbrev pub output_in : Option ReplayOutput → Result (ReplayOutput × ℕ) Refusal
+output_in None = Err Syntax
+output_in (Some (Series text)) = changed (λ each. (Series text, each)) (not_zero (address_in text.now))
+output_in (Some output) = Ok (output, 0)
+
+-- The span of a base and a length with a colon between.
+abbrev pub span_in : (text : List ℕ) → Result Span Refusal
+span_in text =
+    if nat_lt (position_or_len (λ byte. byte == 58) text) (length text)
+    then request_in (before_first (λ byte. byte == 58) text) (after_first (λ byte. byte == 58) text)
+    else Err Syntax
+
+-- The pool that `--pool` gives, or all bytes at or above 2^44.
+abbrev pub span_given : Option (Bor Text) → Result Span Refusal
+span_given None = Ok (record { base = 2 ^ 44; top = 2 ^ 64 })
+span_given (Some text) = span_in text.now
+
+-- The format of a trace that a text names.
+abbrev pub format_named : (name : List ℕ) → Result TraceFormat Refusal
+format_named name =
+    if bytes_eq name (codes "own") then Ok Own
+    else if bytes_eq name (codes "mtrace") then Ok Mtrace
+    else if bytes_eq name (codes "heaptrack") then Ok Heaptrack
+    else if bytes_eq name (codes "ltrace") then Ok Ltrace
+    else Err Syntax
+
+-- The format of the trace that `--format` names: the crate's own if the option is not given.
+abbrev pub format_in : Option (Bor Text) → Result TraceFormat Refusal
+format_in None = Ok Own
+format_in (Some text) = format_named text.now
+
+-- The effect of a reallocation of this name.
+abbrev pub realloc_named : (name : List ℕ) → Result Reallocation Refusal
+realloc_named name =
+    if bytes_eq name (codes "move") then Ok Move
+    else if bytes_eq name (codes "keep") then Ok Keep
+    else Err Syntax
+
+-- The effect, which a script has only if it moves the object.
+abbrev pub in_output : Option ReplayOutput → Result Reallocation Refusal → Result Reallocation Refusal
+in_output (Some Script) (Ok Keep) = Err Syntax
+in_output _ found = found
+
+-- The effect of a reallocation that `--realloc` names: it moves the object if the option is not given.
+abbrev pub realloc_in : Option ReplayOutput → Option (Bor Text) → Result Reallocation Refusal
+realloc_in output None = Ok Move
+realloc_in output (Some text) = in_output output (realloc_named text.now)
+
+-- The output, the settings of the heap and how the trace is read, or the first error. `Syntax` comes first: a text is not a
+-- number, not a policy, not a pool or not one of the names, or two of `--sizes`, `--svg`, `--script` and `--each`
+-- are given, or `--script` with `--realloc keep`. Then comes that a pool ends past 2^64, and then that a number is
+-- out of range.
+abbrev pub replay_in : Align → (strict : Bool) → ReplayTexts → Result (ReplayOutput × (Settings × Reading)) Refusal
+replay_in align strict texts =
+    changed
+    (λ found. (
+      found.1.0.0,
+      (
+        record { limit = 2 ^ 24; pool = found.1.1.0; align = align; policy = found.0.0; least_quarantine = found.0.1; realloc = found.1.1.1.1 },
+        record { format = found.1.1.1.0; is_strict = strict; each = found.1.0.1 },
+      ),
+    ))
+    (both (both (sweep_in texts.sweep) (least_in texts.least)) (both (output_in texts.output) (both (span_given texts.pool) (both (format_in texts.format) (realloc_in texts.output texts.realloc)))))

@@ -1,0 +1,206 @@
+//! A replay whose heap is drawn as a chart.
+ghost use Rattle.std.specs.Prelude.{◌≡◌, ◌≢◌, ◌≤◌, ◌+◌, ◌↔◌, IfOk, false, true, length, Err, OnOk};
+ghost use Rattle.cc_io.specs.Answers.{AnswersInto};
+ghost use Rattle.cli.specs.Devices.{FromInput, OnDevices, OnOutput, Traffic};
+ghost use Rattle.cli.specs.Input.{IsFile};
+ghost use Rattle.cc_replay.specs.Replay.{most_sample};
+ghost use Rattle.cli_replay.specs.Charting.{Charts, ChartsLine, ChartsRest, TakesLines, begun_chart, charted, levels_of};
+ghost use Rattle.cli_replay.specs.Settings.{IsForHeap};
+
+use crate::memory::TraceMemory;
+use cc_chart::{Chart, Levels, write_chart};
+use cli::{Content, Discard, Fault, InputName, Inputs};
+use cc_gaps::GapPlacer;
+use cc_io::{Answerer, IoError, Lines, Page, Sink, Source, Summary, Waiting, pump};
+use cc_placer::Placer;
+use cc_replay::{Figures, MOST_SAMPLE, Progress, Reading, Replay, Settings};
+use std::alloc::{AllocError, Global};
+use std::marker::Model;
+
+/// A replay, and the chart of its heap.
+#[derive(Drop)]
+pub struct Charting<P: Placer> {
+    replay: Replay<P>,
+    chart: Chart,
+}
+
+impl<P: Placer> Model for Charting<P> {
+    ghost use Rattle.cli_replay.specs.Charting.{Charted};
+
+    ghost Value = { Charted };
+
+    ghost view = { λ c. record { replay = c.replay; chart = c.chart } };
+}
+
+impl<P: Placer> Charting<P> {
+    /// Creates a replay with a heap that holds nothing, and a chart of no events.
+    ///
+    /// Errors: `AllocError` if an allocation fails.
+    pub(crate) fn with_settings(
+        alloc: Global,
+        settings: Settings,
+        reading: Reading,
+    ) -> Result<Self, AllocError>
+        requires { IsForHeap settings }
+        ensures { IfOk result (λ charting. charting ≡ begun_chart settings reading) }
+    {
+        Ok(Charting {
+            replay: Replay::with_settings(alloc, settings, reading)?,
+            chart: Chart::new(),
+        })
+    }
+
+    /// Returns whether lines are taken.
+    pub(crate) fn progress(&self) -> Progress
+        ensures { result ≡ self.now.replay.progress }
+    {
+        self.replay.progress()
+    }
+
+    /// Returns the chart.
+    fn chart(&self) -> &Chart
+        ensures { result.now ≡ self.now.chart }
+    {
+        &self.chart
+    }
+
+    /// Takes a line, and adds the levels of its event to the chart, if it is one.
+    fn take_line<const N: usize>(&mut self, line: &[u8], out: &mut Page<N>) -> bool
+        requires { length out.old + most_sample ≤ N }
+        ensures { AnswersInto ChartsLine self.old line.now out.old out.new result self.new }
+    {
+        let events = self.replay.figures().counts.events;
+        self.replay.forget_peaks();
+        let is_refused = self.replay.answer(line, out);
+        add_event(&mut self.chart, events, &self.replay.figures());
+        is_refused
+    }
+
+    /// Takes trailing bytes.
+    fn take_rest<const N: usize>(&mut self, rest: &[u8], out: &mut Page<N>) -> bool
+        requires { length out.old + most_sample ≤ N }
+        ensures { AnswersInto ChartsRest self.old rest.now out.old out.new result self.new }
+    {
+        self.replay.end(rest, out)
+    }
+}
+
+/// Adds the levels of the last line to the chart, if there is one event more than before it.
+fn add_event(chart: &mut Chart, events_before: u64, figures: &Figures)
+    ensures { chart.new ≡ charted events_before figures.now chart.old }
+{
+    if figures.counts.events != events_before {
+        chart.add(levels_of(figures));
+    }
+}
+
+/// Returns the levels of an event, from the numbers after it.
+fn levels_of(figures: &Figures) -> Levels
+    ensures { result ≡ levels_of figures.now }
+{
+    let Figures { totals, usage, .. } = figures;
+    Levels {
+        live: totals.peak_live.max(usage.live),
+        quarantine: totals.peak_quarantine.max(usage.quarantine),
+        held: totals
+            .peak_held
+            .max(usage.live.saturating_add(usage.quarantine)),
+        high: totals.high,
+    }
+}
+
+impl<P: Placer, const N: usize> Answerer<N> for Charting<P> {
+    ghost Answered = { ChartsLine };
+
+    ghost Ended = { ChartsRest };
+
+    ghost MOST = { most_sample };
+
+    #[inline(always)]
+    fn is_done(&self) -> bool {
+        false
+    }
+
+    fn most() -> usize {
+        MOST_SAMPLE
+    }
+
+    fn answer(&mut self, entry: &[u8], out: &mut Page<N>) -> bool {
+        self.take_line(entry, out)
+    }
+
+    fn end(&mut self, rest: &[u8], out: &mut Page<N>) -> bool {
+        self.take_rest(rest, out)
+    }
+}
+
+/// Replays a trace, and adds its events to the chart.
+pub(crate) fn take_trace<P: Placer, S: Source>(
+    charting: &mut Charting<P>,
+    source: &mut S,
+) -> Result<Summary, IoError>
+    requires { (S.state source.old).has_failed ≡ false }
+    ensures takes { TakesLines charting.old (S.state source.old).unread (S.state source.new).unread result charting.new }
+    ensures read { (result ≡ Err IoError.Read) ↔ ((S.state source.new).has_failed ≡ true) }
+    ensures written { result ≢ Err IoError.Write }
+{
+    let mut page = Waiting::new();
+    pump(&Lines, charting, source, &mut Discard, &mut page)
+}
+
+/// Replays the trace of an input, and writes the chart of its heap.
+pub(crate) fn draw_input<M: TraceMemory, I: Inputs, W: Sink>(
+    memory: &mut M,
+    charting: &mut Charting<GapPlacer>,
+    inputs: &mut I,
+    source: &mut I::Opened,
+    input: InputName<'_>,
+    sink: &mut W,
+) -> Result<Summary, Fault>
+    requires memory { M.has_failed memory.old ≡ false }
+    requires source { (I.Opened.state source.old).has_failed ≡ false }
+    requires inputs { I.has_refused inputs.old ≡ false }
+    requires sink { (W.state sink.old).has_failed ≡ false }
+    ensures charts { OnOutput (I.bytes_of inputs.old) (I.Opened.state source.new) (W.state sink.old) (W.state sink.new)
+        (λ console. FromInput input.entry console (Charts charting.old)) result }
+    ensures open { result ≡ Err Fault.Open → IsFile input.entry }
+    ensures untouched { result ≡ Err Fault.Open → (W.state sink.new).taken ≡ (W.state sink.old).taken }
+    ensures starved { result ≡ Err Fault.Memory → (W.state sink.new).taken ≡ (W.state sink.old).taken }
+    ensures asked { I.last_asked inputs.new input.entry Content.Trace ≡ false → (inputs.new ≡ inputs.old) × (source.new ≡ source.old) }
+    ensures refused { (result ≡ Err Fault.Open) ↔ (I.has_refused inputs.new ≡ true) }
+    ensures read { (result ≡ Err Fault.Read) ↔ ((I.Opened.state source.new).has_failed ≡ true) }
+    ensures allocates { (result ≡ Err Fault.Memory) ↔ (M.has_failed memory.new ≡ true) }
+    ensures write { (result ≡ Err Fault.Write) ↔ ((W.state sink.new).has_failed ≡ true) }
+    ensures flushed { OnOk result ((W.state sink.new).is_flushed ≡ true) }
+{
+    inputs.open(input, Content::Trace, source)?;
+    draw(memory, charting, source, sink)
+}
+
+/// Replays a trace, and writes the chart of its heap.
+fn draw<M: TraceMemory, S: Source, W: Sink>(
+    memory: &mut M,
+    charting: &mut Charting<GapPlacer>,
+    source: &mut S,
+    sink: &mut W,
+) -> Result<Summary, Fault>
+    requires memory { M.has_failed memory.old ≡ false }
+    requires source { (S.state source.old).has_failed ≡ false }
+    requires sink { (W.state sink.old).has_failed ≡ false }
+    ensures charts { (traffic : Traffic) → traffic.source.unread ≡ (S.state source.old).unread → traffic.source_now.unread ≡ (S.state source.new).unread
+        → traffic.output.taken ≡ (W.state sink.old).taken → traffic.output_now.taken ≡ (W.state sink.new).taken
+        → OnDevices (Charts charting.old traffic) result }
+    ensures open { result ≢ Err Fault.Open }
+    ensures starved { result ≡ Err Fault.Memory → (W.state sink.new).taken ≡ (W.state sink.old).taken }
+    ensures read { (result ≡ Err Fault.Read) ↔ ((S.state source.new).has_failed ≡ true) }
+    ensures allocates { (result ≡ Err Fault.Memory) ↔ (M.has_failed memory.new ≡ true) }
+    ensures write { (result ≡ Err Fault.Write) ↔ ((W.state sink.new).has_failed ≡ true) }
+    ensures flushed { OnOk result ((W.state sink.new).is_flushed ≡ true) }
+{
+    let summary = memory.take_chart(charting, source)?;
+    if let Progress::OutOfMemory = charting.progress() {
+        return Err(Fault::Memory);
+    }
+    write_chart(charting.chart(), sink)?;
+    Ok(summary)
+}

@@ -1,0 +1,173 @@
+//! The memory of a trace that is replayed.
+ghost use Rattle.std.specs.Prelude.{◌≡◌, ◌≢◌, ◌↔◌, Err, IfOk, IsErr, OnErr, OnOk, false, true};
+ghost use Rattle.cc_formats.specs.declared.reading.Progress.TheVariants.{OutOfMemory};
+ghost use Rattle.cc_heap.specs.Lost.{empty_run};
+ghost use Rattle.cc_replay.specs.Replay.{begun};
+ghost use Rattle.cc_changes.specs.Script.{script_begun};
+ghost use Rattle.cli_replay.specs.Charting.{TakesLines, begun_chart};
+ghost use Rattle.cli_replay.specs.Replaying.{Replays};
+ghost use Rattle.cli_replay.specs.Scripting.{Writes};
+ghost use Rattle.cli_replay.specs.Settings.{IsForHeap, IsForScript};
+
+use crate::charting::{Charting, take_trace};
+use cc_changes::{Script, script_trace};
+use cli::{GlobalMemory, Memory};
+use cc_gaps::GapPlacer;
+use cc_io::{IoError, Sink, Source, Summary};
+use cc_replay::{Progress, Reading, Replay, Settings, replay_trace};
+use std::alloc::AllocError;
+
+/// The memory for the heap of a trace, which grows while lines are taken.
+///
+/// Each of its types has no parameter, so that no caller can bring one whose allocations always fail.
+///
+/// Each function that takes a trace requires that neither the source nor the sink has failed. Its errors are `Read` if and
+/// only if the source failed, and `Write` if and only if the sink failed.
+pub trait TraceMemory: Memory {
+    /// Begins a replay with a heap that holds nothing, before the first line of a trace.
+    ///
+    /// Requires: the limit is from 1 to 2^24, and the pool in the address space.
+    /// Errors: an allocation fails.
+    fn begin_replay(
+        &mut self,
+        settings: Settings,
+        reading: Reading,
+    ) -> Result<Replay<GapPlacer>, AllocError>
+        requires { IsForHeap settings }
+        ensures begins { IfOk result (λ replay. replay ≡ begun (empty_run settings) reading) }
+        ensures fails { IsErr result ↔ (Self.has_failed self.new ≡ true) };
+
+    /// Replays the trace that the source gives, and writes the samples of its series.
+    fn take_replay<S: Source, W: Sink>(
+        &mut self,
+        replay: &mut Replay<GapPlacer>,
+        source: &mut S,
+        sink: &mut W,
+    ) -> Result<Summary, IoError>
+        requires source { (S.state source.old).has_failed ≡ false }
+        requires sink { (W.state sink.old).has_failed ≡ false }
+        ensures takes { Replays replay.old (S.state source.old).unread (S.state source.new).unread (W.state sink.old).taken (W.state sink.new).taken result replay.new }
+        ensures read { (result ≡ Err IoError.Read) ↔ ((S.state source.new).has_failed ≡ true) }
+        ensures write { (result ≡ Err IoError.Write) ↔ ((W.state sink.new).has_failed ≡ true) }
+        ensures flushed { OnOk result ((W.state sink.new).is_flushed ≡ true) }
+        ensures fails { OnOk result ((replay.new.progress ≡ OutOfMemory) ↔ (Self.has_failed self.new ≡ true)) }
+        ensures stopped { OnErr result (Self.has_failed self.new ≡ false) };
+
+    /// Begins a replay and a chart of its heap, as [`TraceMemory::begin_replay`] does.
+    ///
+    /// Errors: an allocation fails.
+    fn begin_chart(
+        &mut self,
+        settings: Settings,
+        reading: Reading,
+    ) -> Result<Charting<GapPlacer>, AllocError>
+        requires { IsForHeap settings }
+        ensures begins { IfOk result (λ charting. charting ≡ begun_chart settings reading) }
+        ensures fails { IsErr result ↔ (Self.has_failed self.new ≡ true) };
+
+    /// Replays the trace that the source gives, and adds its events to the chart.
+    fn take_chart<S: Source>(
+        &mut self,
+        charting: &mut Charting<GapPlacer>,
+        source: &mut S,
+    ) -> Result<Summary, IoError>
+        requires source { (S.state source.old).has_failed ≡ false }
+        ensures takes { TakesLines charting.old (S.state source.old).unread (S.state source.new).unread result charting.new }
+        ensures read { (result ≡ Err IoError.Read) ↔ ((S.state source.new).has_failed ≡ true) }
+        ensures written { result ≢ Err IoError.Write }
+        ensures fails { OnOk result ((charting.new.replay.progress ≡ OutOfMemory) ↔ (Self.has_failed self.new ≡ true)) }
+        ensures stopped { OnErr result (Self.has_failed self.new ≡ false) };
+
+    /// Begins the script of a trace, as [`TraceMemory::begin_replay`] does. A machine can follow its heap.
+    ///
+    /// Requires: each realloc moves its object.
+    /// Errors: an allocation fails.
+    fn begin_script(
+        &mut self,
+        settings: Settings,
+        reading: Reading,
+    ) -> Result<Script<GapPlacer>, AllocError>
+        requires { IsForScript settings }
+        ensures begins { IfOk result (λ script. script ≡ script_begun settings reading) }
+        ensures fails { IsErr result ↔ (Self.has_failed self.new ≡ true) };
+
+    /// Takes the trace that the source gives, and writes its script.
+    fn take_script<S: Source, W: Sink>(
+        &mut self,
+        script: &mut Script<GapPlacer>,
+        source: &mut S,
+        sink: &mut W,
+    ) -> Result<Summary, IoError>
+        requires source { (S.state source.old).has_failed ≡ false }
+        requires sink { (W.state sink.old).has_failed ≡ false }
+        ensures takes { Writes script.old (S.state source.old).unread (S.state source.new).unread (W.state sink.old).taken (W.state sink.new).taken result script.new }
+        ensures read { (result ≡ Err IoError.Read) ↔ ((S.state source.new).has_failed ≡ true) }
+        ensures write { (result ≡ Err IoError.Write) ↔ ((W.state sink.new).has_failed ≡ true) }
+        ensures flushed { OnOk result ((W.state sink.new).is_flushed ≡ true) }
+        ensures fails { OnOk result ((script.new.progress ≡ OutOfMemory) ↔ (Self.has_failed self.new ≡ true)) }
+        ensures stopped { OnErr result (Self.has_failed self.new ≡ false) };
+}
+
+impl TraceMemory for GlobalMemory {
+    fn begin_replay(
+        &mut self,
+        settings: Settings,
+        reading: Reading,
+    ) -> Result<Replay<GapPlacer>, AllocError> {
+        let replay = Replay::with_settings(self.alloc, settings, reading);
+        self.has_failed = replay.is_err();
+        replay
+    }
+
+    fn take_replay<S: Source, W: Sink>(
+        &mut self,
+        replay: &mut Replay<GapPlacer>,
+        source: &mut S,
+        sink: &mut W,
+    ) -> Result<Summary, IoError> {
+        let result = replay_trace(replay, source, sink);
+        self.has_failed = result.is_ok() && matches!(replay.progress(), Progress::OutOfMemory);
+        result
+    }
+
+    fn begin_chart(
+        &mut self,
+        settings: Settings,
+        reading: Reading,
+    ) -> Result<Charting<GapPlacer>, AllocError> {
+        let charting = Charting::with_settings(self.alloc, settings, reading);
+        self.has_failed = charting.is_err();
+        charting
+    }
+
+    fn take_chart<S: Source>(
+        &mut self,
+        charting: &mut Charting<GapPlacer>,
+        source: &mut S,
+    ) -> Result<Summary, IoError> {
+        let result = take_trace(charting, source);
+        self.has_failed = result.is_ok() && matches!(charting.progress(), Progress::OutOfMemory);
+        result
+    }
+
+    fn begin_script(
+        &mut self,
+        settings: Settings,
+        reading: Reading,
+    ) -> Result<Script<GapPlacer>, AllocError> {
+        let script = Script::with_settings(self.alloc, settings, reading);
+        self.has_failed = script.is_err();
+        script
+    }
+
+    fn take_script<S: Source, W: Sink>(
+        &mut self,
+        script: &mut Script<GapPlacer>,
+        source: &mut S,
+        sink: &mut W,
+    ) -> Result<Summary, IoError> {
+        let result = script_trace(script, source, sink);
+        self.has_failed = result.is_ok() && matches!(script.progress(), Progress::OutOfMemory);
+        result
+    }
+}

@@ -1,0 +1,193 @@
+//! The heap and the reading that the arguments of `replay` request.
+ghost use Rattle.std.specs.Prelude.{◌≡◌, ◌^◌, IfOk, Some};
+ghost use Rattle.cc_bounds.specs.Span.{IsSpan};
+ghost use Rattle.cli.specs.declared.invocation.ReplayOutput.TheVariants.{Script};
+ghost use Rattle.cc_heap.specs.declared.reallocation.Reallocation.TheVariants.{Move};
+ghost use Rattle.cli_replay.specs.ReplayTexts.{format_in, format_named, in_output, least_in, output_in, realloc_in, realloc_named, replay_in, span_given, span_in, sweep_in};
+
+use cc_bounds::{Align, Span};
+use cc_command::read_request;
+use cli::{ReplayOutput, ReplayTexts};
+use cc_replay::{Policy, Reading, Reallocation, Settings, Share, TraceFormat, read_policy};
+use cc_syntax::{both, read_address};
+use cc_word::Refusal;
+
+/// The maximum number of spans that a heap holds.
+const MOST_HELD: u32 = 1 << 24;
+
+/// The pool if `--pool` is not given.
+const ALL_ABOVE: Span = Span {
+    base: 1 << 44,
+    top: 1 << 64,
+};
+
+/// Returns the output, the settings of the heap, and how the trace is read.
+///
+/// Errors, in order: `Syntax` if a text is not a number, not a policy, not a pool or not one of the names,
+/// if two of `--sizes`, `--svg`, `--script` and `--each` are given, or `--script` with `--realloc keep`;
+/// `OutOfBounds` if the pool ends past 2^64; `OutOfRange` if a number is too large, or the number of `--each`
+/// is 0.
+pub(crate) fn replay_of<'a>(
+    align: Align,
+    strict: bool,
+    texts: ReplayTexts<'a>,
+) -> Result<(ReplayOutput<'a>, (Settings, Reading)), Refusal>
+    ensures value { result ≡ replay_in align strict texts.entry }
+    ensures output { IfOk result (λ found. texts.entry.output ≡ Some found.0) }
+    ensures limit { IfOk result (λ found. found.1.0.limit ≡ 2 ^ 24) }
+    ensures pool { IfOk result (λ found. IsSpan found.1.0.pool) }
+    ensures moves { texts.entry.output ≡ Some Script → IfOk result (λ found. found.1.0.realloc ≡ Move) }
+{
+    let sweeping = both(policy_of(texts.sweep), least_of(texts.least));
+    let naming = both(
+        format_of(texts.format),
+        realloc_of(texts.output, texts.realloc),
+    );
+    let placing = both(pool_of(texts.pool), naming);
+    match both(sweeping, both(output_of(texts.output), placing)) {
+        Ok(((policy, least_quarantine), ((output, each), (pool, (format, realloc))))) => Ok((
+            output,
+            (
+                Settings {
+                    limit: MOST_HELD,
+                    pool,
+                    align,
+                    policy,
+                    least_quarantine,
+                    realloc,
+                },
+                Reading {
+                    format,
+                    is_strict: strict,
+                    each,
+                },
+            ),
+        )),
+        Err(refusal) => Err(refusal),
+    }
+}
+
+/// Returns the policy that `--sweep` names, or 25 percent of the held bytes.
+fn policy_of(text: Option<&str>) -> Result<Policy, Refusal>
+    ensures { result ≡ sweep_in text.entry }
+{
+    match text {
+        Some(text) => read_policy(text.as_bytes()),
+        None => Ok(Policy::Percent {
+            percent: 25,
+            of: Share::Held,
+        }),
+    }
+}
+
+/// Returns the number of quarantined bytes that `--min` gives, or 0.
+fn least_of(text: Option<&str>) -> Result<u64, Refusal>
+    ensures { result ≡ least_in text.entry }
+{
+    match text {
+        Some(text) => read_address(text.as_bytes()),
+        None => Ok(0),
+    }
+}
+
+/// Returns the output, and the number of events from one sample of a series to the next, or 0 without a series.
+fn output_of<'a>(output: Option<ReplayOutput<'a>>) -> Result<(ReplayOutput<'a>, u64), Refusal>
+    ensures { result ≡ output_in output.entry }
+{
+    match output {
+        None => Err(Refusal::Syntax),
+        Some(ReplayOutput::Series(text)) => match read_address(text.as_bytes()) {
+            Ok(0) => Err(Refusal::OutOfRange),
+            Ok(each) => Ok((ReplayOutput::Series(text), each)),
+            Err(refusal) => Err(refusal),
+        },
+        Some(output) => Ok((output, 0)),
+    }
+}
+
+/// Returns the format of the trace that `--format` names, or the crate's own.
+fn format_of(text: Option<&str>) -> Result<TraceFormat, Refusal>
+    ensures { result ≡ format_in text.entry }
+{
+    match text {
+        Some(text) => read_format(text.as_bytes()),
+        None => Ok(TraceFormat::Own),
+    }
+}
+
+/// Parses the name of a format.
+fn read_format(name: &[u8]) -> Result<TraceFormat, Refusal>
+    ensures { result ≡ format_named name.now }
+{
+    if name == b"own".as_slice() {
+        Ok(TraceFormat::Own)
+    } else if name == b"mtrace".as_slice() {
+        Ok(TraceFormat::Mtrace)
+    } else if name == b"heaptrack".as_slice() {
+        Ok(TraceFormat::Heaptrack)
+    } else if name == b"ltrace".as_slice() {
+        Ok(TraceFormat::Ltrace)
+    } else {
+        Err(Refusal::Syntax)
+    }
+}
+
+/// Returns the effect of a reallocation that `--realloc` names, or that it moves the object. `--script` excludes `keep`.
+fn realloc_of(output: Option<ReplayOutput<'_>>, text: Option<&str>) -> Result<Reallocation, Refusal>
+    ensures value { result ≡ realloc_in output.entry text.entry }
+    ensures moves { output.entry ≡ Some Script → IfOk result (λ realloc. realloc ≡ Move) }
+{
+    match text {
+        Some(text) => in_output(output, read_realloc(text.as_bytes())),
+        None => Ok(Reallocation::Move),
+    }
+}
+
+/// Returns an effect, unless the output cannot have it.
+fn in_output(
+    output: Option<ReplayOutput<'_>>,
+    found: Result<Reallocation, Refusal>,
+) -> Result<Reallocation, Refusal>
+    ensures value { result ≡ in_output output.entry found }
+    ensures moves { output.entry ≡ Some Script → IfOk result (λ realloc. realloc ≡ Move) }
+{
+    match (output, found) {
+        (Some(ReplayOutput::Script), Ok(Reallocation::Keep)) => Err(Refusal::Syntax),
+        (_, found) => found,
+    }
+}
+
+/// Parses the name of the effect of a reallocation.
+fn read_realloc(name: &[u8]) -> Result<Reallocation, Refusal>
+    ensures { result ≡ realloc_named name.now }
+{
+    if name == b"move".as_slice() {
+        Ok(Reallocation::Move)
+    } else if name == b"keep".as_slice() {
+        Ok(Reallocation::Keep)
+    } else {
+        Err(Refusal::Syntax)
+    }
+}
+
+/// Returns the pool that `--pool` gives, or all bytes at or above 2^44.
+fn pool_of(text: Option<&str>) -> Result<Span, Refusal>
+    ensures value { result ≡ span_given text.entry }
+    ensures pool { IfOk result IsSpan }
+{
+    match text {
+        Some(text) => read_pool(text),
+        None => Ok(ALL_ABOVE),
+    }
+}
+
+/// Parses a base and a length with a colon between.
+fn read_pool(text: &str) -> Result<Span, Refusal>
+    ensures value { result ≡ span_in text.now }
+    ensures pool { IfOk result IsSpan }
+{
+    match text.split_once(':') {
+        Some((base, length)) => read_request(base, length),
+        None => Err(Refusal::Syntax),
+    }
+}

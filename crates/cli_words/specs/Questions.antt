@@ -1,0 +1,52 @@
+-- The output of `show`, `round` and `explain`, the questions for which it is an error, and the hint on a question.
+use Rattle.std.specs.Prelude.{ℕ, Bool, true, false, not, ◌&&◌, IsErr, List, [], ◌∷◌, None, Some}
+use Rattle.cc_word.specs.WordText.{IsWordText}
+use Rattle.cc_values.specs.Values.{length_in}
+use Rattle.cc_explain.specs.Explanation.{IsExplanation}
+use Rattle.cc_explain.specs.LineAnswer.{IsLineAnswer}
+use Rattle.cc_explain.specs.Answer.{IsTypedWord}
+use Rattle.cc_explain.specs.Listing.{IsListing}
+use Rattle.cc_explain.specs.WindowDrawing.{IsWindowDrawing}
+use Rattle.cc_command.specs.Request.{IsLengthExplanation, request_in}
+use Rattle.cc_command.specs.Rounding.{IsRounding, IsRoundingAfter, IsUnroundableAfter}
+use Rattle.cli.specs.declared.question.Question.{Question}
+use Rattle.cli.specs.declared.question.Question.TheVariants.{DrawWindow, Explain, ExplainLength, Round, Show}
+use Rattle.cli_words.specs.NumberHint.{after_base, is_hinted, number_hint}
+use Rattle.cli_words.specs.WordHint.{is_word_hinted, word_hint}
+
+-- IsAnswerTo holds if the bytes are the output for the question.
+abbrev pub IsAnswerTo : Question → (answer : List ℕ) → Type 0
+IsAnswerTo (Show word false) answer = IsListing word.now answer
+IsAnswerTo (Show word true) answer = IsLineAnswer word.now answer
+IsAnswerTo (Round None size) answer = IsRounding None size.now answer
+IsAnswerTo (Round (Some base) size) answer = IsRoundingAfter base.now size.now answer
+IsAnswerTo (Explain word) answer = IsExplanation word.now answer
+IsAnswerTo (DrawWindow word) answer = IsWindowDrawing word.now answer
+IsAnswerTo (ExplainLength base size) answer = IsLengthExplanation base.now size.now answer
+
+-- IsUnanswerable holds if the output is an error: the texts are not a word, not a length, or not bounds that can be
+-- requested. `show` without `--line` accepts no `0x` before a word.
+abbrev pub IsUnanswerable : Question → Type 0
+IsUnanswerable (Show word false) = ¬ IsWordText word.now
+IsUnanswerable (Show word true) = ¬ IsTypedWord word.now
+IsUnanswerable (Round None size) = IsErr (length_in size.now)
+IsUnanswerable (Round (Some base) size) = IsUnroundableAfter base.now size.now
+IsUnanswerable (Explain word) = ¬ IsTypedWord word.now
+IsUnanswerable (DrawWindow word) = ¬ IsTypedWord word.now
+IsUnanswerable (ExplainLength base size) = IsErr (request_in base.now size.now)
+
+-- The numbers of a question, as they were typed.
+abbrev pub numbers_of : Question → List (List ℕ)
+numbers_of (Round base size) = after_base base (size.now ∷ [])
+numbers_of (ExplainLength base size) = base.now ∷ size.now ∷ []
+numbers_of question = []
+
+-- Whether there is a hint on a question: for `show` without `--line` on a word after `0x`, and otherwise on its numbers.
+abbrev pub has_hint : (hints : Bool) → Question → Bool
+has_hint hints (Show word as_line) = is_word_hinted (hints && not as_line) word.now
+has_hint hints question = is_hinted hints (numbers_of question)
+
+-- This hint, or nothing if there is none.
+abbrev pub question_hint : (hints : Bool) → Question → List ℕ
+question_hint hints (Show word as_line) = word_hint (hints && not as_line) word.now
+question_hint hints question = number_hint hints (numbers_of question)

@@ -1,0 +1,204 @@
+//! `decode`, `annotate` and `round --list`: the call for the words or the lengths of an input.
+ghost use Rattle.std.specs.Prelude.{◌≡◌, ◌≢◌, IsTrue, false, Err, IsOk, OnErr};
+ghost use Rattle.cli.specs.Devices.{FromInput, IsEnd, OnDevices, OnOutput, console_of};
+ghost use Rattle.cli.specs.Input.{IsFile, file_input};
+ghost use Rattle.cli_words.specs.Listing.{listing_in, place_in};
+ghost use Rattle.cli_words.specs.Tasks.{AnnotatesWords, ListsWords, RoundsLengths, SeesLengths, WithBase, WithListing};
+
+use crate::listing::{listing_of, place_of};
+use crate::number_hint::hint_list;
+use cc_command::{round_list, write_refusal};
+use cli::{Content, DecodeTexts, Fault, InputName, Inputs, file_input};
+use cc_decode::{Format, InputForm, Options, annotate, decode_words};
+use cc_io::{Sink, Summary};
+
+/// Writes a row for each listed word of the input that FILE names. The numbers and names of `texts` are read first. If one
+/// is refused, the output is that refusal, and nothing is read.
+///
+/// Requires: the sink has not failed.
+/// Errors: `Open` if the input cannot be opened, and nothing was written then; `Read` if a read fails; `Write` if and only if
+/// the sink failed.
+pub fn decode_file<I: Inputs, W: Sink>(
+    input: InputForm,
+    format: Format,
+    texts: DecodeTexts<'_>,
+    inputs: &mut I,
+    source: &mut I::Opened,
+    file: Option<&str>,
+    sink: &mut W,
+) -> Result<Summary, Fault>
+    requires source { (I.Opened.state source.old).has_failed ≡ false }
+    requires inputs { I.has_refused inputs.old ≡ false }
+    requires sink { (W.state sink.old).has_failed ≡ false }
+    ensures decodes { OnOutput (I.bytes_of inputs.old) (I.Opened.state source.new) (W.state sink.old) (W.state sink.new)
+        (λ console. WithListing input format texts.entry console (λ skipped options. FromInput (file_input file.entry) console (ListsWords skipped options))) result }
+    ensures open { result ≡ Err Fault.Open → IsFile (file_input file.entry) }
+    ensures memory { result ≢ Err Fault.Memory }
+    ensures asked { I.last_asked inputs.new (file_input file.entry) Content.Words ≡ false → (inputs.new ≡ inputs.old) × (source.new ≡ source.old) }
+    ensures unused { ¬ IsOk (listing_in input format texts.entry) → (inputs.new ≡ inputs.old) × (source.new ≡ source.old) }
+    ensures end { IsEnd (I.has_refused inputs.new) (I.Opened.state source.new) (W.state sink.old) (W.state sink.new) result }
+{
+    match listing_of(input, format, texts) {
+        Ok((skipped, options)) => list_words(
+            skipped,
+            options,
+            inputs,
+            source,
+            file_input(file),
+            sink,
+        ),
+        Err(refusal) => Ok(write_refusal(refusal, sink)?),
+    }
+}
+
+/// Writes a row for each listed word of an input after its first bytes.
+// not inlined, so that other commands do not touch the pages of its buffers on the stack
+#[inline(never)]
+fn list_words<I: Inputs, W: Sink>(
+    skipped: u64,
+    options: Options,
+    inputs: &mut I,
+    source: &mut I::Opened,
+    input: InputName<'_>,
+    sink: &mut W,
+) -> Result<Summary, Fault>
+    requires source { (I.Opened.state source.old).has_failed ≡ false }
+    requires inputs { I.has_refused inputs.old ≡ false }
+    requires sink { (W.state sink.old).has_failed ≡ false }
+    ensures lists { OnOutput (I.bytes_of inputs.old) (I.Opened.state source.new) (W.state sink.old) (W.state sink.new)
+        (λ console. FromInput input.entry console (ListsWords skipped options)) result }
+    ensures open { result ≡ Err Fault.Open → IsFile input.entry }
+    ensures memory { result ≢ Err Fault.Memory }
+    ensures asked { I.last_asked inputs.new input.entry Content.Words ≡ false → (inputs.new ≡ inputs.old) × (source.new ≡ source.old) }
+    ensures end { IsEnd (I.has_refused inputs.new) (I.Opened.state source.new) (W.state sink.old) (W.state sink.new) result }
+{
+    inputs.open(input, Content::Words, source)?;
+    Ok(decode_words(skipped, options, source, sink)?)
+}
+
+/// Copies the input that FILE names, with the line of each word after the word.
+///
+/// Requires: the sink has not failed.
+/// Errors: `Open` if the input cannot be opened, and nothing was written then; `Read` if a read fails; `Write` if and only if
+/// the sink failed.
+pub fn annotate_file<I: Inputs, W: Sink>(
+    inputs: &mut I,
+    source: &mut I::Opened,
+    file: Option<&str>,
+    sink: &mut W,
+) -> Result<Summary, Fault>
+    requires source { (I.Opened.state source.old).has_failed ≡ false }
+    requires inputs { I.has_refused inputs.old ≡ false }
+    requires sink { (W.state sink.old).has_failed ≡ false }
+    ensures annotates { OnOutput (I.bytes_of inputs.old) (I.Opened.state source.new) (W.state sink.old) (W.state sink.new)
+        (λ console. FromInput (file_input file.entry) console AnnotatesWords) result }
+    ensures open { result ≡ Err Fault.Open → IsFile (file_input file.entry) }
+    ensures memory { result ≢ Err Fault.Memory }
+    ensures asked { I.last_asked inputs.new (file_input file.entry) Content.Words ≡ false → (inputs.new ≡ inputs.old) × (source.new ≡ source.old) }
+    ensures end { IsEnd (I.has_refused inputs.new) (I.Opened.state source.new) (W.state sink.old) (W.state sink.new) result }
+{
+    inputs.open(file_input(file), Content::Words, source)?;
+    Ok(annotate(source, sink)?)
+}
+
+/// Writes the output of `round` for each length of the list that FILE names, with the bounds granted from a base, if one is
+/// given. The base is read first. If it is refused, the output is that refusal, and nothing is read. Then writes the hint on
+/// numbers to `errors`, if hints are given and the base or a line of the list may be meant as hexadecimal digits.
+///
+/// Requires: neither sink has failed.
+/// Errors: `Open` if the input cannot be opened, and nothing was written then; `Read` if a read fails; `Write` if and only if
+/// the sink failed. No hint is written then, and none if the base is refused.
+pub fn round_file<I: Inputs, W: Sink, E: Sink>(
+    base: Option<&str>,
+    hints: bool,
+    inputs: &mut I,
+    source: &mut I::Opened,
+    file: Option<&str>,
+    sink: &mut W,
+    errors: &mut E,
+) -> Result<Summary, Fault>
+    requires source { (I.Opened.state source.old).has_failed ≡ false }
+    requires inputs { I.has_refused inputs.old ≡ false }
+    requires sink { (W.state sink.old).has_failed ≡ false }
+    requires errors { (E.state errors.old).has_failed ≡ false }
+    ensures rounds { OnDevices (WithBase base.entry (W.state sink.old) (W.state sink.new) (λ place. FromInput (file_input file.entry)
+        (console_of (I.bytes_of inputs.old) (I.Opened.state source.new) (W.state sink.old) (W.state sink.new) (E.state errors.old) (E.state errors.new)) (RoundsLengths base.entry hints place))) result }
+    ensures silent { ¬ (IsTrue hints × IsOk (place_in base.entry)) → errors.new ≡ errors.old }
+    ensures unreported { OnErr result (errors.new ≡ errors.old) }
+    ensures open { result ≡ Err Fault.Open → IsFile (file_input file.entry) }
+    ensures memory { result ≢ Err Fault.Memory }
+    ensures asked { I.last_asked inputs.new (file_input file.entry) Content.Words ≡ false → (inputs.new ≡ inputs.old) × (source.new ≡ source.old) }
+    ensures unused { ¬ IsOk (place_in base.entry) → (inputs.new ≡ inputs.old) × (source.new ≡ source.old) }
+    ensures end { IsEnd (I.has_refused inputs.new) (I.Opened.state source.new) (W.state sink.old) (W.state sink.new) result }
+{
+    match place_of(base) {
+        Ok(place) => round_hinted(
+            place,
+            base,
+            hints,
+            inputs,
+            source,
+            file_input(file),
+            sink,
+            errors,
+        ),
+        Err(refusal) => Ok(write_refusal(refusal, sink)?),
+    }
+}
+
+/// Writes the output of `round` for each length of the list of an input, and then the hint on numbers.
+fn round_hinted<I: Inputs, W: Sink, E: Sink>(
+    place: Option<u64>,
+    base: Option<&str>,
+    hints: bool,
+    inputs: &mut I,
+    source: &mut I::Opened,
+    input: InputName<'_>,
+    sink: &mut W,
+    errors: &mut E,
+) -> Result<Summary, Fault>
+    requires source { (I.Opened.state source.old).has_failed ≡ false }
+    requires inputs { I.has_refused inputs.old ≡ false }
+    requires sink { (W.state sink.old).has_failed ≡ false }
+    requires errors { (E.state errors.old).has_failed ≡ false }
+    ensures rounds { OnDevices (FromInput input.entry
+        (console_of (I.bytes_of inputs.old) (I.Opened.state source.new) (W.state sink.old) (W.state sink.new) (E.state errors.old) (E.state errors.new)) (RoundsLengths base.entry hints place)) result }
+    ensures silent { ¬ IsTrue hints → errors.new ≡ errors.old }
+    ensures unreported { OnErr result (errors.new ≡ errors.old) }
+    ensures open { result ≡ Err Fault.Open → IsFile input.entry }
+    ensures memory { result ≢ Err Fault.Memory }
+    ensures asked { I.last_asked inputs.new input.entry Content.Words ≡ false → (inputs.new ≡ inputs.old) × (source.new ≡ source.old) }
+    ensures end { IsEnd (I.has_refused inputs.new) (I.Opened.state source.new) (W.state sink.old) (W.state sink.new) result }
+{
+    let mut bare = false;
+    let result = round_input(place, inputs, source, input, sink, &mut bare);
+    if result.is_err() {
+        return result;
+    }
+    hint_list(hints, base, bare, errors);
+    result
+}
+
+/// Writes the output of `round` for each length of the list of an input. At `Ok`, `bare` is whether a line may be meant as
+/// hexadecimal digits.
+fn round_input<I: Inputs, W: Sink>(
+    base: Option<u64>,
+    inputs: &mut I,
+    source: &mut I::Opened,
+    input: InputName<'_>,
+    sink: &mut W,
+    bare: &mut bool,
+) -> Result<Summary, Fault>
+    requires source { (I.Opened.state source.old).has_failed ≡ false }
+    requires inputs { I.has_refused inputs.old ≡ false }
+    requires sink { (W.state sink.old).has_failed ≡ false }
+    ensures rounds { OnOutput (I.bytes_of inputs.old) (I.Opened.state source.new) (W.state sink.old) (W.state sink.new)
+        (λ console. FromInput input.entry console (SeesLengths base bare.new)) result }
+    ensures open { result ≡ Err Fault.Open → IsFile input.entry }
+    ensures memory { result ≢ Err Fault.Memory }
+    ensures asked { I.last_asked inputs.new input.entry Content.Words ≡ false → (inputs.new ≡ inputs.old) × (source.new ≡ source.old) }
+    ensures end { IsEnd (I.has_refused inputs.new) (I.Opened.state source.new) (W.state sink.old) (W.state sink.new) result }
+{
+    inputs.open(input, Content::Words, source)?;
+    Ok(round_list(base, source, sink, bare)?)
+}
