@@ -385,6 +385,125 @@ static void check_memory(size_t count, bool big_endian)
     expect(cheri_cap_represents_memory(NULL, 0, big_endian, NULL, 0, NULL, 0) == 0 && cheri_cap_represents_memory(memory, count, big_endian, NULL, 0, representable, count) == 0, "memory", "null for no addresses");
 }
 
+// Returns whether a query wants a word, by the functions for one word.
+static bool is_wanted(const cheri_cap_query *query, cheri_cap_u128 word, bool tagged)
+{
+    const bool sentry = cheri_cap_is_sentry(word.high);
+    const cheri_cap_u128 own = sentry ? cheri_cap_with_type(word.high, word.low, CHERI_CAP_OTYPE_UNSEALED) : word;
+    const cheri_cap_bounds bounds = cheri_cap_decode(word.high, word.low);
+    const uint16_t perms = cheri_cap_perms(word.high, word.low);
+    return cheri_cap_is_canonical(own.high, own.low) && (!query->needs_tag || tagged)
+        && (sentry ? query->sentries : query->sealed || !cheri_cap_is_sealed(word.high))
+        && (perms & query->perms) == query->perms && (!query->needs_permission || perms != 0)
+        && (!query->needs_address || cheri_cap_bounds_hold(&bounds, query->address));
+}
+
+// Checks searches of memory at an odd address: for each query, calls for three positions at a time find the words that the
+// functions for one word want. The words come from the table, and each also as a sentry. Every third has a tag.
+static void check_search(size_t count, bool big_endian)
+{
+    static uint8_t bytes[1 + 32 * CAPACITY];
+    uint8_t *memory = bytes + 1, tags[CAPACITY / 4 + 1] = {0};
+    cheri_cap_u128 all[2 * CAPACITY];
+    size_t total = 0;
+    for (size_t i = 0; i < 2 * count; i++) {
+        const cheri_cap_u128 word = words[i / 2];
+        all[i] = i % 2 == 0 ? word : cheri_cap_with_type(word.high, word.low, CHERI_CAP_OTYPE_SENTRY);
+        cheri_cap_word_to_bytes(all[i], memory + 16 * i, big_endian);
+        if (i % 3 == 0)
+            tags[i / 8] = (uint8_t)(tags[i / 8] | 1u << i % 8);
+    }
+    for (unsigned bits = 0; bits < 64; bits++) {
+        const uint16_t perms = (bits & 32) != 0 ? (uint16_t)CHERI_CAP_PERM_LOAD : (uint16_t)0;
+        const cheri_cap_query query = {
+            words[bits % count].low, perms, (bits & 16) != 0, (bits & 8) != 0, (bits & 4) != 0, (bits & 2) != 0, (bits & 1) != 0};
+        size_t from = 0;
+        while (from < 2 * count) {
+            // a call for a part of the memory has the tags from its first word on: the part begins at a multiple of eight
+            const size_t start = from / 8 * 8, part = 2 * count - start < 32 ? 2 * count - start : 32;
+            uint64_t positions[4] = {77, 77, 77, 77};
+            size_t next = 77, found = cheri_cap_search_memory(
+                memory + 16 * start, part, big_endian, tags + start / 8, (part + 7) / 8, &query, positions, 3, &next);
+            size_t wanted = 0, i = 0;
+            for (; i < part && wanted < 3; i++)
+                if (is_wanted(&query, all[start + i], (tags[(start + i) / 8] >> (start + i) % 8 & 1) != 0))
+                    expect(wanted < found && positions[wanted++] == i, "search", "the position of a word");
+            expect(found == wanted && next == i, "search", "the number of positions, and the next word");
+            expect(found == 3 || positions[found] == 77, "search", "the element after the positions");
+            total += found;
+            from = start + (next < 8 ? 8 : next);
+        }
+    }
+    expect(total > 100, "search", "some words");
+    const cheri_cap_query query = {0, 0, false, false, false, true, true}, tagged = {0, 0, false, false, true, true, true};
+    uint64_t position;
+    size_t next = 77;
+    expect(cheri_cap_search_memory(NULL, 0, big_endian, NULL, 0, &query, &position, 1, &next) == 0 && next == 0, "search", "null for no memory");
+    expect(cheri_cap_search_memory(memory, 9, big_endian, NULL, 0, &query, NULL, 0, &next) == 0 && next == 0, "search", "null for no positions");
+    expect(cheri_cap_search_memory(memory, 9, big_endian, NULL, 0, &tagged, &position, 1, &next) == 0 && next == 0, "search", "null for no tags");
+    memset(memory, 0, 32);
+    expect(cheri_cap_search_memory(memory, 2, big_endian, NULL, 0, &query, &position, 1, &next) == 1 && position == 0 && next == 1, "search", "null words, without tags");
+}
+
+static bool same_granted(cheri_cap_granted one, cheri_cap_granted other)
+{
+    return one.base == other.base && one.top_high == other.top_high && one.top_low == other.top_low && one.t == other.t && one.b == other.b
+        && one.exponent == other.exponent && one.ie == other.ie && one.exact == other.exact && one.in_range == other.in_range;
+}
+
+// Checks the batch functions on requests, and on bounds of words in memory: each result equals that of the function for one,
+// and one array is one element shorter.
+static void check_requests_of_many(size_t count, bool big_endian)
+{
+    static uint64_t bases[CAPACITY], masks[CAPACITY];
+    static cheri_cap_u128 lengths[CAPACITY], rounded[CAPACITY];
+    static cheri_cap_granted granted[CAPACITY];
+    static uint8_t bytes[1 + 16 * CAPACITY], bytes_made[1 + 16 * CAPACITY];
+    uint8_t *memory = bytes + 1, *made = bytes_made + 1, refusals[CAPACITY];
+    size_t refused = 0;
+    for (size_t i = 0; i < count; i++) {
+        bases[i] = words[i].low;
+        lengths[i].high = i % 7 == 6;
+        lengths[i].low = words[i].high >> i % 64;
+        cheri_cap_word_to_bytes(words[i], memory + 16 * i, big_endian);
+    }
+    memset(granted, 1, sizeof granted);
+    memset(rounded, 77, sizeof rounded);
+    memset(masks, 77, sizeof masks);
+    expect(cheri_cap_set_bounds_many(bases, count, lengths, count - 1, granted, count) == count - 1, "many requests", "the number of granted bounds");
+    expect(cheri_cap_round_length_many(lengths, count, rounded, count - 1) == count - 1, "many requests", "the number of lengths");
+    expect(cheri_cap_alignment_mask_many(lengths, count - 1, masks, count) == count - 1, "many requests", "the number of masks");
+    for (size_t i = 0; i < count - 1; i++) {
+        const cheri_cap_u128 length = cheri_cap_round_length(lengths[i].high, lengths[i].low);
+        expect(same_granted(granted[i], cheri_cap_set_bounds(bases[i], lengths[i].high, lengths[i].low)), "many requests", "granted bounds");
+        expect(rounded[i].high == length.high && rounded[i].low == length.low, "many requests", "a length");
+        expect(masks[i] == cheri_cap_alignment_mask(lengths[i].high, lengths[i].low), "many requests", "a mask");
+    }
+    const uint64_t kept = UINT64_C(0x4d4d4d4d4d4d4d4d); // eight bytes 77
+    expect(granted[count - 1].t == 0x101 && rounded[count - 1].low == kept && masks[count - 1] == kept, "many requests", "the element after the results");
+    expect(cheri_cap_set_bounds_many(NULL, 0, NULL, 0, granted, count) == 0 && cheri_cap_set_bounds_many(bases, count, lengths, count, NULL, 0) == 0, "many requests", "null for no bases or bounds");
+    expect(cheri_cap_round_length_many(NULL, 0, rounded, count) == 0 && cheri_cap_round_length_many(lengths, count, NULL, 0) == 0, "many requests", "null for no lengths");
+    expect(cheri_cap_alignment_mask_many(NULL, 0, masks, count) == 0 && cheri_cap_alignment_mask_many(lengths, count, NULL, 0) == 0, "many requests", "null for no masks");
+    for (int exact = 0; exact < 2; exact++) {
+        memset(made, 7, 16 * count);
+        memset(refusals, 77, sizeof refusals);
+        for (size_t i = 0; i < count; i++) { // mostly lengths within the bounds
+            lengths[i].high = 0;
+            lengths[i].low = i % 5 * 1001;
+        }
+        expect(cheri_cap_set_bounds_memory(memory, count, big_endian, exact != 0, lengths, count, made, count, refusals, count - 1) == count - 1, "memory", "the number of words made");
+        for (size_t i = 0; i < count - 1; i++) {
+            const cheri_cap_made alone = exact ? cheri_cap_set_bounds_exact_on(words[i].high, words[i].low, 0, lengths[i].low) : cheri_cap_set_bounds_on(words[i].high, words[i].low, 0, lengths[i].low);
+            const cheri_cap_u128 word = cheri_cap_word_from_bytes(made + 16 * i, big_endian);
+            expect(word.high == alone.high && word.low == alone.low && refusals[i] == alone.refusal, "memory", "a word with bounds");
+            refused += alone.refusal != 0;
+        }
+        expect(made[16 * (count - 1)] == 7 && made[16 * count - 1] == 7 && refusals[count - 1] == 77, "memory", "the element after the results");
+    }
+    expect(refused > 0 && refused < 2 * (count - 1), "memory", "some words and some refusals");
+    expect(cheri_cap_set_bounds_memory(NULL, 0, big_endian, false, lengths, count, NULL, 0, NULL, 0) == 0, "memory", "null for no words to set bounds on");
+}
+
 // Checks the offsets and the accesses that the rows do not have.
 static void check_offsets(void)
 {
@@ -527,6 +646,10 @@ int main(int argc, char **argv)
     check_many(rows < CAPACITY ? rows : CAPACITY);
     check_memory(rows < CAPACITY ? rows : CAPACITY, false);
     check_memory(rows < CAPACITY ? rows : CAPACITY, true);
+    check_search(rows < CAPACITY ? rows : CAPACITY, false);
+    check_search(rows < CAPACITY ? rows : CAPACITY, true);
+    check_requests_of_many(rows < CAPACITY ? rows : CAPACITY, false);
+    check_requests_of_many(rows < CAPACITY ? rows : CAPACITY, true);
     check_comparisons();
     check_lengths();
     check_offsets();

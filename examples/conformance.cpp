@@ -207,6 +207,54 @@ void check_rules(const row &it, word cap)
     expect(cap.is_subset_of(root) && !root.is_subset_of(cap.with_perms(0)), it.name, "subset of the root");
 }
 
+// Setting bounds of words of memory and searching it are like the functions for one word.
+void check_bounds_there(const std::vector<word> &words, const std::vector<std::uint8_t> &memory, byte_order order)
+{
+    const std::size_t count = words.size();
+    std::vector<cheri_cap_u128> lengths(count, cheri_cap_u128{0, 100});
+    std::vector<std::uint8_t> made(16 * count, 7), tags(count / 8 + 1, 0xff);
+    std::vector<refusal> refusals(count);
+    cheri::set_bounds_memory(memory.data(), order, true, lengths.data(), made.data(), refusals.data(), count);
+    std::size_t wanted = 0, found = 0, next = 0;
+    cheri_cap_query query{};
+    query.needs_tag = query.needs_permission = query.sealed = true;
+    std::vector<std::uint64_t> positions(count);
+    found = cheri::search_memory(memory.data(), order, count, tags.data(), query, positions.data(), count, next);
+    for (std::size_t i = 0; i < count; i++) {
+        const cheri::result alone = words[i].set_bounds_exact(100);
+        expect(refusals[i] == alone.error(), "memory", "the refusal of bounds");
+        expect(word::from_bytes(&made[16 * i], order) == alone.value_or(word()), "memory", "a word with bounds");
+        if (words[i].is_canonical() && words[i].perms() != 0)
+            expect(wanted < found && positions[wanted++] == i, "memory", "a found word");
+    }
+    expect(wanted == found && wanted > 0 && next == count, "memory", "the number of found words");
+    expect(cheri::search_memory(nullptr, order, 0, nullptr, query, nullptr, 0, next) == 0, "memory", "no words");
+}
+
+// Requests are like the functions for one.
+void check_many_requests(const std::vector<word> &words)
+{
+    std::vector<std::uint64_t> bases, masks(words.size());
+    std::vector<cheri_cap_u128> lengths, rounded(words.size());
+    std::vector<cheri_cap_granted> granted(words.size());
+    for (const word it : words) {
+        bases.push_back(it.low());
+        lengths.push_back({0, it.high() >> 20});
+    }
+    cheri::set_bounds_many(bases.data(), lengths.data(), granted.data(), words.size());
+    cheri::round_length_many(lengths.data(), rounded.data(), words.size());
+    cheri::alignment_mask_many(lengths.data(), masks.data(), words.size());
+    for (std::size_t i = 0; i < words.size(); i++) {
+        const auto alone = cheri::grant(bases[i], lengths[i].low);
+        expect(granted[i].in_range == alone.has_value() && (!alone || granted[i].top_low == alone->top_low), "many requests",
+               "bounds");
+        expect(cheri::round_length(lengths[i].low) == u128(rounded[i].high, rounded[i].low) &&
+                   cheri::alignment_mask(lengths[i].low) == masks[i],
+               "many requests", "a length and a mask");
+    }
+    cheri::set_bounds_many(nullptr, nullptr, nullptr, 0);
+}
+
 void check_many(const std::vector<word> &words)
 {
     std::vector<cheri_cap_bounds> bounds(words.size());
@@ -245,6 +293,7 @@ void check_many(const std::vector<word> &words)
         cheri::decode_memory(nullptr, order, nullptr, 0);
         cheri::is_canonical_memory(nullptr, order, nullptr, 0);
         cheri::represents_memory(nullptr, order, nullptr, nullptr, 0);
+        check_bounds_there(words, memory, order);
     }
     const std::unordered_set<word> distinct(words.begin(), words.end());
     expect(distinct.count(word::root()) == 1 && distinct.count(word(0, 1)) == 0, "many words", "a set of them");
@@ -337,6 +386,7 @@ int main(int argc, char **argv)
     }
     expect(words.size() >= 24, argv[1], "too few rows");
     check_many(words);
+    check_many_requests(words);
     check_lengths();
     check_results();
     check_measures();

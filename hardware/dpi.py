@@ -66,7 +66,8 @@ with_bounds           void    word:word ie:flag t:u16 b:u16       | result:word=
 # The functions of the header that have no line above, and the SystemVerilog to use.
 OMITTED = {
     "decode_many": "a loop", "is_canonical_many": "a loop", "represents_many": "a loop",
-    "decode_memory": "a loop", "is_canonical_memory": "a loop", "represents_memory": "a loop",
+    "decode_memory": "a loop", "is_canonical_memory": "a loop", "represents_memory": "a loop", "search_memory": "a loop",
+    "set_bounds_many": "a loop", "round_length_many": "a loop", "alignment_mask_many": "a loop", "set_bounds_memory": "a loop",
     "null": "128'd0", "root": "{16'hffff, 112'd0}", "perms_of": "perms", "otype_of": "otype", "is_sealed": "otype", "is_sentry": "otype",
     "compare": "<", "top": "an output of decode", "length": "top - base", "offset": "address - base", "swapped": "{<<8{half}}",
     "is_big_endian": "a word has no byte order", "word_from_bytes": "a concatenation", "word_to_bytes": "a concatenation",

@@ -27,13 +27,13 @@
  * Ranges: each function accepts every value of its parameters' types, except invalid pointers and
  * invalid `bool`s. Its comment says what it returns for values out of range.
  *
- * Pointers, of the three text functions and the six batch functions: the pointer to an array may be
+ * Pointers, of the three text functions and the batch functions: the pointer to an array may be
  * null if its count or its length is 0, as that of an empty std::vector may be, and no other pointer
  * may. An array has as many elements as its count says, and its size is at most PTRDIFF_MAX bytes. It
- * must be aligned for its element type: to 8 bytes for cheri_cap_u128, cheri_cap_bounds and
- * uint64_t. `memory` has 16 bytes for each word of its count, at any address. Arrays that a
- * function reads may overlap each other. An array that a function writes must not overlap any
- * other array of that call.
+ * must be aligned for its element type: to 8 bytes for uint64_t and the structs. `memory` and `made`
+ * have 16 bytes for each word of their count, at any address. Arrays that a function reads may
+ * overlap each other. An array, or `next`, that a function writes must not overlap anything else
+ * that the call reads or writes.
  *
  * Booleans: a `bool` must be 0 or 1, as C and C++ create it, also in a struct. If the bytes of a
  * struct come from a file or a socket, check them first: any other value is undefined behavior, in
@@ -72,8 +72,9 @@ extern "C" {
  * New in 400 are this macro, cheri_cap_decode_memory, cheri_cap_is_canonical_memory,
  * cheri_cap_represents_memory, cheri_cap_keeps_bounds, cheri_cap_window, cheri_cap_defect,
  * cheri_cap_word_length, cheri_cap_word_granule, cheri_cap_lost, cheri_cap_bounds_hold_bytes,
- * cheri_cap_set_offset and cheri_cap_with_*. All other functions are in 0.3.0 too, whose header does
- * not define this macro.
+ * cheri_cap_set_offset, cheri_cap_with_*, cheri_cap_search_memory, cheri_cap_set_bounds_many,
+ * cheri_cap_round_length_many, cheri_cap_alignment_mask_many and cheri_cap_set_bounds_memory. All
+ * other functions are in 0.3.0 too, whose header does not define this macro.
  */
 #define CHERI_CAP_RELEASE 400
 
@@ -251,6 +252,17 @@ typedef struct cheri_cap_made {
     uint8_t refusal; /* 0 if there is a word, otherwise one of CHERI_CAP_REFUSAL_* */
 } cheri_cap_made;
 
+/* The words that cheri_cap_search_memory finds, of those that can have a tag. */
+typedef struct cheri_cap_query {
+    uint64_t address;      /* the bounds must contain the byte here, if `needs_address` */
+    uint16_t perms;        /* the permissions that a word must have, all of them, or 0 */
+    bool needs_permission; /* a word must have some permission */
+    bool needs_address;
+    bool needs_tag; /* the bit of a word must be set */
+    bool sealed;    /* sealed words are found, except sentries */
+    bool sentries;  /* sentries are found */
+} cheri_cap_query;
+
 /* ---- The library */
 
 /* Returns the version of the library. */
@@ -411,6 +423,58 @@ size_t cheri_cap_is_canonical_memory(
 size_t cheri_cap_represents_memory(
     const void *memory, size_t word_count, bool big_endian, const uint64_t *addresses, size_t address_count,
     uint8_t *answers, size_t answer_count) CHERI_CAP_NOEXCEPT;
+
+/*
+ * Searches the words of memory for those that can have a tag and that the query wants: writes their
+ * positions, in increasing order, until `positions` is full, and returns their number.
+ *
+ * `next` gets the position of the first word that was not examined: the word after the one whose
+ * position was the last to fit, or the end of the words. A further call continues from there.
+ *
+ * A word can have a tag if it is canonical, or a sentry: its type is CHERI_CAP_OTYPE_SENTRY, and it
+ * is canonical with CHERI_CAP_OTYPE_UNSEALED in its place. Null and each integer below 2^64 are
+ * canonical too, with no permission. So a search without tags should set `needs_permission`, and even
+ * then other bytes may be found: 22 in 100 random words are canonical.
+ *
+ * If the query needs a tag, bit i % 8 of tag_bits[i / 8] is the tag of word i, the lowest bit being
+ * bit 0, and only words that have a bit are examined. If not, `tag_bits` is not read. It may be null if
+ * its count is 0.
+ *
+ * Pointers: `query` and `next` must not be null. See the batch functions above for the others.
+ */
+size_t cheri_cap_search_memory(
+    const void *memory, size_t word_count, bool big_endian, const uint8_t *tag_bits, size_t tag_byte_count,
+    const cheri_cap_query *query, uint64_t *positions, size_t position_count, size_t *next) CHERI_CAP_NOEXCEPT;
+
+/*
+ * Batch functions on requests. Each writes the result of cheri_cap_set_bounds, cheri_cap_round_length
+ * or cheri_cap_alignment_mask for the length at each position, and returns the number of results.
+ *
+ * cheri_cap_set_bounds_many uses the base at that position.
+ *
+ * Pointers and counts: as those of cheri_cap_decode_many.
+ */
+size_t cheri_cap_set_bounds_many(
+    const uint64_t *bases, size_t base_count, const cheri_cap_u128 *lengths, size_t length_count,
+    cheri_cap_granted *granted, size_t granted_count) CHERI_CAP_NOEXCEPT;
+size_t cheri_cap_round_length_many(
+    const cheri_cap_u128 *lengths, size_t length_count, cheri_cap_u128 *rounded,
+    size_t rounded_count) CHERI_CAP_NOEXCEPT;
+size_t cheri_cap_alignment_mask_many(
+    const cheri_cap_u128 *lengths, size_t length_count, uint64_t *masks, size_t mask_count) CHERI_CAP_NOEXCEPT;
+
+/*
+ * Sets the bounds of each word of memory to the length at its position, as cheri_cap_set_bounds_on
+ * does, or cheri_cap_set_bounds_exact_on if `exact`, and returns the number of results.
+ *
+ * Writes the word that was made to `made`, 16 bytes in the byte order of the memory, and 0 to
+ * `refusals`; or 16 zero bytes and the refusal.
+ *
+ * Pointers and counts: as those of cheri_cap_decode_memory.
+ */
+size_t cheri_cap_set_bounds_memory(
+    const void *memory, size_t word_count, bool big_endian, bool exact, const cheri_cap_u128 *lengths,
+    size_t length_count, void *made, size_t made_count, uint8_t *refusals, size_t refusal_count) CHERI_CAP_NOEXCEPT;
 
 /*
  * Returns the granule of a length in bytes: the unit in which the bounds of that many bytes from
@@ -957,6 +1021,54 @@ static inline size_t cheri_cap_represents_memory_(
         : cheri_cap_represents_memory(memory, word_count, big_endian, addresses, address_count, answers, answer_count);
 }
 
+static inline size_t cheri_cap_search_memory_(
+    const void *memory, size_t word_count, bool big_endian, const uint8_t *tag_bits, size_t tag_byte_count,
+    const cheri_cap_query *query, uint64_t *positions, size_t position_count, size_t *next) CHERI_CAP_NOEXCEPT
+{
+    *next = 0;
+    if (word_count == 0 || position_count == 0 || (query->needs_tag && tag_byte_count == 0))
+        return 0;
+    if (tag_byte_count == 0)
+        tag_bits = CHERI_CAP_CAST_(const uint8_t *, memory);
+    return cheri_cap_search_memory(
+        memory, word_count, big_endian, tag_bits, tag_byte_count, query, positions, position_count, next);
+}
+
+static inline size_t cheri_cap_set_bounds_many_(
+    const uint64_t *bases, size_t base_count, const cheri_cap_u128 *lengths, size_t length_count,
+    cheri_cap_granted *granted, size_t granted_count) CHERI_CAP_NOEXCEPT
+{
+    return base_count == 0 || length_count == 0 || granted_count == 0
+        ? 0
+        : cheri_cap_set_bounds_many(bases, base_count, lengths, length_count, granted, granted_count);
+}
+
+static inline size_t cheri_cap_round_length_many_(
+    const cheri_cap_u128 *lengths, size_t length_count, cheri_cap_u128 *rounded, size_t rounded_count) CHERI_CAP_NOEXCEPT
+{
+    return length_count == 0 || rounded_count == 0
+        ? 0
+        : cheri_cap_round_length_many(lengths, length_count, rounded, rounded_count);
+}
+
+static inline size_t cheri_cap_alignment_mask_many_(
+    const cheri_cap_u128 *lengths, size_t length_count, uint64_t *masks, size_t mask_count) CHERI_CAP_NOEXCEPT
+{
+    return length_count == 0 || mask_count == 0
+        ? 0
+        : cheri_cap_alignment_mask_many(lengths, length_count, masks, mask_count);
+}
+
+static inline size_t cheri_cap_set_bounds_memory_(
+    const void *memory, size_t word_count, bool big_endian, bool exact, const cheri_cap_u128 *lengths,
+    size_t length_count, void *made, size_t made_count, uint8_t *refusals, size_t refusal_count) CHERI_CAP_NOEXCEPT
+{
+    return word_count == 0 || length_count == 0 || made_count == 0 || refusal_count == 0
+        ? 0
+        : cheri_cap_set_bounds_memory(
+            memory, word_count, big_endian, exact, lengths, length_count, made, made_count, refusals, refusal_count);
+}
+
 CHERI_CAP_NODISCARD CHERI_CAP_PURE
 static inline cheri_cap_read cheri_cap_read_word_(const char *text, size_t length) CHERI_CAP_NOEXCEPT
 {
@@ -970,6 +1082,11 @@ static inline cheri_cap_read cheri_cap_read_word_(const char *text, size_t lengt
 #define cheri_cap_decode_memory cheri_cap_decode_memory_
 #define cheri_cap_is_canonical_memory cheri_cap_is_canonical_memory_
 #define cheri_cap_represents_memory cheri_cap_represents_memory_
+#define cheri_cap_search_memory cheri_cap_search_memory_
+#define cheri_cap_set_bounds_many cheri_cap_set_bounds_many_
+#define cheri_cap_round_length_many cheri_cap_round_length_many_
+#define cheri_cap_alignment_mask_many cheri_cap_alignment_mask_many_
+#define cheri_cap_set_bounds_memory cheri_cap_set_bounds_memory_
 #define cheri_cap_read_word cheri_cap_read_word_
 
 #ifdef __GNUC__

@@ -522,6 +522,21 @@ inline void represents_many(const word *words, const std::uint64_t *addresses, s
         cheri_cap_represents_many(&words->raw(), count, addresses, count, results, count);
 }
 
+/* Batch functions on requests: the result for each of `count` lengths, and for the base at its position. */
+inline void set_bounds_many(const std::uint64_t *bases, const cheri_cap_u128 *lengths, cheri_cap_granted *results,
+                            std::size_t count) noexcept
+{
+    cheri_cap_set_bounds_many(bases, count, lengths, count, results, count);
+}
+inline void round_length_many(const cheri_cap_u128 *lengths, cheri_cap_u128 *results, std::size_t count) noexcept
+{
+    cheri_cap_round_length_many(lengths, count, results, count);
+}
+inline void alignment_mask_many(const cheri_cap_u128 *lengths, std::uint64_t *results, std::size_t count) noexcept
+{
+    cheri_cap_alignment_mask_many(lengths, count, results, count);
+}
+
 /*
  * Batch functions on memory: `count` words of 16 bytes each, one after the other, in the byte order
  * of the memory and at any address. Otherwise they are like those above.
@@ -541,6 +556,32 @@ inline void represents_memory(const void *memory, byte_order order, const std::u
 {
     if (count != 0)
         cheri_cap_represents_memory(memory, count, order == byte_order::big, addresses, count, results, count);
+}
+
+/*
+ * Sets the bounds of each word of memory to the length at its position, exactly if `exact`: writes
+ * the word that was made, in the same byte order, or 16 zero bytes and the refusal.
+ */
+inline void set_bounds_memory(const void *memory, byte_order order, bool exact, const cheri_cap_u128 *lengths,
+                              void *made, refusal *refusals, std::size_t count) noexcept
+{
+    cheri_cap_set_bounds_memory(memory, count, order == byte_order::big, exact, lengths, count, made, count,
+                                reinterpret_cast<std::uint8_t *>(refusals), count);
+}
+
+/*
+ * Writes the positions of the words of memory that the query wants to `positions`, at most `capacity`
+ * of them, and returns their number: cheri_cap_search_memory. `tag_bits` has a bit for each word, or
+ * is null if the query needs no tag.
+ */
+[[nodiscard]] inline std::size_t search_memory(const void *memory, byte_order order, std::size_t count,
+                                               const std::uint8_t *tag_bits, const cheri_cap_query &query,
+                                               std::uint64_t *positions, std::size_t capacity,
+                                               std::size_t &next) noexcept
+{
+    return cheri_cap_search_memory(memory, count, order == byte_order::big, tag_bits,
+                                   tag_bits == nullptr ? 0 : count / 8 + (count % 8 != 0), &query, positions, capacity,
+                                   &next);
 }
 
 } // namespace cheri

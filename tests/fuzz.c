@@ -39,7 +39,7 @@ static void shape(input *it)
             if (it->high & 2)
                 fields.reserved = 0;
             if (it->high & 4)
-                fields.otype = CHERI_CAP_OTYPE_UNSEALED;
+                fields.otype = it->high & 0x18 ? CHERI_CAP_OTYPE_UNSEALED : CHERI_CAP_OTYPE_SENTRY;
             const cheri_cap_u128 word = plain_pack(fields);
             it->high = word.high;
             it->low = word.low;
@@ -130,6 +130,74 @@ static void check_memory(const input *it)
     }
 }
 
+/* Compares a search of two words of memory at an odd address, and setting the bounds of both, with the plain functions. */
+static void check_search(const input *it)
+{
+    const cheri_cap_u128 words[2] = {{it->high, it->low}, {it->outer_high, it->outer_low}};
+    const cheri_cap_u128 lengths[2] = {{it->length_high, it->length_low}, {0, it->length_low}};
+    const bool big_endian = it->length_low & 1, exact = it->length_low & 2;
+    const uint64_t choice = it->outer_low;
+    const uint8_t tags = choice & 3;
+    const cheri_cap_query query = {
+        .address = it->address, .perms = (uint16_t)(choice >> 16 & choice >> 32 & choice >> 48), .needs_permission = choice & 4,
+        .needs_address = choice & 8, .needs_tag = choice & 16, .sealed = choice & 32, .sentries = choice & 64,
+    };
+    uint8_t bytes[33], made[33], refusals[2];
+    uint64_t positions[2];
+    size_t next, wanted = 0;
+    for (int i = 0; i < 2; i++)
+        cheri_cap_word_to_bytes(words[i], bytes + 1 + 16 * i, big_endian);
+    const size_t found = cheri_cap_search_memory(bytes + 1, 2, big_endian, &tags, 1, &query, positions, 2, &next);
+    for (size_t i = 0; i < 2; i++) {
+        const uint32_t otype = plain_unpack(words[i].high, words[i].low).otype;
+        const bool sentry = otype == CHERI_CAP_OTYPE_SENTRY;
+        const uint16_t perms = (uint16_t)(words[i].high >> 48);
+        const cheri_cap_bounds bounds = plain_decode(words[i].high, words[i].low);
+        if (!plain_is_canonical(sentry ? words[i].high ^ UINT64_C(1) << 27 : words[i].high, words[i].low) || (query.needs_tag && !(tags >> i & 1))
+            || (sentry ? !query.sentries : otype != CHERI_CAP_OTYPE_UNSEALED && !query.sealed) || (perms & query.perms) != query.perms
+            || (query.needs_permission && perms == 0) || (query.needs_address && !cheri_cap_bounds_hold(&bounds, query.address)))
+            continue;
+        SAME(wanted < found, true);
+        SAME(positions[wanted++], i);
+    }
+    SAME(found, wanted);
+    SAME(next, 2);
+    SAME(cheri_cap_set_bounds_memory(bytes + 1, 2, big_endian, exact, lengths, 2, made + 1, 2, refusals, 2), 2);
+    for (int i = 0; i < 2; i++) {
+        const cheri_cap_made plain = exact ? cheri_cap_set_bounds_exact_on(words[i].high, words[i].low, lengths[i].high, lengths[i].low)
+                                           : plain_set_bounds_on(words[i].high, words[i].low, lengths[i].high, lengths[i].low);
+        const cheri_cap_u128 word = cheri_cap_word_from_bytes(made + 1 + 16 * i, big_endian);
+        SAME(word.high, plain.high);
+        SAME(word.low, plain.low);
+        SAME(refusals[i], plain.refusal);
+    }
+}
+
+/* Compares the batch functions on requests with the plain functions. */
+static void check_many_requests(const input *it)
+{
+    const cheri_cap_u128 lengths[2] = {{it->length_high, it->length_low}, {0, it->address}};
+    const uint64_t bases[2] = {it->address, it->low};
+    cheri_cap_granted granted[2];
+    cheri_cap_u128 rounded[2];
+    uint64_t masks[2];
+    SAME(cheri_cap_set_bounds_many(bases, 2, lengths, 2, granted, 2), 2);
+    SAME(cheri_cap_round_length_many(lengths, 2, rounded, 2), 2);
+    SAME(cheri_cap_alignment_mask_many(lengths, 2, masks, 2), 2);
+    for (int i = 0; i < 2; i++) {
+        const cheri_cap_granted plain = plain_set_bounds(bases[i], lengths[i].high, lengths[i].low);
+        const cheri_cap_u128 length = plain_round_length(lengths[i].high, lengths[i].low);
+        SAME(granted[i].base, plain.base);
+        SAME(granted[i].top_high, plain.top_high);
+        SAME(granted[i].top_low, plain.top_low);
+        SAME(granted[i].t << 16 | granted[i].b, plain.t << 16 | plain.b);
+        SAME(granted[i].exponent << 3 | granted[i].ie << 2 | granted[i].exact << 1 | granted[i].in_range, plain.exponent << 3 | plain.ie << 2 | plain.exact << 1 | plain.in_range);
+        SAME(rounded[i].high, length.high);
+        SAME(rounded[i].low, length.low);
+        SAME(masks[i], plain_alignment_mask(lengths[i].high, lengths[i].low));
+    }
+}
+
 /* An array of no elements may have a null pointer. */
 static void check_null(const input *it)
 {
@@ -207,6 +275,8 @@ int LLVMFuzzerTestOneInput(const uint8_t *data, size_t size)
     shape(&it);
     check_word(&it);
     check_memory(&it);
+    check_search(&it);
+    check_many_requests(&it);
     check_null(&it);
     check_request(&it);
     check_rules(&it);

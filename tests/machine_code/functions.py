@@ -255,4 +255,5 @@ FUNCTIONS = {
     "rebuild": Function(PAIR, MADE, rebuild, "word", "other"),
 }
 # not proved here: loops over arrays and texts
-OTHERS = "decode_many is_canonical_many represents_many decode_memory is_canonical_memory represents_memory read_word write_word format".split()
+OTHERS = """decode_many is_canonical_many represents_many decode_memory is_canonical_memory represents_memory search_memory set_bounds_many
+round_length_many alignment_mask_many set_bounds_memory read_word write_word format""".split()

@@ -4,3 +4,6 @@ pub mod RuleLemmas
 pub mod WindowLemmas
 pub mod DefectLemmas
 pub mod MeasureLemmas
+pub mod SearchLemmas
+pub mod MadeLemmas
+pub mod BytesLemmas

@@ -80,7 +80,7 @@ told_subset_under rule grants word authority told is =
 -- ---- bounds
 
 -- a capability's word has the fields of the capability
-own_fields : (cap : Capability) (word : ℕ) (fields : Fields) → IsWordOf cap word → word_of fields ≡ word → IsFieldsOf cap fields
+pub own_fields : (cap : Capability) (word : ℕ) (fields : Fields) → IsWordOf cap word → word_of fields ≡ word → IsFieldsOf cap fields
 own_fields cap word fields has is = subst (IsFieldsOf cap) (word_of-same has.fields fields word (sym has.is_word) is) has.is_fields
 
 -- what the fields of the word that was made store, over one capability

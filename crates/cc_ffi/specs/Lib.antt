@@ -8,3 +8,4 @@ pub mod Measures
 pub mod Rules
 pub mod Many
 pub mod Memory
+pub mod Search

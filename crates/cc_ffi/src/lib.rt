@@ -14,6 +14,7 @@ mod many;
 mod measures;
 mod memory;
 mod rules;
+mod search;
 mod structs;
 mod text;
 mod version;

@@ -9,10 +9,11 @@ ghost use Rattle.cc_cap.specs.Many.{AnswersEach};
 ghost use Rattle.cc_ffi.specs.Numbers.{number_in};
 ghost use Rattle.cc_ffi.specs.Words.{OfFields};
 ghost use Rattle.cc_ffi.specs.Bounds.{AreDecoded};
-ghost use Rattle.cc_ffi.specs.Many.{IsOneIf, IsOneIfRepresentable, word_at};
+ghost use Rattle.cc_ffi.specs.Many.{IsAlignmentMask, IsGrantedIfInRange, IsOneIf, IsOneIfRepresentable, IsRoundedLength, word_at};
 
-use crate::bounds::{cheri_cap_decode, cheri_cap_represents};
-use crate::structs::{Bounds, Halves};
+use crate::bounds::{cheri_cap_decode, cheri_cap_represents, cheri_cap_set_bounds};
+use crate::lengths::{cheri_cap_alignment_mask, cheri_cap_round_length};
+use crate::structs::{Bounds, GrantedBounds, Halves};
 use crate::words::cheri_cap_is_canonical;
 
 /// Writes the base, the top and the exponent of each word, and returns the number of results.
@@ -62,6 +63,53 @@ pub extern "C" fn cheri_cap_represents_many(
     count
 }
 
+/// Writes the bounds that a request for the length at each position from the base there is granted,
+/// and returns the number of results.
+#[unsafe(no_mangle)]
+pub extern "C" fn cheri_cap_set_bounds_many(
+    bases: &[u64],
+    lengths: &[Halves],
+    granted: &mut [GrantedBounds],
+) -> usize
+    ensures count { result ≡ min (length bases.now) (min (length lengths.now) (length granted.old)) }
+    ensures granted { AnswersEach (λ i told. IsGrantedIfInRange (slice_index bases.now i) (word_at lengths.now i) told) granted.new result }
+    ensures rest { SameFrom granted.old granted.new result }
+{
+    let count = bases.len().min(lengths.len().min(granted.len()));
+    for i in 0..count {
+        granted[i] = granted_bounds(bases[i], lengths[i]);
+    }
+    count
+}
+
+/// Writes the representable length of each length, and returns the number of results.
+#[unsafe(no_mangle)]
+pub extern "C" fn cheri_cap_round_length_many(lengths: &[Halves], rounded: &mut [Halves]) -> usize
+    ensures count { result ≡ min (length lengths.now) (length rounded.old) }
+    ensures rounded { AnswersEach (λ i told. IsRoundedLength (word_at lengths.now i) (number_in told)) rounded.new result }
+    ensures rest { SameFrom rounded.old rounded.new result }
+{
+    let count = lengths.len().min(rounded.len());
+    for i in 0..count {
+        rounded[i] = rounded_length(lengths[i]);
+    }
+    count
+}
+
+/// Writes the representable alignment mask of each length, and returns the number of results.
+#[unsafe(no_mangle)]
+pub extern "C" fn cheri_cap_alignment_mask_many(lengths: &[Halves], masks: &mut [u64]) -> usize
+    ensures count { result ≡ min (length lengths.now) (length masks.old) }
+    ensures masks { AnswersEach (λ i mask. IsAlignmentMask (word_at lengths.now i) mask) masks.new result }
+    ensures rest { SameFrom masks.old masks.new result }
+{
+    let count = lengths.len().min(masks.len());
+    for i in 0..count {
+        masks[i] = alignment_mask(lengths[i]);
+    }
+    count
+}
+
 /// Returns the base, the top and the exponent of a word.
 pub(crate) fn decoded(word: Halves) -> Bounds
     ensures { OfFields (number_in word) (λ fields. AreDecoded fields result) }
@@ -90,4 +138,25 @@ pub(crate) fn represented(word: Halves, address: u64) -> u8
     } else {
         0
     }
+}
+
+/// Returns the bounds that a request is granted.
+fn granted_bounds(base: u64, length: Halves) -> GrantedBounds
+    ensures { IsGrantedIfInRange base (number_in length) result }
+{
+    cheri_cap_set_bounds(base, length.high, length.low)
+}
+
+/// Returns the representable length of a length.
+fn rounded_length(length: Halves) -> Halves
+    ensures { IsRoundedLength (number_in length) (number_in result) }
+{
+    cheri_cap_round_length(length.high, length.low)
+}
+
+/// Returns the representable alignment mask of a length.
+fn alignment_mask(length: Halves) -> u64
+    ensures { IsAlignmentMask (number_in length) result }
+{
+    cheri_cap_alignment_mask(length.high, length.low)
 }

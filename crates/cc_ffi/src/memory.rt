@@ -7,15 +7,18 @@ ghost use Rattle.std.specs.Prelude.{◌≡◌, length, min, slice_index};
 ghost use Rattle.std.specs.List.{SameFrom};
 ghost use Rattle.cc_cap.specs.Canonical.{IsCanonical};
 ghost use Rattle.cc_cap.specs.Many.{AnswersEach};
-ghost use Rattle.cc_ffi.specs.Numbers.{number_in};
+ghost use Rattle.cc_cap.specs.WordRules.{OnWord};
+ghost use Rattle.cc_ffi.specs.Numbers.{number_in, number_of_halves};
 ghost use Rattle.cc_ffi.specs.Words.{OfFields};
 ghost use Rattle.cc_ffi.specs.Bounds.{AreDecoded};
-ghost use Rattle.cc_ffi.specs.Many.{IsOneIf, IsOneIfRepresentable};
-ghost use Rattle.cc_ffi.specs.Memory.{word_in_memory, word_of_bytes};
+ghost use Rattle.cc_ffi.specs.Many.{IsOneIf, IsOneIfRepresentable, word_at};
+ghost use Rattle.cc_ffi.specs.Memory.{GivesInMemory, SetsBoundsBy, word_in_memory, word_of_bytes};
+ghost use Rattle.cc_ffi.specs.Rules.{GivesResult};
 
-use crate::halves::halves;
+use crate::halves::{halves, number};
 use crate::many::{canonical, decoded, represented};
-use crate::structs::{Bounds, Halves};
+use crate::rules::{cheri_cap_set_bounds_exact_on, cheri_cap_set_bounds_on};
+use crate::structs::{Bounds, Halves, MadeWord};
 
 /// Writes the base, the top and the exponent of each word of memory, and returns the number of
 /// results.
@@ -76,8 +79,59 @@ pub extern "C" fn cheri_cap_represents_memory(
     count
 }
 
+/// Writes each word of memory with the bounds of the length at its position from its address, exact
+/// ones if `exact`, and 0, or a zero word and the code of the refusal. Returns the number of
+/// results.
+#[unsafe(no_mangle)]
+pub extern "C" fn cheri_cap_set_bounds_memory(
+    memory: &[[u8; 16]],
+    big_endian: bool,
+    exact: bool,
+    lengths: &[Halves],
+    made: &mut [[u8; 16]],
+    refusals: &mut [u8],
+) -> usize
+    ensures count { result ≡ min (min (length memory.now) (length lengths.now)) (min (length made.old) (length refusals.old)) }
+    ensures made { AnswersEach (λ i bytes. GivesInMemory (OnWord (λ cap. SetsBoundsBy exact cap (word_at lengths.now i))
+        (word_in_memory big_endian memory.now i)) big_endian bytes (slice_index refusals.new i)) made.new result }
+    ensures rest { SameFrom made.old made.new result }
+    ensures rest_of_refusals { SameFrom refusals.old refusals.new result }
+{
+    let words = memory.len().min(lengths.len());
+    let count = words.min(made.len().min(refusals.len()));
+    for i in 0..count {
+        let told = with_bounds(word_of(memory[i], big_endian), exact, lengths[i]);
+        made[i] = bytes_of(told, big_endian);
+        refusals[i] = told.refusal;
+    }
+    count
+}
+
+/// Returns the word with the bounds of this length from its address, exact ones if `exact`.
+fn with_bounds(word: Halves, exact: bool, length: Halves) -> MadeWord
+    ensures { GivesResult (OnWord (λ cap. SetsBoundsBy exact cap (number_in length)) (number_in word)) result }
+{
+    if exact {
+        cheri_cap_set_bounds_exact_on(word.high, word.low, length.high, length.low)
+    } else {
+        cheri_cap_set_bounds_on(word.high, word.low, length.high, length.low)
+    }
+}
+
+/// Returns the word that was made as 16 bytes of memory.
+fn bytes_of(made: MadeWord, big_endian: bool) -> [u8; 16]
+    ensures { word_of_bytes big_endian result ≡ number_of_halves made.high made.low }
+{
+    let word = number(made.high, made.low);
+    if big_endian {
+        word.to_be_bytes()
+    } else {
+        word.to_le_bytes()
+    }
+}
+
 /// Returns the word of 16 bytes of memory.
-fn word_of(bytes: [u8; 16], big_endian: bool) -> Halves
+pub(crate) fn word_of(bytes: [u8; 16], big_endian: bool) -> Halves
     ensures { number_in result ≡ word_of_bytes big_endian bytes }
 {
     halves(if big_endian {

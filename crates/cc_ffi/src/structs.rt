@@ -118,3 +118,23 @@ pub struct Excess {
     /// zero.
     pub in_range: bool,
 }
+
+/// The words that a search finds.
+#[derive(Clone, Copy)]
+#[repr(C)]
+pub struct Query {
+    /// The address that the bounds must contain, if `needs_address`.
+    pub address: u64,
+    /// The permissions that a word must have, all of them.
+    pub perms: u16,
+    /// Whether a word must have some permission.
+    pub needs_permission: bool,
+    /// Whether the bounds must contain the byte at `address`.
+    pub needs_address: bool,
+    /// Whether a word must have a tag.
+    pub needs_tag: bool,
+    /// Whether sealed words are found, except sentries.
+    pub sealed: bool,
+    /// Whether sentries are found.
+    pub sentries: bool,
+}
