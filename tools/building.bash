@@ -70,12 +70,18 @@ list_crates() {
 }
 
 # Lists the sources, and the files that are named first, up to the argument --: each as find prints it by the arguments that
-# follow. Must be called in a subshell, which find replaces.
+# follow. Fails if one is a link, whose target can change unseen. Must be called in a subshell, which find replaces.
 files() {
   local also=()
   while [[ $1 != -- ]]; do also+=("$1") && shift; done
   LC_ALL=C exec find crates.txt "${order[@]/#/crates/}" "${also[@]}" \
-    \( -name out -o -name must-fail \) -prune -o -type f "${@:2}"
+    \( -name out -o -name must-fail \) -prune -o -type d -o -type f "${@:2}" -o -exec false {} +
+}
+# Ends if a source is a link or a special file.
+refuse_links() {
+  local found
+  found=$(cd -- "$top" && LC_ALL=C find crates.txt "${order[@]/#/crates/}" \( -name out -o -name must-fail \) -prune -o ! -type d ! -type f -print -quit)
+  [[ -z $found ]] || stop "$found is a symbolic link or a special file, and each source must be a file"
 }
 
 # Prints names, sizes and times. Must be called in a subshell, which goes to the checkout.
@@ -130,6 +136,7 @@ build_all() {
   mkdir -p -- "$kept" 2>/dev/null && keep "$kept/building" "$identity" || stop "the build cannot be stored: $kept is not writable"
   rm -f -- "$kept/building"
   [[ ! -f $top/$product ]] || why='a source or the toolchain changed'
+  refuse_links
   announce "$why"
   before=$(looks | LC_ALL=C sort) || stop 'the sources cannot be read'
   prove_crates "$product" "${@:3}"

@@ -82,6 +82,7 @@ copy_sources() {
       esac
     done
   done
+  [[ -z $(find "$apart/crates" ! -type d ! -type f -print -quit) ]]
 }
 
 # Runs a function in the background, as a separate group of processes, which a signal to the build ends as a whole:  begin FUNCTION ARG..
@@ -156,22 +157,37 @@ read_keys() {
   done
 }
 
-# Sets `store` to the directory of libraries that builds on this machine have kept, or to nothing if there is none of this user.
+# Sets `store` to the directory of libraries that builds on this machine have kept, or to nothing if there is none of this user. Who can
+# write there decides what counts as proved.
 find_store() {
-  store=${XDG_CACHE_HOME:-${HOME-}/.cache}/cheri-cap/proofs
-  { mkdir -p -m 700 -- "$store" && [[ -O $store && ! -L $store ]]; } 2>/dev/null || store=''
+  store=${XDG_CACHE_HOME-}
+  [[ $store == /* ]] || store=${HOME-}/.cache
+  store+=/cheri-cap/proofs
+  if ! { mkdir -p -m 700 -- "$store" && [[ -O $store && ! -L $store ]]; } 2>/dev/null; then
+    store=''
+  elif [[ -n $(find "$store" -maxdepth 0 -perm /022) ]]; then
+    say "other users can write to $store: no proof is taken from there, and none is kept"
+    store=''
+  fi
 }
 
-# Takes the library of a crate that an earlier build has kept, if there is one and it is whole.
+# Prints the checksums of all files of the library in this directory.
+list_kept() {
+  find rlib ! -type d -print0 | xargs -0 sha256sum -- | LC_ALL=C sort
+}
+
+# Takes the library of a crate that an earlier build has kept, if there is one, and it is whole and of this user.
 take_kept() {
   local from=$store/$1-${keys[$1]}
-  [[ -n $store && -f $from/sums ]] || return
-  if (cd -- "$from" && sha256sum --check --status sums) 2>/dev/null &&
+  [[ -n $store && (-e $from || -L $from) ]] || return
+  if [[ ! -d $from || -L $from || -n $(find "$from" ! -user "$EUID" -print -quit) ]]; then
+    say "$from is a link or has files of another user: it is not used"
+  elif (cd -- "$from" && [[ $(list_kept) == "$(LC_ALL=C sort sums)" ]]) 2>/dev/null &&
     { cp -Rl -- "$from/rlib" "$libraries/$1.rlib" || cp -R -- "$from/rlib" "$libraries/$1.rlib"; } 2>/dev/null; then
     touch -- "$from" 2>/dev/null || true
     return
   fi
-  rm -rf -- "$libraries/$1.rlib" "$from"
+  rm -rf -- "$libraries/$1.rlib" "$from" 2>/dev/null || true
   return 1
 }
 
@@ -181,7 +197,7 @@ keep_library() {
   [[ -n $store && ! -e $to ]] || return 0
   {
     mkdir -- "$new" && { cp -Rl -- "$libraries/$1.rlib" "$new/rlib" || cp -R -- "$libraries/$1.rlib" "$new/rlib"; } &&
-      (cd -- "$new" && find rlib -type f -print0 | xargs -0 sha256sum -- >sums) && mv -T -- "$new" "$to"
+      (cd -- "$new" && list_kept >sums) && mv -T -- "$new" "$to"
   } 2>/dev/null || rm -rf -- "$new"
 }
 
