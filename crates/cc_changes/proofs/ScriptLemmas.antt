@@ -13,8 +13,9 @@ use Rattle.cc_heap.specs.Events.{FailsInEvent, FailsToMake, IsEvent, IsSweptOrNo
 use Rattle.cc_heap.specs.Heap.{Heap, empty_heap}
 use Rattle.cc_io.specs.Answers.{AnswersInto}
 use Rattle.cc_formats.specs.declared.formats.Entry.{Entry}
-use Rattle.cc_formats.specs.declared.reading.Progress.TheVariants.{Stopped, OutOfMemory}
-use Rattle.cc_formats.specs.Reading.{progress_after}
+use Rattle.cc_formats.specs.declared.reading.Progress.{Progress}
+use Rattle.cc_formats.specs.declared.reading.Progress.TheVariants.{Running, Stopped, OutOfMemory}
+use Rattle.cc_formats.specs.Reading.{is_over, progress_after}
 use Rattle.cc_heap.specs.Outcomes.{is_refused}
 use Rattle.cc_changes.specs.declared.deeds.Deeds.{Deeds}
 use Rattle.cc_changes.specs.declared.deeds.Entry.{Entry as MadeEntry}
@@ -22,7 +23,7 @@ use Rattle.cc_changes.specs.Changes.{AsksForUnit, asks_for_unit}
 use Rattle.cc_changes.specs.Operations.{Numbers, operation_lines}
 use Rattle.cc_changes.specs.Deeds.{DoesDeeds, NumberedIds, asked_entry, deed_operations, numbers_of, numbers_with, told_deeds, was_made}
 use Rattle.cc_changes.specs.Kept.{HasBytes, IsKept}
-use Rattle.cc_changes.specs.Script.{AppendsEntry, AppendsEvent, ScriptState, ScriptsNext, can_have, most_objects, next_entry}
+use Rattle.cc_changes.specs.Script.{AppendsEntry, AppendsEvent, Refuses, ScriptState, ScriptsLine, ScriptsLineIn, ScriptsNext, ScriptsRest, ScriptsRestIn, can_have, most_objects, next_entry}
 use Rattle.cc_changes.proofs.HistoryLemmas.{HasDeeds, clears, event_deeds}
 
 -- a heap that held nothing
@@ -199,8 +200,26 @@ event_scripted old event outcome deeds out out_now refused new can is does left 
 
 -- the next line is taken as its entry is
 pub entry_answers : (old : ScriptState) (entry : Entry) (line out out_now : List ℕ) (is_error : Bool) (new : ScriptState)
-    → entry ≡ next_entry old line → AppendsEntry old entry out out_now is_error new → AnswersInto ScriptsNext old line out out_now is_error new
-entry_answers old entry line out out_now is_error new is taken =
+    → is_over old.progress ≡ false → entry ≡ next_entry old line → AppendsEntry old entry out out_now is_error new
+    → AnswersInto ScriptsLine old line out out_now is_error new
+entry_answers old entry line out out_now is_error new going is taken =
     let next : AppendsEntry old (next_entry old line) out out_now is_error new =
     subst (λ (e : Entry). AppendsEntry old e out out_now is_error new) is taken in
-    record { text = next.text; out_is = next.out_is; answered = next.takes }
+    record { text = next.text; out_is = next.out_is; answered = by_progress next.text old.progress going next.takes }
+  where
+    by_progress : (text : List ℕ) (progress : Progress) → is_over progress ≡ false → ScriptsNext old line text is_error new
+        → ScriptsLineIn progress old line text is_error new
+    by_progress text Running goes takes = takes
+    by_progress text Stopped goes takes = cc goes
+    by_progress text OutOfMemory goes takes = cc goes
+
+-- trailing bytes are refused
+pub rest_answers : (old : ScriptState) (rest out : List ℕ) (is_error : Bool) (new : ScriptState)
+    → is_over old.progress ≡ false → Refuses old [] is_error new → AnswersInto ScriptsRest old rest out out is_error new
+rest_answers old rest out is_error new going refuses =
+    record { text = []; out_is = sym (append-nil out); answered = by_progress old.progress going }
+  where
+    by_progress : (progress : Progress) → is_over progress ≡ false → ScriptsRestIn progress old rest [] is_error new
+    by_progress Running goes = refuses
+    by_progress Stopped goes = cc goes
+    by_progress OutOfMemory goes = cc goes

@@ -5,10 +5,11 @@ ghost use Rattle.cc_io.specs.Correct.{Pumps};
 ghost use Rattle.cc_io.specs.Frames.{lines};
 ghost use Rattle.cc_heap.specs.declared.reallocation.Reallocation.TheVariants.{Move};
 ghost use Rattle.cc_placer.specs.Alignment.{HasAlignment};
+ghost use Rattle.cc_formats.specs.Reading.{is_over};
 ghost use Rattle.cc_heap.specs.Events.{IsEvent};
 ghost use Rattle.cc_changes.specs.Operations.{operation_lines};
 ghost use Rattle.cc_changes.specs.Deeds.{DoesDeeds, deed_operations, is_swept_clean, numbers_of, numbers_with};
-ghost use Rattle.cc_changes.specs.Script.{AppendsEntry, AppendsEvent, Refuses, ScriptsLine, ScriptsNext, ScriptsRest, can_have, most_objects, script_begun};
+ghost use Rattle.cc_changes.specs.Script.{AppendsEntry, AppendsEvent, Refuses, ScriptsLine, ScriptsRest, can_have, most_objects, script_begun};
 
 use crate::deeds::Deeds;
 use crate::doing::{asked_entry, deeds_of};
@@ -85,21 +86,11 @@ impl<P: Placer> Script<P> {
     }
 
     /// Takes a line, and appends the lines of its operations. Returns whether the line is refused.
-    fn take_line<const N: usize>(&mut self, line: &[u8], out: &mut Page<N>) -> bool
-        requires { length out.old + 128 ≤ N }
-        ensures { AnswersInto ScriptsLine self.old line.now out.old out.new result self.new }
-    {
-        match self.progress {
-            Progress::Running => self.take_next(line, out),
-            Progress::Stopped | Progress::OutOfMemory => false,
-        }
-    }
-
-    /// Takes a line while lines are taken.
     #[tactic(auto, using(crate::proofs::ScriptLemmas::entry_answers))]
-    fn take_next<const N: usize>(&mut self, line: &[u8], out: &mut Page<N>) -> bool
+    fn take_line<const N: usize>(&mut self, line: &[u8], out: &mut Page<N>) -> bool
         requires room { length out.old + 128 ≤ N }
-        ensures { AnswersInto ScriptsNext self.old line.now out.old out.new result self.new }
+        requires goes_on { is_over self.old.progress ≡ false }
+        ensures { AnswersInto ScriptsLine self.old line.now out.old out.new result self.new }
     {
         let entry = read_entry(self.reading.format, self.pending, line);
         self.take_entry(entry, out)
@@ -119,14 +110,13 @@ impl<P: Placer> Script<P> {
         }
     }
 
-    /// Refuses trailing bytes, while lines are taken.
+    /// Refuses trailing bytes.
+    #[tactic(auto, using(crate::proofs::ScriptLemmas::rest_answers))]
     fn take_rest<const N: usize>(&mut self, rest: &[u8], out: &mut Page<N>) -> bool
+        requires { is_over self.old.progress ≡ false }
         ensures { AnswersInto ScriptsRest self.old rest.now out.old out.new result self.new }
     {
-        match self.progress {
-            Progress::Running => self.refuse(),
-            Progress::Stopped | Progress::OutOfMemory => false,
-        }
+        self.refuse()
     }
 
     /// Refuses a line.
@@ -233,9 +223,11 @@ impl<P: Placer, const N: usize> Answerer<N> for Script<P> {
 
     ghost MOST = { 128 };
 
+    ghost done = { λ script. is_over script.progress };
+
     #[inline(always)]
     fn is_done(&self) -> bool {
-        false
+        self.progress.is_over()
     }
 
     #[inline(always)]
@@ -258,11 +250,11 @@ impl<P: Placer, const N: usize> Answerer<N> for Script<P> {
 /// that no script can have: one that requests a larger alignment than the unit of its object, or one
 /// object more than 65,533, or that comes after 2^64 - 4 sweeps. That line is refused.
 ///
-/// If an allocation fails, [`Script::progress`] says so, and no further line is taken. The source is read
-/// in chunks of up to 16 KiB. Before each read, the lines of earlier events are written. The sink is
-/// flushed once, at the end.
+/// If an allocation fails, [`Script::progress`] says so. After such a line nothing is taken, and the source
+/// is read no further. It is read in chunks of up to 16 KiB. Before each read, the lines of earlier events
+/// are written. The sink is flushed once, at the end.
 ///
-/// Requires: neither the source nor the sink has failed.
+/// Requires: neither the source nor the sink has failed; the script takes lines.
 /// Errors: `Read` if and only if the source failed. `Write` if and only if the sink failed.
 pub fn script_trace<P: Placer, R: Source, W: Sink>(
     script: &mut Script<P>,
@@ -271,7 +263,8 @@ pub fn script_trace<P: Placer, R: Source, W: Sink>(
 ) -> Result<Summary, IoError>
     requires source { (R.state source.old).has_failed ≡ false }
     requires sink { (W.state sink.old).has_failed ≡ false }
-    ensures scripts { Pumps (λ _. false) ScriptsLine ScriptsRest lines 65536 128 script.old []
+    requires goes_on { is_over script.old.progress ≡ false }
+    ensures scripts { Pumps (λ state. is_over state.progress) ScriptsLine ScriptsRest lines 65536 128 script.old []
         (R.state source.old).unread (R.state source.new).unread (W.state sink.old).taken (W.state sink.new).taken result script.new }
     ensures read { (result ≡ Err IoError.Read) ↔ ((R.state source.new).has_failed ≡ true) }
     ensures write { (result ≡ Err IoError.Write) ↔ ((W.state sink.new).has_failed ≡ true) }

@@ -1,8 +1,13 @@
 -- How a trace is read: when no further line is taken, and which events have a sample.
-use Rattle.std.specs.Prelude.{ℕ, Bool, not, ◌&&◌, ◌||◌, ◌==◌, ◌%◌, if◌then◌else◌}
+use Rattle.std.specs.Prelude.{ℕ, Bool, true, false, not, ◌&&◌, ◌||◌, ◌==◌, ◌%◌, if◌then◌else◌}
 use Rattle.cc_formats.specs.declared.reading.Progress.{Progress}
 use Rattle.cc_formats.specs.declared.reading.Progress.TheVariants.{Running, Stopped}
 use Rattle.cc_formats.specs.declared.reading.Reading.{Reading}
+
+-- Whether no further line is taken.
+abbrev pub is_over : Progress → Bool
+is_over Running = false
+is_over _ = true
 
 -- Whether further lines are taken after a line: not if it is refused, and reading is strict.
 abbrev pub progress_after : Reading → (is_refused : Bool) → Progress

@@ -1,6 +1,6 @@
 //! How a trace is read.
 ghost use Rattle.std.specs.Prelude.{◌≡◌};
-ghost use Rattle.cc_formats.specs.Reading.{is_due, progress_after};
+ghost use Rattle.cc_formats.specs.Reading.{is_due, is_over, progress_after};
 
 use crate::formats::TraceFormat;
 
@@ -24,6 +24,18 @@ pub enum Progress {
     Stopped,
     /// No line is taken, since an allocation failed.
     OutOfMemory,
+}
+
+impl Progress {
+    /// Returns whether no further line is taken.
+    pub fn is_over(self) -> bool
+        ensures { result ≡ is_over self }
+    {
+        match self {
+            Progress::Running => false,
+            Progress::Stopped | Progress::OutOfMemory => true,
+        }
+    }
 }
 
 impl Reading {

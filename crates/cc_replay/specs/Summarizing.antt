@@ -1,11 +1,12 @@
 -- A whole trace that is replayed without a series, and its summary.
-use Rattle.std.specs.Prelude.{◌≡◌, ◌≢◌, ℕ, Bool, List, Option, Result, Ok, Err}
+use Rattle.std.specs.Prelude.{◌≡◌, ◌≢◌, ◌⊎◌, ℕ, Bool, true, List, Option, Result, Ok, Err}
 use Rattle.std.specs.Io.KnownBytes.{Appends, Consumes, IsAtEnd}
 use Rattle.cc_io.specs.Answers.{Output}
 use Rattle.cc_io.specs.Devices.{TakesBeginning}
 use Rattle.cc_io.specs.Frames.{lines}
 use Rattle.cc_io.specs.declared.summary.Summary.{Summary}
 use Rattle.cc_formats.specs.declared.reading.Progress.TheVariants.{OutOfMemory}
+use Rattle.cc_formats.specs.Reading.{is_over}
 use Rattle.cc_replay.specs.declared.summarizing.Failure.{Failure}
 use Rattle.cc_replay.specs.declared.summarizing.Failure.TheVariants.{Memory, Read, Write}
 use Rattle.cc_replay.specs.declared.table.Format.{Format}
@@ -13,12 +14,12 @@ use Rattle.cc_replay.specs.Replay.{ReplayState, TakesLine, TakesRest, figures_of
 use Rattle.cc_replay.specs.Rows.{table_text}
 use Rattle.cc_replay.specs.Summary.{summary_rows}
 
--- TakesTrace holds if all lines of the text that the source gave to its end were taken. `any_error` says
--- whether one of them is refused.
+-- TakesTrace holds if all lines of the text that the source gave were taken: to its end, or until no
+-- further line is taken. `any_error` says whether one of them is refused.
 pub record TakesTrace (old : ReplayState) (to_come left : Option (List ℕ)) (any_error : Bool) (new : ReplayState) : Type 0 where
   pub text : List ℕ
   pub given : Consumes to_come left text
-  pub at_end : IsAtEnd left
+  pub at_end : IsAtEnd left ⊎ (is_over new.progress ≡ true)
   pub samples : List ℕ
   pub takes : Output TakesLine TakesRest lines old text samples any_error new
 

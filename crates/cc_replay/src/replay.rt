@@ -6,10 +6,11 @@ ghost use Rattle.cc_io.specs.Frames.{lines};
 ghost use Rattle.cc_io.specs.Devices.{TakesBeginning};
 ghost use Rattle.std.specs.Io.KnownBytes.{Appends};
 ghost use Rattle.cc_formats.specs.declared.reading.Progress.TheVariants.{OutOfMemory};
+ghost use Rattle.cc_formats.specs.Reading.{is_over};
 ghost use Rattle.cc_placer.specs.Alignment.{HasAlignment};
 ghost use Rattle.cc_heap.specs.Lost.{empty_run};
 ghost use Rattle.cc_heap.specs.Peaks.{without_peaks};
-ghost use Rattle.cc_replay.specs.Replay.{AppendsEntry, AppendsEvent, Refuses, TakesLine, TakesNext, TakesRest, begun, figures_of, last_sample, most_sample, series_header, time_after};
+ghost use Rattle.cc_replay.specs.Replay.{AppendsEntry, AppendsEvent, Refuses, TakesLine, TakesRest, begun, figures_of, last_sample, most_sample, series_header, time_after};
 
 use crate::counts::{Count, Counts};
 use crate::series::{MOST_SAMPLE, push_sample, push_series_header};
@@ -175,21 +176,11 @@ impl<P: Placer> Replay<P> {
     }
 
     /// Takes a line, and appends a sample if it is due. Returns whether the line is refused.
-    fn take_line<const N: usize>(&mut self, line: &[u8], out: &mut Page<N>) -> bool
-        requires { length out.old + most_sample ≤ N }
-        ensures { AnswersInto TakesLine self.old line.now out.old out.new result self.new }
-    {
-        match self.progress {
-            Progress::Running => self.take_next(line, out),
-            Progress::Stopped | Progress::OutOfMemory => false,
-        }
-    }
-
-    /// Takes a line while lines are taken.
     #[tactic(auto, using(crate::proofs::ReplayLemmas::entry_answers))]
-    fn take_next<const N: usize>(&mut self, line: &[u8], out: &mut Page<N>) -> bool
+    fn take_line<const N: usize>(&mut self, line: &[u8], out: &mut Page<N>) -> bool
         requires room { length out.old + most_sample ≤ N }
-        ensures { AnswersInto TakesNext self.old line.now out.old out.new result self.new }
+        requires goes_on { is_over self.old.progress ≡ false }
+        ensures { AnswersInto TakesLine self.old line.now out.old out.new result self.new }
     {
         let entry = read_entry(self.reading.format, self.pending, line);
         self.take_entry(entry, out)
@@ -210,17 +201,14 @@ impl<P: Placer> Replay<P> {
         }
     }
 
-    /// Counts trailing bytes as a line that is refused, while lines are taken.
+    /// Counts trailing bytes as a line that is refused.
+    #[tactic(auto, using(crate::proofs::ReplayLemmas::rest_answers))]
     fn take_rest<const N: usize>(&mut self, rest: &[u8], out: &mut Page<N>) -> bool
+        requires { is_over self.old.progress ≡ false }
         ensures { AnswersInto TakesRest self.old rest.now out.old out.new result self.new }
     {
-        match self.progress {
-            Progress::Running => {
-                self.counts = self.counts.with_line();
-                self.refuse(Refusal::Unfinished)
-            }
-            Progress::Stopped | Progress::OutOfMemory => false,
-        }
+        self.counts = self.counts.with_line();
+        self.refuse(Refusal::Unfinished)
     }
 
     /// Appends the header of the series, if there is one.
@@ -287,9 +275,11 @@ impl<P: Placer, const N: usize> Answerer<N> for Replay<P> {
 
     ghost MOST = { most_sample };
 
+    ghost done = { λ replay. is_over replay.progress };
+
     #[inline(always)]
     fn is_done(&self) -> bool {
-        false
+        self.progress.is_over()
     }
 
     #[inline(always)]
@@ -310,11 +300,11 @@ impl<P: Placer, const N: usize> Answerer<N> for Replay<P> {
 ///
 /// Each line is taken as [`read_entry`] reads it in the format of the trace. The replay counts a line
 /// that is not an event, and an event that the heap refuses, and takes the next line unless reading is
-/// strict. If an allocation fails, [`Replay::progress`] says so, and no further line is taken. The
-/// source is read in chunks of up to 16 KiB. Before each read, all samples of earlier events are
-/// written. The sink is flushed once, at the end.
+/// strict. If an allocation fails, [`Replay::progress`] says so. After such a line nothing is taken, and
+/// the source is read no further. It is read in chunks of up to 16 KiB. Before each read, all samples of
+/// earlier events are written. The sink is flushed once, at the end.
 ///
-/// Requires: neither the source nor the sink has failed.
+/// Requires: neither the source nor the sink has failed; the replay takes lines.
 /// Errors: `Read` if and only if the source failed. `Write` if and only if the sink failed.
 pub fn replay_trace<P: Placer, R: Source, W: Sink>(
     replay: &mut Replay<P>,
@@ -323,9 +313,10 @@ pub fn replay_trace<P: Placer, R: Source, W: Sink>(
 ) -> Result<Summary, IoError>
     requires source { (R.state source.old).has_failed ≡ false }
     requires sink { (W.state series.old).has_failed ≡ false }
+    requires goes_on { is_over replay.old.progress ≡ false }
     // Each line is taken in order, as `TakesLine` says, and the sink took the header of the series
     // and the samples of the events that have one.
-    ensures replays { Pumps (λ _. false) TakesLine TakesRest lines 65536 most_sample replay.old (series_header replay.old)
+    ensures replays { Pumps (λ state. is_over state.progress) TakesLine TakesRest lines 65536 most_sample replay.old (series_header replay.old)
         (R.state source.old).unread (R.state source.new).unread (W.state series.old).taken (W.state series.new).taken result replay.new }
     ensures read { (result ≡ Err IoError.Read) ↔ ((R.state source.new).has_failed ≡ true) }
     ensures write { (result ≡ Err IoError.Write) ↔ ((W.state series.new).has_failed ≡ true) }

@@ -1,6 +1,7 @@
 //! The summary of a whole trace.
 ghost use Rattle.std.specs.Prelude.{◌≡◌, ◌≢◌, ◌↔◌, Err, false, true, None, IfOk, IsErr, OnOk};
 ghost use Rattle.cc_formats.specs.declared.reading.Progress.TheVariants.{OutOfMemory};
+ghost use Rattle.cc_formats.specs.Reading.{is_over};
 ghost use Rattle.cc_replay.specs.Summarizing.{Summarizes, TakesTrace};
 
 use crate::replay::{Replay, replay_trace};
@@ -39,10 +40,10 @@ impl Sink for Discard {
 
 /// Replays the trace that the source gives, without a series, and writes the summary of the replay.
 ///
-/// Nothing is written before the end of the trace, and nothing if a read or an allocation fails. The
-/// sink is flushed at the end.
+/// Nothing is written before the last line, and nothing if a read or an allocation fails. The sink is
+/// flushed at the end. A strict reading reads nothing after the chunk of the first refused line.
 ///
-/// Requires: neither the source nor the sink has failed.
+/// Requires: neither the source nor the sink has failed; the replay takes lines.
 /// Errors: `Read` if and only if the source failed. `Memory` if an allocation failed. `Write` if and
 /// only if the sink failed.
 pub fn summarize_trace<P: Placer, R: Source, W: Sink>(
@@ -53,6 +54,7 @@ pub fn summarize_trace<P: Placer, R: Source, W: Sink>(
 ) -> Result<Summary, Failure>
     requires source { (R.state source.old).has_failed ≡ false }
     requires sink { (W.state sink.old).has_failed ≡ false }
+    requires goes_on { is_over replay.old.progress ≡ false }
     ensures summarizes { Summarizes format replay.old (R.state source.old).unread (R.state source.new).unread
         (W.state sink.old).taken (W.state sink.new).taken result replay.new }
     ensures read { (result ≡ Err Failure.Read) ↔ ((R.state source.new).has_failed ≡ true) }
@@ -71,12 +73,13 @@ pub fn summarize_trace<P: Placer, R: Source, W: Sink>(
     }
 }
 
-/// Takes all lines of the trace that the source gives, without a series.
+/// Takes the lines of the trace that the source gives, without a series.
 fn take_trace<P: Placer, R: Source>(
     replay: &mut Replay<P>,
     source: &mut R,
 ) -> Result<Summary, Failed>
     requires source { (R.state source.old).has_failed ≡ false }
+    requires goes_on { is_over replay.old.progress ≡ false }
     ensures takes { IfOk result (λ summary. TakesTrace replay.old (R.state source.old).unread (R.state source.new).unread summary.any_error replay.new) }
     ensures read { IsErr result ↔ ((R.state source.new).has_failed ≡ true) }
 {

@@ -1,5 +1,5 @@
 -- The output of `replay --svg`: a chart of the heap of a trace over its events.
-use Rattle.std.specs.Prelude.{ℕ, Bool, ◌≡◌, ◌≢◌, ◌+◌, ◌==◌, max, List, [], Option, None, Result, Ok, Err, if◌then◌else◌, false}
+use Rattle.std.specs.Prelude.{ℕ, Bool, ◌≡◌, ◌≢◌, ◌+◌, ◌==◌, max, List, [], Option, None, Result, Ok, Err, if◌then◌else◌}
 use Rattle.std.specs.Io.KnownBytes.{Appends}
 use Rattle.cc_io.specs.Correct.{Pumps}
 use Rattle.cc_io.specs.Devices.{TakesBeginning}
@@ -17,6 +17,7 @@ use Rattle.cc_heap.specs.declared.settings.Settings.{Settings}
 use Rattle.cc_replay.specs.Replay.{ReplayState, TakesLine, TakesRest, begun, figures_of, most_sample}
 use Rattle.cc_formats.specs.declared.reading.Progress.TheVariants.{OutOfMemory}
 use Rattle.cc_formats.specs.declared.reading.Reading.{Reading}
+use Rattle.cc_formats.specs.Reading.{is_over}
 use Rattle.cc_replay.specs.declared.summary.Figures.{Figures}
 use Rattle.cli.specs.Devices.{Traffic}
 
@@ -59,23 +60,22 @@ pub record ChartsRest (old : Charted) (rest text : List ℕ) (is_error : Bool) (
   pub chart : new.chart ≡ old.chart
 
 -- TakesLines holds if the lines that the source gave were taken, and the bytes after the last of them, until the replay and the chart
--- were `new`. With a result that is `Ok` the source was read to its end.
+-- were `new`. With a result that is `Ok` the source was read to its end, or until no further line is taken.
 abbrev pub TakesLines : (old : Charted) (unread left : Option (List ℕ)) → Result Summary IoError → (new : Charted) → Type 0
-TakesLines old unread left result new = Pumps (λ (state : Charted). false) ChartsLine ChartsRest lines 65536 most_sample old [] unread left None None result new
+TakesLines old unread left result new = Pumps (λ state. is_over state.replay.progress) ChartsLine ChartsRest lines 65536 most_sample old [] unread left None None result new
 
--- TakesAll holds if the source gave the whole trace, and the lines were taken until one stopped the replay, if any
--- did. No allocation failed.
+-- TakesAll holds if the trace was taken, as `TakesLines` says without an error, and no allocation failed.
 pub record TakesAll (old : Charted) (unread left : Option (List ℕ)) (summary : Summary) (new : Charted) : Type 0 where
   pub takes : TakesLines old unread left (Ok summary) new
   pub has_memory : new.replay.progress ≢ OutOfMemory
 
--- ChartsAll holds if the whole trace was taken in this way, and the chart was written.
+-- ChartsAll holds if the trace was taken, and the chart was written.
 pub record ChartsAll (old : Charted) (traffic : Traffic) (summary : Summary) : Type 0 where
   pub new : Charted
   pub all : TakesAll old traffic.source.unread traffic.source_now.unread summary new
   pub written : Appends traffic.output.taken traffic.output_now.taken (chart_text new.chart)
 
--- StopsInChart holds if the whole trace was taken in this way, and a prefix of the chart was written.
+-- StopsInChart holds if the trace was taken, and a prefix of the chart was written.
 pub record StopsInChart (old : Charted) (traffic : Traffic) : Type 0 where
   pub summary : Summary
   pub new : Charted

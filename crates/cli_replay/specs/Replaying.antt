@@ -1,5 +1,5 @@
 -- The output of `replay`, by its trace.
-use Rattle.std.specs.Prelude.{◌≡◌, ◌≢◌, ◌⊎◌, ℕ, Bool, false, ⊤, List, Option, Some, None, Result, Ok, Err, MatchResult}
+use Rattle.std.specs.Prelude.{◌≡◌, ◌≢◌, ◌⊎◌, ℕ, Bool, ⊤, List, Option, Some, None, Result, Ok, Err, MatchResult}
 use Rattle.std.specs.Io.KnownBytes.{Appends}
 use Rattle.cc_bounds.specs.declared.align.Align.{Align}
 use Rattle.cc_io.specs.Correct.{Pumps}
@@ -15,6 +15,7 @@ use Rattle.cc_replay.specs.SizeTable.{sizes_text}
 use Rattle.cc_replay.specs.Summary.{summary_rows}
 use Rattle.cc_formats.specs.declared.reading.Progress.TheVariants.{OutOfMemory}
 use Rattle.cc_formats.specs.declared.reading.Reading.{Reading}
+use Rattle.cc_formats.specs.Reading.{is_over}
 use Rattle.cc_heap.specs.declared.settings.Settings.{Settings}
 use Rattle.cc_replay.specs.declared.table.Format.{Format}
 use Rattle.cc_replay.specs.declared.table.Format.TheVariants.{Text, Csv, Json}
@@ -47,23 +48,23 @@ end_text table.Summary format state = summary_text format state
 end_text table.Sizes format state = sizes_text (table_format format) state.run.sizes
 
 -- Replays holds if the replay took the lines that the source gave, and the bytes after the last of them, until it had the state `new`.
--- The samples were written. With a result that is `Ok` the source was read to its end.
+-- The samples were written. With a result that is `Ok` the source was read to its end, or until no further line is taken.
 abbrev pub Replays : (old : ReplayState) (unread left output output_now : Option (List ℕ)) → Result Summary IoError → (new : ReplayState) → Type 0
 Replays old unread left output output_now result new =
-    Pumps (λ (state : ReplayState). false) TakesLine TakesRest lines 65536 most_sample old (series_header old) unread left output output_now result new
+    Pumps (λ state. is_over state.progress) TakesLine TakesRest lines 65536 most_sample old (series_header old) unread left output output_now result new
 
--- ReplaysAll holds if the replay took the whole trace, and no allocation failed.
+-- ReplaysAll holds if the replay took the trace, as `Replays` says without an error, and no allocation failed.
 pub record ReplaysAll (old : ReplayState) (unread left output output_now : Option (List ℕ)) (summary : Summary) (new : ReplayState) : Type 0 where
   pub replays : Replays old unread left output output_now (Ok summary) new
   pub has_memory : new.progress ≢ OutOfMemory
 
--- SumsUpAll holds if the replay took the whole trace, and the text of its end was written.
+-- SumsUpAll holds if the replay took the trace, and the text of its end was written.
 pub record SumsUpAll (text_of : ReplayState → List ℕ) (old : ReplayState) (traffic : Traffic) (summary : Summary) : Type 0 where
   pub new : ReplayState
   pub all : ReplaysAll old traffic.source.unread traffic.source_now.unread None None summary new
   pub written : Appends traffic.output.taken traffic.output_now.taken (text_of new)
 
--- StopsInSummary holds if the replay took the whole trace, and a prefix of the text of its end was written.
+-- StopsInSummary holds if the replay took the trace, and a prefix of the text of its end was written.
 pub record StopsInSummary (text_of : ReplayState → List ℕ) (old : ReplayState) (traffic : Traffic) : Type 0 where
   pub summary : Summary
   pub new : ReplayState
@@ -76,14 +77,14 @@ SumsUp text_of old traffic (Ok summary) = SumsUpAll text_of old traffic summary
 SumsUp text_of old traffic (Err Read) = traffic.output_now.taken ≡ traffic.output.taken
 SumsUp text_of old traffic (Err Write) = StopsInSummary text_of old traffic
 
--- SamplesAll holds if the replay took the whole trace, and its series was written, with the last sample.
+-- SamplesAll holds if the replay took the trace, and its series was written, with the last sample.
 pub record SamplesAll (old : ReplayState) (traffic : Traffic) (summary : Summary) : Type 0 where
   pub new : ReplayState
   pub output_then : Option (List ℕ)
   pub all : ReplaysAll old traffic.source.unread traffic.source_now.unread traffic.output.taken output_then summary new
   pub written : Appends output_then traffic.output_now.taken (last_sample new)
 
--- StopsInLast holds if the replay took the whole trace, and its series was written, but of the last sample only a prefix.
+-- StopsInLast holds if the replay took the trace, and its series was written, but of the last sample only a prefix.
 pub record StopsInLast (old : ReplayState) (traffic : Traffic) : Type 0 where
   pub summary : Summary
   pub new : ReplayState

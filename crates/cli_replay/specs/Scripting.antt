@@ -1,5 +1,5 @@
 -- The output of `replay --script`: the script of a trace.
-use Rattle.std.specs.Prelude.{◌≢◌, ℕ, List, [], Option, Result, Ok, Err, false}
+use Rattle.std.specs.Prelude.{◌≢◌, ℕ, List, [], Option, Result, Ok, Err}
 use Rattle.cc_io.specs.Correct.{Pumps}
 use Rattle.cc_io.specs.Frames.{lines}
 use Rattle.cc_io.specs.declared.summary.IoError.{IoError}
@@ -7,16 +7,17 @@ use Rattle.cc_io.specs.declared.summary.Summary.{Summary}
 use Rattle.cc_heap.specs.declared.settings.Settings.{Settings}
 use Rattle.cc_formats.specs.declared.reading.Progress.TheVariants.{OutOfMemory}
 use Rattle.cc_formats.specs.declared.reading.Reading.{Reading}
+use Rattle.cc_formats.specs.Reading.{is_over}
 use Rattle.cc_changes.specs.Script.{ScriptState, ScriptsLine, ScriptsRest, script_begun}
 use Rattle.cli.specs.Devices.{Traffic}
 
 -- Writes holds if the lines that the source gave were taken, and the bytes after the last of them, until the script had the state
--- `new`. The lines of its operations were written. With a result that is `Ok` the source was read to its end.
+-- `new`. The lines of its operations were written. With a result that is `Ok` the source was read to its end, or until no further line is taken.
 abbrev pub Writes : (old : ScriptState) (unread left output output_now : Option (List ℕ)) → Result Summary IoError → (new : ScriptState) → Type 0
 Writes old unread left output output_now result new =
-    Pumps (λ (state : ScriptState). false) ScriptsLine ScriptsRest lines 65536 128 old [] unread left output output_now result new
+    Pumps (λ state. is_over state.progress) ScriptsLine ScriptsRest lines 65536 128 old [] unread left output output_now result new
 
--- ScriptsAll holds if the whole trace was taken, its script was written, and no allocation failed.
+-- ScriptsAll holds if the trace was taken, as `Writes` says without an error, and no allocation failed.
 pub record ScriptsAll (old : ScriptState) (traffic : Traffic) (summary : Summary) : Type 0 where
   pub new : ScriptState
   pub writes : Writes old traffic.source.unread traffic.source_now.unread traffic.output.taken traffic.output_now.taken (Ok summary) new

@@ -3,6 +3,7 @@ ghost use Rattle.std.specs.Prelude.{◌≡◌, ◌≢◌, ◌≤◌, ◌+◌, �
 ghost use Rattle.cc_io.specs.Answers.{AnswersInto};
 ghost use Rattle.cli.specs.Devices.{FromInput, OnDevices, OnOutput, Traffic};
 ghost use Rattle.cli.specs.Input.{IsFile};
+ghost use Rattle.cc_formats.specs.Reading.{is_over};
 ghost use Rattle.cc_replay.specs.Replay.{most_sample};
 ghost use Rattle.cli_replay.specs.Charting.{Charts, ChartsLine, ChartsRest, TakesLines, begun_chart, charted, levels_of};
 ghost use Rattle.cli_replay.specs.Settings.{IsForHeap};
@@ -66,7 +67,8 @@ impl<P: Placer> Charting<P> {
 
     /// Takes a line, and adds the levels of its event to the chart, if it is one.
     fn take_line<const N: usize>(&mut self, line: &[u8], out: &mut Page<N>) -> bool
-        requires { length out.old + most_sample ≤ N }
+        requires room { length out.old + most_sample ≤ N }
+        requires goes_on { is_over self.old.replay.progress ≡ false }
         ensures { AnswersInto ChartsLine self.old line.now out.old out.new result self.new }
     {
         let events = self.replay.figures().counts.events;
@@ -78,7 +80,8 @@ impl<P: Placer> Charting<P> {
 
     /// Takes trailing bytes.
     fn take_rest<const N: usize>(&mut self, rest: &[u8], out: &mut Page<N>) -> bool
-        requires { length out.old + most_sample ≤ N }
+        requires room { length out.old + most_sample ≤ N }
+        requires goes_on { is_over self.old.replay.progress ≡ false }
         ensures { AnswersInto ChartsRest self.old rest.now out.old out.new result self.new }
     {
         self.replay.end(rest, out)
@@ -116,9 +119,11 @@ impl<P: Placer, const N: usize> Answerer<N> for Charting<P> {
 
     ghost MOST = { most_sample };
 
+    ghost done = { λ charting. is_over charting.replay.progress };
+
     #[inline(always)]
     fn is_done(&self) -> bool {
-        false
+        self.replay.progress().is_over()
     }
 
     fn most() -> usize {
@@ -139,7 +144,8 @@ pub(crate) fn take_trace<P: Placer, S: Source>(
     charting: &mut Charting<P>,
     source: &mut S,
 ) -> Result<Summary, IoError>
-    requires { (S.state source.old).has_failed ≡ false }
+    requires source { (S.state source.old).has_failed ≡ false }
+    requires goes_on { is_over charting.old.replay.progress ≡ false }
     ensures takes { TakesLines charting.old (S.state source.old).unread (S.state source.new).unread result charting.new }
     ensures read { (result ≡ Err IoError.Read) ↔ ((S.state source.new).has_failed ≡ true) }
     ensures written { result ≢ Err IoError.Write }
@@ -157,6 +163,7 @@ pub(crate) fn draw_input<M: TraceMemory, I: Inputs, W: Sink>(
     input: InputName<'_>,
     sink: &mut W,
 ) -> Result<Summary, Fault>
+    requires goes_on { is_over charting.old.replay.progress ≡ false }
     requires memory { M.has_failed memory.old ≡ false }
     requires source { (I.Opened.state source.old).has_failed ≡ false }
     requires inputs { I.has_refused inputs.old ≡ false }
@@ -184,6 +191,7 @@ fn draw<M: TraceMemory, S: Source, W: Sink>(
     source: &mut S,
     sink: &mut W,
 ) -> Result<Summary, Fault>
+    requires goes_on { is_over charting.old.replay.progress ≡ false }
     requires memory { M.has_failed memory.old ≡ false }
     requires source { (S.state source.old).has_failed ≡ false }
     requires sink { (W.state sink.old).has_failed ≡ false }

@@ -1,6 +1,7 @@
 //! The memory of a trace that is replayed.
 ghost use Rattle.std.specs.Prelude.{◌≡◌, ◌≢◌, ◌↔◌, Err, IfOk, IsErr, OnErr, OnOk, false, true};
 ghost use Rattle.cc_formats.specs.declared.reading.Progress.TheVariants.{OutOfMemory};
+ghost use Rattle.cc_formats.specs.Reading.{is_over};
 ghost use Rattle.cc_heap.specs.Lost.{empty_run};
 ghost use Rattle.cc_replay.specs.Replay.{begun};
 ghost use Rattle.cc_changes.specs.Script.{script_begun};
@@ -21,8 +22,8 @@ use std::alloc::AllocError;
 ///
 /// Each of its types has no parameter, so that no caller can bring one whose allocations always fail.
 ///
-/// Each function that takes a trace requires that neither the source nor the sink has failed. Its errors are `Read` if and
-/// only if the source failed, and `Write` if and only if the sink failed.
+/// Each function that takes a trace requires that neither the source nor the sink has failed, and that lines are taken. Its
+/// errors are `Read` if and only if the source failed, and `Write` if and only if the sink failed.
 pub trait TraceMemory: Memory {
     /// Begins a replay with a heap that holds nothing, before the first line of a trace.
     ///
@@ -46,6 +47,7 @@ pub trait TraceMemory: Memory {
     ) -> Result<Summary, IoError>
         requires source { (S.state source.old).has_failed ≡ false }
         requires sink { (W.state sink.old).has_failed ≡ false }
+        requires goes_on { is_over replay.old.progress ≡ false }
         ensures takes { Replays replay.old (S.state source.old).unread (S.state source.new).unread (W.state sink.old).taken (W.state sink.new).taken result replay.new }
         ensures read { (result ≡ Err IoError.Read) ↔ ((S.state source.new).has_failed ≡ true) }
         ensures write { (result ≡ Err IoError.Write) ↔ ((W.state sink.new).has_failed ≡ true) }
@@ -72,6 +74,7 @@ pub trait TraceMemory: Memory {
         source: &mut S,
     ) -> Result<Summary, IoError>
         requires source { (S.state source.old).has_failed ≡ false }
+        requires goes_on { is_over charting.old.replay.progress ≡ false }
         ensures takes { TakesLines charting.old (S.state source.old).unread (S.state source.new).unread result charting.new }
         ensures read { (result ≡ Err IoError.Read) ↔ ((S.state source.new).has_failed ≡ true) }
         ensures written { result ≢ Err IoError.Write }
@@ -100,6 +103,7 @@ pub trait TraceMemory: Memory {
     ) -> Result<Summary, IoError>
         requires source { (S.state source.old).has_failed ≡ false }
         requires sink { (W.state sink.old).has_failed ≡ false }
+        requires goes_on { is_over script.old.progress ≡ false }
         ensures takes { Writes script.old (S.state source.old).unread (S.state source.new).unread (W.state sink.old).taken (W.state sink.new).taken result script.new }
         ensures read { (result ≡ Err IoError.Read) ↔ ((S.state source.new).has_failed ≡ true) }
         ensures write { (result ≡ Err IoError.Write) ↔ ((W.state sink.new).has_failed ≡ true) }

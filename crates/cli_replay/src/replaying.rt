@@ -7,6 +7,7 @@ ghost use Rattle.cli.specs.Input.{IsFile, file_input, trace_content};
 ghost use Rattle.cli_replay.specs.Charting.{ChartsTrace};
 ghost use Rattle.cli_replay.specs.ReplayTexts.{replay_in};
 ghost use Rattle.cli_replay.specs.Replaying.{IsStreaming, IsTable, ReplaysTrace, Samples, SumsUp, WithReplay, WritesReplay, end_text, summary_text, table_format};
+ghost use Rattle.cc_formats.specs.Reading.{is_over};
 ghost use Rattle.cc_heap.specs.Lost.{empty_run};
 ghost use Rattle.cc_replay.specs.Replay.{begun};
 ghost use Rattle.cli_replay.specs.Scripting.{ScriptsTrace};
@@ -42,7 +43,9 @@ pub(crate) enum Table {
 ///
 /// The texts are read first. If one is refused, the output is that refusal, and nothing is read.
 ///
-/// The summary of the result has an error if a line of the trace is refused.
+/// The summary of the result has an error if a line of the trace is refused. With `strict`, nothing is read
+/// after the chunk of the first refused line, and in any case nothing after the chunk in which a script ends or
+/// an allocation fails.
 ///
 /// Requires: the sink has not failed.
 /// Errors: `Memory` if an allocation fails, and without `--each` and `--script` nothing was written then;
@@ -140,6 +143,7 @@ fn replay_input<M: TraceMemory, I: Inputs, W: Sink>(
     input: InputName<'_>,
     sink: &mut W,
 ) -> Result<Summary, Fault>
+    requires goes_on { is_over replay.old.progress ≡ false }
     requires memory { M.has_failed memory.old ≡ false }
     requires source { (I.Opened.state source.old).has_failed ≡ false }
     requires inputs { I.has_refused inputs.old ≡ false }
@@ -240,6 +244,7 @@ fn sum_up<M: TraceMemory, S: Source, W: Sink>(
     source: &mut S,
     sink: &mut W,
 ) -> Result<Summary, Fault>
+    requires goes_on { is_over replay.old.progress ≡ false }
     requires memory { M.has_failed memory.old ≡ false }
     requires source { (S.state source.old).has_failed ≡ false }
     requires sink { (W.state sink.old).has_failed ≡ false }
@@ -305,6 +310,7 @@ fn sample<M: TraceMemory, S: Source, W: Sink>(
     source: &mut S,
     sink: &mut W,
 ) -> Result<Summary, Fault>
+    requires goes_on { is_over replay.old.progress ≡ false }
     requires memory { M.has_failed memory.old ≡ false }
     requires source { (S.state source.old).has_failed ≡ false }
     requires sink { (W.state sink.old).has_failed ≡ false }

@@ -2,6 +2,7 @@
 ghost use Rattle.std.specs.Prelude.{◌≡◌, ◌≢◌, ◌↔◌, false, true, Err, OnOk};
 ghost use Rattle.cli.specs.Devices.{FromInput, OnDevices, OnOutput, Traffic};
 ghost use Rattle.cli.specs.Input.{IsFile};
+ghost use Rattle.cc_formats.specs.Reading.{is_over};
 ghost use Rattle.cli_replay.specs.Scripting.{Scripts};
 
 use crate::memory::TraceMemory;
@@ -20,6 +21,7 @@ pub(crate) fn script_input<M: TraceMemory, I: Inputs, W: Sink>(
     input: InputName<'_>,
     sink: &mut W,
 ) -> Result<Summary, Fault>
+    requires goes_on { is_over script.old.progress ≡ false }
     requires memory { M.has_failed memory.old ≡ false }
     requires source { (I.Opened.state source.old).has_failed ≡ false }
     requires inputs { I.has_refused inputs.old ≡ false }
@@ -46,6 +48,7 @@ fn write_script<M: TraceMemory, S: Source, W: Sink>(
     source: &mut S,
     sink: &mut W,
 ) -> Result<Summary, Fault>
+    requires goes_on { is_over script.old.progress ≡ false }
     requires memory { M.has_failed memory.old ≡ false }
     requires source { (S.state source.old).has_failed ≡ false }
     requires sink { (W.state sink.old).has_failed ≡ false }
