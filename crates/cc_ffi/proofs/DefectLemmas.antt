@@ -1,5 +1,5 @@
 -- Why a word is not canonical: each reason is the first that applies.
-use Rattle.std.proofs.Common.{◌≡◌, ◌∙◌, ℕ, Option, None, Some, refl, sym, subst, arith}
+use Rattle.std.proofs.Common.{◌≡◌, ℕ, Option, None, Some, arith}
 use Rattle.std.specs.Prelude.{◌↔◌, MatchOption}
 use Rattle.cc_word.specs.declared.fields.Fields.{Fields}
 use Rattle.cc_bounds.specs.declared.span.Span.{Span}

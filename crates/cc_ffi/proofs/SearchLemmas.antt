@@ -14,10 +14,10 @@ use Rattle.cc_bounds.specs.Encoding.{HasBoundsFields}
 use Rattle.cc_bounds.specs.Decoding.{DecodesTo}
 use Rattle.cc_bounds.specs.Window.{Represents}
 use Rattle.cc_bounds.proofs.SoundDecodingLemmas.{sound-decodes}
-use Rattle.cc_cap.specs.Capability.{Capability, IsCapability, IsSealed, IsUnsealed, Grants, sealed_with}
+use Rattle.cc_cap.specs.Capability.{Capability, IsCapability, IsUnsealed, sealed_with}
 use Rattle.cc_cap.specs.Canonical.{IsCanonical, IsFieldsOf, IsWordOf}
 use Rattle.cc_ffi.specs.declared.structs.Query.{Query}
-use Rattle.cc_ffi.specs.Search.{AreUnsealed, GrantsWanted, IsListed, IsSentryOf, IsTaggable, IsWanted, position_at}
+use Rattle.cc_ffi.specs.Search.{AreUnsealed, IsListed, IsSentryOf, IsTaggable, IsWanted, position_at}
 use Rattle.cc_ffi.proofs.RuleLemmas.{own_fields}
 
 -- ---- types

@@ -7,7 +7,6 @@ use Rattle.cc_word.specs.Permissions.{HasAll}
 use Rattle.cc_word.specs.Word.{word_of}
 use Rattle.cc_cap.specs.Capability.{Capability, IsCapability, IsSealed, IsUnsealed, Grants, sealed_with}
 use Rattle.cc_cap.specs.Canonical.{IsFieldsOf, IsWordOf}
-use Rattle.cc_cap.specs.Many.{AnswersEach}
 use Rattle.cc_ffi.specs.declared.structs.Query.{Query}
 use Rattle.cc_ffi.specs.Memory.{word_in_memory}
 

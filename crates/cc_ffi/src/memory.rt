@@ -97,6 +97,29 @@ pub extern "C" fn cheri_cap_set_bounds_memory(
     ensures rest { SameFrom made.old made.new result }
     ensures rest_of_refusals { SameFrom refusals.old refusals.new result }
 {
+    if big_endian {
+        set_bounds_in(memory, true, exact, lengths, made, refusals)
+    } else {
+        set_bounds_in(memory, false, exact, lengths, made, refusals)
+    }
+}
+
+/// Does what [`cheri_cap_set_bounds_memory`] does. The compiler makes a loop of it for each byte order.
+#[inline(always)]
+fn set_bounds_in(
+    memory: &[[u8; 16]],
+    big_endian: bool,
+    exact: bool,
+    lengths: &[Halves],
+    made: &mut [[u8; 16]],
+    refusals: &mut [u8],
+) -> usize
+    ensures count { result ≡ min (min (length memory.now) (length lengths.now)) (min (length made.old) (length refusals.old)) }
+    ensures made { AnswersEach (λ i bytes. GivesInMemory (OnWord (λ cap. SetsBoundsBy exact cap (word_at lengths.now i))
+        (word_in_memory big_endian memory.now i)) big_endian bytes (slice_index refusals.new i)) made.new result }
+    ensures rest { SameFrom made.old made.new result }
+    ensures rest_of_refusals { SameFrom refusals.old refusals.new result }
+{
     let words = memory.len().min(lengths.len());
     let count = words.min(made.len().min(refusals.len()));
     for i in 0..count {

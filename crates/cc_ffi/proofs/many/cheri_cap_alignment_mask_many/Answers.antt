@@ -1,4 +1,4 @@
-use Rattle.std.proofs.Common.{◌≢◌, arith, get_or-set_other, slice_index}
+use Rattle.std.proofs.Common.{◌≢◌, arith, get_or-set_other}
 use Rattle.cc_ffi.specs.Many.{IsAlignmentMask, word_at}
 use Rattle.cc_cap.proofs.ManyLemmas.{answers_more}
 use Rattle.cc_ffi.proofs.many.cheri_cap_alignment_mask_many.Goals as goal

@@ -1,4 +1,4 @@
-use Rattle.std.proofs.Common.{◌≡◌, ◌+◌, arith, rules, set}
+use Rattle.std.proofs.Common.{◌+◌, arith}
 use Rattle.cc_ffi.specs.Search.{IsWantedAt}
 use Rattle.cc_ffi.proofs.SearchLemmas.{Searched, searched_more, searched_past}
 use Rattle.cc_ffi.proofs.search.cheri_cap_search_memory.Goals.{then-is_wanted_at, else-is_wanted_at}
