@@ -20,7 +20,16 @@ _cheri_cap() {
     *) return ;;
   esac
   case $before in
-    --slots | --length | --base | --skip | --at | --holds | --perms | --sweep | --min | --pool | --each) ;;
+    --slots | --length | --base | --skip | --at | --holds | --min | --pool | --each) ;;
+    --sweep)
+      compopt -o nospace 2>/dev/null
+      mapfile -t COMPREPLY < <(compgen -W 'none never trace 25% 25%:live 25%:high bytes: frees:' -- "$word")
+      ;;
+    --perms)
+      # names that are joined by a plus sign, of which the last one is completed
+      compopt -o nospace 2>/dev/null
+      mapfile -t COMPREPLY < <(compgen -P "${word%"${word##*+}"}" -W 'GLOBAL EXECUTE LOAD STORE LOAD_CAP STORE_CAP STORE_LOCAL_CAP SEAL CINVOKE UNSEAL SYSTEM_REGS SET_CID USER0 USER1 USER2 USER3' -- "${word##*+}")
+      ;;
     --realloc) mapfile -t COMPREPLY < <(compgen -W 'move keep' -- "$word") ;;
     --summary) mapfile -t COMPREPLY < <(compgen -W 'text csv json' -- "$word") ;;
     --format)
@@ -39,7 +48,7 @@ _cheri_cap() {
     *)
       if [[ $word == -* ]]; then
         mapfile -t COMPREPLY < <(compgen -W "$options" -- "$word")
-      elif [[ $command == run || $command == plan || $command == map || $command == replay || $command == decode || $command == annotate ]]; then
+      elif [[ $command != show && $command != round && $command != explain ]]; then
         compopt -o filenames 2>/dev/null
         mapfile -t COMPREPLY < <(compgen -f -- "$word")
       fi

@@ -1,5 +1,11 @@
 # Completion of cheri-cap's arguments for fish. tests/install compares it with the program's help.
 
+# Prints the names of permissions, each after those that the word has already, which are joined by a plus sign.
+function __cheri_cap_perms
+    set -l before (commandline -ct | string replace -r '^--perms=' '' | string replace -r '[^+]*$' '')
+    printf "$before%s\n" GLOBAL EXECUTE LOAD STORE LOAD_CAP STORE_CAP STORE_LOCAL_CAP SEAL CINVOKE UNSEAL SYSTEM_REGS SET_CID USER0 USER1 USER2 USER3
+end
+
 complete -c cheri-cap -f
 complete -c cheri-cap -s h -l help -d 'Print help'
 complete -c cheri-cap -n __fish_use_subcommand -s V -l version -d 'Print the version'
@@ -23,7 +29,7 @@ complete -c cheri-cap -n '__fish_seen_subcommand_from map explain' -l svg -d 'Dr
 complete -c cheri-cap -n '__fish_seen_subcommand_from plan map replay' -l align -x -a '1 16' -d 'Minimum alignment of objects'
 complete -c cheri-cap -n '__fish_seen_subcommand_from replay' -l format -x -a 'own mtrace heaptrack ltrace' -d 'Format of the trace'
 complete -c cheri-cap -n '__fish_seen_subcommand_from replay' -l realloc -x -a 'move keep' -d 'Effect of a realloc'
-complete -c cheri-cap -n '__fish_seen_subcommand_from replay' -l sweep -x -d 'When the quarantine is swept'
+complete -c cheri-cap -n '__fish_seen_subcommand_from replay' -l sweep -x -a 'none never trace 25% 25%:live 25%:high bytes: frees:' -d 'When the quarantine is swept'
 complete -c cheri-cap -n '__fish_seen_subcommand_from replay' -l min -x -d 'Quarantined bytes below which nothing is swept'
 complete -c cheri-cap -n '__fish_seen_subcommand_from replay' -l pool -x -d 'Bytes in which objects are placed'
 complete -c cheri-cap -n '__fish_seen_subcommand_from replay' -l strict -d 'Stop after a refused line'
@@ -37,5 +43,5 @@ complete -c cheri-cap -n '__fish_seen_subcommand_from decode' -l bytes -x -a 'li
 complete -c cheri-cap -n '__fish_seen_subcommand_from decode' -l skip -x -d 'Number of bytes that are not decoded'
 complete -c cheri-cap -n '__fish_seen_subcommand_from decode' -l at -x -d 'Print addresses from START'
 complete -c cheri-cap -n '__fish_seen_subcommand_from decode' -l holds -x -d 'List capabilities to ADDRESS'
-complete -c cheri-cap -n '__fish_seen_subcommand_from decode' -l perms -x -d 'List capabilities with permissions'
+complete -c cheri-cap -n '__fish_seen_subcommand_from decode' -l perms -x -a '(__cheri_cap_perms)' -d 'List capabilities with permissions'
 complete -c cheri-cap -n '__fish_seen_subcommand_from run plan map replay decode annotate' -F
