@@ -397,8 +397,7 @@ cheri_cap_ends cheri_cap_window(uint64_t high, uint64_t low) CHERI_CAP_NOEXCEPT;
  *
  * Pointers: the pointer to an array of count 0 may be null, and no other. Words, bounds and
  * addresses must be aligned to 8 bytes. The results must not overlap what is read, but words and
- * addresses may overlap each other. The previous contents of the results do not matter. See
- * "Pointers" above.
+ * addresses may overlap each other. The previous contents of the results do not matter.
  */
 size_t cheri_cap_decode_many(
     const cheri_cap_u128 *words, size_t word_count, cheri_cap_bounds *bounds, size_t bounds_count) CHERI_CAP_NOEXCEPT;
@@ -409,11 +408,12 @@ size_t cheri_cap_represents_many(
     size_t answer_count) CHERI_CAP_NOEXCEPT;
 
 /*
- * Batch functions on memory. Each does the same for the words of memory, 16 bytes each and one
- * after the other, in the byte order of the memory: the low half first unless `big_endian`. Each
- * word is read like cheri_cap_word_from_bytes reads it.
+ * Batch functions on memory. Each does what its namesake, such as cheri_cap_decode_many, does, for
+ * the words of memory, 16 bytes each and one after the other, in the byte order of the memory: the
+ * low half first unless `big_endian`. Each word is read like cheri_cap_word_from_bytes reads it.
  *
- * Pointers: as above, but `memory` may have any alignment. It has 16 * word_count bytes.
+ * Pointers: as of cheri_cap_decode_many, but `memory` may have any alignment. It has
+ * 16 * word_count bytes.
  */
 size_t cheri_cap_decode_memory(
     const void *memory, size_t word_count, bool big_endian, cheri_cap_bounds *bounds,
