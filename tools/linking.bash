@@ -23,12 +23,15 @@ exported_symbols() {
   printf '  local:\n    *;\n};\n'
 }
 
-# Links the shared library in a directory, under its soname, from the static library:  link_shared STATIC DIRECTORY [COMPILER]
+# Links the shared library in a directory, under its soname, from the static library, by a compiler for another processor if one is
+# named:  link_shared STATIC DIRECTORY [COMPILER]
+# Its functions only call and return, so on x86-64 it has the note that it works with shadow stacks.
 link_shared() {
-  local static=$1 directory=$2 links=${3:-$compiler} name
+  local static=$1 directory=$2 links=${3:-$compiler} name note=-Wl,-z,shstk
+  [[ -z ${3-} ]] || note=''
   name=$(soname)
   exported_symbols >"$directory/symbols"
-  "$links" -shared -Wl,-soname,"$name" -Wl,--version-script,"$directory/symbols" -Wl,-z,defs -Wl,-z,relro,-z,now -s \
+  "$links" -shared -Wl,-soname,"$name" -Wl,--version-script,"$directory/symbols" -Wl,-z,defs -Wl,-z,relro,-z,now ${note:+"$note"} -s \
     -o "$directory/$name" -Wl,--whole-archive "$static" -Wl,--no-whole-archive || stop 'the shared library cannot be linked'
   rm -- "$directory/symbols"
 }
