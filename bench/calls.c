@@ -193,6 +193,7 @@ CALL(is_subset, bool, is_subset, (WORD(unsealed), WORD(parents)), r)
 #define library_decode_many cheri_cap_decode_many
 #define library_is_canonical_many cheri_cap_is_canonical_many
 #define library_represents_many cheri_cap_represents_many
+#define library_search_memory cheri_cap_search_memory
 #define MANY(name, type, call, words, folded)                                                                          \
     BLOCKWISE(name, library, type, call, words, folded)                                                                \
     BLOCKWISE(name, plain, type, call, words, folded)
@@ -200,6 +201,9 @@ MANY(decode_many, cheri_cap_bounds, decode_many, (canonicals + first, end - firs
 MANY(is_canonical_many_random, uint8_t, is_canonical_many, (randoms + first, end - first, results, end - first), r)
 MANY(is_canonical_many, uint8_t, is_canonical_many, (canonicals + first, end - first, results, end - first), r)
 MANY(represents_many, uint8_t, represents_many, (canonicals + first, end - first, addresses + first, end - first, results, end - first), r)
+static const cheri_cap_query query = {.needs_permission = true, .sealed = true, .sentries = true};
+static size_t next_word;
+MANY(search_memory, uint64_t, search_memory, (randoms + first, end - first, false, NULL, 0, &query, results, end - first, &next_word), r)
 
 typedef uint64_t loop(size_t first, size_t end, uint64_t checksum);
 
@@ -224,6 +228,7 @@ static const struct {
     ROW(is_canonical_many_random),
     ROW(is_canonical_many),
     ROW(represents_many),
+    ROW(search_memory),
     ROW(read_word),
     ROW(write_word),
     ROW(set_address),

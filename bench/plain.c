@@ -202,6 +202,33 @@ size_t plain_represents_many(const cheri_cap_u128 *words, size_t word_count, con
     return count;
 }
 
+// Returns whether a query wants a word, except for its tag.
+static inline bool is_wanted(const cheri_cap_query *query, cheri_cap_u128 word)
+{
+    uint16_t perms = cheri_cap_perms_of(word.high);
+    if ((query->needs_permission && perms == 0) || (perms & query->perms) != query->perms)
+        return false;
+    bool sentry = cheri_cap_is_sentry(word.high);
+    if (sentry ? !query->sentries : !query->sealed && cheri_cap_is_sealed(word.high))
+        return false;
+    if (!is_canonical(sentry ? cheri_cap_with_type(word.high, word.low, CHERI_CAP_OTYPE_UNSEALED).high : word.high, word.low))
+        return false;
+    cheri_cap_bounds bounds = bounds_of(word.high, word.low);
+    return !query->needs_address || cheri_cap_bounds_hold(&bounds, query->address);
+}
+
+size_t plain_search_memory(const void *memory, size_t word_count, bool big_endian, const uint8_t *tag_bits, size_t tag_byte_count, const cheri_cap_query *query, uint64_t *positions, size_t position_count, size_t *next)
+{
+    size_t count = 0, i = 0, words = query->needs_tag ? least(word_count, 8 * tag_byte_count) : word_count;
+    for (; i < words && count < position_count; i++) {
+        bool tagged = !query->needs_tag || tag_bits[i / 8] >> i % 8 & 1;
+        if (tagged && is_wanted(query, cheri_cap_word_from_bytes((const uint8_t *)memory + 16 * i, big_endian)))
+            positions[count++] = i;
+    }
+    *next = i;
+    return count;
+}
+
 uint64_t plain_granule(uint64_t length_high, uint64_t length_low)
 {
     u128 length = (u128)length_high << 64 | length_low;

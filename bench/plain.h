@@ -14,6 +14,7 @@ bool plain_represents(uint64_t high, uint64_t low, uint64_t address);
 size_t plain_decode_many(const cheri_cap_u128 *words, size_t word_count, cheri_cap_bounds *bounds, size_t bounds_count);
 size_t plain_is_canonical_many(const cheri_cap_u128 *words, size_t word_count, uint8_t *answers, size_t answer_count);
 size_t plain_represents_many(const cheri_cap_u128 *words, size_t word_count, const uint64_t *addresses, size_t address_count, uint8_t *answers, size_t answer_count);
+size_t plain_search_memory(const void *memory, size_t word_count, bool big_endian, const uint8_t *tag_bits, size_t tag_byte_count, const cheri_cap_query *query, uint64_t *positions, size_t position_count, size_t *next);
 uint64_t plain_granule(uint64_t length_high, uint64_t length_low);
 cheri_cap_u128 plain_round_length(uint64_t length_high, uint64_t length_low);
 uint64_t plain_alignment_mask(uint64_t length_high, uint64_t length_low);

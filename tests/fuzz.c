@@ -143,25 +143,16 @@ static void check_search(const input *it)
         .needs_address = choice & 8, .needs_tag = choice & 16, .sealed = choice & 32, .sentries = choice & 64,
     };
     uint8_t bytes[33], made[33], refusals[2];
-    uint64_t positions[2];
-    size_t next, wanted = 0;
+    const size_t room = choice >> 7 & 3;
+    uint64_t positions[3], plain_positions[3];
+    size_t next, plain_next;
     for (int i = 0; i < 2; i++)
         cheri_cap_word_to_bytes(words[i], bytes + 1 + 16 * i, big_endian);
-    const size_t found = cheri_cap_search_memory(bytes + 1, 2, big_endian, &tags, 1, &query, positions, 2, &next);
-    for (size_t i = 0; i < 2; i++) {
-        const uint32_t otype = plain_unpack(words[i].high, words[i].low).otype;
-        const bool sentry = otype == CHERI_CAP_OTYPE_SENTRY;
-        const uint16_t perms = (uint16_t)(words[i].high >> 48);
-        const cheri_cap_bounds bounds = plain_decode(words[i].high, words[i].low);
-        if (!plain_is_canonical(sentry ? words[i].high ^ UINT64_C(1) << 27 : words[i].high, words[i].low) || (query.needs_tag && !(tags >> i & 1))
-            || (sentry ? !query.sentries : otype != CHERI_CAP_OTYPE_UNSEALED && !query.sealed) || (perms & query.perms) != query.perms
-            || (query.needs_permission && perms == 0) || (query.needs_address && !cheri_cap_bounds_hold(&bounds, query.address)))
-            continue;
-        SAME(wanted < found, true);
-        SAME(positions[wanted++], i);
-    }
-    SAME(found, wanted);
-    SAME(next, 2);
+    const size_t found = cheri_cap_search_memory(bytes + 1, 2, big_endian, &tags, 1, &query, positions, room, &next);
+    SAME(found, plain_search_memory(bytes + 1, 2, big_endian, &tags, 1, &query, plain_positions, room, &plain_next));
+    SAME(next, plain_next);
+    for (size_t i = 0; i < found; i++)
+        SAME(positions[i], plain_positions[i]);
     SAME(cheri_cap_set_bounds_memory(bytes + 1, 2, big_endian, exact, lengths, 2, made + 1, 2, refusals, 2), 2);
     for (int i = 0; i < 2; i++) {
         const cheri_cap_made plain = exact ? cheri_cap_set_bounds_exact_on(words[i].high, words[i].low, lengths[i].high, lengths[i].low)

@@ -1,4 +1,4 @@
-//! Batch functions: a result for each word, at its position.
+//! Batch functions: a result for each word or request, at its position.
 //!
 //! A slice crosses as a pointer and a count, so each array has a separate count. If they differ,
 //! the smallest counts: that number of results is written, and returned.
