@@ -440,7 +440,7 @@ size_t cheri_cap_represents_memory(
  * bit 0, and only words that have a bit are examined. If not, `tag_bits` is not read. It may be null if
  * its count is 0.
  *
- * Pointers: `query` and `next` must not be null. See the batch functions above for the others.
+ * Pointers: `query` and `next` must not be null. The others are like those of cheri_cap_decode_memory.
  */
 size_t cheri_cap_search_memory(
     const void *memory, size_t word_count, bool big_endian, const uint8_t *tag_bits, size_t tag_byte_count,
@@ -464,11 +464,11 @@ size_t cheri_cap_alignment_mask_many(
     const cheri_cap_u128 *lengths, size_t length_count, uint64_t *masks, size_t mask_count) CHERI_CAP_NOEXCEPT;
 
 /*
- * Sets the bounds of each word of memory to the length at its position, as cheri_cap_set_bounds_on
- * does, or cheri_cap_set_bounds_exact_on if `exact`, and returns the number of results.
+ * Sets the bounds of each word of memory to the length at its position, and returns the number of
+ * results.
  *
- * Writes the word that was made to `made`, 16 bytes in the byte order of the memory, and 0 to
- * `refusals`; or 16 zero bytes and the refusal.
+ * It is done by cheri_cap_set_bounds_on, or if `exact` by cheri_cap_set_bounds_exact_on. `made` gets the
+ * word, 16 bytes in the byte order of the memory, and `refusals` 0; or 16 zero bytes and the refusal.
  *
  * Pointers and counts: as those of cheri_cap_decode_memory.
  */
