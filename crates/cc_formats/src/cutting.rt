@@ -1,7 +1,9 @@
 //! Values that are separated by one byte.
 ghost use Rattle.std.specs.Prelude.{◌≡◌, ◌≤◌, ◌==◌, length};
-ghost use Rattle.std.specs.List.{after_first, before_first, position};
+ghost use Rattle.std.specs.List.{after_first, before_first};
 ghost use Rattle.cc_formats.specs.Ltrace.{after_or_all, has_byte};
+
+use cc_values::position_of;
 
 /// Returns the bytes before the first byte of this value, and those after it. If there is none,
 /// these are all bytes and no bytes.
@@ -32,11 +34,4 @@ pub(crate) fn has_byte(text: &[u8], at: u8) -> bool
     ensures { result ≡ has_byte at text.now }
 {
     position_of(text, at).is_some()
-}
-
-/// Returns the position of the first byte of this value.
-fn position_of(text: &[u8], value: u8) -> Option<usize>
-    ensures { result ≡ position (λ byte. byte == value) text.now }
-{
-    text.iter().position(|byte| *byte == value)
 }

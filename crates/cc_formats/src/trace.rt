@@ -1,14 +1,14 @@
 //! The event of a line of a trace.
 ghost use Rattle.std.specs.Prelude.{◌≡◌, ◌∷◌, [], ◌==◌, IfOk, IfSome, IfNone, Result, take};
 ghost use Rattle.std.specs.Int.{IsPowerOfTwo};
-ghost use Rattle.std.specs.List.{slice_split, position};
+ghost use Rattle.std.specs.List.{slice_split};
 ghost use Rattle.cc_word.specs.declared.refusal.Refusal.{Refusal as RefusalSpec};
 ghost use Rattle.cc_values.specs.Values.{words_of};
 ghost use Rattle.cc_placer.specs.Alignment.{HasAlignment};
 ghost use Rattle.cc_formats.specs.Trace.{alignment_in, allocation_in, as_alignment, as_entry, clearing_in, entry_of, event_in, pair_in, reallocation_in, single_in};
 
 use cc_placer::Event;
-use cc_values::{both, read_address};
+use cc_values::{both, read_address, split_at_first};
 use cc_word::Refusal;
 
 /// The maximum number of bytes of a line that is not a comment.
@@ -143,15 +143,5 @@ fn split_at_space(text: &[u8]) -> Option<(&[u8], &[u8])>
     ensures parts { IfSome result (λ parts. words_of text.now ≡ parts.0.now ∷ words_of parts.1.now) }
     ensures whole { IfNone result (words_of text.now ≡ text.now ∷ []) }
 {
-    match position_of_space(text) {
-        Some(at) => Some((&text[..at], &text[at + 1..])),
-        None => None,
-    }
-}
-
-/// Returns the position of the first space.
-fn position_of_space(text: &[u8]) -> Option<usize>
-    ensures { result ≡ position (λ byte. byte == 32) text.now }
-{
-    text.iter().position(|byte| *byte == b' ')
+    split_at_first(text, b' ')
 }

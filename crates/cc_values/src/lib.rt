@@ -15,4 +15,4 @@ pub use op::Op;
 pub use reply::Reply;
 pub use usage::Usage;
 pub use values::{both, read_permissions};
-pub use words::split_at_first;
+pub use words::{position_of, split_at_first};

@@ -17,7 +17,7 @@ pub fn split_at_first(text: &[u8], separator: u8) -> Option<(&[u8], &[u8])>
 }
 
 /// Returns the position of the first byte of this value.
-fn position_of(text: &[u8], byte: u8) -> Option<usize>
+pub fn position_of(text: &[u8], byte: u8) -> Option<usize>
     ensures { result ≡ position (λ other. other == byte) text.now }
 {
     text.iter().position(|other| *other == byte)
