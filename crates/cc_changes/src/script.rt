@@ -18,7 +18,7 @@ use crate::numbering::Numbering;
 use crate::rules::asks_for_unit;
 use cc_formats::{Entry, Progress, Reading, read_entry};
 use cc_heap::{Heap, Outcome, Settings};
-use cc_io::{Answerer, IoError, Lines, Page, Sink, Source, Summary, Waiting, pump};
+use cc_io::{Answerer, IoError, Lines, Page, Sink, Source, Summary, Pending, pump};
 use cc_placer::{Event, Placer};
 use std::alloc::{AllocError, Global};
 use std::marker::Model;
@@ -270,6 +270,6 @@ pub fn script_trace<P: Placer, R: Source, W: Sink>(
     ensures write { (result ≡ Err IoError.Write) ↔ ((W.state sink.new).has_failed ≡ true) }
     ensures flushed { OnOk result ((W.state sink.new).is_flushed ≡ true) }
 {
-    let mut page = Waiting::new();
+    let mut page = Pending::new();
     pump(&Lines, script, source, sink, &mut page)
 }

@@ -1,7 +1,7 @@
 //! The SVG document of a chart.
 ghost use Rattle.std.specs.Prelude.{◌≡◌, ◌≤◌, ◌+◌, ◌*◌, ◌^◌, ◌++◌, ◌↔◌, length, false, true, Err, OnOk, OnErr, IsErr};
 ghost use Rattle.std.specs.Io.KnownBytes.{Appends};
-ghost use Rattle.cc_io.specs.Devices.{TakesBeginning};
+ghost use Rattle.cc_io.specs.Devices.{TakesPrefix};
 ghost use Rattle.cc_chart.specs.Drawing.{byte_label, byte_labels, byte_unit, chart_text, closing_text, counts_text, drawing_of, entry_text, event_label, event_labels, event_letter, event_unit, labels_text, legend_text, opening_text, scaled_text, sheet_text};
 ghost use Rattle.cc_chart.specs.Levels.{greatest};
 ghost use Rattle.cc_chart.specs.Scale.{event_step, reach_of, right_to, scale_of, step_count, step_power};
@@ -24,7 +24,7 @@ const MOST_DRAWING: usize = 98304;
 pub fn write_chart<W: Sink>(chart: &Chart, sink: &mut W) -> Result<(), IoError>
     requires { (W.state sink.old).has_failed ≡ false }
     ensures ok { OnOk result (Appends (W.state sink.old).taken (W.state sink.new).taken (chart_text chart.now)) }
-    ensures err { OnErr result (TakesBeginning (W.state sink.old).taken (W.state sink.new).taken (chart_text chart.now)) }
+    ensures err { OnErr result (TakesPrefix (W.state sink.old).taken (W.state sink.new).taken (chart_text chart.now)) }
     ensures flushed { OnOk result ((W.state sink.new).is_flushed ≡ true) }
     ensures fails { IsErr result ↔ ((W.state sink.new).has_failed ≡ true) }
     ensures write { OnErr result (result ≡ Err IoError.Write) }

@@ -4,7 +4,7 @@ use Rattle.cc_word.specs.declared.refusal.Refusal.{Refusal}
 use Rattle.cc_word.specs.declared.refusal.Refusal.TheVariants.{OutOfBounds}
 use Rattle.cc_bounds.specs.declared.span.Span.{Span}
 use Rattle.cc_bounds.specs.Span.{span_from}
-use Rattle.cc_explain.specs.Answer.{AnswersResult}
+use Rattle.cc_io.specs.CommandOutput.{AnswersResult}
 use Rattle.cc_explain.specs.Request.{IsRequestExplanation}
 use Rattle.cc_syntax.specs.Planning.{pool_of}
 

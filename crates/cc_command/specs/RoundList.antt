@@ -4,7 +4,7 @@ use Rattle.std.specs.Prelude.{◌≡◌, ◌≤◌, ◌<◌, ◌⊎◌, ◌↔�
 use Rattle.std.specs.List.{list_any}
 use Rattle.cc_word.specs.declared.refusal.Refusal.TheVariants.{TooLong}
 use Rattle.cc_values.specs.Values.{length_in}
-use Rattle.cc_explain.specs.Answer.{IsRefusalLine}
+use Rattle.cc_io.specs.CommandOutput.{IsRefusalLine}
 use Rattle.cc_io.specs.Answers.{Answer}
 use Rattle.cc_io.specs.Devices.{InputState, OutputState}
 use Rattle.cc_io.specs.Frames.{lines}

@@ -1,7 +1,7 @@
 -- The replies of a rounder. No public clause cites this file.
 use Rattle.std.specs.Prelude.{◌≡◌, ◌||◌, true}
 use Rattle.cc_word.specs.declared.refusal.Refusal.TheVariants.{Unfinished}
-use Rattle.cc_explain.specs.Answer.{IsRefusalLine}
+use Rattle.cc_io.specs.CommandOutput.{IsRefusalLine}
 use Rattle.cc_io.specs.Answers.{Relation}
 use Rattle.cc_command.specs.BareDigits.{is_bare}
 use Rattle.cc_command.specs.RoundList.{IsLengthAnswer}

@@ -8,7 +8,7 @@ use Rattle.cc_values.specs.RoundedLength.{RoundsLength}
 use Rattle.cc_values.specs.Values.{address_in, length_in}
 use Rattle.cc_io.specs.Text.{with_line_feed}
 use Rattle.cc_syntax.specs.Replies.{bounds_text, reply_text}
-use Rattle.cc_explain.specs.Answer.{AnswersResult}
+use Rattle.cc_io.specs.CommandOutput.{AnswersResult}
 use Rattle.cc_command.specs.Request.{request_from}
 
 -- IsRoundingOf holds if `answer` is the line of a machine's reply to `round` of a length.

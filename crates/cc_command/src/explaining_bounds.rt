@@ -1,11 +1,11 @@
 //! The explanation of a length: the bounds that are granted to a request of that length, and why.
 ghost use Rattle.std.specs.Prelude.{◌≡◌, ◌↔◌, [], false, true, IfOk, IsErr, IsTrue};
-ghost use Rattle.cc_explain.specs.Answer.{WritesAnswer};
+ghost use Rattle.cc_io.specs.CommandOutput.{WritesAnswer};
 ghost use Rattle.cc_command.specs.Request.{IsLengthExplanation, request_in};
 
 use crate::request::read_request;
-use cc_explain::{push_explained_request, push_refusal, write_answer};
-use cc_io::{IoError, Sink, Summary, Text};
+use cc_explain::push_explained_request;
+use cc_io::{IoError, Sink, Summary, Text, push_refusal, write_and_flush};
 
 /// Writes the bounds that are granted to a request with this base and length, and why. Flushes the
 /// sink once after the last line.
@@ -33,7 +33,7 @@ pub fn explain_length<W: Sink>(base: &str, length: &str, sink: &mut W) -> Result
 {
     let mut answer = Text::new();
     let summary = push_request(&mut answer, base, length);
-    match write_answer(&answer, sink) {
+    match write_and_flush(&answer, sink) {
         Ok(()) => Ok(summary),
         Err(error) => Err(error),
     }

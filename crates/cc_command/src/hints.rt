@@ -8,8 +8,10 @@ ghost use Rattle.cc_command.specs.Hints.{hints_of, hints_text, is_in_opening, li
 ghost use Rattle.cc_syntax.specs.Tally.{Exchange, IsTally, is_refusal};
 
 use cc_bounds::{Len, granule, round_length};
-use cc_explain::write_answer;
-use cc_io::{IoError, ROOM, Sink, Text, end_with_decimal, end_with_hexadecimal, push_hexadecimal};
+use cc_io::{
+    IoError, MOST_TEXT, Sink, Text, end_with_decimal, end_with_hexadecimal, push_hexadecimal,
+    write_and_flush,
+};
 use cc_syntax::{Count, Tally};
 
 /// The facts about a run that are worth a hint. Lines of the script are numbered from 1, and 0
@@ -71,7 +73,7 @@ pub fn show_hints<W: Sink>(hints: &Hints, sink: &mut W) -> Result<(), IoError>
 {
     let mut text = Text::new();
     push_hints(&mut text, hints);
-    write_answer(&text, sink)
+    write_and_flush(&text, sink)
 }
 
 /// Appends the hints.
@@ -102,7 +104,7 @@ fn push_hints(text: &mut Text, hints: &Hints)
 /// Appends the hint that a pool of this length is not exact, and which length and bases are.
 /// Appends nothing for `None`.
 fn push_pool_hint(text: &mut Text, inexact: Option<Len>)
-    requires { length text.old + 240 ≤ ROOM }
+    requires { length text.old + 240 ≤ MOST_TEXT }
     ensures value { text.new ≡ text.old ++ pool_hint inexact }
     ensures fits { length text.new ≤ length text.old + 240 }
 {
@@ -125,7 +127,7 @@ fn push_pool_hint(text: &mut Text, inexact: Option<Len>)
 /// Appends the hint at the line with this number. Appends nothing for 0.
 fn push_line_hint(text: &mut Text, line: u64, after: &[u8])
     requires after { length after.now ≤ 70 }
-    requires room { length text.old + 140 ≤ ROOM }
+    requires room { length text.old + 140 ≤ MOST_TEXT }
     ensures value { text.new ≡ text.old ++ line_hint line after.now }
     ensures fits { length text.new ≤ length text.old + 140 }
 {

@@ -18,7 +18,8 @@ mod rounding;
 mod statistics;
 
 pub use bare_digits::is_bare;
-pub use cc_explain::{draw_window, explain_word, show_line, show_word, write_refusal};
+pub use cc_explain::{draw_window, explain_word, show_line, show_word};
+pub use cc_io::write_refusal;
 pub use explaining_bounds::explain_length;
 pub use hints::{Hints, show_hints};
 pub use length_list::round_list;

@@ -5,13 +5,12 @@ ghost use Rattle.cc_bounds.specs.Span.{IsSpan};
 ghost use Rattle.cc_bounds.specs.declared.span.Span.{Span as SpanSpec};
 ghost use Rattle.cc_syntax.specs.Replies.{bounds_text};
 ghost use Rattle.cc_values.specs.Values.{length_in};
-ghost use Rattle.cc_explain.specs.Answer.{WritesAnswer};
+ghost use Rattle.cc_io.specs.CommandOutput.{WritesAnswer};
 ghost use Rattle.cc_command.specs.Rounding.{IsRounding, IsRoundingAfter, IsRoundingFrom, IsUnroundable, IsUnroundableAfter};
 
 use crate::request::request_from;
 use cc_bounds::{Len, Span, set_bounds};
-use cc_explain::{write_answer, write_refusal};
-use cc_io::{IoError, Page, Sink, Summary, Text, refusal_bytes};
+use cc_io::{IoError, Page, Sink, Summary, Text, refusal_bytes, write_and_flush, write_refusal};
 use cc_syntax::{read_address, read_length, reply_line};
 use cc_values::Reply;
 
@@ -68,7 +67,7 @@ fn write_round<W: Sink>(base: Option<u64>, text: &[u8], sink: &mut W) -> Result<
     let any_error = push_round(base, text, &mut line);
     let mut answer = Text::new();
     answer.push(line.bytes());
-    match write_answer(&answer, sink) {
+    match write_and_flush(&answer, sink) {
         Ok(()) => Ok(Summary { any_error }),
         Err(error) => Err(error),
     }

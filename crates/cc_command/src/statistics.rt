@@ -4,8 +4,9 @@ ghost use Rattle.cc_io.specs.Devices.{SendsBytes};
 ghost use Rattle.cc_io.specs.Numbered.{line_with_decimal};
 ghost use Rattle.cc_command.specs.Statistics.{bytes_text, count_lines, counts_text, end_text, holes_text, hundredths_of, objects_text, percent_text, statistics_text};
 
-use cc_explain::write_answer;
-use cc_io::{IoError, Line, ROOM, Sink, Text, end_with_decimal, end_with_hexadecimal};
+use cc_io::{
+    IoError, Line, MOST_TEXT, Sink, Text, end_with_decimal, end_with_hexadecimal, write_and_flush,
+};
 use cc_syntax::{Count, Tally};
 use cc_values::Usage;
 
@@ -27,7 +28,7 @@ pub fn show_statistics<W: Sink>(usage: &Usage, tally: &Tally, sink: &mut W) -> R
 {
     let mut text = Text::new();
     push_statistics(&mut text, usage, tally);
-    write_answer(&text, sink)
+    write_and_flush(&text, sink)
 }
 
 /// Appends the summary of a run.
@@ -48,7 +49,7 @@ fn push_statistics(text: &mut Text, usage: &Usage, tally: &Tally)
 /// Appends the line of a number after its name, which ends with a space.
 fn push_number(text: &mut Text, name: &[u8], number: u128)
     requires name { length name.now ≤ 60 }
-    requires room { length text.old + length name.now + 41 ≤ ROOM }
+    requires room { length text.old + length name.now + 41 ≤ MOST_TEXT }
     ensures value { text.new ≡ text.old ++ line_with_decimal name.now number [] }
     ensures fits { length text.new ≤ length text.old + length name.now + 41 }
 {
@@ -74,7 +75,7 @@ fn push_counts(text: &mut Text, counts: &[Count])
 /// Appends two lines of a refusal: the number of replies that are it, and the line of the script
 /// that got the first.
 fn push_count(text: &mut Text, count: &Count)
-    requires { length text.old + 140 ≤ ROOM }
+    requires { length text.old + 140 ≤ MOST_TEXT }
     ensures value { text.new ≡ text.old ++ count_lines count.now }
     ensures fits { length text.new ≤ length text.old + 140 }
 {
@@ -133,7 +134,7 @@ fn hundredths_of(part: u128, whole: u128) -> u128
 /// Appends the line of the padding in percent of the held bytes, with two digits after the point.
 #[tactic(auto, unfolding(crate::specs::Statistics::percent_text))]
 fn push_percent(text: &mut Text, hundredths: u128)
-    requires { length text.old + 140 ≤ ROOM }
+    requires { length text.old + 140 ≤ MOST_TEXT }
     ensures value { text.new ≡ text.old ++ percent_text hundredths }
     ensures fits { length text.new ≤ length text.old + 140 }
 {
@@ -161,7 +162,7 @@ fn push_holes(text: &mut Text, usage: &Usage)
 
 /// Appends the line of the last byte below `end`, or of `none` if `end` is 0.
 fn push_end(text: &mut Text, end: u128)
-    requires { length text.old + 60 ≤ ROOM }
+    requires { length text.old + 60 ≤ MOST_TEXT }
     ensures { text.new ≡ text.old ++ end_text end }
 {
     if end == 0 {

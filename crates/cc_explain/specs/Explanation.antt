@@ -13,7 +13,7 @@ use Rattle.cc_cap.specs.declared.canonical.Defect.{Defect}
 use Rattle.cc_cap.specs.declared.canonical.Defect.TheVariants.{ReservedBits, ReservedType, TopBelowBase, TopPastEnd, OtherFields}
 use Rattle.cc_io.specs.Text.{with_line_feed}
 use Rattle.cc_io.specs.Numbered.{line_feed, line_with_decimal, line_with_hexadecimal, with_decimal, with_digits, with_hexadecimal}
-use Rattle.cc_explain.specs.Answer.{AnswersTyped}
+use Rattle.cc_io.specs.CommandOutput.{AnswersTyped}
 use Rattle.cc_explain.specs.Picture.{IsPictureRow}
 use Rattle.cc_explain.specs.Steps.{AreSteps}
 use Rattle.cc_explain.specs.declared.picture.Rows.{Rows}

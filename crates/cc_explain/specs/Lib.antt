@@ -1,6 +1,4 @@
 -- In reading order.
-pub mod Answer
-pub mod Refused
 pub mod Listing
 pub mod LineAnswer
 pub mod Steps

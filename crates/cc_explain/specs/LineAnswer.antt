@@ -2,7 +2,7 @@
 use Rattle.std.specs.Prelude.{◌≡◌, ℕ, List, true}
 use Rattle.cc_cap.specs.LineText.{IsWordLine}
 use Rattle.cc_io.specs.Text.{with_line_feed}
-use Rattle.cc_explain.specs.Answer.{AnswersTyped}
+use Rattle.cc_io.specs.CommandOutput.{AnswersTyped}
 
 -- IsTaggedLine holds if `answer` is the one-line form of a word whose tag is set, and the line
 -- feed.

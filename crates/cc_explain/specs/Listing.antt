@@ -6,7 +6,7 @@ use Rattle.cc_word.specs.declared.fields.Fields.{Fields}
 use Rattle.cc_bounds.specs.declared.span.Span.{Span}
 use Rattle.cc_bounds.specs.Decoding.{stored_exponent}
 use Rattle.cc_io.specs.Text.{with_line_feed}
-use Rattle.cc_explain.specs.Answer.{AnswersText}
+use Rattle.cc_io.specs.CommandOutput.{AnswersText}
 use Rattle.cc_io.specs.Permissions.{permissions_text}
 use Rattle.cc_cap.specs.WordTelling.{TellsWord}
 

@@ -1,6 +1,5 @@
 -- Rows of cells, each of which represents the same number of bytes.
-use Rattle.std.specs.Prelude.{ℕ, ◌≡◌, ◌+◌, ◌*◌, ◌<◌, List, length, max, slice_index}
-use Rattle.std.specs.Int.{div_ceil}
+use Rattle.std.specs.Prelude.{ℕ, ◌≡◌, ◌+◌, ◌*◌, ◌<◌, List, length, slice_index}
 use Rattle.cc_bounds.specs.declared.span.Span.{Span}
 use Rattle.cc_bounds.specs.Span.{SharesByte, span_from}
 
@@ -10,21 +9,12 @@ blank = 46
 
 -- The bytes of the cell with this index, from 0. Cells of this size follow one another from
 -- `start`.
-abbrev pub cell_of : (start size index : ℕ) → Span
-cell_of start size index = span_from (start + index * size) size
-
--- The number of bytes of a cell: the smallest number, at least 1, with which `most` cells cover
--- `bytes` bytes.
-abbrev pub cell_bytes : (most bytes : ℕ) → ℕ
-cell_bytes most bytes = max (div_ceil bytes most) 1
-
--- The number of such cells that cover the bytes. The last may reach past their end.
-abbrev pub cell_count : (most bytes : ℕ) → ℕ
-cell_count most bytes = div_ceil bytes (cell_bytes most bytes)
+abbrev pub window_cell : (start size index : ℕ) → Span
+window_cell start size index = span_from (start + index * size) size
 
 -- IsPictureRow holds if the row has 64 cells, a cell has the mark if it holds a byte of the span,
 -- and it is blank if it holds none.
 pub record IsPictureRow (start size : ℕ) (span : Span) (mark : ℕ) (row : List ℕ) : Type 0 where
   pub count : length row ≡ 64
-  pub marked : (index : ℕ) → index < 64 → SharesByte (cell_of start size index) span → slice_index row index ≡ mark
-  pub unmarked : (index : ℕ) → index < 64 → (¬ SharesByte (cell_of start size index) span) → slice_index row index ≡ blank
+  pub marked : (index : ℕ) → index < 64 → SharesByte (window_cell start size index) span → slice_index row index ≡ mark
+  pub unmarked : (index : ℕ) → index < 64 → (¬ SharesByte (window_cell start size index) span) → slice_index row index ≡ blank

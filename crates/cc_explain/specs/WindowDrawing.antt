@@ -7,8 +7,9 @@ use Rattle.cc_word.specs.declared.fields.Fields.{Fields}
 use Rattle.cc_bounds.specs.declared.span.Span.{Span}
 use Rattle.cc_bounds.specs.Decoding.{DecodesTo, raised}
 use Rattle.cc_bounds.specs.Window.{section_of}
+use Rattle.cc_io.specs.Svg.{markup, opening_text, sheet_text}
 use Rattle.cc_io.specs.Numbered.{line_with_decimal, line_with_hexadecimal, with_decimal, with_digits, with_hexadecimal}
-use Rattle.cc_explain.specs.Answer.{AnswersTyped}
+use Rattle.cc_io.specs.CommandOutput.{AnswersTyped}
 use Rattle.cc_explain.specs.Steps.{AreSteps}
 use Rattle.cc_explain.specs.declared.steps.Steps.{Steps}
 
@@ -20,11 +21,6 @@ abbrev pub units_to : Steps → (place : ℕ) → ℕ
 units_to steps place = (place - steps.start) / 2 ^ steps.exponent
 
 -- ---- the head
-
--- The start of the document.
-unfoldable pub opening_text : List ℕ
-opening_text =
-    codes "<svg xmlns='http://www.w3.org/2000/svg' width='1216' height='197' viewBox='-1536 -1232 19456 3152' font-family='monospace' font-size='240'>\n"
 
 -- The document's title, and what it shows.
 abbrev pub title_text : (word : ℕ) → Fields → Span → List ℕ
@@ -41,18 +37,12 @@ heading_text word steps =
 
 -- ---- the window
 
--- The white ground of the drawing.
-unfoldable pub sheet_text : List ℕ
-sheet_text = codes "<rect x='-1536' y='-1232' width='19456' height='3152' fill='#fff'/>\n"
-
--- The rectangle of the window.
-unfoldable pub window_ground_text : List ℕ
-window_ground_text = codes "<rect width='16384' height='960' fill='#f2cf63'/>\n"
-
--- The lines between the sections.
-unfoldable pub section_lines_text : List ℕ
-section_lines_text =
-    codes "<path d='M2048,0V960M4096,0V960M6144,0V960M8192,0V960M10240,0V960M12288,0V960M14336,0V960' stroke='#7c6518' stroke-width='16'/>\n"
+-- The rectangle of the window, and the lines between its sections.
+abbrev pub window_ground_text : List ℕ
+window_ground_text =
+    markup (codes "<rect width='16384' height='960' fill='#f2cf63'/>\n")
+    ++ markup
+    (codes "<path d='M2048,0V960M4096,0V960M6144,0V960M8192,0V960M10240,0V960M12288,0V960M14336,0V960' stroke='#7c6518' stroke-width='16'/>\n")
 
 -- The number of a section, from 0 to 7, at its middle.
 abbrev pub number_text : (before : List ℕ) (number : ℕ) → List ℕ
@@ -116,16 +106,13 @@ address_mark_text steps address =
 
 -- ---- the document
 
--- The end of the document.
-unfoldable pub closing_text : List ℕ
-closing_text = codes "</svg>\n"
-
 -- All of the drawing.
 abbrev pub window_drawing_of : (word : ℕ) → Fields → Steps → Span → List ℕ
 window_drawing_of word fields steps bounds =
-    opening_text ++ title_text word fields bounds ++ sheet_text ++ heading_text word steps ++ window_ground_text
-    ++ section_lines_text ++ bytes_text steps ++ numbers_text steps.first_section ++ bounds_marks_text steps bounds ++ address_mark_text steps fields.address
-    ++ ends_text steps ++ closing_text
+    opening_text (codes "width='1216' height='197' viewBox='-1536 -1232 19456 3152' font-family='monospace' font-size='240'")
+    ++ title_text word fields bounds ++ sheet_text (codes "x='-1536' y='-1232' width='19456' height='3152'") ++ heading_text word steps
+    ++ window_ground_text ++ bytes_text steps ++ numbers_text steps.first_section ++ bounds_marks_text steps bounds ++ address_mark_text steps fields.address
+    ++ ends_text steps ++ markup (codes "</svg>\n")
 
 -- IsWordDrawing holds if the drawing is made of the word's fields, their decoding steps and their
 -- span. There are no other such fields, and there is no other such span.

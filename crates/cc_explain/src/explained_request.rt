@@ -7,7 +7,7 @@ ghost use Rattle.cc_explain.specs.Request.{IsGrant, IsRequestExplanation, exact_
 use crate::explained_steps::push_word;
 use crate::request::{Grant, grant_of, granule_count, length_of};
 use cc_bounds::{Span, granule, round_length};
-use cc_io::{ROOM, Text, end_with_decimal, end_with_hexadecimal, push_hexadecimal};
+use cc_io::{MOST_TEXT, Text, end_with_decimal, end_with_hexadecimal, push_hexadecimal};
 
 /// Puts the explanation of a request for bounds into an empty text: the granule, and why half of it is not enough; the
 /// granted bounds, and the number of their bytes below and above the request; the length with exact bounds, and its bases;
@@ -28,7 +28,7 @@ fn push_grant(text: &mut Text, request: &Span, grant: &Grant)
     requires is_grant { IsGrant request.now grant.now }
     requires granted { IsSpan grant.now.granted }
     requires covers { IsWithin request.now grant.now.granted }
-    requires room { length text.old + 1100 ≤ ROOM }
+    requires room { length text.old + 1100 ≤ MOST_TEXT }
     ensures { text.new ≡ text.old ++ grant_text request.now grant.now }
 {
     push_span(text, b"request   ", request);
@@ -43,7 +43,7 @@ fn push_grant(text: &mut Text, request: &Span, grant: &Grant)
 fn push_span(text: &mut Text, before: &[u8], span: &Span)
     requires is_span { IsSpan span.now }
     requires before { length before.now ≤ 60 }
-    requires room { length text.old + length before.now + 130 ≤ ROOM }
+    requires room { length text.old + length before.now + 130 ≤ MOST_TEXT }
     ensures value { text.new ≡ text.old ++ span_text before.now span.now }
     ensures fits { length text.new ≤ length text.old + length before.now + 130 }
 {
@@ -57,7 +57,7 @@ fn push_span(text: &mut Text, before: &[u8], span: &Span)
 fn push_unit(text: &mut Text, request: &Span, granule: u64)
     requires is_span { IsSpan request.now }
     requires is_granule { IsGranule request.now granule }
-    requires room { length text.old + 400 ≤ ROOM }
+    requires room { length text.old + 400 ≤ MOST_TEXT }
     ensures value { text.new ≡ text.old ++ unit_text request.now granule }
     ensures fits { length text.new ≤ length text.old + 400 }
 {
@@ -73,7 +73,7 @@ fn push_unit(text: &mut Text, request: &Span, granule: u64)
 fn push_touched(text: &mut Text, request: &Span, granule: u64)
     requires is_span { IsSpan request.now }
     requires some { 8 ≤ granule }
-    requires room { length text.old + 200 ≤ ROOM }
+    requires room { length text.old + 200 ≤ MOST_TEXT }
     ensures value { text.new ≡ text.old ++ touched_text request.now granule }
     ensures fits { length text.new ≤ length text.old + 200 }
 {
@@ -90,7 +90,7 @@ fn push_touched(text: &mut Text, request: &Span, granule: u64)
 fn push_half(text: &mut Text, request: &Span, granule: u64)
     requires is_span { IsSpan request.now }
     requires some { 8 ≤ granule }
-    requires room { length text.old + 200 ≤ ROOM }
+    requires room { length text.old + 200 ≤ MOST_TEXT }
     ensures value { text.new ≡ text.old ++ half_text request.now granule }
     ensures fits { length text.new ≤ length text.old + 200 }
 {
@@ -110,7 +110,7 @@ fn push_half(text: &mut Text, request: &Span, granule: u64)
 /// Appends the line of the number of bytes that are granted before the request, and after it.
 fn push_lost(text: &mut Text, request: &Span, granted: &Span)
     requires covers { IsWithin request.now granted.now }
-    requires room { length text.old + 160 ≤ ROOM }
+    requires room { length text.old + 160 ≤ MOST_TEXT }
     ensures value { text.new ≡ text.old ++ lost_text request.now granted.now }
     ensures fits { length text.new ≤ length text.old + 160 }
 {
@@ -128,7 +128,7 @@ fn push_lost(text: &mut Text, request: &Span, granted: &Span)
 /// exact bounds.
 fn push_exact(text: &mut Text, request: &Span)
     requires is_span { IsSpan request.now }
-    requires room { length text.old + 160 ≤ ROOM }
+    requires room { length text.old + 160 ≤ MOST_TEXT }
     ensures value { text.new ≡ text.old ++ exact_text (length_of request.now) }
     ensures fits { length text.new ≤ length text.old + 160 }
 {

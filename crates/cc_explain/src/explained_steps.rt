@@ -6,12 +6,12 @@ ghost use Rattle.cc_cap.specs.declared.canonical.Defect.TheVariants.{OtherFields
 ghost use Rattle.cc_word.specs.Word.{bit_of};
 ghost use Rattle.cc_explain.specs.Explanation.{base_mantissa_text, bounds_fields_text, bounds_line_text, bounds_lines, canonical_text, other_fields_text, exponent_text, fields_text, granule_text, length_text, mantissas_text, rights_text, section_text, sections_text, stored_text, top_mantissa_text, window_addresses_text, window_lines_text, window_text, word_text};
 
-use crate::answers::push_word_digits;
 use crate::steps::{Steps, section, unit};
 use cc_bounds::{Set, Span};
 use cc_cap::Defect;
 use cc_io::{
-    ROOM, Text, end_with_decimal, end_with_hexadecimal, push_decimal, push_digits, push_hexadecimal,
+    MOST_TEXT, Text, end_with_decimal, end_with_hexadecimal, push_decimal, push_digits,
+    push_hexadecimal,
 };
 use cc_word::Fields;
 
@@ -32,18 +32,18 @@ pub fn push_fields(text: &mut Text, word: u128, fields: &Fields)
 ///
 /// Requires: 43 bytes of `text` are free.
 pub fn push_word(text: &mut Text, word: u128)
-    requires room { length text.old + 43 ≤ ROOM }
+    requires room { length text.old + 43 ≤ MOST_TEXT }
     ensures value { text.new ≡ text.old ++ word_text word }
     ensures fits { length text.new ≤ length text.old + 43 }
 {
-    push_word_digits(text, b"word      ", word);
+    push_digits(text, b"word      ", word, 32);
     text.push(b"\n");
 }
 
 /// Appends the line of the fields that the bounds do not depend on: permissions, reserved bits,
 /// flag and type.
 fn push_rights(text: &mut Text, fields: &Fields)
-    requires room { length text.old + 145 ≤ ROOM }
+    requires room { length text.old + 145 ≤ MOST_TEXT }
     ensures value { text.new ≡ text.old ++ rights_text fields.now }
     ensures fits { length text.new ≤ length text.old + 145 }
 {
@@ -56,7 +56,7 @@ fn push_rights(text: &mut Text, fields: &Fields)
 
 /// Appends the line of the fields that the bounds are decoded from: IE, T, B and the address.
 fn push_bounds_line(text: &mut Text, fields: &Fields)
-    requires room { length text.old + 170 ≤ ROOM }
+    requires room { length text.old + 170 ≤ MOST_TEXT }
     ensures value { text.new ≡ text.old ++ bounds_line_text fields.now }
     ensures fits { length text.new ≤ length text.old + 170 }
 {
@@ -68,7 +68,7 @@ fn push_bounds_line(text: &mut Text, fields: &Fields)
 /// Appends the given bytes, and then the values of IE and of the T and B fields.
 fn push_bounds_fields(text: &mut Text, before: &[u8], ie: bool, t: u16, b: u16)
     requires before { length before.now ≤ 60 }
-    requires room { length text.old + length before.now + 75 ≤ ROOM }
+    requires room { length text.old + length before.now + 75 ≤ MOST_TEXT }
     ensures value { text.new ≡ text.old ++ bounds_fields_text before.now (bit_of ie) t b }
     ensures fits { length text.new ≤ length text.old + length before.now + 75 }
 {
@@ -92,7 +92,7 @@ pub fn push_mantissas(text: &mut Text, fields: &Fields, steps: &Steps)
     requires exponent { steps.now.exponent ≤ 52 }
     requires base_mantissa { steps.now.b < 2 ^ 14 }
     requires top_mantissa { steps.now.t < 2 ^ 14 }
-    requires room { length text.old + 900 ≤ ROOM }
+    requires room { length text.old + 900 ≤ MOST_TEXT }
     ensures value { text.new ≡ text.old ++ mantissas_text fields.now steps.now }
     ensures fits { length text.new ≤ length text.old + 900 }
 {
@@ -105,7 +105,7 @@ pub fn push_mantissas(text: &mut Text, fields: &Fields, steps: &Steps)
 
 /// Appends the line of the exponent, with the two octal digits that store it if IE is set.
 fn push_exponent(text: &mut Text, fields: &Fields, steps: &Steps)
-    requires room { length text.old + 220 ≤ ROOM }
+    requires room { length text.old + 220 ≤ MOST_TEXT }
     ensures value { text.new ≡ text.old ++ exponent_text fields.now steps.now }
     ensures fits { length text.new ≤ length text.old + 220 }
 {
@@ -126,7 +126,7 @@ fn push_exponent(text: &mut Text, fields: &Fields, steps: &Steps)
 /// Appends the line of the granule: 2^(E+3) bytes with IE, one byte without.
 fn push_granule(text: &mut Text, fields: &Fields, steps: &Steps)
     requires exponent { steps.now.exponent ≤ 52 }
-    requires room { length text.old + 70 ≤ ROOM }
+    requires room { length text.old + 70 ≤ MOST_TEXT }
     ensures value { text.new ≡ text.old ++ granule_text fields.now steps.now }
     ensures fits { length text.new ≤ length text.old + 70 }
 {
@@ -144,7 +144,7 @@ fn push_granule(text: &mut Text, fields: &Fields, steps: &Steps)
 
 /// Appends the line of the base mantissa B.
 fn push_base_mantissa(text: &mut Text, fields: &Fields, steps: &Steps)
-    requires room { length text.old + 100 ≤ ROOM }
+    requires room { length text.old + 100 ≤ MOST_TEXT }
     ensures value { text.new ≡ text.old ++ base_mantissa_text fields.now steps.now }
     ensures fits { length text.new ≤ length text.old + 100 }
 {
@@ -156,7 +156,7 @@ fn push_base_mantissa(text: &mut Text, fields: &Fields, steps: &Steps)
 
 /// Appends the line of the top mantissa T, with its two implied bits.
 fn push_top_mantissa(text: &mut Text, fields: &Fields, steps: &Steps)
-    requires room { length text.old + 170 ≤ ROOM }
+    requires room { length text.old + 170 ≤ MOST_TEXT }
     ensures value { text.new ≡ text.old ++ top_mantissa_text fields.now steps.now }
     ensures fits { length text.new ≤ length text.old + 170 }
 {
@@ -184,7 +184,7 @@ fn stored(fields: &Fields) -> &'static [u8]
 fn push_length(text: &mut Text, fields: &Fields, steps: &Steps)
     requires base_mantissa { steps.now.b < 2 ^ 14 }
     requires top_mantissa { steps.now.t < 2 ^ 14 }
-    requires room { length text.old + 120 ≤ ROOM }
+    requires room { length text.old + 120 ≤ MOST_TEXT }
     ensures value { text.new ≡ text.old ++ length_text fields.now steps.now }
     ensures fits { length text.new ≤ length text.old + 120 }
 {
@@ -214,7 +214,7 @@ pub fn push_window_lines(
     requires exponent { steps.now.exponent ≤ 52 }
     requires start { steps.now.start < 2 ^ 67 }
     requires other_fields { defect ≡ Some OtherFields → IsSpan bounds.now × IsSound bounds.now }
-    requires room { length text.old + 900 ≤ ROOM }
+    requires room { length text.old + 900 ≤ MOST_TEXT }
     ensures value { text.new ≡ text.old ++ window_lines_text fields.now steps.now bounds.now defect }
     ensures fits { length text.new ≤ length text.old + 900 }
 {
@@ -228,7 +228,7 @@ pub fn push_window_lines(
 /// Appends the line of the size of a section.
 fn push_section(text: &mut Text, steps: &Steps)
     requires exponent { steps.now.exponent ≤ 52 }
-    requires room { length text.old + 70 ≤ ROOM }
+    requires room { length text.old + 70 ≤ MOST_TEXT }
     ensures value { text.new ≡ text.old ++ section_text steps.now }
     ensures fits { length text.new ≤ length text.old + 70 }
 {
@@ -243,7 +243,7 @@ fn push_section(text: &mut Text, steps: &Steps)
 /// Appends the line of the sections, from 0 to 7, of B, T and the address.
 fn push_sections(text: &mut Text, fields: &Fields, steps: &Steps)
     requires exponent { steps.now.exponent ≤ 52 }
-    requires room { length text.old + 180 ≤ ROOM }
+    requires room { length text.old + 180 ≤ MOST_TEXT }
     ensures value { text.new ≡ text.old ++ sections_text fields.now steps.now }
     ensures fits { length text.new ≤ length text.old + 180 }
 {
@@ -257,7 +257,7 @@ fn push_sections(text: &mut Text, fields: &Fields, steps: &Steps)
 fn push_window(text: &mut Text, steps: &Steps)
     requires exponent { steps.now.exponent ≤ 52 }
     requires start { steps.now.start < 2 ^ 67 }
-    requires room { length text.old + 180 ≤ ROOM }
+    requires room { length text.old + 180 ≤ MOST_TEXT }
     ensures value { text.new ≡ text.old ++ window_text steps.now }
     ensures fits { length text.new ≤ length text.old + 180 }
 {
@@ -276,7 +276,7 @@ fn push_window(text: &mut Text, steps: &Steps)
 fn push_window_addresses(text: &mut Text, steps: &Steps)
     requires exponent { steps.now.exponent ≤ 52 }
     requires start { steps.now.start < 2 ^ 67 }
-    requires room { length text.old + 85 ≤ ROOM }
+    requires room { length text.old + 85 ≤ MOST_TEXT }
     ensures value { text.new ≡ text.old ++ window_addresses_text steps.now }
     ensures fits { length text.new ≤ length text.old + 85 }
 {
@@ -291,7 +291,7 @@ fn push_window_addresses(text: &mut Text, steps: &Steps)
 
 /// Appends the lines of the base and of the top.
 fn push_bounds(text: &mut Text, bounds: &Span)
-    requires room { length text.old + 180 ≤ ROOM }
+    requires room { length text.old + 180 ≤ MOST_TEXT }
     ensures value { text.new ≡ text.old ++ bounds_lines bounds.now }
     ensures fits { length text.new ≤ length text.old + 180 }
 {
@@ -314,7 +314,7 @@ fn push_bounds(text: &mut Text, bounds: &Span)
 /// Appends the line that says whether the word is canonical, or why not.
 fn push_canonical(text: &mut Text, defect: Option<Defect>, bounds: &Span)
     requires other_fields { defect ≡ Some OtherFields → IsSpan bounds.now × IsSound bounds.now }
-    requires room { length text.old + 135 ≤ ROOM }
+    requires room { length text.old + 135 ≤ MOST_TEXT }
     ensures value { text.new ≡ text.old ++ canonical_text defect bounds.now }
     ensures fits { length text.new ≤ length text.old + 135 }
 {
@@ -332,7 +332,7 @@ fn push_canonical(text: &mut Text, defect: Option<Defect>, bounds: &Span)
 fn push_other_fields(text: &mut Text, bounds: Span)
     requires is_span { IsSpan bounds }
     requires sound { IsSound bounds }
-    requires room { length text.old + 135 ≤ ROOM }
+    requires room { length text.old + 135 ≤ MOST_TEXT }
     ensures value { text.new ≡ text.old ++ other_fields_text bounds }
     ensures fits { length text.new ≤ length text.old + 135 }
 {

@@ -1,15 +1,14 @@
 //! The explanation of a word: each step of decoding it, with its numbers, and a picture of its
 //! window.
 ghost use Rattle.std.specs.Prelude.{◌≡◌, ◌↔◌, [], false, true, IfOk, IsErr, IsTrue, OnErr, OnOk};
-ghost use Rattle.cc_explain.specs.Answer.{IsTypedWord, WritesAnswer};
+ghost use Rattle.cc_io.specs.CommandOutput.{IsTypedWord, WritesAnswer};
 ghost use Rattle.cc_explain.specs.Explanation.{IsExplanation, IsWordExplanation};
 
-use crate::answers::{push_refusal, read_typed_word, write_answer};
 use crate::explained_steps::{push_fields, push_mantissas, push_window_lines};
 use crate::picture::{push_picture, rows_of};
 use crate::steps::decoding_steps;
 use cc_cap::Decoded;
-use cc_io::{IoError, Sink, Summary, Text};
+use cc_io::{IoError, Sink, Summary, Text, push_refusal, read_typed_word, write_and_flush};
 use cc_word::Refusal;
 
 /// Writes how a word is decoded: its fields, each step with its numbers, the bounds, whether the
@@ -28,7 +27,7 @@ pub fn explain_word<W: Sink>(text: &[u8], sink: &mut W) -> Result<Summary, IoErr
 {
     let mut answer = Text::new();
     let summary = push_explanation(&mut answer, text);
-    write_answer(&answer, sink)?;
+    write_and_flush(&answer, sink)?;
     Ok(summary)
 }
 

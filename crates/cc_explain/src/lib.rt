@@ -2,7 +2,6 @@
 //! bounds and a picture of its window. Also explains a request for bounds.
 #![tactic(auto)]
 
-mod answers;
 mod explained_request;
 mod explained_steps;
 mod explaining;
@@ -13,12 +12,11 @@ mod steps;
 mod window_drawing;
 mod word_line;
 
-pub use answers::{push_refusal, write_answer, write_refusal};
 pub use explained_request::push_explained_request;
 pub use explained_steps::{push_fields, push_mantissas, push_window_lines, push_word};
 pub use explaining::{explain_word, push_explained_word};
 pub use listing::{push_listing, show_word};
-pub use picture::{CELLS, Rows, Stretch, push_picture, rows_of, shares_byte};
+pub use picture::{Rows, push_picture, rows_of};
 pub use steps::{Steps, decoding_steps};
 pub use window_drawing::{draw_window, push_window_drawing};
 pub use word_line::show_line;

@@ -2,15 +2,16 @@
 ghost use Rattle.std.specs.Prelude.{◌≡◌, ◌+◌, ◌≤◌, ◌++◌, ◌↔◌, [], codes, decimal, false, true, length, IfOk, IsErr, IsTrue, OnErr, OnOk, if◌then◌else◌};
 ghost use Rattle.cc_word.specs.Word.{bit_of, word_of};
 ghost use Rattle.cc_word.specs.WordText.{IsWordText, digits_of, hexadecimal};
-ghost use Rattle.cc_explain.specs.Answer.{WritesAnswer};
+ghost use Rattle.cc_io.specs.CommandOutput.{WritesAnswer};
 ghost use Rattle.cc_explain.specs.Listing.{IsListing, IsWordListing, bounds_lines_of, field_lines_of, line_of, listing_of};
 ghost use Rattle.cc_io.specs.Permissions.{permissions_text};
 
-use crate::answers::{push_refusal, write_answer};
 use bitflags::Flags;
 use cc_bounds::{Span, exponent};
 use cc_cap::{Decoded, Perms};
-use cc_io::{IoError, Line, ROOM, Sink, Summary, Text, push_permissions};
+use cc_io::{
+    IoError, Line, MOST_TEXT, Sink, Summary, Text, push_permissions, push_refusal, write_and_flush,
+};
 use cc_word::{Fields, Refusal, read_word, write_word};
 
 /// Writes the listing of a word, and flushes the sink once after the last line.
@@ -28,7 +29,7 @@ pub fn show_word<W: Sink>(text: &[u8], sink: &mut W) -> Result<Summary, IoError>
 {
     let mut answer = Text::new();
     let summary = push_answer(&mut answer, text);
-    match write_answer(&answer, sink) {
+    match write_and_flush(&answer, sink) {
         Ok(()) => Ok(summary),
         Err(error) => Err(error),
     }
@@ -93,7 +94,7 @@ fn push_field_lines(text: &mut Text, word: u128, fields: &Fields)
 /// Appends the lines of the exponent and the bounds that the fields decode to, and of whether the
 /// word is canonical.
 fn push_bounds_lines(text: &mut Text, fields: &Fields, bounds: &Span, canonical: bool)
-    requires { length text.old + 143 ≤ ROOM }
+    requires { length text.old + 143 ≤ MOST_TEXT }
     ensures { text.new ≡ text.old ++ bounds_lines_of fields.now bounds.now canonical }
 {
     push_decimal_line(text, b"exponent", u128::from(exponent(fields)));
@@ -104,7 +105,7 @@ fn push_bounds_lines(text: &mut Text, fields: &Fields, bounds: &Span, canonical:
 
 /// Appends the line that says whether the word is canonical.
 fn push_canonical_line(text: &mut Text, canonical: bool)
-    requires { length text.old + 14 ≤ ROOM }
+    requires { length text.old + 14 ≤ MOST_TEXT }
     ensures value { text.new ≡ text.old ++ line_of (codes "canonical") (if canonical then codes "yes" else codes "no") }
     ensures fits { length text.new ≤ length text.old + 14 }
 {
@@ -115,7 +116,7 @@ fn push_canonical_line(text: &mut Text, canonical: bool)
 
 /// Appends the line of the word.
 fn push_word_line(text: &mut Text, word: u128)
-    requires { length text.old + 38 ≤ ROOM }
+    requires { length text.old + 38 ≤ MOST_TEXT }
     ensures value { text.new ≡ text.old ++ line_of (codes "word") (digits_of 32 word) }
     ensures fits { length text.new ≤ length text.old + 38 }
 {
@@ -128,7 +129,7 @@ fn push_word_line(text: &mut Text, word: u128)
 fn push_digits_line(text: &mut Text, name: &[u8], number: u128, count: usize)
     requires digits { count ≤ 32 }
     requires name { length name.now ≤ 9 }
-    requires room { length text.old + length name.now + count + 2 ≤ ROOM }
+    requires room { length text.old + length name.now + count + 2 ≤ MOST_TEXT }
     ensures value { text.new ≡ text.old ++ line_of name.now (digits_of count number) }
     ensures fits { length text.new ≤ length text.old + length name.now + count + 2 }
 {
@@ -140,7 +141,7 @@ fn push_digits_line(text: &mut Text, name: &[u8], number: u128, count: usize)
 /// Appends a line whose value is a number in decimal.
 fn push_decimal_line(text: &mut Text, name: &[u8], number: u128)
     requires name { length name.now ≤ 9 }
-    requires room { length text.old + length name.now + 42 ≤ ROOM }
+    requires room { length text.old + length name.now + 42 ≤ MOST_TEXT }
     ensures value { text.new ≡ text.old ++ line_of name.now (decimal number) }
     ensures fits { length text.new ≤ length text.old + length name.now + 42 }
 {
@@ -152,7 +153,7 @@ fn push_decimal_line(text: &mut Text, name: &[u8], number: u128)
 /// Appends a line whose value is a number in hexadecimal, with `0x` and without leading zeros.
 fn push_hexadecimal_line(text: &mut Text, name: &[u8], number: u128)
     requires name { length name.now ≤ 9 }
-    requires room { length text.old + length name.now + 36 ≤ ROOM }
+    requires room { length text.old + length name.now + 36 ≤ MOST_TEXT }
     ensures value { text.new ≡ text.old ++ line_of name.now (hexadecimal number) }
     ensures fits { length text.new ≤ length text.old + length name.now + 36 }
 {
@@ -163,7 +164,7 @@ fn push_hexadecimal_line(text: &mut Text, name: &[u8], number: u128)
 
 /// Appends the line of the permissions, as digits and by name.
 fn push_permissions_line(text: &mut Text, perms: u16)
-    requires { length text.old + 137 ≤ ROOM }
+    requires { length text.old + 137 ≤ MOST_TEXT }
     ensures value { text.new ≡ text.old ++ line_of (codes "perms") (digits_of 4 perms ++ codes " " ++ permissions_text perms) }
     ensures fits { length text.new ≤ length text.old + 137 }
 {

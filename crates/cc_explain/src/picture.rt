@@ -5,19 +5,19 @@ ghost use Rattle.cc_explain.specs.Explanation.{AreRows, cell_size, picture_text,
 ghost use Rattle.cc_explain.specs.Picture.{IsPictureRow};
 
 use crate::steps::{LAPS, Steps, section};
-use cc_io::{ROOM, Text, end_with_hexadecimal, push_decimal};
+use cc_io::{MOST_TEXT, Text, end_with_hexadecimal, push_decimal};
 use cc_word::Fields;
 
 /// The number of cells in a row: eight for each section of the window.
-pub const CELLS: usize = 64;
+const CELLS: usize = 64;
 
 /// Consecutive bytes, at any position: from `first` to before `end`.
 #[derive(Clone, Copy)]
-pub struct Stretch {
+struct Stretch {
     /// The first byte.
-    pub first: u128,
+    first: u128,
     /// The byte after the last.
-    pub end: u128,
+    end: u128,
 }
 
 /// The rows of a picture. A cell that nothing marks is a point.
@@ -105,7 +105,7 @@ fn row_of(steps: &Steps, stretch: &Stretch, mark: u8) -> [u8; CELLS]
 }
 
 /// Returns whether some byte is in both stretches.
-pub fn shares_byte(one: &Stretch, other: &Stretch) -> bool
+fn shares_byte(one: &Stretch, other: &Stretch) -> bool
     ensures { IsTrue result ↔ SharesByte (record { base = one.now.first; top = one.now.end }) (record { base = other.now.first; top = other.now.end }) }
 {
     one.first.max(other.first) < one.end.min(other.end)
@@ -117,7 +117,7 @@ pub fn shares_byte(one: &Stretch, other: &Stretch) -> bool
 pub fn push_picture(text: &mut Text, steps: &Steps, rows: &Rows)
     requires exponent { steps.now.exponent ≤ 52 }
     requires first { steps.now.first_section < 8 }
-    requires room { length text.old + 850 ≤ ROOM }
+    requires room { length text.old + 850 ≤ MOST_TEXT }
     ensures { text.new ≡ text.old ++ picture_text steps.now rows.now }
 {
     end_with_hexadecimal(
@@ -137,7 +137,7 @@ pub fn push_picture(text: &mut Text, steps: &Steps, rows: &Rows)
 #[tactic(auto, unfolding(crate::specs::Explanation::row_text))]
 fn push_row(text: &mut Text, name: &[u8], row: &[u8; CELLS])
     requires name { length name.now ≡ 10 }
-    requires room { length text.old + 75 ≤ ROOM }
+    requires room { length text.old + 75 ≤ MOST_TEXT }
     ensures value { text.new ≡ text.old ++ row_text name.now row.now }
     ensures fits { length text.new ≤ length text.old + 75 }
 {
@@ -149,7 +149,7 @@ fn push_row(text: &mut Text, name: &[u8], row: &[u8; CELLS])
 /// Appends the line with the numbers of the eight sections, each above its cells.
 fn push_ruler(text: &mut Text, first: u128)
     requires first { first < 8 }
-    requires room { length text.old + 400 ≤ ROOM }
+    requires room { length text.old + 400 ≤ MOST_TEXT }
     ensures value { text.new ≡ text.old ++ ruler_text first }
     ensures fits { length text.new ≤ length text.old + 400 }
 {

@@ -1,14 +1,14 @@
 //! A drawing of the window of a word: an SVG document with its bounds and its address.
 ghost use Rattle.std.specs.Prelude.{◌≡◌, ◌+◌, ◌-◌, ◌<◌, ◌≤◌, ◌^◌, ◌++◌, ◌↔◌, [], false, true, length, IfOk, IsErr, IsTrue, OnErr, OnOk};
-ghost use Rattle.cc_explain.specs.Answer.{IsTypedWord, WritesAnswer};
-ghost use Rattle.cc_explain.specs.WindowDrawing.{IsWindowDrawing, IsWordDrawing, address_mark_text, addresses_text, bounds_marks_text, bytes_text, closing_text, ends_text, heading_text, mark_text, number_text, numbers_text, opening_text, section_lines_text, sheet_text, side_text, title_text, units_to, window_drawing_of, window_ground_text};
+ghost use Rattle.cc_io.specs.CommandOutput.{IsTypedWord, WritesAnswer};
+ghost use Rattle.cc_explain.specs.WindowDrawing.{IsWindowDrawing, IsWordDrawing, address_mark_text, addresses_text, bounds_marks_text, bytes_text, ends_text, heading_text, mark_text, number_text, numbers_text, side_text, title_text, units_to, window_drawing_of, window_ground_text};
 
-use crate::answers::{push_refusal, push_word_digits, read_typed_word, write_answer};
 use crate::steps::{LAPS, Steps, decoding_steps, section, unit};
 use cc_bounds::{Span, decode};
 use cc_io::{
-    IoError, ROOM, Sink, Summary, Text, end_with_decimal, end_with_hexadecimal, push_decimal,
-    push_hexadecimal,
+    IoError, MOST_TEXT, Sink, Summary, Text, end_with_decimal, end_with_hexadecimal, push_decimal,
+    push_digits, push_hexadecimal, push_markup, push_opening, push_refusal, push_sheet,
+    read_typed_word, write_and_flush,
 };
 use cc_word::{Fields, Refusal, unpack};
 
@@ -28,7 +28,7 @@ pub fn draw_window<W: Sink>(text: &[u8], sink: &mut W) -> Result<Summary, IoErro
 {
     let mut answer = Text::new();
     let summary = push_drawing(&mut answer, text);
-    match write_answer(&answer, sink) {
+    match write_and_flush(&answer, sink) {
         Ok(()) => Ok(summary),
         Err(error) => Err(error),
     }
@@ -72,18 +72,20 @@ fn push_parts(text: &mut Text, word: u128, fields: &Fields, steps: &Steps, bound
     requires start { steps.now.start < 2 ^ 67 }
     ensures { text.new ≡ window_drawing_of word fields.now steps.now bounds.now }
 {
-    push_opening(text);
+    push_opening(
+        text,
+        b"width='1216' height='197' viewBox='-1536 -1232 19456 3152' font-family='monospace' font-size='240'",
+    );
     push_title(text, word, fields, bounds);
-    push_sheet(text);
+    push_sheet(text, b"x='-1536' y='-1232' width='19456' height='3152'");
     push_heading(text, word, steps);
     push_window_ground(text);
-    push_section_lines(text);
     push_bytes(text, steps);
     push_numbers(text, u128::from(steps.first_section));
     push_bounds_marks(text, steps, bounds);
     push_address_mark(text, steps, fields.address);
     push_ends(text, steps);
-    push_closing(text);
+    push_markup(text, b"</svg>\n");
 }
 
 /// Returns the number of units from the start of the window to a place in it, rounded down.
@@ -94,24 +96,13 @@ fn units_to(steps: &Steps, place: u128) -> u128
     place.saturating_sub(steps.start) / unit(steps.exponent)
 }
 
-#[tactic(auto, unfolding(crate::specs::WindowDrawing::opening_text))]
-fn push_opening(text: &mut Text)
-    requires { length text.old + 160 ≤ ROOM }
-    ensures value { text.new ≡ text.old ++ opening_text }
-    ensures fits { length text.new ≤ length text.old + 160 }
-{
-    text.push(
-        b"<svg xmlns='http://www.w3.org/2000/svg' width='1216' height='197' viewBox='-1536 -1232 19456 3152' font-family='monospace' font-size='240'>\n",
-    );
-}
-
 /// Appends the document's title, and what it shows.
 fn push_title(text: &mut Text, word: u128, fields: &Fields, bounds: &Span)
-    requires { length text.old + 240 ≤ ROOM }
+    requires { length text.old + 240 ≤ MOST_TEXT }
     ensures value { text.new ≡ text.old ++ title_text word fields.now bounds.now }
     ensures fits { length text.new ≤ length text.old + 240 }
 {
-    push_word_digits(text, b"<title>The window of ", word);
+    push_digits(text, b"<title>The window of ", word, 32);
     text.push(b"</title>\n");
     push_hexadecimal(text, b"<desc>Bounds from ", u128::from(bounds.base));
     push_hexadecimal(text, b" to ", bounds.top);
@@ -121,11 +112,11 @@ fn push_title(text: &mut Text, word: u128, fields: &Fields, bounds: &Span)
 /// Appends the line above the drawing: the word, its exponent, and the size of a section.
 fn push_heading(text: &mut Text, word: u128, steps: &Steps)
     requires exponent { steps.now.exponent ≤ 52 }
-    requires room { length text.old + 200 ≤ ROOM }
+    requires room { length text.old + 200 ≤ MOST_TEXT }
     ensures value { text.new ≡ text.old ++ heading_text word steps.now }
     ensures fits { length text.new ≤ length text.old + 200 }
 {
-    push_word_digits(text, b"<text y='-928'>", word);
+    push_digits(text, b"<text y='-928'>", word, 32);
     push_decimal(text, b": exponent ", u128::from(steps.exponent));
     end_with_hexadecimal(
         text,
@@ -135,31 +126,15 @@ fn push_heading(text: &mut Text, word: u128, steps: &Steps)
     );
 }
 
-#[tactic(auto, unfolding(crate::specs::WindowDrawing::sheet_text))]
-fn push_sheet(text: &mut Text)
-    requires { length text.old + 80 ≤ ROOM }
-    ensures value { text.new ≡ text.old ++ sheet_text }
-    ensures fits { length text.new ≤ length text.old + 80 }
-{
-    text.push(b"<rect x='-1536' y='-1232' width='19456' height='3152' fill='#fff'/>\n");
-}
-
-#[tactic(auto, unfolding(crate::specs::WindowDrawing::window_ground_text))]
+/// Appends the rectangle of the window, and the lines between its sections.
 fn push_window_ground(text: &mut Text)
-    requires { length text.old + 60 ≤ ROOM }
+    requires { length text.old + 190 ≤ MOST_TEXT }
     ensures value { text.new ≡ text.old ++ window_ground_text }
-    ensures fits { length text.new ≤ length text.old + 60 }
+    ensures fits { length text.new ≤ length text.old + 190 }
 {
-    text.push(b"<rect width='16384' height='960' fill='#f2cf63'/>\n");
-}
-
-#[tactic(auto, unfolding(crate::specs::WindowDrawing::section_lines_text))]
-fn push_section_lines(text: &mut Text)
-    requires { length text.old + 160 ≤ ROOM }
-    ensures value { text.new ≡ text.old ++ section_lines_text }
-    ensures fits { length text.new ≤ length text.old + 160 }
-{
-    text.push(
+    push_markup(text, b"<rect width='16384' height='960' fill='#f2cf63'/>\n");
+    push_markup(
+        text,
         b"<path d='M2048,0V960M4096,0V960M6144,0V960M8192,0V960M10240,0V960M12288,0V960M14336,0V960' stroke='#7c6518' stroke-width='16'/>\n",
     );
 }
@@ -167,7 +142,7 @@ fn push_section_lines(text: &mut Text)
 /// Appends the rectangle of the bounds.
 fn push_bytes(text: &mut Text, steps: &Steps)
     requires exponent { steps.now.exponent ≤ 52 }
-    requires room { length text.old + 180 ≤ ROOM }
+    requires room { length text.old + 180 ≤ MOST_TEXT }
     ensures value { text.new ≡ text.old ++ bytes_text steps.now }
     ensures fits { length text.new ≤ length text.old + 180 }
 {
@@ -185,7 +160,7 @@ fn push_bytes(text: &mut Text, steps: &Steps)
 /// Appends the numbers of the eight sections, from the given one on.
 fn push_numbers(text: &mut Text, first: u128)
     requires first { first < 8 }
-    requires room { length text.old + 620 ≤ ROOM }
+    requires room { length text.old + 620 ≤ MOST_TEXT }
     ensures value { text.new ≡ text.old ++ numbers_text first }
     ensures fits { length text.new ≤ length text.old + 620 }
 {
@@ -204,7 +179,7 @@ fn push_numbers(text: &mut Text, first: u128)
 /// Appends the number of a section.
 fn push_number(text: &mut Text, before: &[u8], number: u128)
     requires before { length before.now ≤ 24 }
-    requires room { length text.old + 72 ≤ ROOM }
+    requires room { length text.old + 72 ≤ MOST_TEXT }
     ensures value { text.new ≡ text.old ++ number_text before.now number }
     ensures fits { length text.new ≤ length text.old + 72 }
 {
@@ -214,7 +189,7 @@ fn push_number(text: &mut Text, before: &[u8], number: u128)
 /// Appends the marks of the base and of the top, with the addresses that the word decodes to.
 fn push_bounds_marks(text: &mut Text, steps: &Steps, bounds: &Span)
     requires exponent { steps.now.exponent ≤ 52 }
-    requires room { length text.old + 460 ≤ ROOM }
+    requires room { length text.old + 460 ≤ MOST_TEXT }
     ensures value { text.new ≡ text.old ++ bounds_marks_text steps.now bounds.now }
     ensures fits { length text.new ≤ length text.old + 460 }
 {
@@ -235,7 +210,7 @@ fn push_bounds_marks(text: &mut Text, steps: &Steps, bounds: &Span)
 
 /// Appends the mark of an end of the bounds.
 fn push_mark(text: &mut Text, units: u128)
-    requires { length text.old + 100 ≤ ROOM }
+    requires { length text.old + 100 ≤ MOST_TEXT }
     ensures value { text.new ≡ text.old ++ mark_text units }
     ensures fits { length text.new ≤ length text.old + 100 }
 {
@@ -250,7 +225,7 @@ fn push_mark(text: &mut Text, units: u128)
 /// Appends the mark of the address, with its number.
 fn push_address_mark(text: &mut Text, steps: &Steps, address: u64)
     requires exponent { steps.now.exponent ≤ 52 }
-    requires room { length text.old + 280 ≤ ROOM }
+    requires room { length text.old + 280 ≤ MOST_TEXT }
     ensures value { text.new ≡ text.old ++ address_mark_text steps.now address }
     ensures fits { length text.new ≤ length text.old + 280 }
 {
@@ -289,7 +264,7 @@ fn side(units: u128) -> &'static [u8]
 fn push_ends(text: &mut Text, steps: &Steps)
     requires exponent { steps.now.exponent ≤ 52 }
     requires start { steps.now.start < 2 ^ 67 }
-    requires room { length text.old + 180 ≤ ROOM }
+    requires room { length text.old + 180 ≤ MOST_TEXT }
     ensures value { text.new ≡ text.old ++ ends_text steps.now }
     ensures fits { length text.new ≤ length text.old + 180 }
 {
@@ -303,7 +278,7 @@ fn push_ends(text: &mut Text, steps: &Steps)
 
 /// Appends the first and the last address of a window.
 fn push_addresses(text: &mut Text, first: u128, last: u128)
-    requires { length text.old + 170 ≤ ROOM }
+    requires { length text.old + 170 ≤ MOST_TEXT }
     ensures value { text.new ≡ text.old ++ addresses_text first last }
     ensures fits { length text.new ≤ length text.old + 170 }
 {
@@ -314,13 +289,4 @@ fn push_addresses(text: &mut Text, first: u128, last: u128)
         last,
         b"</text>",
     );
-}
-
-#[tactic(auto, unfolding(crate::specs::WindowDrawing::closing_text))]
-fn push_closing(text: &mut Text)
-    requires { length text.old + 7 ≤ ROOM }
-    ensures value { text.new ≡ text.old ++ closing_text }
-    ensures fits { length text.new ≡ length text.old + 7 }
-{
-    text.push(b"</svg>\n");
 }

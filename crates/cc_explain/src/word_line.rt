@@ -1,11 +1,10 @@
 //! The output of `show --line`: the one-line form of a word.
 ghost use Rattle.std.specs.Prelude.{◌≡◌, ◌↔◌, [], false, true, IfOk, IsErr, IsTrue, OnErr, OnOk};
-ghost use Rattle.cc_explain.specs.Answer.{IsTypedWord, WritesAnswer};
+ghost use Rattle.cc_io.specs.CommandOutput.{IsTypedWord, WritesAnswer};
 ghost use Rattle.cc_explain.specs.LineAnswer.{IsLineAnswer};
 
-use crate::answers::{push_refusal, read_typed_word, write_answer};
 use cc_cap::WordLine;
-use cc_io::{IoError, Sink, Summary, Text};
+use cc_io::{IoError, Sink, Summary, Text, push_refusal, read_typed_word, write_and_flush};
 use cc_word::Refusal;
 
 /// Writes the one-line form of a word, such as `0x10070 [rwxRW,0x10070-0x12070]`, and flushes the
@@ -23,7 +22,7 @@ pub fn show_line<W: Sink>(text: &[u8], sink: &mut W) -> Result<Summary, IoError>
 {
     let mut answer = Text::new();
     let summary = push_line_answer(&mut answer, text);
-    match write_answer(&answer, sink) {
+    match write_and_flush(&answer, sink) {
         Ok(()) => Ok(summary),
         Err(error) => Err(error),
     }

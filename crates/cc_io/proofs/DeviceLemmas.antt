@@ -3,7 +3,7 @@ use Rattle.std.proofs.Common.{◌≡◌, ℕ, ◌+◌, ◌≤◌, List, [], ◌+
 use Rattle.std.proofs.lemmas.Grind.{common_steps}
 use Rattle.std.proofs.lemmas.List.{take_all, take-take, drop-take, take-append-drop, length-drop, take_rest, append-nil}
 use Rattle.std.specs.Io.KnownBytes.{Appends, Consumes, Keeps, append_known}
-use Rattle.cc_io.specs.Devices.{TakesBeginning}
+use Rattle.cc_io.specs.Devices.{TakesPrefix}
 
 pub appends_none : (a : Option (List ℕ)) → Appends a a []
 appends_none None = tt
@@ -73,7 +73,7 @@ whole_after a b c bytes n p q =
 
 -- a prefix of the remaining bytes, after a first write of some
 pub begun_after : (a b c : Option (List ℕ)) (bytes : List ℕ) (n : ℕ) → n ≤ length bytes
-    → Appends a b (take n bytes) → TakesBeginning b c (take (length bytes - n) (drop n bytes)) → TakesBeginning a c bytes
+    → Appends a b (take n bytes) → TakesPrefix b c (take (length bytes - n) (drop n bytes)) → TakesPrefix a c bytes
 begun_after a b c bytes n within p t = record {
   count = n + t.count;
   within = count_further bytes n t.count within t.within;

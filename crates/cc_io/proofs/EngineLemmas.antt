@@ -5,7 +5,7 @@ use Rattle.std.proofs.lemmas.List.{take_all, map-append}
 use Rattle.std.proofs.lemmas.List.Folds.{list_any-append}
 use Rattle.std.specs.List.{list_any}
 use Rattle.std.specs.Io.KnownBytes.{Appends, Consumes, IsAtEnd, Keeps}
-use Rattle.cc_io.specs.Devices.{TakesBeginning}
+use Rattle.cc_io.specs.Devices.{TakesPrefix}
 use Rattle.cc_io.specs.Frames.{Frame, IsFrame, EndsEntry, EndsNone}
 use Rattle.cc_io.specs.Answers.{Answer, Relation, AnswersAll, answers_text, EndsWith, seen, entries_of, AnswersInto, LastFits}
 use Rattle.cc_io.specs.Correct.{StopsOnPage, StopsEarly, Pumps}
@@ -51,7 +51,7 @@ pub record Reads {S : Type 0} (Answered : Relation S) (frame : Frame) (old : S) 
 -- ---- beginnings
 
 -- the whole of a text is a prefix of it
-pub begins_whole : (t u : Option (List ℕ)) (xs : List ℕ) → Appends t u xs → TakesBeginning t u xs
+pub begins_whole : (t u : Option (List ℕ)) (xs : List ℕ) → Appends t u xs → TakesPrefix t u xs
 begins_whole t u xs p = record {
   count = length xs;
   within = omega arith;
@@ -270,7 +270,7 @@ first_ends {S} A frame room most a b t u v begun piece rest start end waiting e 
 
 -- the sink failed as the page was written
 pub first_stops : {S : Type 0} (A : Relation S) (frame : Frame) (room most : ℕ) (a b : S) (t u v : Option (List ℕ)) (begun piece rest start waiting : List ℕ) (e : Bool)
-    → AnswersFirst A frame room most a begun piece rest start t u waiting e b → TakesBeginning u v waiting → 0 < length waiting → length waiting ≤ room
+    → AnswersFirst A frame room most a begun piece rest start t u waiting e b → TakesPrefix u v waiting → 0 < length waiting → length waiting ≤ room
     → StopsOnPage A room most a [] (seen (frame.entries begun piece)) t v b
 first_stops {S} A frame room most a b t u v begun piece rest start waiting e p q some within = record {
   earlier = seen p.earlier;
@@ -315,7 +315,7 @@ reads_begins {S} A frame is a pending c t u start empty written = record {
 }
 
 -- the sink failed in what waited
-pub stops_pending : {S : Type 0} (done : S → Bool) (A E : Relation S) (frame : Frame) (room most : ℕ) (a : S) (pending : List ℕ) (c t u : Option (List ℕ)) → TakesBeginning t u pending → 0 < length pending
+pub stops_pending : {S : Type 0} (done : S → Bool) (A E : Relation S) (frame : Frame) (room most : ℕ) (a : S) (pending : List ℕ) (c t u : Option (List ℕ)) → TakesPrefix t u pending → 0 < length pending
     → Pumps done A E frame room most a pending c c t u (Err Write) a
 stops_pending {S} done A E frame room most a pending c t u q some = record {
   text = [];
@@ -391,7 +391,7 @@ ends {S} done A E frame room most a b d pending c l j t u v start e ending r not
 -- the source is at its end, and the sink failed in ending the output
 pub stops_ending : {S : Type 0} (done : S → Bool) (A E : Relation S) (frame : Frame) (room most : ℕ) (a b d : S) (pending : List ℕ) (c l j t u v : Option (List ℕ)) (start : List ℕ) (e : Bool) (ending : Answer)
     → Reads A frame a pending c l start t u e b → Consumes l j [] → IsAtEnd j
-    → EndsWith E b start ending d → TakesBeginning u v ending.text
+    → EndsWith E b start ending d → TakesPrefix u v ending.text
     → Pumps done A E frame room most a pending c j t v (Err Write) d
 stops_ending {S} done A E frame room most a b d pending c l j t u v start e ending r nothing at_end s w = record {
   text = r.text;

@@ -3,7 +3,7 @@ use Rattle.std.specs.Prelude.{◌≡◌, ◌≤◌, ◌<◌, ℕ, Bool, true, Li
 use Rattle.std.specs.List.{list_any}
 use Rattle.std.specs.Io.KnownBytes.{Appends, Consumes, IsAtEnd}
 use Rattle.cc_io.specs.Frames.{Frame}
-use Rattle.cc_io.specs.Devices.{TakesBeginning}
+use Rattle.cc_io.specs.Devices.{TakesPrefix}
 use Rattle.cc_io.specs.Answers.{Answer, Relation, AnswersAll, answers_text, EndsWith, entries_of, rest_of, LastFits, Output}
 use Rattle.cc_io.specs.declared.summary.IoError.{IoError}
 use Rattle.cc_io.specs.declared.summary.IoError.TheVariants.{Read, Write}
@@ -25,7 +25,7 @@ pub record WritesAnswers {S : Type 0} (Answered : Relation S) (old : S) (pending
 pub record StopsInPending {S : Type 0} (old : S) (pending : List ℕ) (taken taken_now : Option (List ℕ)) (new : S) : Type 0 where
   pub some : 0 < length pending
   pub stays : new ≡ old
-  pub written : TakesBeginning taken taken_now pending
+  pub written : TakesPrefix taken taken_now pending
 
 -- `StopsOnPage` holds if the sink failed on a page. `pending`, the replies to `earlier` and a
 -- prefix of the page were written. The replies to the entries `on_page` were on the page. The

@@ -7,8 +7,8 @@ use Rattle.cc_io.specs.declared.summary.IoError.{IoError}
 use Rattle.cc_io.specs.declared.summary.IoError.TheVariants.{Read, Write}
 use Rattle.cc_io.specs.declared.summary.Summary.{Summary}
 
--- `TakesBeginning` holds if the sink took a prefix of the bytes, and no more.
-pub record TakesBeginning (old new : Option (List ℕ)) (bytes : List ℕ) : Type 0 where
+-- `TakesPrefix` holds if the sink took a prefix of the bytes, and no more.
+pub record TakesPrefix (old new : Option (List ℕ)) (bytes : List ℕ) : Type 0 where
   pub count : ℕ
   pub within : count ≤ length bytes
   pub taken : Appends old new (take count bytes)
@@ -62,13 +62,13 @@ pub record AreReady (input : InputState) (output : OutputState) : Type 0 where
 -- `WritesBytes` holds if the sink took all the bytes, or failed after a prefix of them.
 pub record WritesBytes {E : Type 0} (old new : OutputState) (bytes : List ℕ) (result : Result ⊤ E) : Type 0 where
   pub ok : OnOk result (Appends old.taken new.taken bytes)
-  pub err : OnErr result (TakesBeginning old.taken new.taken bytes)
+  pub err : OnErr result (TakesPrefix old.taken new.taken bytes)
   pub fails : IsErr result ↔ (new.has_failed ≡ true)
 
 -- `SendsBytes` holds if the sink took all the bytes and was flushed, or failed after a prefix of them.
 pub record SendsBytes {E : Type 0} (old new : OutputState) (bytes : List ℕ) (result : Result ⊤ E) : Type 0 where
   pub ok : OnOk result (Appends old.taken new.taken bytes)
-  pub err : OnErr result (TakesBeginning old.taken new.taken bytes)
+  pub err : OnErr result (TakesPrefix old.taken new.taken bytes)
   pub flushed : OnOk result (new.is_flushed ≡ true)
   pub fails : IsErr result ↔ (new.has_failed ≡ true)
 

@@ -4,7 +4,7 @@ use Rattle.std.specs.Prelude.{◌≡◌, ◌≤◌, ◌<◌, ℕ, Bool, not, ◌
 use Rattle.std.specs.Io.KnownBytes.{Appends, Consumes, IsAtEnd}
 use Rattle.std.specs.List.{list_any}
 use Rattle.cc_io.specs.Text.{rest_text}
-use Rattle.cc_io.specs.Devices.{InputState, IsOutcome, OutputState, TakesBeginning}
+use Rattle.cc_io.specs.Devices.{InputState, IsOutcome, OutputState, TakesPrefix}
 use Rattle.cc_io.specs.Frames.{Frame}
 use Rattle.cc_io.specs.Answers.{Answer, answers_text, LastFits}
 use Rattle.cc_io.specs.declared.summary.IoError.{IoError}
@@ -34,7 +34,7 @@ pub record WritesReplies (Are : Claim) (pending : List ℕ) (entries : List (Lis
 pub record StopsAtOnce (Are : Claim) (pending : List ℕ) (taken taken_now : Option (List ℕ)) : Type 0 where
   pub some : 0 < length pending
   pub are_answers : Are [] []
-  pub written : TakesBeginning taken taken_now pending
+  pub written : TakesPrefix taken taken_now pending
 
 -- `StopsInPage` holds if the sink failed on a page of replies. The entries `answered` had got
 -- replies, and those in `later` none. The sink had taken `pending`, the replies `before` and a prefix

@@ -1,8 +1,8 @@
 //! Output bytes in fixed-size buffers: a reply, or replies that are pending.
 ghost use Rattle.std.specs.Prelude.{◌≡◌, ◌+◌, ◌-◌, ◌*◌, ◌/◌, ◌%◌, ◌^◌, ◌≤◌, ◌<◌, [], ◌∷◌, ◌++◌, length, take, decimal, false};
 ghost use Rattle.std.specs.Fmt.{digits};
-ghost use Rattle.cc_word.specs.WordText.{digits_of};
-ghost use Rattle.cc_word.specs.WordText.{hexadecimal};
+ghost use Rattle.cc_word.specs.WordText.{digits_of, hexadecimal};
+ghost use Rattle.cc_io.specs.Text.{with_line_feed};
 
 use cc_word::{write_half, write_word_fast};
 use std::marker::Model;
@@ -14,7 +14,10 @@ pub const MOST_REPLY: usize = 192;
 pub const MOST_LINE: usize = 193;
 
 /// The maximum number of bytes that are pending for a sink.
-pub const MOST_WAITING: usize = 65536;
+pub const MOST_PENDING: usize = 65536;
+
+/// The maximum length of a [`Text`] in bytes.
+pub const MOST_TEXT: usize = 4096;
 
 /// A buffer for a reply, or for a line that is as short.
 pub type Line = Page<MOST_REPLY>;
@@ -23,7 +26,10 @@ pub type Line = Page<MOST_REPLY>;
 pub type WholeLine = Page<MOST_LINE>;
 
 /// A buffer for replies that are pending.
-pub type Waiting = Page<MOST_WAITING>;
+pub type Pending = Page<MOST_PENDING>;
+
+/// A buffer for the output of a command, or for a part of a drawing.
+pub type Text = Page<MOST_TEXT>;
 
 /// The two decimal digits of each number below 100.
 const PAIRS: [u8; 200] = *b"00010203040506070809\
@@ -114,6 +120,18 @@ impl<const N: usize> Page<N> {
         ensures { self.new ≡ self.old ++ bytes.entry }
     {
         self.push(&bytes);
+    }
+
+    /// Appends a line and its line feed.
+    ///
+    /// Requires: both fit on the page.
+    pub fn push_line(&mut self, line: &Line)
+        requires { length self.old + length line.now + 1 ≤ N }
+        ensures value { self.new ≡ self.old ++ with_line_feed line.now }
+        ensures fits { length self.new ≡ length self.old + length line.now + 1 }
+    {
+        self.push(line.bytes());
+        self.push(b"\n");
     }
 
     /// Appends the number of a slot or of an object in decimal digits.

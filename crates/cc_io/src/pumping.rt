@@ -1,6 +1,6 @@
 //! The engine: reads entries from a source, and writes the replies to them to a sink.
 ghost use Rattle.std.specs.Prelude.{◌≡◌, ◌≤◌, ◌<◌, ◌+◌, ℕ, true, false, List, [], take, length, ◌↔◌, Err, IfOk, OnOk, OnErr, IsErr, ◌++◌};
-ghost use Rattle.cc_io.specs.Devices.{AreReady, IsOutcome, SendsBytes, TakesBeginning, WritesBytes};
+ghost use Rattle.cc_io.specs.Devices.{AreReady, IsOutcome, SendsBytes, TakesPrefix, WritesBytes};
 ghost use Rattle.cc_io.specs.Answers.{AnswersInto, seen};
 ghost use Rattle.cc_io.specs.Correct.{Pumps, StopsOnPage};
 ghost use Rattle.cc_io.specs.Engine.{AnswersPiece, PassesPage, EndsPage};
@@ -214,7 +214,7 @@ pub fn make_room<W: Sink, const N: usize>(
     requires room { most ≤ N }
     ensures ok { OnOk result (PassesPage (W.state sink.old).taken (W.state sink.new).taken page.old page.new) }
     ensures room { OnOk result (length page.new + most ≤ N) }
-    ensures err { OnErr result (TakesBeginning (W.state sink.old).taken (W.state sink.new).taken page.old) }
+    ensures err { OnErr result (TakesPrefix (W.state sink.old).taken (W.state sink.new).taken page.old) }
     ensures some { OnErr result (0 < length page.old) }
     ensures within { OnErr result (length page.old ≤ N) }
     ensures fails { IsErr result ↔ ((W.state sink.new).has_failed ≡ true) }

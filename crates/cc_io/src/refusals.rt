@@ -1,8 +1,37 @@
 //! The lines of refusals.
-ghost use Rattle.std.specs.Prelude.{◌≡◌, ◌≤◌, length};
+ghost use Rattle.std.specs.Prelude.{◌≡◌, ◌≤◌, [], false, true, length, IfOk};
+ghost use Rattle.cc_io.specs.CommandOutput.{IsRefusalLine, WritesAnswer};
 ghost use Rattle.cc_io.specs.Text.{refusal_text, with_line_feed};
 
+use crate::devices::Sink;
+use crate::page::Text;
+use crate::pumping::write_and_flush;
+use crate::summary::{IoError, Summary};
 use cc_word::Refusal;
+
+/// Writes the line of a refusal, `error CODE NAME`, and flushes the sink once after it. The summary
+/// reports an error.
+///
+/// Requires: the sink has not failed.
+/// Errors: `Write` if and only if the sink fails. A prefix of the line is then written.
+pub fn write_refusal<W: Sink>(refusal: Refusal, sink: &mut W) -> Result<Summary, IoError>
+    requires { (W.state sink.old).has_failed ≡ false }
+    ensures shown { WritesAnswer (IsRefusalLine refusal) (W.state sink.old) (W.state sink.new) result }
+    ensures any_error { IfOk result (λ summary. summary.any_error ≡ true) }
+{
+    let mut answer = Text::new();
+    push_refusal(&mut answer, refusal);
+    write_and_flush(&answer, sink)?;
+    Ok(Summary { any_error: true })
+}
+
+/// Puts the line of a refusal into an empty text.
+pub fn push_refusal(text: &mut Text, refusal: Refusal)
+    requires { text.old ≡ [] }
+    ensures { IsRefusalLine refusal text.new }
+{
+    text.push(refusal_bytes(refusal));
+}
 
 /// Returns the line of a refusal and its line feed, at most 32 bytes.
 pub fn refusal_bytes(refusal: Refusal) -> &'static [u8]

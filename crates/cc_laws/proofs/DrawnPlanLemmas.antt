@@ -6,7 +6,7 @@ use Rattle.std.proofs.lemmas.Bool.{cases_lt}
 use Rattle.cc_bounds.specs.declared.span.Span.{Span}
 use Rattle.cc_bounds.specs.Span.{IsWithin, length_of}
 use Rattle.cc_bounds.proofs.GranuleLemmas.{div_ceil-le, le-div_ceil}
-use Rattle.cc_explain.specs.Picture.{cell_bytes, cell_count}
+use Rattle.cc_draw.specs.Cells.{cell_bytes, cell_count}
 use Rattle.cc_plan.specs.Plan.{Plan, held_spans}
 use Rattle.cc_values.specs.declared.usage.Usage.{Usage}
 use Rattle.cc_draw.specs.Usage.{IsUsage, pool_span}

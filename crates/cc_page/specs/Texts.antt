@@ -2,7 +2,7 @@
 use Rattle.std.specs.Prelude.{ℕ, ◌≡◌, ◌≤◌, ◌+◌, ◌*◌, ◌^◌, List, length, take}
 use Rattle.cc_word.specs.Refusal.{code_of}
 use Rattle.cc_word.specs.declared.refusal.Refusal.{Refusal}
-use Rattle.cc_explain.specs.Answer.{IsRefusalLine}
+use Rattle.cc_io.specs.CommandOutput.{IsRefusalLine}
 
 -- The number of two halves.
 abbrev pub number_of_halves : (high low : ℕ) → ℕ

@@ -7,14 +7,13 @@ ghost use Rattle.cc_word.specs.Refusal.{code_of};
 use crate::texts::put;
 use bitflags::Flags;
 use cc_cap::Perms;
-use cc_explain::push_refusal;
-use cc_io::{Line, ROOM, Text, push_permissions};
+use cc_io::{Line, MOST_TEXT, Text, push_permissions, push_refusal};
 use cc_word::Refusal;
 
 /// Writes the names of permissions, joined by `+`, or `-` for none, to the start of the bytes, and
 /// returns their length. The bytes after them do not change.
 #[unsafe(no_mangle)]
-pub extern "C" fn cheri_page_permissions(perms: u16, bytes: &mut [u8; ROOM]) -> usize
+pub extern "C" fn cheri_page_permissions(perms: u16, bytes: &mut [u8; MOST_TEXT]) -> usize
     ensures text { Holds (λ text. text ≡ permissions_text perms) bytes.new result }
     ensures rest { drop result bytes.new ≡ drop result bytes.old }
 {
@@ -29,7 +28,7 @@ pub extern "C" fn cheri_page_permissions(perms: u16, bytes: &mut [u8; ROOM]) -> 
 /// of the bytes, and returns its length, or 0 for any other number. The bytes after it do not
 /// change.
 #[unsafe(no_mangle)]
-pub extern "C" fn cheri_page_refusal(code: u8, bytes: &mut [u8; ROOM]) -> usize
+pub extern "C" fn cheri_page_refusal(code: u8, bytes: &mut [u8; MOST_TEXT]) -> usize
     ensures line { 7 ≤ code → code ≤ 16 → Holds (IsLineOfCode code) bytes.new result }
     ensures none { (¬ (7 ≤ code × code ≤ 16)) → result ≡ 0 }
     ensures rest { drop result bytes.new ≡ drop result bytes.old }

@@ -2,7 +2,7 @@
 //! request, written into the bytes of the caller.
 ghost use Rattle.std.specs.Prelude.{◌≡◌, ◌+◌, ◌≤◌, ◌^◌, [], drop, length, take};
 ghost use Rattle.cc_bounds.specs.Span.{span_from};
-ghost use Rattle.cc_explain.specs.Answer.{IsRefusalLine};
+ghost use Rattle.cc_io.specs.CommandOutput.{IsRefusalLine};
 ghost use Rattle.cc_explain.specs.Explanation.{IsWordExplanation};
 ghost use Rattle.cc_explain.specs.Listing.{IsWordListing};
 ghost use Rattle.cc_explain.specs.Request.{IsRequestExplanation};
@@ -11,16 +11,14 @@ ghost use Rattle.cc_page.specs.Texts.{Holds, number_of_halves};
 ghost use Rattle.cc_word.specs.declared.refusal.Refusal.TheVariants.{OutOfBounds};
 
 use cc_bounds::{ADDRESS_SPACE, Span};
-use cc_explain::{
-    push_explained_request, push_explained_word, push_listing, push_refusal, push_window_drawing,
-};
-use cc_io::{ROOM, Text};
+use cc_explain::{push_explained_request, push_explained_word, push_listing, push_window_drawing};
+use cc_io::{MOST_TEXT, Text, push_refusal};
 use cc_word::Refusal;
 
 /// Writes the output of `show` for a word to the start of the bytes, and returns its length. The
 /// bytes after it do not change.
 #[unsafe(no_mangle)]
-pub extern "C" fn cheri_page_show(high: u64, low: u64, bytes: &mut [u8; ROOM]) -> usize
+pub extern "C" fn cheri_page_show(high: u64, low: u64, bytes: &mut [u8; MOST_TEXT]) -> usize
     ensures text { Holds (IsWordListing (number_of_halves high low)) bytes.new result }
     ensures rest { drop result bytes.new ≡ drop result bytes.old }
 {
@@ -32,7 +30,7 @@ pub extern "C" fn cheri_page_show(high: u64, low: u64, bytes: &mut [u8; ROOM]) -
 /// Writes the output of `explain` for a word to the start of the bytes, and returns its length. The
 /// bytes after it do not change.
 #[unsafe(no_mangle)]
-pub extern "C" fn cheri_page_explain(high: u64, low: u64, bytes: &mut [u8; ROOM]) -> usize
+pub extern "C" fn cheri_page_explain(high: u64, low: u64, bytes: &mut [u8; MOST_TEXT]) -> usize
     ensures text { Holds (IsWordExplanation (number_of_halves high low)) bytes.new result }
     ensures rest { drop result bytes.new ≡ drop result bytes.old }
 {
@@ -44,7 +42,7 @@ pub extern "C" fn cheri_page_explain(high: u64, low: u64, bytes: &mut [u8; ROOM]
 /// Writes the output of `explain --svg` for a word to the start of the bytes, and returns its
 /// length. The bytes after it do not change.
 #[unsafe(no_mangle)]
-pub extern "C" fn cheri_page_draw(high: u64, low: u64, bytes: &mut [u8; ROOM]) -> usize
+pub extern "C" fn cheri_page_draw(high: u64, low: u64, bytes: &mut [u8; MOST_TEXT]) -> usize
     ensures text { Holds (IsWordDrawing (number_of_halves high low)) bytes.new result }
     ensures rest { drop result bytes.new ≡ drop result bytes.old }
 {
@@ -62,7 +60,7 @@ pub extern "C" fn cheri_page_explain_length(
     base: u64,
     length_high: u64,
     length_low: u64,
-    bytes: &mut [u8; ROOM],
+    bytes: &mut [u8; MOST_TEXT],
 ) -> usize
     ensures granted { base + number_of_halves length_high length_low ≤ 2 ^ 64
         → Holds (IsRequestExplanation (span_from base (number_of_halves length_high length_low))) bytes.new result }
@@ -98,9 +96,9 @@ fn number(high: u64, low: u64) -> u128
 
 /// Copies a text to the start of the bytes, and returns its length. The bytes after it do not
 /// change.
-pub(crate) fn put(text: &Text, bytes: &mut [u8; ROOM]) -> usize
+pub(crate) fn put(text: &Text, bytes: &mut [u8; MOST_TEXT]) -> usize
     ensures length { result ≡ length text.now }
-    ensures fits { result ≤ ROOM }
+    ensures fits { result ≤ MOST_TEXT }
     ensures text { take result bytes.new ≡ text.now }
     ensures rest { drop result bytes.new ≡ drop result bytes.old }
 {

@@ -2,7 +2,7 @@
 use Rattle.std.specs.Prelude.{◌≡◌, ◌≢◌, ◌⊎◌, ℕ, Bool, true, List, Option, Result, Ok, Err}
 use Rattle.std.specs.Io.KnownBytes.{Appends, Consumes, IsAtEnd}
 use Rattle.cc_io.specs.Answers.{Output}
-use Rattle.cc_io.specs.Devices.{TakesBeginning}
+use Rattle.cc_io.specs.Devices.{TakesPrefix}
 use Rattle.cc_io.specs.Frames.{lines}
 use Rattle.cc_io.specs.declared.summary.Summary.{Summary}
 use Rattle.cc_formats.specs.declared.reading.Progress.TheVariants.{OutOfMemory}
@@ -34,6 +34,6 @@ Summarizes format old to_come left taken taken_now (Ok summary) new =
     TakesTrace old to_come left summary.any_error new × (new.progress ≢ OutOfMemory) × Appends taken taken_now (summary_text format new)
 Summarizes format old to_come left taken taken_now (Err Write) new =
     (any_error : Bool) × TakesTrace old to_come left any_error new × (new.progress ≢ OutOfMemory)
-    × TakesBeginning taken taken_now (summary_text format new)
+    × TakesPrefix taken taken_now (summary_text format new)
 Summarizes format old to_come left taken taken_now (Err Memory) new = (new.progress ≡ OutOfMemory) × (taken_now ≡ taken)
 Summarizes format old to_come left taken taken_now (Err Read) new = taken_now ≡ taken

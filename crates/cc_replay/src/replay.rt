@@ -3,7 +3,7 @@ ghost use Rattle.std.specs.Prelude.{◌≡◌, ◌≤◌, ◌+◌, ◌↔◌, �
 ghost use Rattle.cc_io.specs.Answers.{AnswersInto};
 ghost use Rattle.cc_io.specs.Correct.{Pumps};
 ghost use Rattle.cc_io.specs.Frames.{lines};
-ghost use Rattle.cc_io.specs.Devices.{TakesBeginning};
+ghost use Rattle.cc_io.specs.Devices.{TakesPrefix};
 ghost use Rattle.std.specs.Io.KnownBytes.{Appends};
 ghost use Rattle.cc_formats.specs.declared.reading.Progress.TheVariants.{OutOfMemory};
 ghost use Rattle.cc_formats.specs.Reading.{is_over};
@@ -18,7 +18,7 @@ use crate::summary::Figures;
 use cc_formats::{Entry, Progress, Reading, read_entry};
 use cc_heap::{Event, Heap, Run, Settings, SizeTotals};
 use cc_io::{
-    Answerer, IoError, Lines, Page, Sink, Source, Summary, Waiting, pump, write_and_flush,
+    Answerer, IoError, Lines, Page, Sink, Source, Summary, Pending, pump, write_and_flush,
 };
 use cc_placer::Placer;
 use cc_word::Refusal;
@@ -137,7 +137,7 @@ impl<P: Placer> Replay<P> {
     pub fn end_series<W: Sink>(&self, series: &mut W) -> Result<(), IoError>
         requires { (W.state series.old).has_failed ≡ false }
         ensures ok { OnOk result (Appends (W.state series.old).taken (W.state series.new).taken (last_sample self.now)) }
-        ensures err { OnErr result (TakesBeginning (W.state series.old).taken (W.state series.new).taken (last_sample self.now)) }
+        ensures err { OnErr result (TakesPrefix (W.state series.old).taken (W.state series.new).taken (last_sample self.now)) }
         ensures flushed { OnOk result ((W.state series.new).is_flushed ≡ true) }
         ensures fails { IsErr result ↔ ((W.state series.new).has_failed ≡ true) }
         ensures write { OnErr result (result ≡ Err IoError.Write) }
@@ -322,7 +322,7 @@ pub fn replay_trace<P: Placer, R: Source, W: Sink>(
     ensures write { (result ≡ Err IoError.Write) ↔ ((W.state series.new).has_failed ≡ true) }
     ensures flushed { OnOk result ((W.state series.new).is_flushed ≡ true) }
 {
-    let mut page = Waiting::new();
+    let mut page = Pending::new();
     replay.push_header(&mut page);
     pump(&Lines, replay, source, series, &mut page)
 }

@@ -2,7 +2,7 @@
 ghost use Rattle.std.specs.Prelude.{◌≡◌, ◌≤◌, ◌<◌, ◌+◌, ◌-◌, ◌*◌, ◌^◌, ◌++◌, ◌↔◌, [], length, false, true, Err, OnOk, OnErr, IsErr};
 ghost use Rattle.std.specs.Io.KnownBytes.{Appends};
 ghost use Rattle.arrayvec.specs.ArrayVec.{array_vec_len};
-ghost use Rattle.cc_io.specs.Devices.{TakesBeginning};
+ghost use Rattle.cc_io.specs.Devices.{TakesPrefix};
 ghost use Rattle.cc_replay.specs.Rows.{rows_of, table_text};
 ghost use Rattle.cc_replay.specs.Summary.{end_rows, failure_rows, line_rows, made_rows, peak_rows, refusal_rows, summary_rows};
 
@@ -44,7 +44,7 @@ pub fn write_summary<W: Sink>(
 ) -> Result<(), IoError>
     requires sink { (W.state sink.old).has_failed ≡ false }
     ensures ok { OnOk result (Appends (W.state sink.old).taken (W.state sink.new).taken (table_text format (summary_rows figures.now))) }
-    ensures err { OnErr result (TakesBeginning (W.state sink.old).taken (W.state sink.new).taken (table_text format (summary_rows figures.now))) }
+    ensures err { OnErr result (TakesPrefix (W.state sink.old).taken (W.state sink.new).taken (table_text format (summary_rows figures.now))) }
     ensures flushed { OnOk result ((W.state sink.new).is_flushed ≡ true) }
     ensures fails { IsErr result ↔ ((W.state sink.new).has_failed ≡ true) }
     ensures write { OnErr result (result ≡ Err IoError.Write) }

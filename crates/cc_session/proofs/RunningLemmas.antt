@@ -31,7 +31,7 @@ use Rattle.cc_session.specs.Lending.{AnswersLine, RefusesRest}
 use Rattle.cc_session.specs.declared.lent.Lent.{Lent}
 use Rattle.cc_session.specs.Session.{Opens}
 use Rattle.cc_syntax.specs.declared.tally.Tally.{Tally}
-use Rattle.cc_io.specs.Devices.{TakesBeginning}
+use Rattle.cc_io.specs.Devices.{TakesPrefix}
 use Rattle.cc_session.proofs.OutputLemmas.{stopped_begins}
 use Rattle.cc_session.proofs.ReplyLemmas.{takes_further, replies_text-append, or_assoc}
 
@@ -89,7 +89,7 @@ all_opened room start tally opening pending t u error new tally_now o = record {
 
 -- The sink failed in the replies on the page, before commands that follow the setup operations.
 pub stops_waiting : (room : ℕ) (start : State) (tally : Tally) (opening : List Op) (pending : List ℕ) (t u v : Option (List ℕ)) (error : Bool) (new : State) (tally_now : Tally)
-    (later : List (Result Op Refusal)) → Opens room start tally opening pending t u error new tally_now → 0 < length pending → TakesBeginning u v pending
+    (later : List (Result Op Refusal)) → Opens room start tally opening pending t u error new tally_now → 0 < length pending → TakesPrefix u v pending
     → StopsInReplies room start (map Ok opening ++ later) (Appends t v) new
 stops_waiting room start tally opening pending t u v error new tally_now later o some q = record {
   earlier = map Ok o.earlier;

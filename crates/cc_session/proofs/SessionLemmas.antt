@@ -28,7 +28,7 @@ use Rattle.cc_machine.specs.Run.{IsReached}
 use Rattle.cc_session.specs.Lending.{AnswersLine, RefusesRest, IsSame}
 use Rattle.cc_session.specs.declared.lent.Lent.{Lent}
 use Rattle.cc_syntax.specs.declared.tally.Tally.{Tally}
-use Rattle.cc_io.specs.Devices.{TakesBeginning}
+use Rattle.cc_io.specs.Devices.{TakesPrefix}
 use Rattle.cc_io.specs.Engine.{PassesPage}
 use Rattle.cc_syntax.specs.Tally.{Exchange, IsTally}
 
@@ -121,7 +121,7 @@ opens_more room old a b tally counts counts_now ops i op page page_now t u e f o
 
 -- The sink failed in the replies on the page.
 pub opens_stops : (room : ℕ) (old a : State) (tally counts : Tally) (ops : List Op) (i : ℕ) (page : List ℕ) (t u v : Option (List ℕ)) (e : Bool)
-    → Opens room old tally (take i ops) page t u e a counts → 0 < length page → TakesBeginning u v page
+    → Opens room old tally (take i ops) page t u e a counts → 0 < length page → TakesPrefix u v page
     → StopsInReplies room old (map Ok ops) (Appends t v) a
 opens_stops room old a tally counts ops i page t u v e o some q =
     subst (λ (l : List (Result Op Refusal)). StopsInReplies room old l (Appends t v) a)

@@ -2,7 +2,7 @@
 use Rattle.std.proofs.Common.{◌≡◌, ◌≢◌, ℕ, Bool, ◌∙◌, ap₂, List, Option, None, Ok, subst, sym}
 use Rattle.std.specs.Io.KnownBytes.{Appends}
 use Rattle.cc_io.specs.Answers.{AnswersInto}
-use Rattle.cc_io.specs.Devices.{TakesBeginning}
+use Rattle.cc_io.specs.Devices.{TakesPrefix}
 use Rattle.cc_io.specs.declared.summary.Summary.{Summary}
 use Rattle.cc_chart.specs.Chart.{Chart}
 use Rattle.cc_chart.specs.Drawing.{chart_text}
@@ -38,13 +38,13 @@ charts_all old new traffic unread left output output_now summary u l o n takes h
 pub stops_in_chart : (old new : Charted) (traffic : Traffic) (unread left output output_now : Option (List ℕ)) (summary : Summary)
     → traffic.source.unread ≡ unread → traffic.source_now.unread ≡ left → traffic.output.taken ≡ output → traffic.output_now.taken ≡ output_now
     → TakesLines old unread left (Ok summary) new → new.replay.progress ≢ OutOfMemory
-    → TakesBeginning output output_now (chart_text new.chart) → StopsInChart old traffic
+    → TakesPrefix output output_now (chart_text new.chart) → StopsInChart old traffic
 stops_in_chart old new traffic unread left output output_now summary u l o n takes has_memory written = record {
   summary = summary;
   new = new;
   all = takes_all old new unread traffic.source.unread left traffic.source_now.unread summary u l takes has_memory;
-  written = subst (λ (b : Option (List ℕ)). TakesBeginning b traffic.output_now.taken (chart_text new.chart)) (sym o)
-      (subst (λ (b : Option (List ℕ)). TakesBeginning output b (chart_text new.chart)) (sym n) written);
+  written = subst (λ (b : Option (List ℕ)). TakesPrefix b traffic.output_now.taken (chart_text new.chart)) (sym o)
+      (subst (λ (b : Option (List ℕ)). TakesPrefix output b (chart_text new.chart)) (sym n) written);
 }
 
 -- A line that a replay without peaks took, and the chart with the levels of its event.

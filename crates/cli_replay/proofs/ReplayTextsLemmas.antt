@@ -20,7 +20,7 @@ use Rattle.cc_heap.specs.declared.settings.Settings.{Settings}
 use Rattle.cli.specs.declared.invocation.ReplayOutput.{ReplayOutput}
 use Rattle.cli.specs.declared.invocation.ReplayOutput.TheVariants.{Summary, Sizes, Chart, Script, Series}
 use Rattle.cli.specs.declared.invocation.ReplayTexts.{ReplayTexts}
-use Rattle.cc_explain.specs.Refused.{changed}
+use Rattle.cc_io.specs.CommandOutput.{changed}
 use Rattle.cli_replay.specs.ReplayTexts.{format_in, least_in, not_zero, output_in, realloc_in, replay_in, span_given, span_in, sweep_in}
 
 -- The two results have both values.

@@ -5,7 +5,7 @@ use Rattle.clap.specs.Words.{Text}
 use Rattle.cc_word.specs.declared.refusal.Refusal.{Refusal}
 use Rattle.cc_bounds.specs.declared.align.Align.{Align}
 use Rattle.std.specs.Io.KnownBytes.{Appends}
-use Rattle.cc_io.specs.Devices.{TakesBeginning}
+use Rattle.cc_io.specs.Devices.{TakesPrefix}
 use Rattle.cc_io.specs.declared.summary.IoError.{IoError}
 use Rattle.cc_io.specs.declared.summary.IoError.TheVariants.{Read, Write}
 use Rattle.cc_io.specs.declared.summary.Summary.{Summary}
@@ -23,7 +23,7 @@ use Rattle.cli.specs.Devices.{Console, FromInput, OnDevices, Traffic}
 use Rattle.cli.specs.Input.{file_input}
 use Rattle.cli_replay.specs.ReplayTexts.{replay_in}
 use Rattle.cli_replay.specs.Replaying.{IsStreaming, IsTable, Replays, ReplaysAll, ReplaysTrace, Samples, SamplesAll, StopsInSummary, StopsSampling, SumsUp, SumsUpAll, WithReplay, WritesReplay}
-use Rattle.cc_explain.specs.Refused.{WritesRefusal}
+use Rattle.cc_io.specs.CommandOutput.{WritesRefusal}
 use Rattle.cli.specs.declared.fault.Fault.{Fault}
 use Rattle.cli.specs.declared.input.InputName.{InputName}
 use Rattle.cli.proofs.DeviceLemmas.{on_devices-map}
@@ -52,14 +52,14 @@ sums_up_all text_of old new traffic unread left output output_now summary u l o 
 -- A summary of which a prefix was written, for the traffic of the devices.
 pub stops_in_summary : (text_of : ReplayState → List ℕ) (old new : ReplayState) (traffic : Traffic) (unread left output output_now : Option (List ℕ)) (summary : Summary)
     → traffic.source.unread ≡ unread → traffic.source_now.unread ≡ left → traffic.output.taken ≡ output → traffic.output_now.taken ≡ output_now
-    → Replays old unread left None None (Ok summary) new → new.progress ≢ OutOfMemory → TakesBeginning output output_now (text_of new)
+    → Replays old unread left None None (Ok summary) new → new.progress ≢ OutOfMemory → TakesPrefix output output_now (text_of new)
     → StopsInSummary text_of old traffic
 stops_in_summary text_of old new traffic unread left output output_now summary u l o n replays has_memory written = record {
   summary = summary;
   new = new;
   all = replays_all old new unread traffic.source.unread left traffic.source_now.unread None None summary u l replays has_memory;
-  written = subst (λ (b : Option (List ℕ)). TakesBeginning b traffic.output_now.taken (text_of new)) (sym o)
-      (subst (λ (b : Option (List ℕ)). TakesBeginning output b (text_of new)) (sym n) written);
+  written = subst (λ (b : Option (List ℕ)). TakesPrefix b traffic.output_now.taken (text_of new)) (sym o)
+      (subst (λ (b : Option (List ℕ)). TakesPrefix output b (text_of new)) (sym n) written);
 }
 
 -- A series that was written, for the traffic of the devices.
@@ -95,7 +95,7 @@ stops_sampling old new traffic unread left output output_now error u l o n repla
 -- A series of whose last sample a prefix was written, for the traffic of the devices.
 pub stops_in_last : (old new : ReplayState) (traffic : Traffic) (unread left output output_then output_now : Option (List ℕ)) (summary : Summary)
     → traffic.source.unread ≡ unread → traffic.source_now.unread ≡ left → traffic.output.taken ≡ output → traffic.output_now.taken ≡ output_now
-    → Replays old unread left output output_then (Ok summary) new → new.progress ≢ OutOfMemory → TakesBeginning output_then output_now (last_sample new)
+    → Replays old unread left output output_then (Ok summary) new → new.progress ≢ OutOfMemory → TakesPrefix output_then output_now (last_sample new)
     → Samples old traffic (Err Write)
 stops_in_last old new traffic unread left output output_then output_now summary u l o n replays has_memory written = inr (record {
   summary = summary;
@@ -103,7 +103,7 @@ stops_in_last old new traffic unread left output output_then output_now summary 
   output_then = output_then;
   all = subst (λ (b : Option (List ℕ)). ReplaysAll old traffic.source.unread traffic.source_now.unread b output_then summary new) (sym o)
       (replays_all old new unread traffic.source.unread left traffic.source_now.unread output output_then summary u l replays has_memory);
-  written = subst (λ (b : Option (List ℕ)). TakesBeginning output_then b (last_sample new)) (sym n) written;
+  written = subst (λ (b : Option (List ℕ)). TakesPrefix output_then b (last_sample new)) (sym n) written;
 })
 
 -- The replay that the texts ask for, from that of these settings.

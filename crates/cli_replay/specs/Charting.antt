@@ -2,7 +2,7 @@
 use Rattle.std.specs.Prelude.{ℕ, Bool, ◌≡◌, ◌≢◌, ◌+◌, ◌==◌, max, List, [], Option, None, Result, Ok, Err, if◌then◌else◌}
 use Rattle.std.specs.Io.KnownBytes.{Appends}
 use Rattle.cc_io.specs.Correct.{Pumps}
-use Rattle.cc_io.specs.Devices.{TakesBeginning}
+use Rattle.cc_io.specs.Devices.{TakesPrefix}
 use Rattle.cc_io.specs.Frames.{lines}
 use Rattle.cc_io.specs.declared.summary.IoError.{IoError}
 use Rattle.cc_io.specs.declared.summary.IoError.TheVariants.{Read, Write}
@@ -80,7 +80,7 @@ pub record StopsInChart (old : Charted) (traffic : Traffic) : Type 0 where
   pub summary : Summary
   pub new : Charted
   pub all : TakesAll old traffic.source.unread traffic.source_now.unread summary new
-  pub written : TakesBeginning traffic.output.taken traffic.output_now.taken (chart_text new.chart)
+  pub written : TakesPrefix traffic.output.taken traffic.output_now.taken (chart_text new.chart)
 
 -- Charts holds if the chart of the trace's replay was written, up to a failed write. Nothing was written if a read failed.
 abbrev pub Charts : (old : Charted) → Traffic → Result Summary IoError → Type 0

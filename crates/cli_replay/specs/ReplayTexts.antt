@@ -23,7 +23,7 @@ use Rattle.cc_heap.specs.declared.settings.Settings.{Settings}
 use Rattle.cli.specs.declared.invocation.ReplayOutput.{ReplayOutput}
 use Rattle.cli.specs.declared.invocation.ReplayOutput.TheVariants.{Script, Series}
 use Rattle.cli.specs.declared.invocation.ReplayTexts.{ReplayTexts}
-use Rattle.cc_explain.specs.Refused.{changed}
+use Rattle.cc_io.specs.CommandOutput.{changed}
 
 -- The policy that `--sweep` names: 25 percent of the held bytes if the option is not given.
 abbrev pub sweep_in : Option (Bor Text) → Result Policy Refusal

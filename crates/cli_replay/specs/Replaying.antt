@@ -3,7 +3,7 @@ use Rattle.std.specs.Prelude.{◌≡◌, ◌≢◌, ◌⊎◌, ℕ, Bool, ⊤, L
 use Rattle.std.specs.Io.KnownBytes.{Appends}
 use Rattle.cc_bounds.specs.declared.align.Align.{Align}
 use Rattle.cc_io.specs.Correct.{Pumps}
-use Rattle.cc_io.specs.Devices.{TakesBeginning}
+use Rattle.cc_io.specs.Devices.{TakesPrefix}
 use Rattle.cc_io.specs.Frames.{lines}
 use Rattle.cc_io.specs.declared.summary.IoError.{IoError}
 use Rattle.cc_io.specs.declared.summary.IoError.TheVariants.{Read, Write}
@@ -30,7 +30,7 @@ use Rattle.cli_replay.specs.Scripting.{ScriptsTrace}
 use Rattle.cli_replay.specs.declared.replaying.Table.{Table}
 use Rattle.cli_replay.specs.declared.replaying.Table.TheVariants as table
 use Rattle.cli_replay.specs.ReplayTexts.{replay_in}
-use Rattle.cc_explain.specs.Refused.{WritesRefusal}
+use Rattle.cc_io.specs.CommandOutput.{WritesRefusal}
 
 -- The format of a table.
 abbrev pub table_format : SummaryFormat → Format
@@ -69,7 +69,7 @@ pub record StopsInSummary (text_of : ReplayState → List ℕ) (old : ReplayStat
   pub summary : Summary
   pub new : ReplayState
   pub all : ReplaysAll old traffic.source.unread traffic.source_now.unread None None summary new
-  pub written : TakesBeginning traffic.output.taken traffic.output_now.taken (text_of new)
+  pub written : TakesPrefix traffic.output.taken traffic.output_now.taken (text_of new)
 
 -- SumsUp holds if the text of the end of the trace's replay was written, up to a failed write. Nothing was written if a read failed.
 abbrev pub SumsUp : (text_of : ReplayState → List ℕ) → (old : ReplayState) → Traffic → Result Summary IoError → Type 0
@@ -90,7 +90,7 @@ pub record StopsInLast (old : ReplayState) (traffic : Traffic) : Type 0 where
   pub new : ReplayState
   pub output_then : Option (List ℕ)
   pub all : ReplaysAll old traffic.source.unread traffic.source_now.unread traffic.output.taken output_then summary new
-  pub written : TakesBeginning output_then traffic.output_now.taken (last_sample new)
+  pub written : TakesPrefix output_then traffic.output_now.taken (last_sample new)
 
 -- StopsSampling holds if the replay stopped with an error of a device, and the samples before it were written.
 pub record StopsSampling (old : ReplayState) (traffic : Traffic) (error : IoError) : Type 0 where

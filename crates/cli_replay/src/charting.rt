@@ -12,7 +12,7 @@ use crate::memory::TraceMemory;
 use cc_chart::{Chart, Levels, write_chart};
 use cli::{Content, Discard, Fault, InputName, Inputs};
 use cc_gaps::GapPlacer;
-use cc_io::{Answerer, IoError, Lines, Page, Sink, Source, Summary, Waiting, pump};
+use cc_io::{Answerer, IoError, Lines, Page, Sink, Source, Summary, Pending, pump};
 use cc_placer::Placer;
 use cc_replay::{Figures, MOST_SAMPLE, Progress, Reading, Replay, Settings};
 use std::alloc::{AllocError, Global};
@@ -150,7 +150,7 @@ pub(crate) fn take_trace<P: Placer, S: Source>(
     ensures read { (result ≡ Err IoError.Read) ↔ ((S.state source.new).has_failed ≡ true) }
     ensures written { result ≢ Err IoError.Write }
 {
-    let mut page = Waiting::new();
+    let mut page = Pending::new();
     pump(&Lines, charting, source, &mut Discard, &mut page)
 }
 

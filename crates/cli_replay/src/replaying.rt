@@ -1,7 +1,7 @@
 //! `replay`: the call for the trace of an allocator.
 ghost use Rattle.std.specs.Prelude.{◌≡◌, ◌≢◌, ◌↔◌, false, true, Err, IsErr, IsOk, None, OnErr, OnOk};
 ghost use Rattle.std.specs.Io.KnownBytes.{Appends};
-ghost use Rattle.cc_io.specs.Devices.{TakesBeginning};
+ghost use Rattle.cc_io.specs.Devices.{TakesPrefix};
 ghost use Rattle.cli.specs.Devices.{FromInput, OnDevices, OnOutput, Traffic};
 ghost use Rattle.cli.specs.Input.{IsFile, file_input, trace_content};
 ghost use Rattle.cli_replay.specs.Charting.{ChartsTrace};
@@ -275,7 +275,7 @@ fn write_table<P: Placer, W: Sink>(
 ) -> Result<(), IoError>
     requires { (W.state sink.old).has_failed ≡ false }
     ensures ok { OnOk result (Appends (W.state sink.old).taken (W.state sink.new).taken (end_text table format replay.now)) }
-    ensures err { OnErr result (TakesBeginning (W.state sink.old).taken (W.state sink.new).taken (end_text table format replay.now)) }
+    ensures err { OnErr result (TakesPrefix (W.state sink.old).taken (W.state sink.new).taken (end_text table format replay.now)) }
     ensures flushed { OnOk result ((W.state sink.new).is_flushed ≡ true) }
     ensures fails { IsErr result ↔ ((W.state sink.new).has_failed ≡ true) }
     ensures write { OnErr result (result ≡ Err IoError.Write) }
@@ -294,7 +294,7 @@ fn write_figures<P: Placer, W: Sink>(
 ) -> Result<(), IoError>
     requires { (W.state sink.old).has_failed ≡ false }
     ensures ok { OnOk result (Appends (W.state sink.old).taken (W.state sink.new).taken (summary_text format replay.now)) }
-    ensures err { OnErr result (TakesBeginning (W.state sink.old).taken (W.state sink.new).taken (summary_text format replay.now)) }
+    ensures err { OnErr result (TakesPrefix (W.state sink.old).taken (W.state sink.new).taken (summary_text format replay.now)) }
     ensures flushed { OnOk result ((W.state sink.new).is_flushed ≡ true) }
     ensures fails { IsErr result ↔ ((W.state sink.new).has_failed ≡ true) }
     ensures write { OnErr result (result ≡ Err IoError.Write) }

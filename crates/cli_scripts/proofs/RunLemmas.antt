@@ -15,7 +15,7 @@ use Rattle.cc_session.specs.declared.session.Session.{Session}
 use Rattle.cli.specs.declared.invocation.PoolTexts.{PoolTexts}
 use Rattle.cli.specs.Devices.{Console, FromInput, OnDevices, Traffic, traffic_of}
 use Rattle.cli.specs.Input.{file_input}
-use Rattle.cc_explain.specs.Refused.{WritesRefusal}
+use Rattle.cc_io.specs.CommandOutput.{WritesRefusal}
 use Rattle.cli.specs.declared.fault.Fault.{Fault}
 use Rattle.cli.specs.declared.input.InputName.{InputName}
 use Rattle.cli.proofs.DeviceLemmas.{from_input, on_devices-map}

@@ -25,7 +25,7 @@ use Rattle.cli.specs.declared.invocation.PoolTexts.{PoolTexts}
 use Rattle.cli.specs.Devices.{Console, FromInput, Traffic, traffic_of}
 use Rattle.cli.specs.declared.input.InputName.{InputName}
 use Rattle.cli.specs.Input.{file_input}
-use Rattle.cc_explain.specs.Refused.{WritesRefusal}
+use Rattle.cc_io.specs.CommandOutput.{WritesRefusal}
 use Rattle.cli_scripts.specs.Report.{IsMachineUsage, WritesReport}
 use Rattle.cli_scripts.specs.declared.report.Report.{Report}
 

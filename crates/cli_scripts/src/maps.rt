@@ -13,7 +13,7 @@ use cc_bounds::Align;
 use cc_command::{show_statistics, write_refusal};
 use cli::{Content, Discard, Fault, InputName, Inputs, PoolTexts, file_input};
 use cc_draw::{show_drawing, show_map};
-use cc_io::{Sink, Source, Summary, Waiting};
+use cc_io::{Sink, Source, Summary, Pending};
 use cc_machine::Op;
 use cc_session::{Session, run_session};
 use cc_syntax::{plan_numbers, plan_opening};
@@ -125,7 +125,7 @@ fn draw_end<M: RunMemory, S: Source, W: Sink>(
     ensures write { (result ≡ Err Fault.Write) ↔ ((W.state sink.new).has_failed ≡ true) }
     ensures flushed { OnOk result ((W.state sink.new).is_flushed ≡ true) }
 {
-    let mut page = Waiting::new();
+    let mut page = Pending::new();
     let summary = run_session(
         opening,
         &mut session.machine,

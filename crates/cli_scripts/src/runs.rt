@@ -12,7 +12,7 @@ use crate::report::{Report, write_report};
 use cc_bounds::Align;
 use cc_command::write_refusal;
 use cli::{Content, Fault, InputName, Inputs, PoolTexts, file_input};
-use cc_io::{Sink, Source, Summary, Waiting};
+use cc_io::{Sink, Source, Summary, Pending};
 use cc_machine::{Len, Op};
 use cc_session::{Session, run_session};
 use cc_syntax::{plan_numbers, plan_opening};
@@ -199,7 +199,7 @@ fn run_and_report<M: RunMemory, S: Source, W: Sink, E: Sink>(
     ensures flushed { OnOk result ((W.state sink.new).is_flushed ≡ true) }
     ensures unreported { OnErr result ((E.state errors.new).taken ≡ (E.state errors.old).taken) }
 {
-    let mut page = Waiting::new();
+    let mut page = Pending::new();
     let summary = run_session(
         opening,
         &mut session.machine,

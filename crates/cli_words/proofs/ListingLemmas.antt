@@ -7,7 +7,7 @@ use Rattle.cc_values.specs.Values.{both}
 use Rattle.cc_io.specs.declared.format.Format.{Format}
 use Rattle.cc_io.specs.declared.input_form.InputForm.{InputForm}
 use Rattle.cli.specs.declared.invocation.DecodeTexts.{DecodeTexts}
-use Rattle.cc_explain.specs.Refused.{changed}
+use Rattle.cc_io.specs.CommandOutput.{changed}
 use Rattle.cli_words.specs.Listing.{listing_in, named_in, place_in, search_in, skipped_in}
 
 changed_refusal : {A B : Type 0} (change : A → B) (result : Result A Refusal) (refusal : Refusal) → result ≡ Err refusal → Err refusal ≡ changed change result

@@ -17,7 +17,7 @@ use Rattle.cli.specs.declared.invocation.DecodeTexts.{DecodeTexts}
 use Rattle.cli.specs.Devices.{Console, FromInput, OnDevices}
 use Rattle.cli.specs.Input.{file_input}
 use Rattle.cli_words.specs.Listing.{listing_in, place_in}
-use Rattle.cc_explain.specs.Refused.{WritesRefusal}
+use Rattle.cc_io.specs.CommandOutput.{WritesRefusal}
 use Rattle.cc_command.specs.BareDigits.{is_bare}
 use Rattle.cli_words.specs.NumberHint.{after_base, hint_if}
 use Rattle.cli_words.specs.Tasks.{ListsWords, RoundsLengths, SeesLengths, WithBase, WithListing}

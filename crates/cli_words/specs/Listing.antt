@@ -5,7 +5,7 @@ use Rattle.clap.specs.Words.{Text}
 use Rattle.cc_word.specs.declared.perms.Perms.{Perms}
 use Rattle.cc_word.specs.declared.refusal.Refusal.{Refusal}
 use Rattle.cc_values.specs.Values.{address_in, both, permissions_in}
-use Rattle.cc_explain.specs.Refused.{changed}
+use Rattle.cc_io.specs.CommandOutput.{changed}
 use Rattle.cc_io.specs.declared.format.Format.{Format}
 use Rattle.cc_io.specs.declared.input_form.InputForm.{InputForm}
 use Rattle.cc_decode.specs.declared.options.Options.{Options}

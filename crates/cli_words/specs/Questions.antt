@@ -4,7 +4,7 @@ use Rattle.cc_word.specs.WordText.{IsWordText}
 use Rattle.cc_values.specs.Values.{length_in}
 use Rattle.cc_explain.specs.Explanation.{IsExplanation}
 use Rattle.cc_explain.specs.LineAnswer.{IsLineAnswer}
-use Rattle.cc_explain.specs.Answer.{IsTypedWord}
+use Rattle.cc_io.specs.CommandOutput.{IsTypedWord}
 use Rattle.cc_explain.specs.Listing.{IsListing}
 use Rattle.cc_explain.specs.WindowDrawing.{IsWindowDrawing}
 use Rattle.cc_command.specs.Request.{IsLengthExplanation, request_in}

@@ -7,7 +7,7 @@ use Rattle.clap.specs.Words.{Text}
 use Rattle.cc_io.specs.Devices.{OutputState}
 use Rattle.cc_io.specs.declared.summary.IoError.{IoError}
 use Rattle.cc_io.specs.declared.summary.Summary.{Summary}
-use Rattle.cc_explain.specs.Answer.{WritesAnswer}
+use Rattle.cc_io.specs.CommandOutput.{WritesAnswer}
 use Rattle.cc_command.specs.BareDigits.{is_bare}
 use Rattle.cc_command.specs.RoundList.{RoundsList}
 use Rattle.cc_decode.specs.declared.options.Options.{Options}
@@ -18,7 +18,7 @@ use Rattle.cc_io.specs.declared.input_form.InputForm.{InputForm}
 use Rattle.cli.specs.declared.invocation.DecodeTexts.{DecodeTexts}
 use Rattle.cli.specs.declared.question.Question.{Question}
 use Rattle.cli.specs.Devices.{Console, Traffic}
-use Rattle.cc_explain.specs.Refused.{WritesRefusal}
+use Rattle.cc_io.specs.CommandOutput.{WritesRefusal}
 use Rattle.cli_words.specs.Listing.{listing_in, place_in}
 use Rattle.cli_words.specs.NumberHint.{after_base, hint_if}
 use Rattle.cli_words.specs.Questions.{IsAnswerTo, IsUnanswerable}

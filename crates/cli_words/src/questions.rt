@@ -1,7 +1,7 @@
 //! `show`, `round` and `explain`: the call for each question.
 ghost use Rattle.std.specs.Io.KnownBytes.{Appends};
 ghost use Rattle.std.specs.Prelude.{◌≡◌, ◌≢◌, ◌↔◌, [], Err, false, true, IfOk, IsTrue, OnErr, OnOk};
-ghost use Rattle.cc_explain.specs.Answer.{WritesAnswer};
+ghost use Rattle.cc_io.specs.CommandOutput.{WritesAnswer};
 ghost use Rattle.cli.specs.Devices.{OnDevices};
 ghost use Rattle.cli.specs.declared.question.Question.TheVariants as question;
 ghost use Rattle.cli_words.specs.Questions.{IsAnswerTo, IsUnanswerable, has_hint, question_hint};

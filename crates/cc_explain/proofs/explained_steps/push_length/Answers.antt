@@ -11,5 +11,5 @@ push-requires c =
 pub returns-clause-fits : goal.returns-clause-fits
 returns-clause-fits c =
     let few : length c.if-fields.push.now ≤ 64 = elim c.if-fields.branch [ then-fields w ↦ rw w.push-is (omega arith) | else-fields w ↦ rw w.push-is (omega arith) ] in
-    let with_rest : length c.push.new.self ≤ length c.push_hexadecimal.new.text + 64 = longer _ _ _ 64 c.push.ensures few in
+    let with_rest : length c.push.new.self ≤ length c.push_hexadecimal.new.page + 64 = longer _ _ _ 64 c.push.ensures few in
     omega (arith, c.push_hexadecimal.ensures.fits, with_rest)

@@ -8,8 +8,8 @@ overflow_mul-last c = omega (arith, c.section.ensures.fits)
 pub overflow_add-last : goal.overflow_add-last
 overflow_add-last c = omega (arith, c.section.ensures.fits, c.requires.start)
 
-pub push_hexadecimal-requires-else-steps-ge50-clause-room : goal.push_hexadecimal-requires-else-steps-ge50-clause-room
-push_hexadecimal-requires-else-steps-ge50-clause-room c = omega (arith, c.push_hexadecimal.ensures.fits, c.requires.room)
+pub push_hexadecimal-requires-else-steps-ge50 : goal.push_hexadecimal-requires-else-steps-ge50
+push_hexadecimal-requires-else-steps-ge50 c = omega (arith, c.push_hexadecimal.ensures.fits, c.requires.room)
 
 pub returns-then-steps-ge50-clause-fits : goal.returns-then-steps-ge50-clause-fits
 returns-then-steps-ge50-clause-fits c =

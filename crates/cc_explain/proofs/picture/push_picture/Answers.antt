@@ -26,8 +26,8 @@ returns c =
     let steps = c.args.steps.now in
     let rows = c.args.rows.now in
     let cells : List ℕ = line_with_hexadecimal (codes "picture   the window, in cells of ") (cell_size steps) (codes " bytes, 2^(E+8)") in
-    let with_cells : c.end_with_hexadecimal.new.text ≡ c.args.text.now ++ cells = rw (c.end_with_hexadecimal.ensures.value, c.cell_size.ensures.value) refl in
-    let with_ruler : c.push_ruler.new.text ≡ c.end_with_hexadecimal.new.text ++ ruler_text steps.first_section = rw (c.push_ruler.ensures.value, c.from.ensures) refl in
+    let with_cells : c.end_with_hexadecimal.new.page ≡ c.args.text.now ++ cells = rw (c.end_with_hexadecimal.ensures.value, c.cell_size.ensures.value) refl in
+    let with_ruler : c.push_ruler.new.text ≡ c.end_with_hexadecimal.new.page ++ ruler_text steps.first_section = rw (c.push_ruler.ensures.value, c.from.ensures) refl in
     six c.args.text.now cells (ruler_text steps.first_section) (row_text (codes "bytes     ") rows.bytes) (row_text (codes "base      ") rows.base)
     (row_text (codes "top       ") rows.top) (row_text (codes "address   ") rows.address) _ _ _ _ _ _
     with_cells with_ruler c.push_row.ensures.value c.push_row-2.ensures.value c.push_row-3.ensures.value c.push_row-4.ensures.value

@@ -5,33 +5,33 @@ use Rattle.cc_explain.proofs.picture.push_ruler.Goals as goal
 
 -- ---- each piece fits
 
-pub push_decimal-requires-2-clause-room : goal.push_decimal-requires-2-clause-room
-push_decimal-requires-2-clause-room c = omega (arith, c.push_decimal.ensures.fits, c.requires.room)
+pub push_decimal-requires-2 : goal.push_decimal-requires-2
+push_decimal-requires-2 c = omega (arith, c.push_decimal.ensures.fits, c.requires.room)
 
-pub push_decimal-requires-3-clause-room : goal.push_decimal-requires-3-clause-room
-push_decimal-requires-3-clause-room c = omega (arith, c.push_decimal.ensures.fits, c.push_decimal-2.ensures.fits, c.requires.room)
+pub push_decimal-requires-3 : goal.push_decimal-requires-3
+push_decimal-requires-3 c = omega (arith, c.push_decimal.ensures.fits, c.push_decimal-2.ensures.fits, c.requires.room)
 
-pub push_decimal-requires-4-clause-room : goal.push_decimal-requires-4-clause-room
-push_decimal-requires-4-clause-room c = omega (arith, c.push_decimal.ensures.fits, c.push_decimal-2.ensures.fits, c.push_decimal-3.ensures.fits, c.requires.room)
+pub push_decimal-requires-4 : goal.push_decimal-requires-4
+push_decimal-requires-4 c = omega (arith, c.push_decimal.ensures.fits, c.push_decimal-2.ensures.fits, c.push_decimal-3.ensures.fits, c.requires.room)
 
-pub push_decimal-requires-5-clause-room : goal.push_decimal-requires-5-clause-room
-push_decimal-requires-5-clause-room c = omega (arith, c.push_decimal.ensures.fits, c.push_decimal-2.ensures.fits, c.push_decimal-3.ensures.fits, c.push_decimal-4.ensures.fits, c.requires.room)
+pub push_decimal-requires-5 : goal.push_decimal-requires-5
+push_decimal-requires-5 c = omega (arith, c.push_decimal.ensures.fits, c.push_decimal-2.ensures.fits, c.push_decimal-3.ensures.fits, c.push_decimal-4.ensures.fits, c.requires.room)
 
-pub push_decimal-requires-6-clause-room : goal.push_decimal-requires-6-clause-room
-push_decimal-requires-6-clause-room c = omega (arith, c.push_decimal.ensures.fits, c.push_decimal-2.ensures.fits, c.push_decimal-3.ensures.fits, c.push_decimal-4.ensures.fits, c.push_decimal-5.ensures.fits, c.requires.room)
+pub push_decimal-requires-6 : goal.push_decimal-requires-6
+push_decimal-requires-6 c = omega (arith, c.push_decimal.ensures.fits, c.push_decimal-2.ensures.fits, c.push_decimal-3.ensures.fits, c.push_decimal-4.ensures.fits, c.push_decimal-5.ensures.fits, c.requires.room)
 
-pub push_decimal-requires-7-clause-room : goal.push_decimal-requires-7-clause-room
-push_decimal-requires-7-clause-room c = omega (arith, c.push_decimal.ensures.fits, c.push_decimal-2.ensures.fits, c.push_decimal-3.ensures.fits, c.push_decimal-4.ensures.fits, c.push_decimal-5.ensures.fits, c.push_decimal-6.ensures.fits, c.requires.room)
+pub push_decimal-requires-7 : goal.push_decimal-requires-7
+push_decimal-requires-7 c = omega (arith, c.push_decimal.ensures.fits, c.push_decimal-2.ensures.fits, c.push_decimal-3.ensures.fits, c.push_decimal-4.ensures.fits, c.push_decimal-5.ensures.fits, c.push_decimal-6.ensures.fits, c.requires.room)
 
-pub push_decimal-requires-8-clause-room : goal.push_decimal-requires-8-clause-room
-push_decimal-requires-8-clause-room c = omega (arith, c.push_decimal.ensures.fits, c.push_decimal-2.ensures.fits, c.push_decimal-3.ensures.fits, c.push_decimal-4.ensures.fits, c.push_decimal-5.ensures.fits, c.push_decimal-6.ensures.fits, c.push_decimal-7.ensures.fits, c.requires.room)
+pub push_decimal-requires-8 : goal.push_decimal-requires-8
+push_decimal-requires-8 c = omega (arith, c.push_decimal.ensures.fits, c.push_decimal-2.ensures.fits, c.push_decimal-3.ensures.fits, c.push_decimal-4.ensures.fits, c.push_decimal-5.ensures.fits, c.push_decimal-6.ensures.fits, c.push_decimal-7.ensures.fits, c.requires.room)
 
 pub push-requires : goal.push-requires
 push-requires c = omega (arith, c.push_decimal.ensures.fits, c.push_decimal-2.ensures.fits, c.push_decimal-3.ensures.fits, c.push_decimal-4.ensures.fits, c.push_decimal-5.ensures.fits, c.push_decimal-6.ensures.fits, c.push_decimal-7.ensures.fits, c.push_decimal-8.ensures.fits, c.requires.room)
 
 pub returns-clause-fits : goal.returns-clause-fits
 returns-clause-fits c =
-    let with_9 : length c.push.new.self ≤ length c.push_decimal-8.new.text + 8 = longer _ _ _ 8 c.push.ensures (omega arith) in
+    let with_9 : length c.push.new.self ≤ length c.push_decimal-8.new.page + 8 = longer _ _ _ 8 c.push.ensures (omega arith) in
     omega (arith, c.push_decimal.ensures.fits, c.push_decimal-2.ensures.fits, c.push_decimal-3.ensures.fits, c.push_decimal-4.ensures.fits, c.push_decimal-5.ensures.fits, c.push_decimal-6.ensures.fits, c.push_decimal-7.ensures.fits, c.push_decimal-8.ensures.fits, with_9)
 
 pub returns-clause-value : goal.returns-clause-value

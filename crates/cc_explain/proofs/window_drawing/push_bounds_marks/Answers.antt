@@ -3,20 +3,20 @@ use Rattle.cc_explain.proofs.window_drawing.push_bounds_marks.Goals as goal
 
 -- ---- each piece fits
 
-pub push_decimal-requires-clause-room : goal.push_decimal-requires-clause-room
-push_decimal-requires-clause-room c = omega (arith, c.push_mark.ensures.fits, c.requires.room)
+pub push_decimal-requires : goal.push_decimal-requires
+push_decimal-requires c = omega (arith, c.push_mark.ensures.fits, c.requires.room)
 
-pub end_with_hexadecimal-requires-clause-room : goal.end_with_hexadecimal-requires-clause-room
-end_with_hexadecimal-requires-clause-room c = omega (arith, c.push_mark.ensures.fits, c.push_decimal.ensures.fits, c.requires.room)
+pub end_with_hexadecimal-requires : goal.end_with_hexadecimal-requires
+end_with_hexadecimal-requires c = omega (arith, c.push_mark.ensures.fits, c.push_decimal.ensures.fits, c.requires.room)
 
 pub push_mark-requires-2 : goal.push_mark-requires-2
 push_mark-requires-2 c = omega (arith, c.push_mark.ensures.fits, c.push_decimal.ensures.fits, c.end_with_hexadecimal.ensures.fits, c.requires.room)
 
-pub push_decimal-requires-2-clause-room : goal.push_decimal-requires-2-clause-room
-push_decimal-requires-2-clause-room c = omega (arith, c.push_mark.ensures.fits, c.push_decimal.ensures.fits, c.end_with_hexadecimal.ensures.fits, c.push_mark-2.ensures.fits, c.requires.room)
+pub push_decimal-requires-2 : goal.push_decimal-requires-2
+push_decimal-requires-2 c = omega (arith, c.push_mark.ensures.fits, c.push_decimal.ensures.fits, c.end_with_hexadecimal.ensures.fits, c.push_mark-2.ensures.fits, c.requires.room)
 
-pub end_with_hexadecimal-requires-2-clause-room : goal.end_with_hexadecimal-requires-2-clause-room
-end_with_hexadecimal-requires-2-clause-room c = omega (arith, c.push_mark.ensures.fits, c.push_decimal.ensures.fits, c.end_with_hexadecimal.ensures.fits, c.push_mark-2.ensures.fits, c.push_decimal-2.ensures.fits, c.requires.room)
+pub end_with_hexadecimal-requires-2 : goal.end_with_hexadecimal-requires-2
+end_with_hexadecimal-requires-2 c = omega (arith, c.push_mark.ensures.fits, c.push_decimal.ensures.fits, c.end_with_hexadecimal.ensures.fits, c.push_mark-2.ensures.fits, c.push_decimal-2.ensures.fits, c.requires.room)
 
 pub returns-clause-fits : goal.returns-clause-fits
 returns-clause-fits c = omega (arith, c.push_mark.ensures.fits, c.push_decimal.ensures.fits, c.end_with_hexadecimal.ensures.fits, c.push_mark-2.ensures.fits, c.push_decimal-2.ensures.fits, c.end_with_hexadecimal-2.ensures.fits)

@@ -1,6 +1,6 @@
 use Rattle.std.proofs.Common.{rules, ◌≡◌, ◌||◌, ◌↔◌, ◌∙◌, Bool, true, false, Ok, ℕ, List, take, subst, sym, refl}
 use Rattle.std.specs.Io.KnownBytes.{Consumes, Appends}
-use Rattle.cc_io.specs.Devices.{TakesBeginning}
+use Rattle.cc_io.specs.Devices.{TakesPrefix}
 use Rattle.cc_io.specs.Answers.{EndsWith}
 use Rattle.cc_io.specs.Correct.{Pumps}
 use Rattle.cc_io.proofs.DeviceLemmas.{keeps_consumes}
@@ -85,7 +85,7 @@ returns-in-Err-write_last-clause-pumps g c =
     let ended = c.end_rest-end_error.ensures in
     stops_ending _ _ _ _ _ _ _ _ _ _ _ _ _ _ _ _ _ _ ended.ending c.pieces.invariant.reads nothing (given.1 none (search rules))
     (subst (λ (start : List ℕ). EndsWith g.A.Answerer.Ended c.pieces.answerer start ended.ending c.end_rest-end_error.new.answerer) c.as_slice.ensures ended.ends)
-    (subst (λ (l : List ℕ). TakesBeginning (g.W.Sink.state c.pieces.sink).taken (g.W.Sink.state c.write_last.new.sink).taken l) ended.text_is c.in-Err-write_last.ensures.err)
+    (subst (λ (l : List ℕ). TakesPrefix (g.W.Sink.state c.pieces.sink).taken (g.W.Sink.state c.write_last.new.sink).taken l) ended.text_is c.in-Err-write_last.ensures.err)
 
 pub returns-in-Err-clause-outcome : goal.returns-in-Err-clause-outcome
 returns-in-Err-clause-outcome g c = record {

@@ -2,7 +2,7 @@ use Rattle.std.proofs.Common.{◌≡◌, ℕ, List, subst, sym}
 use Rattle.std.specs.Prelude.{Result, IfOk, IsTrue, ◌↔◌}
 use Rattle.cc_io.specs.declared.summary.IoError.{IoError}
 use Rattle.cc_io.specs.declared.summary.Summary.{Summary}
-use Rattle.cc_explain.specs.Answer.{IsTypedWord, WritesAnswer}
+use Rattle.cc_io.specs.CommandOutput.{IsTypedWord, WritesAnswer}
 use Rattle.cc_explain.specs.Explanation.{IsExplanation}
 use Rattle.cc_explain.specs.WindowDrawing.{IsWindowDrawing}
 use Rattle.cli.specs.declared.question.Question.{Question}

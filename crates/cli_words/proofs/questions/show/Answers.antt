@@ -1,7 +1,7 @@
 use Rattle.std.proofs.Common.{ℕ, Bool, List, subst, sym}
 use Rattle.std.specs.Prelude.{IfOk, IsTrue, ◌↔◌}
 use Rattle.cc_word.specs.WordText.{IsWordText}
-use Rattle.cc_explain.specs.Answer.{IsTypedWord}
+use Rattle.cc_io.specs.CommandOutput.{IsTypedWord}
 use Rattle.cli.specs.declared.question.Question.TheVariants.{Show}
 use Rattle.cli_words.specs.Questions.{IsUnanswerable}
 use Rattle.cli_words.proofs.questions.show.Goals as goal

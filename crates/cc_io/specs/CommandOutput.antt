@@ -1,11 +1,12 @@
 -- The output of a command, which it writes to a sink.
-use Rattle.std.specs.Prelude.{◌≡◌, ◌⊎◌, ◌↔◌, ℕ, true, List, Result, Ok, Err, IsErr, OnOk, OnErr}
+use Rattle.std.specs.Prelude.{◌≡◌, ◌⊎◌, ◌↔◌, ℕ, true, List, Result, Ok, Err, IfOk, IsErr, OnOk, OnErr}
+use Rattle.std.specs.Result.{result_map_both}
 use Rattle.std.specs.Io.KnownBytes.{Appends}
 use Rattle.std.specs.Str.Parse.{digits_value}
 use Rattle.cc_word.specs.WordText.{IsWordText}
 use Rattle.cc_word.specs.declared.refusal.Refusal.{Refusal}
 use Rattle.cc_word.specs.declared.refusal.Refusal.TheVariants.{Syntax}
-use Rattle.cc_io.specs.Devices.{OutputState, TakesBeginning}
+use Rattle.cc_io.specs.Devices.{OutputState, TakesPrefix}
 use Rattle.cc_io.specs.Lines.{digits_in}
 use Rattle.cc_io.specs.Text.{refusal_text, with_line_feed}
 use Rattle.cc_io.specs.declared.summary.IoError.{IoError}
@@ -44,7 +45,17 @@ pub record WritesAnswer (IsAnswer : List ℕ → Type 0) (old new : OutputState)
   pub answer : List ℕ
   pub is_answer : IsAnswer answer
   pub whole : OnOk result (Appends old.taken new.taken answer)
-  pub beginning : OnErr result (TakesBeginning old.taken new.taken answer)
+  pub beginning : OnErr result (TakesPrefix old.taken new.taken answer)
   pub flushed : OnOk result (new.is_flushed ≡ true)
   pub fails : IsErr result ↔ (new.has_failed ≡ true)
   pub write : OnErr result (result ≡ Err Write)
+
+-- The value with a change, or the error.
+abbrev pub changed : {A B : Type 0} → (A → B) → Result A Refusal → Result B Refusal
+changed change result = result_map_both change (λ refusal. refusal) result
+
+-- WritesRefusal holds if the line of the refusal was written, or a prefix of it if a write failed. The summary says that it is an
+-- error.
+pub record WritesRefusal (output output_now : OutputState) (refusal : Refusal) (result : Result Summary IoError) : Type 0 where
+  pub written : WritesAnswer (IsRefusalLine refusal) output output_now result
+  pub error_is : IfOk result (λ summary. summary.any_error ≡ true)
