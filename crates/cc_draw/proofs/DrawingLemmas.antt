@@ -7,10 +7,9 @@ use Rattle.cc_bounds.specs.declared.span.Span.{Span}
 use Rattle.cc_bounds.specs.Span.{SharesByte}
 use Rattle.cc_bounds.proofs.GranuleLemmas.{div_ceil-le, div_ceil-lt, le-div_ceil}
 use Rattle.cc_plan.specs.declared.object.ObjectState.{ObjectState}
-use Rattle.cc_plan.specs.declared.object.ObjectState.TheVariants.{Live, Freed}
 use Rattle.cc_plan.specs.declared.object.PlannedObject.{PlannedObject}
-use Rattle.cc_draw.specs.Drawing.{AreCellsOf, end_cell, closing_text, first_cell, is_in, layer_text, live_text, object_text, parts_text, quarantined_text, rectangle_text, scale_text}
-use Rattle.cc_explain.specs.Picture.{cell_of}
+use Rattle.cc_draw.specs.Drawing.{AreCellsOf, end_cell, first_cell, is_in, layer_text, object_text, parts_text, rectangle_text}
+use Rattle.cc_draw.specs.Cells.{cell_of}
 use Rattle.cc_draw.specs.declared.layout.Layout.{Layout}
 
 -- ---- the cells of a span
@@ -125,25 +124,3 @@ parts_left_out width first end number span (suc rows) row some has =
 pub parts_none : (width first end number : ℕ) (span : Span) (rows row : ℕ) → rows ≡ 0 → parts_text width first end number span rows row ≡ []
 parts_none width first end number span zero row none = refl
 parts_none width first end number span (suc rows) row none = absurd (omega (arith, none))
-
--- ---- the unwritten bytes of a drawing
-
--- The bytes from the quarantined objects on.
-abbrev pub from_quarantined : Layout → List PlannedObject → List ℕ
-from_quarantined layout objects = layer_text layout Freed 1 objects ++ closing_text
-
--- The bytes after the live objects.
-abbrev pub behind_live : Layout → List PlannedObject → List ℕ
-behind_live layout objects = quarantined_text ++ from_quarantined layout objects
-
--- The bytes from the live objects on.
-abbrev pub from_live : Layout → List PlannedObject → List ℕ
-from_live layout objects = layer_text layout Live 1 objects ++ behind_live layout objects
-
--- The bytes after the scale.
-abbrev pub behind_scale : Layout → List PlannedObject → List ℕ
-behind_scale layout objects = live_text ++ from_live layout objects
-
--- The bytes after the head.
-abbrev pub behind_head : Layout → List PlannedObject → List ℕ
-behind_head layout objects = scale_text layout ++ behind_scale layout objects

@@ -1,11 +1,11 @@
 -- Output that is written in several chunks.
 use Rattle.std.proofs.Common.{◌≡◌, ◌+◌, ◌∙◌, ◌++◌, ℕ, List, [], Option, Result, Ok, Err, append-nil, append_assoc, ap, arith, length, length-append, refl, subst, sym, take}
-use Rattle.std.proofs.lemmas.List.{take-append-le, take_all}
+use Rattle.std.proofs.lemmas.List.{take-append-le}
 use Rattle.std.proofs.Math.Seq.{take-append-add}
-use Rattle.std.specs.Prelude.{OnErr, OnOk}
-use Rattle.std.specs.Io.KnownBytes.{Appends, Keeps}
-use Rattle.cc_io.specs.Devices.{TakesBeginning}
-use Rattle.cc_io.proofs.DeviceLemmas.{appends_none, appends_twice, then_kept}
+use Rattle.std.specs.Prelude.{OnErr, OnOk, ⊤}
+use Rattle.std.specs.Io.KnownBytes.{Appends}
+use Rattle.cc_io.specs.Devices.{OutputState, SendsBytes, TakesPrefix, WritesBytes}
+use Rattle.cc_io.proofs.DeviceLemmas.{appends_none, appends_twice}
 
 -- Writing holds if all of the output was written except `rest`.
 pub record Writing (old now : Option (List ℕ)) (rest whole : List ℕ) : Type 0 where
@@ -37,7 +37,7 @@ pub writing_last : (a b c : Option (List ℕ)) (piece whole : List ℕ) → Writ
 writing_last a b c piece whole w p = subst (λ (l : List ℕ). Appends a c l) w.whole_is (appends_twice a b c w.done piece w.written p)
 
 -- A prefix of the last chunk was written, so a prefix of the output was.
-pub writing_stops_last : (a b c : Option (List ℕ)) (piece whole : List ℕ) → Writing a b piece whole → TakesBeginning b c piece → TakesBeginning a c whole
+pub writing_stops_last : (a b c : Option (List ℕ)) (piece whole : List ℕ) → Writing a b piece whole → TakesPrefix b c piece → TakesPrefix a c whole
 writing_stops_last a b c piece whole w q =
     let taken = appends_twice a b c w.done (take q.count piece) w.written q.taken in
     record {
@@ -48,28 +48,15 @@ writing_stops_last a b c piece whole w q =
     }
 
 -- A prefix of a chunk is a prefix of that chunk and the bytes after it.
-pub begins_longer : (b c : Option (List ℕ)) (piece rest : List ℕ) → TakesBeginning b c piece → TakesBeginning b c (piece ++ rest)
+pub begins_longer : (b c : Option (List ℕ)) (piece rest : List ℕ) → TakesPrefix b c piece → TakesPrefix b c (piece ++ rest)
 begins_longer b c piece rest q = record {
   count = q.count;
   within = omega (arith, length-append piece rest, q.within);
   taken = subst (λ (l : List ℕ). Appends b c l) (sym (take-append-le q.count piece rest q.within)) q.taken;
 }
 
-pub writing_stops : (a b c : Option (List ℕ)) (piece rest whole : List ℕ) → Writing a b (piece ++ rest) whole → TakesBeginning b c piece → TakesBeginning a c whole
+pub writing_stops : (a b c : Option (List ℕ)) (piece rest whole : List ℕ) → Writing a b (piece ++ rest) whole → TakesPrefix b c piece → TakesPrefix a c whole
 writing_stops a b c piece rest whole w q = writing_stops_last a b c (piece ++ rest) whole w (begins_longer b c piece rest q)
-
--- After all of the output, a call wrote nothing and failed. A prefix was written, namely all of it.
-pub whole_begins : (a b c : Option (List ℕ)) (whole : List ℕ) → Appends a b whole → Keeps b c → TakesBeginning a c whole
-whole_begins a b c whole p k = record {
-  count = length whole;
-  within = omega arith;
-  taken = subst (λ (l : List ℕ). Appends a c l) (sym (take_all (length whole) whole (omega arith))) (then_kept a b c whole p k);
-}
-
--- A claim that always holds also holds if the result is an error.
-pub on_err : {A E P : Type 0} (result : Result A E) → P → OnErr result P
-on_err (Ok value) is = tt
-on_err (Err error) is = is
 
 -- A consequence of a claim about a success holds about a success. The next lemma says that of an
 -- error.
@@ -80,3 +67,39 @@ on_ok_weaker (Err error) next is = tt
 pub on_err_weaker : {A E P Q : Type 0} (result : Result A E) → (P → Q) → OnErr result P → OnErr result Q
 on_err_weaker (Ok value) next is = tt
 on_err_weaker (Err error) next is = next is
+
+-- ---- bytes that are sent in several calls
+
+-- A call failed in the first of the bytes, which may be named by an equal list.
+pub fails_in : {E F : Type 0} (a b : OutputState) (bytes first later : List ℕ) (error : E) (failed : F) → bytes ≡ first → WritesBytes a b bytes (Err failed)
+    → SendsBytes a b (first ++ later) (Err error)
+fails_in a b bytes first later error failed is w = record {
+  ok = tt;
+  err = begins_longer a.taken b.taken first later (subst (λ (l : List ℕ). TakesPrefix a.taken b.taken l) is w.err);
+  flushed = tt;
+  fails = w.fails;
+}
+
+-- The first bytes were written, and a call writes those after them.
+pub writes_after : {E : Type 0} (a b c : OutputState) (first later : List ℕ) (result : Result ⊤ E) → Appends a.taken b.taken first → WritesBytes b c later result
+    → WritesBytes a c (first ++ later) result
+writes_after a b c first later result p w =
+    let whole : List ℕ = first ++ later in
+    let writing = writing_more a.taken a.taken b.taken first later whole (writing_begins a.taken whole) p in
+    record {
+      ok = on_ok_weaker result (writing_last a.taken b.taken c.taken later whole writing) w.ok;
+      err = on_err_weaker result (writing_stops_last a.taken b.taken c.taken later whole writing) w.err;
+      fails = w.fails;
+    }
+
+-- The first bytes, which may be named by an equal list, were written, and a call sends those after them.
+pub sends_after : {E : Type 0} (a b c : OutputState) (bytes first later : List ℕ) (result : Result ⊤ E) → bytes ≡ first → Appends a.taken b.taken bytes
+    → SendsBytes b c later result → SendsBytes a c (first ++ later) result
+sends_after a b c bytes first later result is p w =
+    let written = subst (λ (l : List ℕ). Appends a.taken b.taken l) is p in
+    let all = writes_after a b c first later result written (record { ok = w.ok; err = w.err; fails = w.fails }) in
+    record { ok = all.ok; err = all.err; flushed = w.flushed; fails = w.fails }
+
+-- The bytes that were sent may be named by an equal list.
+pub sends_same : {E : Type 0} (a b : OutputState) (bytes other : List ℕ) (result : Result ⊤ E) → bytes ≡ other → SendsBytes a b bytes result → SendsBytes a b other result
+sends_same a b bytes other result is w = subst (λ (l : List ℕ). SendsBytes a b l result) is w

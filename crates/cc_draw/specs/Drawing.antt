@@ -1,18 +1,17 @@
 -- A drawing of a pool for a page, as an SVG document. It has rows of cells, each of which
 -- represents the same number of bytes, and rectangles over the cells of each held object. It has
 -- only fixed strings and digits, so no character needs an escape.
-use Rattle.std.specs.Prelude.{ℕ, zero, suc, Bool, ◌≡◌, ◌<◌, ◌≤◌, ◌+◌, ◌-◌, ◌*◌, ◌/◌, List, [], ◌∷◌, ◌++◌, codes, decimal, if◌then◌else◌, max, min, nat_lt}
+use Rattle.std.specs.Prelude.{ℕ, zero, suc, Bool, ◌≡◌, ◌<◌, ◌≤◌, ◌+◌, ◌-◌, ◌*◌, ◌/◌, List, [], ◌∷◌, ◌++◌, codes, if◌then◌else◌, max, min, nat_lt}
 use Rattle.std.specs.Int.{div_ceil}
-use Rattle.cc_word.specs.WordText.{hexadecimal}
 use Rattle.cc_bounds.specs.declared.span.Span.{Span}
 use Rattle.cc_bounds.specs.Span.{SharesByte, length_of}
 use Rattle.cc_plan.specs.declared.object.ObjectState.{ObjectState}
 use Rattle.cc_plan.specs.declared.object.ObjectState.TheVariants.{Live, Freed, Swept}
 use Rattle.cc_plan.specs.declared.object.PlannedObject.{PlannedObject}
 use Rattle.cc_plan.specs.Plan.{Plan, is_freed}
-use Rattle.cc_io.specs.Text.{with_line_feed}
-use Rattle.cc_io.specs.Numbered.{line_with_decimal, line_with_hexadecimal, with_hexadecimal}
-use Rattle.cc_explain.specs.Picture.{cell_bytes, cell_count, cell_of}
+use Rattle.cc_io.specs.Numbered.{line_with_decimal, line_with_hexadecimal, with_decimal, with_hexadecimal}
+use Rattle.cc_io.specs.Svg.{markup}
+use Rattle.cc_draw.specs.Cells.{cell_bytes, cell_count, cell_of}
 use Rattle.cc_draw.specs.Usage.{is_live, is_swept, pool_span}
 use Rattle.cc_draw.specs.declared.layout.Layout.{Layout}
 
@@ -54,12 +53,11 @@ end_cell start size span = div_ceil (span.top - start) size
 
 -- The rectangle over a row's cells from `from` to before `to`. Its title is the object's number and
 -- bounds.
-unfoldable pub rectangle_text : (width row from to number : ℕ) → Span → List ℕ
+abbrev pub rectangle_text : (width row from to number : ℕ) → Span → List ℕ
 rectangle_text width row from to number span =
-    with_line_feed
-    (codes "<rect x='" ++ decimal ((from - 1024 * row) * width) ++ codes "' y='" ++ decimal (32 * row)
-    ++ codes "' width='" ++ decimal ((to - from) * width) ++ codes "' height='24'><title>object " ++ decimal number
-    ++ codes ": " ++ hexadecimal span.base ++ codes "-" ++ hexadecimal span.top ++ codes "</title></rect>")
+    with_decimal (codes "<rect x='") ((from - 1024 * row) * width) ++ with_decimal (codes "' y='") (32 * row)
+    ++ with_decimal (codes "' width='") ((to - from) * width) ++ with_decimal (codes "' height='24'><title>object ") number
+    ++ with_hexadecimal (codes ": ") span.base ++ line_with_hexadecimal (codes "-") span.top (codes "</title></rect>")
 
 -- The rectangle of an object's cells in one row, or nothing if it has none there.
 abbrev pub part_text : (width row first end number : ℕ) → Span → List ℕ
@@ -99,45 +97,32 @@ layer_text layout state number (object ∷ objects) =
 abbrev pub bounds_line : (before : List ℕ) (pool : Span) (after : List ℕ) → List ℕ
 bounds_line before pool after = with_hexadecimal before pool.base ++ line_with_hexadecimal (codes " to ") pool.top after
 
--- The pattern of quarantined objects: stripes, with whatever lies below seen between them.
-unfoldable pub stripes_text : List ℕ
-stripes_text =
-    codes "<defs><pattern id='stripes' width='8' height='6' patternUnits='userSpaceOnUse'>\n"
-    ++ codes "<rect width='8' height='3' fill='#e69f00'/></pattern></defs>\n"
+-- The key: the samples of a live object, of a quarantined object and of free bytes, and their names.
+abbrev pub key_text : List ℕ
+key_text =
+    markup (codes "<g stroke='#000' stroke-width='.5'>\n<rect x='152' y='44' width='24' height='16' fill='#0072b2'/>\n")
+    ++ markup
+    (codes "<rect x='272' y='44' width='24' height='16' fill='url(#stripes)'/>\n<rect x='432' y='44' width='24' height='16' fill='#fff'/>\n</g>\n")
+    ++ markup (codes "<text y='56'><tspan x='182'>live</tspan><tspan x='302'>quarantined</tspan><tspan x='462'>free</tspan></text>\n")
 
--- The key's sample of a live object.
-unfoldable pub key_text : List ℕ
-key_text = codes "<g stroke='#000' stroke-width='.5'>\n<rect x='152' y='44' width='24' height='16' fill='#0072b2'/>\n"
-
--- The key's samples of a quarantined object and of free bytes.
-unfoldable pub fills_text : List ℕ
-fills_text =
-    codes "<rect x='272' y='44' width='24' height='16' fill='url(#stripes)'/>\n<rect x='432' y='44' width='24' height='16' fill='#fff'/>\n</g>\n"
-
--- The names next to the key's samples.
-unfoldable pub names_text : List ℕ
-names_text = codes "<text y='56'><tspan x='182'>live</tspan><tspan x='302'>quarantined</tspan><tspan x='462'>free</tspan></text>\n"
-
--- The translation after which the pool's first cell is at the point 0, 0.
-unfoldable pub moved_text : List ℕ
-moved_text = codes "<g transform='translate(152,96)'>\n"
-
--- The document's head: its name, what it shows, and a key.
+-- The document's head: its name, what it shows, the pattern of quarantined objects, a key, and the
+-- translation after which the pool's first cell is at the point 0, 0. Whatever lies below the pattern
+-- is seen between its stripes.
 abbrev pub head_text : Layout → (pool : Span) → List ℕ
 head_text layout pool =
     line_with_decimal (codes "<svg xmlns='http://www.w3.org/2000/svg' viewBox='0 0 1200 ") (112 + 32 * row_count layout) (codes "' font-family='monospace' font-size='12'>")
     ++ bounds_line (codes "<title>Pool from ") pool (codes "</title>")
     ++ line_with_hexadecimal (codes "<desc>Cells of ") layout.size (codes " bytes: solid live, striped quarantined, blank free.</desc>")
-    ++ stripes_text
+    ++ markup
+    (codes "<defs><pattern id='stripes' width='8' height='6' patternUnits='userSpaceOnUse'>\n<rect width='8' height='3' fill='#e69f00'/></pattern></defs>\n")
     ++ bounds_line (codes "<text x='152' y='28' font-size='18'>Pool from ") pool (codes "</text>")
-    ++ key_text ++ fills_text ++ names_text ++ moved_text
+    ++ key_text ++ markup (codes "<g transform='translate(152,96)'>\n")
 
 -- A mark above a cell of the first row, with the number of bytes before it in the row.
-unfoldable pub mark_text : Layout → (cell : ℕ) → List ℕ
+abbrev pub mark_text : Layout → (cell : ℕ) → List ℕ
 mark_text layout cell =
-    with_line_feed
-    (codes "<g transform='translate(" ++ decimal (cell * layout.width) ++ codes ")'><path d='M0,-14V0' stroke='#000'/><text x='3' y='-5'>+"
-    ++ hexadecimal (cell * layout.size) ++ codes "</text></g>")
+    with_decimal (codes "<g transform='translate(") (cell * layout.width)
+    ++ line_with_hexadecimal (codes ")'><path d='M0,-14V0' stroke='#000'/><text x='3' y='-5'>+") (cell * layout.size) (codes "</text></g>")
 
 -- The number of marks: four, or one for each cell if there are fewer.
 abbrev pub mark_count : Layout → ℕ
@@ -150,12 +135,11 @@ marks_text layout (suc mark) = marks_text layout mark ++ mark_text layout (min l
 
 -- The ground of a row of `cells` cells: a rectangle under them at the height `y`, next to the
 -- address of the first.
-unfoldable pub ground_text : (width y cells address : ℕ) → List ℕ
+abbrev pub ground_text : (width y cells address : ℕ) → List ℕ
 ground_text width y cells address =
-    with_line_feed
-    (codes "<rect y='" ++ decimal y ++ codes "' width='" ++ decimal (cells * width)
-    ++ codes "' height='24' fill='#fff' stroke='#000'/><text x='-8' y='" ++ decimal (y + 16) ++ codes "' text-anchor='end'>"
-    ++ hexadecimal address ++ codes "</text>")
+    with_decimal (codes "<rect y='") y ++ with_decimal (codes "' width='") (cells * width)
+    ++ with_decimal (codes "' height='24' fill='#fff' stroke='#000'/><text x='-8' y='") (y + 16)
+    ++ line_with_hexadecimal (codes "' text-anchor='end'>") address (codes "</text>")
 
 -- The first `rows` rows. Each has the 1,024 cells after those of the rows above it, or those that
 -- are left.
@@ -165,31 +149,30 @@ rows_text layout (suc row) =
     rows_text layout row
     ++ ground_text layout.width (32 * row) (min (layout.cells - 1024 * row) 1024) (layout.start + 1024 * row * layout.size)
 
--- The scale: the marks, and the rows.
-abbrev pub scale_text : Layout → List ℕ
-scale_text layout =
-    marks_text layout (mark_count layout) ++ rows_text layout (row_count layout)
-
--- The bytes before the live objects.
-unfoldable pub live_text : List ℕ
-live_text = codes "<g fill='#0072b2' stroke='#fff' stroke-width='.4'>\n"
-
--- The bytes between the live objects and the quarantined ones.
-unfoldable pub quarantined_text : List ℕ
-quarantined_text = codes "</g>\n<g fill='url(#stripes)' stroke='#e69f00' stroke-width='.4'>\n"
-
--- The end of the document.
-unfoldable pub closing_text : List ℕ
-closing_text = codes "</g>\n</g>\n</svg>\n"
+-- The bytes before the live objects: the head, the marks, the rows, and the start of their layer.
+abbrev pub start_text : Layout → (pool : Span) → List ℕ
+start_text layout pool =
+    head_text layout pool ++ marks_text layout (mark_count layout) ++ rows_text layout (row_count layout)
+    ++ markup (codes "<g fill='#0072b2' stroke='#fff' stroke-width='.4'>\n")
 
 -- ---- the document
+
+-- The bytes between the live objects and the quarantined ones.
+abbrev pub quarantined_text : List ℕ
+quarantined_text = markup (codes "</g>\n<g fill='url(#stripes)' stroke='#e69f00' stroke-width='.4'>\n")
+
+-- The end of the document.
+abbrev pub closing_text : List ℕ
+closing_text = markup (codes "</g>\n</g>\n</svg>\n")
+
+-- The bytes after the live objects: the quarantined ones, and the end of the document.
+abbrev pub end_text : Layout → List PlannedObject → List ℕ
+end_text layout objects = (quarantined_text ++ layer_text layout Freed 1 objects) ++ closing_text
 
 -- The drawing of these objects in this pool, by this layout: the live ones below, and the
 -- quarantined ones above them.
 abbrev pub laid_out_text : Layout → List PlannedObject → (pool : Span) → List ℕ
-laid_out_text layout objects pool =
-    head_text layout pool ++ (scale_text layout ++ (live_text ++ (layer_text layout Live 1 objects
-    ++ (quarantined_text ++ (layer_text layout Freed 1 objects ++ closing_text)))))
+laid_out_text layout objects pool = (start_text layout pool ++ layer_text layout Live 1 objects) ++ end_text layout objects
 
 -- The drawing of these objects in this pool, by the pool's own layout.
 abbrev pub drawing_text : List PlannedObject → (pool : Span) → List ℕ

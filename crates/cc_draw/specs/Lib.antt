@@ -1,4 +1,5 @@
 -- In reading order.
 pub mod Usage
+pub mod Cells
 pub mod Map
 pub mod Drawing

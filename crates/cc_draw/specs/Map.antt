@@ -11,7 +11,7 @@ use Rattle.cc_plan.specs.declared.object.PlannedObject.{PlannedObject}
 use Rattle.cc_plan.specs.Plan.{Plan}
 use Rattle.cc_io.specs.Text.{with_line_feed}
 use Rattle.cc_io.specs.Numbered.{line_with_hexadecimal}
-use Rattle.cc_explain.specs.Picture.{cell_bytes, cell_count, cell_of}
+use Rattle.cc_draw.specs.Cells.{cell_bytes, cell_count, cell_of}
 use Rattle.cc_draw.specs.Usage.{pool_span}
 
 -- HoldsByte holds if a byte of the span belongs to an object in this state.

@@ -1,20 +1,21 @@
 //! A drawing of a pool: an SVG document with a rectangle for each held object.
-ghost use Rattle.std.specs.Prelude.{◌≡◌, ◌<◌, ◌≤◌, ◌+◌, ◌-◌, ◌*◌, ◌^◌, ◌++◌, ◌↔◌, [], false, true, Bool, IfOk, IsErr, OnErr, OnOk, decimal, length, min};
-ghost use Rattle.std.specs.Io.KnownBytes.{Appends};
-ghost use Rattle.cc_io.specs.Devices.{TakesBeginning};
-ghost use Rattle.cc_word.specs.WordText.{hexadecimal};
-ghost use Rattle.cc_explain.specs.Answer.{WritesAnswer};
-ghost use Rattle.cc_draw.specs.Drawing.{IsDrawing, bounds_line, drawing_text, closing_text, fills_text, head_text, is_in, key_text, laid_out_text, layer_text, layout_for, live_text, mark_count, mark_text, marks_text, moved_text, names_text, object_text, part_text, parts_text, quarantined_text, rectangle_text, row_count, ground_text, rows_text, scale_text, stripes_text};
+ghost use Rattle.std.specs.Prelude.{◌≡◌, ◌<◌, ◌≤◌, ◌+◌, ◌-◌, ◌*◌, ◌^◌, ◌++◌, [], Err, false, IfOk, OnErr, length, min};
+ghost use Rattle.cc_io.specs.CommandOutput.{WritesAnswer};
+ghost use Rattle.cc_io.specs.Devices.{SendsBytes, WritesBytes};
+ghost use Rattle.cc_draw.specs.Drawing.{IsDrawing, bounds_line, drawing_text, ground_text, head_text, is_in, key_text, laid_out_text, layer_text, layout_for, mark_count, mark_text, marks_text, object_text, rectangle_text, row_count, rows_text, start_text};
 
 use crate::layout::{Layout, ROW, cells_of};
 use crate::usage::pool_span;
 use cc_bounds::Span;
 use cc_io::{
-    Failed, IoError, Line, ROOM, Sink, Summary, Text, end_with_decimal, end_with_hexadecimal,
-    push_hexadecimal, write_all,
+    Failed, IoError, Line, Page, Sink, Summary, end_with_decimal, end_with_hexadecimal,
+    push_decimal, push_hexadecimal, push_markup, write_all, write_and_flush,
 };
 use cc_placer::Placer;
 use cc_plan::{ObjectState, PlannedObject, Planner};
+
+/// The maximum length in bytes of a part of a drawing that is written at once.
+const MOST_PART: usize = 8192;
 
 /// Writes a drawing of the planner's pool, and flushes the sink once after it.
 ///
@@ -30,7 +31,6 @@ use cc_plan::{ObjectState, PlannedObject, Planner};
 ///
 /// Requires: the sink has not failed.
 /// Errors: `Write` if and only if the sink fails. A prefix of the drawing is then written.
-#[tactic(auto, using(crate::proofs::WritingLemmas::whole_begins))]
 pub fn show_drawing<P: Placer, W: Sink>(
     planner: &Planner<P>,
     sink: &mut W,
@@ -39,33 +39,35 @@ pub fn show_drawing<P: Placer, W: Sink>(
     ensures shown { WritesAnswer (IsDrawing planner.now) (W.state sink.old) (W.state sink.new) result }
     ensures any_error { IfOk result (λ summary. summary.any_error ≡ false) }
 {
-    write_drawing(planner.objects(), &pool_span(planner.pool()), sink).map_err(|_| IoError::Write)?;
-    sink.flush().map_err(|_| IoError::Write)?;
-    Ok(Summary { any_error: false })
+    match send_drawing(planner.objects(), &pool_span(planner.pool()), sink) {
+        Ok(()) => Ok(Summary { any_error: false }),
+        Err(error) => Err(error),
+    }
 }
 
-fn write_drawing<W: Sink>(
+/// Writes the drawing of these objects in this pool, and flushes the sink.
+fn send_drawing<W: Sink>(
     objects: &[PlannedObject],
     pool: &Span,
     sink: &mut W,
-) -> Result<(), Failed>
+) -> Result<(), IoError>
     requires sink { (W.state sink.old).has_failed ≡ false }
     requires few { length objects.now ≤ 65536 }
     requires in_order { pool.now.base ≤ pool.now.top }
     requires fits { pool.now.top ≤ 2 ^ 64 }
-    ensures ok { OnOk result (Appends (W.state sink.old).taken (W.state sink.new).taken (drawing_text objects.now pool.now)) }
-    ensures err { OnErr result (TakesBeginning (W.state sink.old).taken (W.state sink.new).taken (drawing_text objects.now pool.now)) }
-    ensures fails { IsErr result ↔ ((W.state sink.new).has_failed ≡ true) }
+    ensures sends { SendsBytes (W.state sink.old) (W.state sink.new) (drawing_text objects.now pool.now) result }
+    ensures write { OnErr result (result ≡ Err IoError.Write) }
 {
-    write_laid_out(&Layout::new(pool), objects, pool, sink)
+    send_laid_out(&Layout::new(pool), objects, pool, sink)
 }
 
-fn write_laid_out<W: Sink>(
+/// Writes the drawing by this layout, and flushes the sink.
+fn send_laid_out<W: Sink>(
     layout: &Layout,
     objects: &[PlannedObject],
     pool: &Span,
     sink: &mut W,
-) -> Result<(), Failed>
+) -> Result<(), IoError>
     requires sink { (W.state sink.old).has_failed ≡ false }
     requires few { length objects.now ≤ 65536 }
     requires start { layout.now.start < 2 ^ 64 }
@@ -73,263 +75,212 @@ fn write_laid_out<W: Sink>(
     requires size { layout.now.size ≤ 2 ^ 50 }
     requires cells { layout.now.cells ≤ 16384 }
     requires width { layout.now.width ≤ 1024 }
-    ensures ok { OnOk result (Appends (W.state sink.old).taken (W.state sink.new).taken (laid_out_text layout.now objects.now pool.now)) }
-    ensures err { OnErr result (TakesBeginning (W.state sink.old).taken (W.state sink.new).taken (laid_out_text layout.now objects.now pool.now)) }
-    ensures fails { IsErr result ↔ ((W.state sink.new).has_failed ≡ true) }
+    ensures sends { SendsBytes (W.state sink.old) (W.state sink.new) (laid_out_text layout.now objects.now pool.now) result }
+    ensures write { OnErr result (result ≡ Err IoError.Write) }
 {
-    write_head(layout, pool, sink)?;
-    write_scale(layout, sink)?;
-    write_live(sink)?;
-    write_layer(layout, ObjectState::Live, objects, sink)?;
-    write_quarantined(sink)?;
-    write_layer(layout, ObjectState::Freed, objects, sink)?;
-    write_end(sink)
+    let mut start: Page<MOST_PART> = Page::new();
+    push_start(&mut start, layout, pool);
+    match write_layer(layout, ObjectState::Live, start.bytes(), objects, sink) {
+        Ok(()) => {}
+        Err(Failed) => return Err(IoError::Write),
+    }
+    let mut between = Line::new();
+    push_markup(
+        &mut between,
+        b"</g>\n<g fill='url(#stripes)' stroke='#e69f00' stroke-width='.4'>\n",
+    );
+    match write_layer(layout, ObjectState::Freed, between.bytes(), objects, sink) {
+        Ok(()) => {}
+        Err(Failed) => return Err(IoError::Write),
+    }
+    let mut end = Line::new();
+    push_markup(&mut end, b"</g>\n</g>\n</svg>\n");
+    write_and_flush(&end, sink)
 }
 
-/// Writes the head: everything before the scale.
-fn write_head<W: Sink>(layout: &Layout, pool: &Span, sink: &mut W) -> Result<(), Failed>
-    requires sink { (W.state sink.old).has_failed ≡ false }
+/// Appends the bytes before the live objects: the head, the scale, and the start of their layer.
+///
+/// Requires: `page` is empty.
+fn push_start(page: &mut Page<MOST_PART>, layout: &Layout, pool: &Span)
+    requires empty { page.old ≡ [] }
+    requires start { layout.now.start < 2 ^ 64 }
+    requires size { layout.now.size ≤ 2 ^ 50 }
     requires cells { layout.now.cells ≤ 16384 }
-    ensures ok { OnOk result (Appends (W.state sink.old).taken (W.state sink.new).taken (head_text layout.now pool.now)) }
-    ensures err { OnErr result (TakesBeginning (W.state sink.old).taken (W.state sink.new).taken (head_text layout.now pool.now)) }
-    ensures fails { IsErr result ↔ ((W.state sink.new).has_failed ≡ true) }
+    requires width { layout.now.width ≤ 1024 }
+    ensures { page.new ≡ start_text layout.now pool.now }
 {
-    let mut text = Text::new();
-    push_head(&mut text, layout, pool);
-    write_all(sink, text.bytes())
+    push_head(page, layout, pool);
+    push_marks(page, layout);
+    push_rows(page, layout);
+    push_markup(
+        page,
+        b"<g fill='#0072b2' stroke='#fff' stroke-width='.4'>\n",
+    );
 }
 
 /// Appends the head: the document's size, its title, and a key of the fills.
-///
-/// Requires: `text` is empty.
-fn push_head(text: &mut Text, layout: &Layout, pool: &Span)
-    requires empty { text.old ≡ [] }
+fn push_head(page: &mut Page<MOST_PART>, layout: &Layout, pool: &Span)
+    requires empty { page.old ≡ [] }
     requires cells { layout.now.cells ≤ 16384 }
-    ensures { text.new ≡ head_text layout.now pool.now }
+    ensures value { page.new ≡ head_text layout.now pool.now }
+    ensures fits { length page.new ≤ 1700 }
 {
     end_with_decimal(
-        text,
+        page,
         b"<svg xmlns='http://www.w3.org/2000/svg' viewBox='0 0 1200 ",
         u128::from(112 + 32 * layout.rows()),
         b"' font-family='monospace' font-size='12'>",
     );
-    push_bounds(text, b"<title>Pool from ", pool, b"</title>");
+    push_bounds(page, b"<title>Pool from ", pool, b"</title>");
     end_with_hexadecimal(
-        text,
+        page,
         b"<desc>Cells of ",
         layout.size,
         b" bytes: solid live, striped quarantined, blank free.</desc>",
     );
-    push_stripes(text);
+    push_markup(
+        page,
+        b"<defs><pattern id='stripes' width='8' height='6' patternUnits='userSpaceOnUse'>\n<rect width='8' height='3' fill='#e69f00'/></pattern></defs>\n",
+    );
     push_bounds(
-        text,
+        page,
         b"<text x='152' y='28' font-size='18'>Pool from ",
         pool,
         b"</text>",
     );
-    push_key(text);
-    push_fills(text);
-    push_names(text);
-    push_moved(text);
+    push_key(page);
+    push_markup(page, b"<g transform='translate(152,96)'>\n");
 }
 
 /// Appends a line with the pool's base and top between `before` and `after`.
-fn push_bounds(text: &mut Text, before: &[u8], pool: &Span, after: &[u8])
+fn push_bounds(page: &mut Page<MOST_PART>, before: &[u8], pool: &Span, after: &[u8])
     requires before { length before.now ≤ 60 }
     requires after { length after.now ≤ 60 }
-    requires room { length text.old + 240 ≤ ROOM }
-    ensures value { text.new ≡ text.old ++ bounds_line before.now pool.now after.now }
-    ensures fits { length text.new ≤ length text.old + 240 }
+    requires room { length page.old + 240 ≤ MOST_PART }
+    ensures value { page.new ≡ page.old ++ bounds_line before.now pool.now after.now }
+    ensures fits { length page.new ≤ length page.old + 240 }
 {
-    push_hexadecimal(text, before, u128::from(pool.base));
-    end_with_hexadecimal(text, b" to ", pool.top, after);
+    push_hexadecimal(page, before, u128::from(pool.base));
+    end_with_hexadecimal(page, b" to ", pool.top, after);
 }
 
-#[tactic(auto, unfolding(crate::specs::Drawing::stripes_text))]
-fn push_stripes(text: &mut Text)
-    requires { length text.old + 240 ≤ ROOM }
-    ensures value { text.new ≡ text.old ++ stripes_text }
-    ensures fits { length text.new ≤ length text.old + 240 }
+/// Appends the key: three samples, and their names.
+fn push_key(page: &mut Page<MOST_PART>)
+    requires { length page.old + 400 ≤ MOST_PART }
+    ensures value { page.new ≡ page.old ++ key_text }
+    ensures fits { length page.new ≤ length page.old + 400 }
 {
-    text.push(b"<defs><pattern id='stripes' width='8' height='6' patternUnits='userSpaceOnUse'>\n");
-    text.push(b"<rect width='8' height='3' fill='#e69f00'/></pattern></defs>\n");
-}
-
-#[tactic(auto, unfolding(crate::specs::Drawing::key_text))]
-fn push_key(text: &mut Text)
-    requires { length text.old + 100 ≤ ROOM }
-    ensures value { text.new ≡ text.old ++ key_text }
-    ensures fits { length text.new ≤ length text.old + 100 }
-{
-    text.push(
+    push_markup(
+        page,
         b"<g stroke='#000' stroke-width='.5'>\n<rect x='152' y='44' width='24' height='16' fill='#0072b2'/>\n",
     );
-}
-
-#[tactic(auto, unfolding(crate::specs::Drawing::fills_text))]
-fn push_fills(text: &mut Text)
-    requires { length text.old + 140 ≤ ROOM }
-    ensures value { text.new ≡ text.old ++ fills_text }
-    ensures fits { length text.new ≤ length text.old + 140 }
-{
-    text.push(
+    push_markup(
+        page,
         b"<rect x='272' y='44' width='24' height='16' fill='url(#stripes)'/>\n<rect x='432' y='44' width='24' height='16' fill='#fff'/>\n</g>\n",
     );
-}
-
-/// Appends the names next to the key's three samples.
-#[tactic(auto, unfolding(crate::specs::Drawing::names_text))]
-fn push_names(text: &mut Text)
-    requires { length text.old + 120 ≤ ROOM }
-    ensures value { text.new ≡ text.old ++ names_text }
-    ensures fits { length text.new ≤ length text.old + 120 }
-{
-    text.push(
+    push_markup(
+        page,
         b"<text y='56'><tspan x='182'>live</tspan><tspan x='302'>quarantined</tspan><tspan x='462'>free</tspan></text>\n",
     );
 }
 
-/// Appends the translation that puts the pool's first cell at the point 0, 0.
-#[tactic(auto, unfolding(crate::specs::Drawing::moved_text))]
-fn push_moved(text: &mut Text)
-    requires { length text.old + 60 ≤ ROOM }
-    ensures value { text.new ≡ text.old ++ moved_text }
-    ensures fits { length text.new ≤ length text.old + 60 }
-{
-    text.push(b"<g transform='translate(152,96)'>\n");
-}
-
-fn write_scale<W: Sink>(layout: &Layout, sink: &mut W) -> Result<(), Failed>
-    requires sink { (W.state sink.old).has_failed ≡ false }
-    requires start { layout.now.start < 2 ^ 64 }
-    requires size { layout.now.size ≤ 2 ^ 50 }
-    requires cells { layout.now.cells ≤ 16384 }
-    requires width { layout.now.width ≤ 1024 }
-    ensures ok { OnOk result (Appends (W.state sink.old).taken (W.state sink.new).taken (scale_text layout.now)) }
-    ensures err { OnErr result (TakesBeginning (W.state sink.old).taken (W.state sink.new).taken (scale_text layout.now)) }
-    ensures fails { IsErr result ↔ ((W.state sink.new).has_failed ≡ true) }
-{
-    let mut text = Text::new();
-    push_marks(&mut text, layout);
-    push_rows(&mut text, layout);
-    write_all(sink, text.bytes())
-}
-
 /// Appends the marks above the first row: four, or one for each cell if there are fewer.
-fn push_marks(text: &mut Text, layout: &Layout)
-    requires empty { text.old ≡ [] }
+fn push_marks(page: &mut Page<MOST_PART>, layout: &Layout)
+    requires room { length page.old ≤ 1700 }
     requires size { layout.now.size ≤ 2 ^ 50 }
     requires width { layout.now.width ≤ 1024 }
-    ensures value { text.new ≡ marks_text layout.now (mark_count layout.now) }
-    ensures fits { length text.new ≤ 800 }
+    ensures value { page.new ≡ page.old ++ marks_text layout.now (mark_count layout.now) }
+    ensures fits { length page.new ≤ length page.old + 800 }
 {
     let marks = layout.cells.min(4);
     for mark in 0..marks {
-        push_mark(text, layout, layout.cells.min(ROW) * mark / marks);
+        push_mark(page, layout, layout.cells.min(ROW) * mark / marks);
     }
 }
 
 /// Appends the mark above a cell of the first row, with the number of bytes before it in the row.
-#[tactic(auto, unfolding(crate::specs::Drawing::mark_text))]
-fn push_mark(text: &mut Text, layout: &Layout, cell: u32)
-    requires room { length text.old + 193 ≤ ROOM }
+fn push_mark(page: &mut Page<MOST_PART>, layout: &Layout, cell: u32)
+    requires room { length page.old + 193 ≤ MOST_PART }
     requires cell { cell ≤ 1024 }
     requires size { layout.now.size ≤ 2 ^ 50 }
     requires width { layout.now.width ≤ 1024 }
-    ensures value { text.new ≡ text.old ++ mark_text layout.now cell }
-    ensures fits { length text.new ≤ length text.old + 193 }
+    ensures value { page.new ≡ page.old ++ mark_text layout.now cell }
+    ensures fits { length page.new ≤ length page.old + 193 }
 {
-    let mut line = Line::new();
-    push_index(&mut line, b"<g transform='translate(", cell * layout.width);
-    push_address(
-        &mut line,
+    push_decimal(
+        page,
+        b"<g transform='translate(",
+        u128::from(cell * layout.width),
+    );
+    end_with_hexadecimal(
+        page,
         b")'><path d='M0,-14V0' stroke='#000'/><text x='3' y='-5'>+",
         u128::from(cell) * layout.size,
+        b"</text></g>",
     );
-    line.push(b"</text></g>");
-    text.push_line(&line);
 }
 
 /// Appends the grounds of all rows, each next to its first address.
-fn push_rows(text: &mut Text, layout: &Layout)
-    requires room { length text.old ≤ 800 }
+fn push_rows(page: &mut Page<MOST_PART>, layout: &Layout)
+    requires room { length page.old ≤ 2500 }
     requires start { layout.now.start < 2 ^ 64 }
     requires size { layout.now.size ≤ 2 ^ 50 }
     requires cells { layout.now.cells ≤ 16384 }
     requires width { layout.now.width ≤ 1024 }
-    ensures { text.new ≡ text.old ++ rows_text layout.now (row_count layout.now) }
+    ensures value { page.new ≡ page.old ++ rows_text layout.now (row_count layout.now) }
+    ensures fits { length page.new ≤ 6700 }
 {
     for row in 0..layout.rows() {
         let cells = layout.cells.saturating_sub(1024 * row).min(ROW);
         let address = layout.start + u128::from(1024 * row) * layout.size;
-        push_row(text, layout.width, 32 * row, cells, address);
+        push_row(page, layout.width, 32 * row, cells, address);
     }
 }
 
 /// Appends the ground of one row. `y` is its height on the page, and `address` the address of its
 /// first cell.
-#[tactic(auto, unfolding(crate::specs::Drawing::ground_text))]
-fn push_row(text: &mut Text, width: u32, y: u32, cells: u32, address: u128)
-    requires room { length text.old + 193 ≤ ROOM }
+fn push_row(page: &mut Page<MOST_PART>, width: u32, y: u32, cells: u32, address: u128)
+    requires room { length page.old + 260 ≤ MOST_PART }
     requires y { y ≤ 512 }
     requires cells { cells ≤ 1024 }
     requires width { width ≤ 1024 }
-    ensures value { text.new ≡ text.old ++ ground_text width y cells address }
-    ensures fits { length text.new ≤ length text.old + 193 }
+    ensures value { page.new ≡ page.old ++ ground_text width y cells address }
+    ensures fits { length page.new ≤ length page.old + 260 }
 {
-    let mut line = Line::new();
-    push_index(&mut line, b"<rect y='", y);
-    push_index(&mut line, b"' width='", cells * width);
-    push_index(
-        &mut line,
+    push_decimal(page, b"<rect y='", u128::from(y));
+    push_decimal(page, b"' width='", u128::from(cells * width));
+    push_decimal(
+        page,
         b"' height='24' fill='#fff' stroke='#000'/><text x='-8' y='",
-        y + 16,
+        u128::from(y + 16),
     );
-    push_address(&mut line, b"' text-anchor='end'>", address);
-    line.push(b"</text>");
-    text.push_line(&line);
+    end_with_hexadecimal(page, b"' text-anchor='end'>", address, b"</text>");
 }
 
-/// Writes the start of the layer of live objects.
-#[tactic(auto, unfolding(crate::specs::Drawing::live_text))]
-fn write_live<W: Sink>(sink: &mut W) -> Result<(), Failed>
-    requires { (W.state sink.old).has_failed ≡ false }
-    ensures ok { OnOk result (Appends (W.state sink.old).taken (W.state sink.new).taken live_text) }
-    ensures err { OnErr result (TakesBeginning (W.state sink.old).taken (W.state sink.new).taken live_text) }
-    ensures fails { IsErr result ↔ ((W.state sink.new).has_failed ≡ true) }
+/// Writes bytes, and then the rectangles of the objects in this state.
+fn write_layer<W: Sink>(
+    layout: &Layout,
+    state: ObjectState,
+    before: &[u8],
+    objects: &[PlannedObject],
+    sink: &mut W,
+) -> Result<(), Failed>
+    requires sink { (W.state sink.old).has_failed ≡ false }
+    requires few { length objects.now ≤ 65536 }
+    requires some { 0 < layout.now.size }
+    requires cells { layout.now.cells ≤ 16384 }
+    requires width { layout.now.width ≤ 1024 }
+    ensures { WritesBytes (W.state sink.old) (W.state sink.new) (before.now ++ layer_text layout.now state 1 objects.now) result }
 {
-    write_all(
-        sink,
-        b"<g fill='#0072b2' stroke='#fff' stroke-width='.4'>\n",
-    )
-}
-
-/// Ends the layer of live objects, and begins the layer of quarantined ones.
-#[tactic(auto, unfolding(crate::specs::Drawing::quarantined_text))]
-fn write_quarantined<W: Sink>(sink: &mut W) -> Result<(), Failed>
-    requires { (W.state sink.old).has_failed ≡ false }
-    ensures ok { OnOk result (Appends (W.state sink.old).taken (W.state sink.new).taken quarantined_text) }
-    ensures err { OnErr result (TakesBeginning (W.state sink.old).taken (W.state sink.new).taken quarantined_text) }
-    ensures fails { IsErr result ↔ ((W.state sink.new).has_failed ≡ true) }
-{
-    write_all(
-        sink,
-        b"</g>\n<g fill='url(#stripes)' stroke='#e69f00' stroke-width='.4'>\n",
-    )
-}
-
-#[tactic(auto, unfolding(crate::specs::Drawing::closing_text))]
-fn write_end<W: Sink>(sink: &mut W) -> Result<(), Failed>
-    requires { (W.state sink.old).has_failed ≡ false }
-    ensures ok { OnOk result (Appends (W.state sink.old).taken (W.state sink.new).taken closing_text) }
-    ensures err { OnErr result (TakesBeginning (W.state sink.old).taken (W.state sink.new).taken closing_text) }
-    ensures fails { IsErr result ↔ ((W.state sink.new).has_failed ≡ true) }
-{
-    write_all(sink, b"</g>\n</g>\n</svg>\n")
+    match write_all(sink, before) {
+        Ok(()) => {}
+        Err(Failed) => return Err(Failed),
+    }
+    write_objects(layout, state, objects, sink)
 }
 
 /// Writes the rectangles of the objects in this state.
-fn write_layer<W: Sink>(
+fn write_objects<W: Sink>(
     layout: &Layout,
     state: ObjectState,
     objects: &[PlannedObject],
@@ -340,15 +291,19 @@ fn write_layer<W: Sink>(
     requires some { 0 < layout.now.size }
     requires cells { layout.now.cells ≤ 16384 }
     requires width { layout.now.width ≤ 1024 }
-    ensures ok { OnOk result (Appends (W.state sink.old).taken (W.state sink.new).taken (layer_text layout.now state 1 objects.now)) }
-    ensures err { OnErr result (TakesBeginning (W.state sink.old).taken (W.state sink.new).taken (layer_text layout.now state 1 objects.now)) }
-    ensures fails { IsErr result ↔ ((W.state sink.new).has_failed ≡ true) }
+    ensures { WritesBytes (W.state sink.old) (W.state sink.new) (layer_text layout.now state 1 objects.now) result }
 {
+    let mut page: Page<MOST_PART> = Page::new();
     let mut number = 1;
     let mut rest = objects;
     'objects: while let Some((object, after)) = rest.split_first() {
         if is_in(state, object.state) {
-            write_object(layout, number, &object.span, sink)?;
+            page.clear();
+            push_object(&mut page, layout, number, &object.span);
+            match write_all(sink, page.bytes()) {
+                Ok(()) => {}
+                Err(Failed) => return Err(Failed),
+            }
         }
         number += 1;
         rest = after;
@@ -368,20 +323,15 @@ fn is_in(state: ObjectState, other: ObjectState) -> bool
     }
 }
 
-/// Writes the rectangles of an object: one in each row that has a cell of it.
-fn write_object<W: Sink>(
-    layout: &Layout,
-    number: u32,
-    span: &Span,
-    sink: &mut W,
-) -> Result<(), Failed>
-    requires sink { (W.state sink.old).has_failed ≡ false }
+/// Appends the rectangles of an object: one in each row that has a cell of it.
+///
+/// Requires: `page` is empty.
+fn push_object(page: &mut Page<MOST_PART>, layout: &Layout, number: u32, span: &Span)
+    requires empty { page.old ≡ [] }
     requires some { 0 < layout.now.size }
     requires cells { layout.now.cells ≤ 16384 }
     requires width { layout.now.width ≤ 1024 }
-    ensures ok { OnOk result (Appends (W.state sink.old).taken (W.state sink.new).taken (object_text layout.now number span.now)) }
-    ensures err { OnErr result (TakesBeginning (W.state sink.old).taken (W.state sink.new).taken (object_text layout.now number span.now)) }
-    ensures fails { IsErr result ↔ ((W.state sink.new).has_failed ≡ true) }
+    ensures { page.new ≡ object_text layout.now number span.now }
 {
     let (first, end) = cells_of(layout.start, layout.size, span);
     let mut row = 0;
@@ -391,79 +341,37 @@ fn write_object<W: Sink>(
         let from = first.max(left);
         let to = end.min(left + 1024);
         if from < to {
-            write_rectangle(layout.width, row, from, to, number, span, sink)?;
+            push_rectangle(page, layout.width, row, from, to, number, span);
         }
         row += 1;
         rows_left -= 1;
     }
-    Ok(())
 }
 
-/// Writes the rectangle over the cells of one row from `from` to before `to`.
-fn write_rectangle<W: Sink>(
+/// Appends the rectangle over the cells of one row from `from` to before `to`.
+fn push_rectangle(
+    page: &mut Page<MOST_PART>,
     width: u32,
     row: u32,
     from: u128,
     to: u128,
     number: u32,
     span: &Span,
-    sink: &mut W,
-) -> Result<(), Failed>
-    requires sink { (W.state sink.old).has_failed ≡ false }
+)
+    requires room { length page.old + 300 ≤ MOST_PART }
     requires width { width ≤ 1024 }
     requires row { row < 16 }
     requires left { 1024 * row ≤ from }
     requires some { from < to }
     requires right { to ≤ 1024 * row + 1024 }
-    ensures ok { OnOk result (Appends (W.state sink.old).taken (W.state sink.new).taken (rectangle_text width row from to number span.now)) }
-    ensures err { OnErr result (TakesBeginning (W.state sink.old).taken (W.state sink.new).taken (rectangle_text width row from to number span.now)) }
-    ensures fails { IsErr result ↔ ((W.state sink.new).has_failed ≡ true) }
+    ensures value { page.new ≡ page.old ++ rectangle_text width row from to number span.now }
+    ensures fits { length page.new ≤ length page.old + 300 }
 {
-    let line = rectangle_line(width, row, from, to, number, span);
-    write_all(sink, line.bytes())
-}
-
-/// Returns the line of that rectangle, with its line feed.
-#[tactic(auto, unfolding(crate::specs::Drawing::rectangle_text))]
-fn rectangle_line(width: u32, row: u32, from: u128, to: u128, number: u32, span: &Span) -> Line
-    requires width { width ≤ 1024 }
-    requires row { row < 16 }
-    requires left { 1024 * row ≤ from }
-    requires some { from < to }
-    requires right { to ≤ 1024 * row + 1024 }
-    ensures { result ≡ rectangle_text width row from to number span.now }
-{
-    let mut line = Line::new();
-    let left = (from - u128::from(1024 * row)) as u32;
-    push_index(&mut line, b"<rect x='", left * width);
-    push_index(&mut line, b"' y='", 32 * row);
-    push_index(&mut line, b"' width='", (to - from) as u32 * width);
-    push_index(&mut line, b"' height='24'><title>object ", number);
-    push_address(&mut line, b": ", u128::from(span.base));
-    push_address(&mut line, b"-", span.top);
-    line.push(b"</title></rect>");
-    line.push(b"\n");
-    line
-}
-
-/// Appends bytes, and then a number in decimal.
-fn push_index(line: &mut Line, before: &[u8], number: u32)
-    requires before { length before.now ≤ 60 }
-    requires room { length line.old + length before.now + 10 ≤ 192 }
-    ensures value { line.new ≡ line.old ++ before.now ++ decimal number }
-    ensures fits { length line.new ≤ length line.old + length before.now + 10 }
-{
-    line.push(before);
-    line.push_index(number);
-}
-
-/// Appends bytes, and then an address in hexadecimal.
-fn push_address(line: &mut Line, before: &[u8], address: u128)
-    requires before { length before.now ≤ 60 }
-    requires room { length line.old + length before.now + 34 ≤ 192 }
-    ensures value { line.new ≡ line.old ++ before.now ++ hexadecimal address }
-    ensures fits { length line.new ≤ length line.old + length before.now + 34 }
-{
-    line.push(before);
-    line.push_hexadecimal(address);
+    let unit = u128::from(width);
+    push_decimal(page, b"<rect x='", (from - u128::from(1024 * row)) * unit);
+    push_decimal(page, b"' y='", u128::from(32 * row));
+    push_decimal(page, b"' width='", (to - from) * unit);
+    push_decimal(page, b"' height='24'><title>object ", u128::from(number));
+    push_hexadecimal(page, b": ", u128::from(span.base));
+    end_with_hexadecimal(page, b"-", span.top, b"</title></rect>");
 }

@@ -3,7 +3,7 @@ ghost use Rattle.std.specs.Prelude.{◌≡◌, ◌<◌, ◌≤◌, ◌+◌, ◌^
 ghost use Rattle.std.specs.Int.{div_ceil};
 ghost use Rattle.cc_bounds.specs.Span.{length_of};
 ghost use Rattle.cc_draw.specs.Drawing.{AreCellsOf, cell_width, end_cell, first_cell, layout_for, row_count};
-ghost use Rattle.cc_explain.specs.Picture.{cell_bytes, cell_count};
+ghost use Rattle.cc_draw.specs.Cells.{cell_bytes, cell_count};
 
 use cc_bounds::Span;
 

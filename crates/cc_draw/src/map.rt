@@ -1,19 +1,29 @@
 //! A map of a pool: a mark for each cell, which says what holds its bytes.
 ghost use Rattle.std.specs.Prelude.{◌≡◌, ◌<◌, ◌≤◌, ◌+◌, ◌^◌, ◌++◌, ◌↔◌, ℕ, List, [], false, true, IfOk, IsErr, IsTrue, OnErr, OnOk, length};
 ghost use Rattle.std.specs.Int.{div_ceil};
-ghost use Rattle.cc_explain.specs.Answer.{WritesAnswer};
+ghost use Rattle.cc_io.specs.CommandOutput.{WritesAnswer};
 ghost use Rattle.cc_draw.specs.Map.{AreMapRows, HoldsByte, IsMap, IsMapOf, IsMapRow, TellsCell, map_row_text};
-ghost use Rattle.cc_explain.specs.Picture.{cell_bytes, cell_count};
+ghost use Rattle.cc_bounds.specs.Span.{SharesByte};
+ghost use Rattle.cc_draw.specs.Cells.{cell_bytes, cell_count};
 
 use crate::usage::pool_span;
 use cc_bounds::Span;
-use cc_explain::{CELLS, Stretch, shares_byte, write_answer};
-use cc_io::{IoError, Line, ROOM, Sink, Summary, Text, end_with_hexadecimal};
+use cc_io::{IoError, Line, MOST_TEXT, Sink, Summary, Text, end_with_hexadecimal, write_and_flush};
 use cc_placer::Placer;
 use cc_plan::{ObjectState, PlannedObject, Planner};
 
 /// The maximum number of cells of a map.
 const MOST_CELLS: u128 = 1024;
+
+/// The number of cells in a row.
+const CELLS: usize = 64;
+
+/// The bytes of a cell, which can lie above the address space.
+#[derive(Clone, Copy)]
+struct Cell {
+    first: u128,
+    end: u128,
+}
 
 /// Writes a map of the planner's pool, and flushes the sink once after it.
 ///
@@ -31,7 +41,7 @@ pub fn show_map<P: Placer, W: Sink>(planner: &Planner<P>, sink: &mut W) -> Resul
 {
     let mut text = Text::new();
     push_map_of_planner(&mut text, planner);
-    match write_answer(&text, sink) {
+    match write_and_flush(&text, sink) {
         Ok(()) => Ok(Summary { any_error: false }),
         Err(error) => Err(error),
     }
@@ -111,7 +121,7 @@ fn push_rows(text: &mut Text, objects: &[PlannedObject], start: u128, size: u128
 /// Appends a row: the address of its first cell, and the marks of its cells.
 fn push_row(text: &mut Text, start: u128, cells: &[u8])
     requires cells { length cells.now ≤ 64 }
-    requires room { length text.old + 120 ≤ ROOM }
+    requires room { length text.old + 120 ≤ MOST_TEXT }
     ensures value { text.new ≡ text.old ++ map_row_text start cells.now }
     ensures fits { length text.new ≤ length text.old + 120 }
 {
@@ -141,7 +151,7 @@ pub fn map_row(objects: &[PlannedObject], start: u128, size: u128) -> [u8; 64]
     let mut row = [b'.'; CELLS];
     for index in 0..CELLS {
         let first = start + index as u128 * size;
-        let cell = Stretch {
+        let cell = Cell {
             first,
             end: first + size,
         };
@@ -151,7 +161,7 @@ pub fn map_row(objects: &[PlannedObject], start: u128, size: u128) -> [u8; 64]
 }
 
 /// Returns the mark of a cell, one of those that [`map_row`] lists.
-fn mark_of(objects: &[PlannedObject], cell: &Stretch) -> u8
+fn mark_of(objects: &[PlannedObject], cell: &Cell) -> u8
     ensures { TellsCell objects.now (record { base = cell.now.first; top = cell.now.end }) result }
 {
     let live = holds_byte(objects, ObjectState::Live, cell);
@@ -165,17 +175,20 @@ fn mark_of(objects: &[PlannedObject], cell: &Stretch) -> u8
 }
 
 /// Returns whether the cell has a byte of an object in this state.
-fn holds_byte(objects: &[PlannedObject], state: ObjectState, cell: &Stretch) -> bool
+fn holds_byte(objects: &[PlannedObject], state: ObjectState, cell: &Cell) -> bool
     ensures { IsTrue result ↔ HoldsByte objects.now state (record { base = cell.now.first; top = cell.now.end }) }
 {
     for object in objects {
-        let bytes = Stretch {
-            first: u128::from(object.span.base),
-            end: object.span.top,
-        };
-        if object.state == state && shares_byte(&bytes, cell) {
+        if object.state == state && shares_byte(&object.span, cell) {
             return true;
         }
     }
     false
+}
+
+/// Returns whether some byte of the span is in the cell.
+fn shares_byte(span: &Span, cell: &Cell) -> bool
+    ensures { IsTrue result ↔ SharesByte span.now (record { base = cell.now.first; top = cell.now.end }) }
+{
+    u128::from(span.base).max(cell.first) < span.top.min(cell.end)
 }

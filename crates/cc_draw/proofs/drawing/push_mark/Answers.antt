@@ -1,16 +1,6 @@
-use Rattle.std.proofs.Common.{refl}
-use Rattle.cc_draw.specs.Drawing.{mark_text}
+use Rattle.std.proofs.Common.{append_assoc}
 use Rattle.cc_draw.proofs.drawing.push_mark.Goals as goal
 
--- The text of the pieces in turn, from the last back to the empty line.
 pub returns-clause-value : goal.returns-clause-value
-unfolding mark_text
 returns-clause-value c =
-    rw (
-      c.push_line.ensures.value,
-      c.push.ensures,
-      c.push_address.ensures.value,
-      c.push_index.ensures.value,
-      c.new-line.ensures,
-      c.from.ensures,
-    ) refl
+    rw (c.end_with_hexadecimal.ensures.value, c.push_decimal.ensures.value, c.from.ensures, c.from-2.ensures) (simp append_assoc)

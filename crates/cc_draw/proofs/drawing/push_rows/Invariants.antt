@@ -4,6 +4,6 @@ use Rattle.cc_draw.proofs.drawing.push_rows.Given as goal
 
 abbrev pub invariant-loop-row : goal.invariant-loop-row
 invariant-loop-row l = record {
-  text : l.text ≡ l.initial.text ++ rows_text l.layout l.row;
-  room : length l.text ≤ 800 + 193 * l.row;
+  text : l.page ≡ l.initial.page ++ rows_text l.layout l.row;
+  room : length l.page ≤ 2500 + 260 * l.row;
 }

@@ -1,6 +1,6 @@
 use Rattle.std.proofs.Common.{◌≡◌, ◌<◌, ℕ, length, slice_index}
 use Rattle.cc_draw.specs.Map.{TellsCell}
-use Rattle.cc_explain.specs.Picture.{cell_of}
+use Rattle.cc_draw.specs.Cells.{cell_of}
 use Rattle.cc_draw.proofs.map.map_row.Given as goal
 
 abbrev pub invariant-loop-index : goal.invariant-loop-index

@@ -2,7 +2,7 @@ use Rattle.std.proofs.Common.{◌≡◌, ◌∙◌, ℕ, ap, refl, subst}
 use Rattle.std.specs.Int.{div_ceil}
 use Rattle.cc_bounds.specs.Span.{length_of}
 use Rattle.cc_draw.specs.Map.{AreMapRows}
-use Rattle.cc_explain.specs.Picture.{cell_bytes, cell_count}
+use Rattle.cc_draw.specs.Cells.{cell_bytes, cell_count}
 use Rattle.cc_draw.proofs.map.push_map.Goals as goal
 
 pub returns : goal.returns

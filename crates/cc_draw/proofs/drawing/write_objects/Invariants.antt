@@ -1,7 +1,7 @@
 use Rattle.std.proofs.Common.{◌≡◌, ◌≤◌, ◌+◌, false, length}
 use Rattle.cc_draw.specs.Drawing.{layer_text}
 use Rattle.cc_draw.proofs.WritingLemmas.{Writing}
-use Rattle.cc_draw.proofs.drawing.write_layer.Given as goal
+use Rattle.cc_draw.proofs.drawing.write_objects.Given as goal
 
 abbrev pub invariant-objects : goal.invariant-objects
 invariant-objects g l = record {
