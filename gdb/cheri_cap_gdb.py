@@ -2,7 +2,8 @@
 
     (gdb) source .../cheri_cap_gdb.py
     (gdb) capdump ADDRESS [COUNT]       the words from an address, 16 bytes each [default: a whole array, or 1]
-    (gdb) capfind ADDRESS [START END] [PERMS]  the words in memory that could be capabilities to an address
+    (gdb) capfind [--unsealed] ADDRESS [START END] [PERMS]
+                                        the words in memory that could be capabilities to an address
     (gdb) capinfo EXPRESSION            the fields and bounds of a value of 16 bytes, or of a struct with one word
     (gdb) capinfo WORD                  the fields and bounds of a word in hexadecimal digits
     (gdb) capprint TYPE                 print values of this type as capabilities, as those of cheri::word are
@@ -33,11 +34,11 @@ from cheri_cap_memory import (  # noqa: E402
     disjoint,
     dumped,
     found,
-    found_everywhere,
     mask_in,
     path_to_word,
     refused_for,
     text_of,
+    without_unsealed,
     word_in,
 )
 
@@ -59,7 +60,7 @@ def evaluate(text):
 def address_of(value):
     """Returns the value as an address, or the address of an array."""
     try:
-        return int(value.address if value.type.strip_typedefs().code == gdb.TYPE_CODE_ARRAY else value)
+        return int(value.address if value.type.strip_typedefs().code == gdb.TYPE_CODE_ARRAY else value) % ADDRESSES
     except gdb.error:
         raise gdb.GdbError("ADDRESS must be a number, a pointer or an array; & before a value gives its address")
 
@@ -202,28 +203,25 @@ holds a capability, and the tag is not read."""
 
 
 class CapFind(gdb.Command):
-    """Find the words that could be capabilities to an address: capfind ADDRESS [START END] [PERMS]
+    """Find the words that could be capabilities to an address: capfind [--unsealed] ADDRESS [START END] [PERMS]
 
 The addresses are numbers, pointers or arrays; quote one that contains spaces. The words from START to below END are
 read, at multiples of 16; without these, those of all mapped memory of the process, of the core file, or of the
 program's file. A word is shown if it is canonical, or a sentry that is canonical once it is unsealed, its bounds
 contain ADDRESS, and it has permissions, among them PERMS: names joined by +, as in LOAD+STORE. So null and integers
-are omitted. The tag of memory is not read."""
+are omitted. (sentry) or (sealed) follows a word that is; --unsealed omits both. The tag of memory is not read."""
 
     def __init__(self):
         super().__init__("capfind", gdb.COMMAND_DATA, gdb.COMPLETE_EXPRESSION)
 
     def invoke(self, argument, from_tty):
-        words = gdb.string_to_argv(argument)
+        words, unsealed = without_unsealed(gdb.string_to_argv(argument))
         if len(words) not in (1, 2, 3, 4):
-            raise gdb.GdbError("usage: capfind ADDRESS [START END] [PERMS]")
-        places = [address_of(evaluate(it)) % ADDRESSES for it in (words[:1] if len(words) < 3 else words[:3])]
+            raise gdb.GdbError("usage: capfind [--unsealed] ADDRESS [START END] [PERMS]")
+        places = [address_of(evaluate(it)) for it in (words[:1] if len(words) < 3 else words[:3])]
         try:
             perms = mask_in(words[-1]) if len(words) in (2, 4) else 0
-            if len(words) < 3:
-                show(found_everywhere(read, byte_order(), *places, mapped(), perms))
-            else:
-                show(found(read, byte_order(), *places, perms, mapped()))
+            show(found(read, byte_order(), mapped(), *places, perms=perms, unsealed=unsealed))
         except Refused as error:
             raise gdb.GdbError(str(error))
 

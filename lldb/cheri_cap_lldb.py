@@ -2,7 +2,8 @@
 
     (lldb) command script import .../cheri_cap_lldb.py
     (lldb) capdump ADDRESS [COUNT]       the words from an address, 16 bytes each [default: a whole array, or 1]
-    (lldb) capfind ADDRESS [START END] [PERMS]  the words in memory that could be capabilities to an address
+    (lldb) capfind [--unsealed] ADDRESS [START END] [PERMS]
+                                         the words in memory that could be capabilities to an address
     (lldb) capinfo EXPRESSION            the fields and bounds of a value of 16 bytes, or of a struct with one word
     (lldb) capinfo WORD                  the fields and bounds of a word in hexadecimal digits
     (lldb) capprint TYPE                 show values of this type as capabilities, as those of cheri::word are
@@ -24,6 +25,7 @@ HERE = os.path.dirname(os.path.realpath(__file__))
 sys.path[1:1] = [HERE, os.path.join(os.path.dirname(HERE), "python")]
 from cheri_cap import Capability  # noqa: E402
 from cheri_cap_memory import (  # noqa: E402
+    ADDRESSES,
     BYTES,
     KNOWN,
     Refused,
@@ -31,11 +33,11 @@ from cheri_cap_memory import (  # noqa: E402
     disjoint,
     dumped,
     found,
-    found_everywhere,
     mask_in,
     path_to_word,
     refused_for,
     text_of,
+    without_unsealed,
     word_in,
 )
 
@@ -77,7 +79,8 @@ def address_of(context, text):
         count = max(value.GetByteSize() // BYTES, 1)
         value = evaluate(context, f"&({text})")
     error = lldb.SBError()
-    address = value.GetValueAsUnsigned(error, 0)
+    is_signed = value.GetType().GetCanonicalType().GetTypeFlags() & lldb.eTypeIsSigned
+    address = value.GetValueAsSigned(error, 0) % ADDRESSES if is_signed else value.GetValueAsUnsigned(error, 0)
     if error.Fail():
         raise Refused("ADDRESS must be a number, a pointer or an array; & before a value gives its address")
     return address, count
@@ -172,23 +175,19 @@ def capdump(debugger, command, context, result, _):
 
 
 def capfind(debugger, command, context, result, _):
-    """Find the words that could be capabilities to an address: capfind ADDRESS [START END] [PERMS]. The words from
+    """Find the words that could be capabilities to an address: capfind [--unsealed] ADDRESS [START END] [PERMS]. The words from
     START to below END are read, at multiples of 16; without these, those of all mapped memory of the process, of the
     core file, or of the program's file. A word is shown if it is canonical, or a sentry that is canonical once it is
     unsealed, its bounds contain ADDRESS, and it has permissions, among them PERMS: names joined by +, as in
-    LOAD+STORE. So null and integers are omitted."""
+    LOAD+STORE. So null and integers are omitted. (sentry) or (sealed) follows a word that is; --unsealed omits both."""
     try:
-        words = shlex.split(command)
+        words, unsealed = without_unsealed(shlex.split(command))
         if len(words) not in (1, 2, 3, 4):
-            raise Refused("usage: capfind ADDRESS [START END] [PERMS]")
+            raise Refused("usage: capfind [--unsealed] ADDRESS [START END] [PERMS]")
         places = [address_of(context, it)[0] for it in (words[:1] if len(words) < 3 else words[:3])]
         perms = mask_in(words[-1]) if len(words) in (2, 4) else 0
         read, order = reader_of(context), order_of(context.GetTarget())
-        if len(words) < 3:
-            lines = found_everywhere(read, order, *places, mapped(context), perms)
-        else:
-            lines = found(read, order, *places, perms, mapped(context))
-        for line in lines:
+        for line in found(read, order, mapped(context), *places, perms=perms, unsealed=unsealed):
             result.AppendMessage(line)
     except Refused as why:
         result.SetError(str(why))

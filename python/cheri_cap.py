@@ -16,8 +16,8 @@ bases, tops, lengths and granules are numbers of bytes. Bounds are [base, top): 
 byte, and may be 2**64. A word carries no tag: the caller must know whether memory holds a capability.
 
 An integer may be of any type that has `__index__`, such as numpy's. `decode_many`, `is_canonical_many`,
-`represents_many` and `find_holding` take the words of a buffer, such as bytes, an array or an array of numpy, and numpy
-reads their results without a copy.
+`represents_many`, `find_capabilities` and `find_holding` take the words of a buffer, such as bytes, an array or an array
+of numpy, and numpy reads their results without a copy. Their results can be pickled.
 
 The results of the library are proved. This module, which calls it, is tested and not proved. It needs Python 3.8 or
 later with no other modules than Python's own, and x86-64 Linux. It searches for the library in this order:
@@ -34,8 +34,10 @@ import os
 import re
 import sys
 from array import array
+from bisect import bisect_right
 from ctypes import POINTER, c_bool, c_char, c_char_p, c_size_t, c_uint8, c_uint16, c_uint32, c_uint64, c_void_p
-from itertools import compress
+from importlib import import_module
+from itertools import accumulate, compress
 from operator import index
 from pathlib import Path
 from typing import (
@@ -43,11 +45,13 @@ from typing import (
     Any,
     Callable,
     Dict,
+    Iterable,
     Iterator,
     List,
     Literal,
     NamedTuple,
     Optional,
+    Protocol,
     Sequence,
     SupportsIndex,
     Tuple,
@@ -60,6 +64,14 @@ from typing import (
 if TYPE_CHECKING:
     from _typeshed import ReadableBuffer
 
+    Uint64s = array[int]
+
+    class NumpyArray(Protocol):
+        """An array of numpy. The annotations of buffers omit it before Python 3.12."""
+
+        @property
+        def __array_interface__(self) -> Dict[str, Any]: ...
+
 __all__ = [
     "DEFECTS",
     "LAST_SEALING",
@@ -70,30 +82,53 @@ __all__ = [
     "VERSION",
     "Bounds",
     "Capability",
+    "Column",
+    "Derived",
     "Excess",
     "Fields",
+    "Found",
     "Granted",
     "ManyBounds",
     "Refusal",
     "Window",
     "alignment_mask",
+    "alignment_mask_many",
+    "and_perms_many",
     "decode_many",
+    "find_capabilities",
     "find_holding",
     "grant",
+    "grant_many",
     "granule",
     "is_canonical_many",
     "lost",
     "mask_of",
     "represents_many",
     "round_length",
+    "round_length_many",
+    "set_bounds_many",
 ]
 
-_Results = TypeVar("_Results")
+_Item = TypeVar("_Item", int, bool)
+
+#: The words of a buffer, or capabilities.
+Words = Union["ReadableBuffer", "NumpyArray", Sequence["Capability"]]
+
+#: One number, or many.
+Numbers = Union[SupportsIndex, Sequence[SupportsIndex], "ReadableBuffer", "NumpyArray"]
+
+#: Permissions: 16 bits, or names that `mask_of` takes.
+Mask = Union[SupportsIndex, str]
+
+#: A base and a length.
+Region = Tuple[SupportsIndex, SupportsIndex]
 
 #: The byte order of memory.
 ByteOrder = Literal["little", "big"]
 
-#: The version of the library that this module calls.
+__version__ = "0.4.0"
+
+#: The version of the library that this module calls. `__version__` is the release of the module.
 VERSION = 1
 
 #: The names of the permissions, beginning with bit 0.
@@ -141,6 +176,8 @@ SENTRY = 0x3FFFE
 LAST_SEALING = 0x3FFEF
 
 _HALF = 2**64 - 1
+_HALF_TEXT = "(?:0[xX])?([0-9a-fA-F]{16})"
+_WORD_TEXT = re.compile(f"(?:0[xX])?([0-9a-fA-F]{{32}})|0[xX]([0-9a-fA-F]{{17,32}})|{_HALF_TEXT}[_:]{_HALF_TEXT}")
 _HINT = "set CHERI_CAP_LIBRARY to its file; `examples/run shared` of a checkout builds it"
 _LINE_SIZE = 96
 _WORD_SIZE = 16
@@ -199,9 +236,23 @@ class _Made(ctypes.Structure):
     _fields_ = [("high", c_uint64), ("low", c_uint64), ("refusal", c_uint8)]
 
 
+class _Query(ctypes.Structure):
+    _fields_ = [
+        ("address", c_uint64),
+        ("perms", c_uint16),
+        ("needs_permission", c_bool),
+        ("needs_address", c_bool),
+        ("needs_tag", c_bool),
+        ("sealed", c_bool),
+        ("sentries", c_bool),
+    ]
+
+
 _WORD: List[Any] = [c_uint64, c_uint64]
 _MEMORY: List[Any] = [c_void_p, c_size_t, c_bool]
 _ANSWERS: List[Any] = [POINTER(c_uint8), c_size_t]
+_NUMBERS: List[Any] = [POINTER(c_uint64), c_size_t]
+_PAIRS: List[Any] = [POINTER(_Halves), c_size_t]
 
 # the functions of the header: the result and the parameters of each
 _CALLS: Dict[str, Tuple[Any, List[Any]]] = {
@@ -236,7 +287,12 @@ _CALLS: Dict[str, Tuple[Any, List[Any]]] = {
     "format": (c_size_t, [*_WORD, c_bool, POINTER(c_char)]),
     "decode_memory": (c_size_t, [*_MEMORY, POINTER(_Bounds), c_size_t]),
     "is_canonical_memory": (c_size_t, [*_MEMORY, *_ANSWERS]),
-    "represents_memory": (c_size_t, [*_MEMORY, POINTER(c_uint64), c_size_t, *_ANSWERS]),
+    "represents_memory": (c_size_t, [*_MEMORY, *_NUMBERS, *_ANSWERS]),
+    "set_bounds_memory": (c_size_t, [*_MEMORY, c_bool, *_PAIRS, c_void_p, c_size_t, *_ANSWERS]),
+    "search_memory": (c_size_t, [*_MEMORY, *_ANSWERS, POINTER(_Query), *_NUMBERS, POINTER(c_size_t)]),
+    "set_bounds_many": (c_size_t, [*_NUMBERS, *_PAIRS, POINTER(_Granted), c_size_t]),
+    "round_length_many": (c_size_t, [*_PAIRS, *_PAIRS]),
+    "alignment_mask_many": (c_size_t, [*_PAIRS, *_NUMBERS]),
 }
 
 
@@ -271,6 +327,13 @@ def _load() -> Dict[str, Callable[..., Any]]:
 
 _calls = _load()
 
+# the upper half of a word whose fields are all zero: its bits are inverted in memory
+_NULL_HIGH = int(_calls["pack"](_Fields()).high)
+# the fields of structured arrays
+_ENDS = [("base", "u8"), ("top", "u8"), ("length", "u8")]
+_ROW = [("address", "u8"), *_ENDS, ("perms", "u2"), ("type", "u4"), ("flag", "?"), ("exponent", "u1")]
+_GRANTS = [*_ENDS, ("exponent", "u1"), ("exact", "?"), ("in_range", "?")]
+
 
 def _integer(number: SupportsIndex, what: str) -> int:
     try:
@@ -279,16 +342,25 @@ def _integer(number: SupportsIndex, what: str) -> int:
         raise TypeError(f"{what} must be an integer, not {type(number).__name__}") from None
 
 
-def _halves(number: SupportsIndex, most: int, what: str) -> Tuple[int, int]:
-    """Returns the two halves of a number from 0 to `most`."""
+def _at_most(number: SupportsIndex, most: int, what: str) -> int:
+    """Returns a number from 0 to `most`."""
     number = _integer(number, what)
     if not 0 <= number <= most:
         raise ValueError(f"{what} must be from 0 to {most:#x}, not {number:#x}")
-    return number >> 64, number & _HALF
+    return number
+
+
+def _halves(number: SupportsIndex, most: int, what: str) -> Tuple[int, int]:
+    """Returns the two halves of a number from 0 to `most`."""
+    return divmod(_at_most(number, most, what), 2**64)
 
 
 def _address(number: SupportsIndex) -> int:
-    return _halves(number, _HALF, "an address")[1]
+    return _at_most(number, _HALF, "an address")
+
+
+def _mask(perms: Mask) -> int:
+    return mask_of(perms) if isinstance(perms, str) else _at_most(perms, 0xFFFF, "a mask")
 
 
 def _length(number: SupportsIndex) -> Tuple[int, int]:
@@ -304,12 +376,17 @@ class Refusal(Exception):
     """The refusal of a derivation: `code`, a number, and `name`, one of `REFUSALS`."""
 
     def __init__(self, code: int):
+        if code not in REFUSALS:
+            raise ValueError(f"a refusal must have one of the codes of REFUSALS, not {code!r}")
         super().__init__(code)
         self.code = code
         self.name = REFUSALS[code]
 
     def __str__(self) -> str:
         return f"{self.code} {self.name}"
+
+    def __repr__(self) -> str:
+        return f"<Refusal {self}>"
 
 
 class Fields(NamedTuple):
@@ -405,17 +482,23 @@ class Capability:
 
     @classmethod
     def parse(cls, text: str) -> "Capability":
-        """Returns the word of 32 hexadecimal digits of either case, and nothing else.
+        """Returns the word of a text: 32 hexadecimal digits of either case, with or without 0x.
+
+        It may also be two halves of 16 digits joined by "_" or ":", high first, or 0x and 17 to 31 digits of a word whose
+        leading zeros are omitted.
 
         Errors: ValueError for any other text."""
-        given = text.encode("utf-8")
+        if not isinstance(text, str):
+            raise TypeError(f"a text must be a str, not {type(text).__name__}")
+        found = _WORD_TEXT.fullmatch(text)
+        given = "".join(it for it in found.groups() if it).zfill(32).encode("ascii") if found else b""
         read = _calls["read_word"](given, len(given))
         if not read.found:
-            raise ValueError(f"a word must be 32 hexadecimal digits, not {text!r}")
+            raise ValueError(f"a word must be 32 hexadecimal digits, or two halves joined by _ or :, not {text!r}")
         return cls(read.high << 64 | read.low)
 
     @classmethod
-    def from_bytes(cls, data: "ReadableBuffer", byteorder: ByteOrder = "little") -> "Capability":
+    def from_bytes(cls, data: Union["ReadableBuffer", "NumpyArray"], byteorder: ByteOrder = "little") -> "Capability":
         """Returns the word of a buffer of 16 bytes, in the byte order of the memory: "little" or "big".
 
         Errors: ValueError for a buffer of another size, or whose items are neither bytes nor integers in that order."""
@@ -558,8 +641,9 @@ class Capability:
         """Returns whether the bounds contain the byte at the address. `ADDRESS in CAPABILITY` says the same."""
         return self.base <= _address(address) < self.top
 
-    def __contains__(self, address: SupportsIndex) -> bool:
-        return self.holds(address)
+    def __contains__(self, part: Union[SupportsIndex, "Capability"]) -> bool:
+        """Returns whether its bounds contain the byte at an address, or whether a capability is a subset of it."""
+        return part.is_subset(self) if isinstance(part, Capability) else self.holds(part)
 
     def representable(self, address: SupportsIndex) -> bool:
         """Returns whether the word with that address decodes to the same bounds.
@@ -606,41 +690,59 @@ class Capability:
         Refusals: canonical; sealed; bounds; inexact."""
         return self._derived("set_bounds_exact_on", *_halves(length, 2**128 - 1, "a length"))
 
-    def and_perms(self, mask: SupportsIndex) -> "Capability":
-        """CAndPerm: returns the capability with only those of its permissions that are also in the mask of 16 bits.
+    def and_perms(self, mask: Mask) -> "Capability":
+        """CAndPerm: returns the capability with only those of its permissions that are also in the mask.
 
-        `mask_of` returns the mask of names.
+        The mask is 16 bits, or names joined by "+" as `mask_of` takes them.
 
         Refusals: canonical; sealed."""
-        return self._derived("and_perms", _halves(mask, 0xFFFF, "a mask")[1])
+        return self._derived("and_perms", _mask(mask))
 
     def set_flag(self, flag: bool) -> "Capability":
         """CSetFlags: returns the capability with this flag.
 
         Refusals: canonical; sealed."""
-        return self._derived("set_flag", bool(flag))
+        return self._derived("set_flag", _flag(flag))
 
     def seal(self, authority: "Capability") -> "Capability":
         """CSeal: returns the capability sealed, with the authority's address as its type.
 
         Refusals: canonical and sealed, of either; permission, bounds and type, of the authority."""
-        return self._derived("seal", *authority._halves())
+        return self._derived("seal", *_capability(authority, "an authority")._halves())
 
     def unseal(self, authority: "Capability") -> "Capability":
         """CUnseal: returns the capability unsealed. GLOBAL stays only if both have it.
 
         Refusals: canonical, of either; unsealed; sealed, permission and bounds, of the authority; mismatch."""
-        return self._derived("unseal", *authority._halves())
+        return self._derived("unseal", *_capability(authority, "an authority")._halves())
 
     def rebuild(self, other: "Capability") -> "Capability":
         """CBuildCap: returns the other word again, if it grants no more than this authority.
 
         Refusals: canonical and sealed, of the authority; canonical and exceeds, of the other."""
-        return self._derived("rebuild", *other._halves())
+        return self._derived("rebuild", *_capability(other, "the other")._halves())
 
     def is_subset(self, outer: "Capability") -> bool:
         """CTestSubset: returns whether all its bytes and permissions are within those of `outer`, for any two words."""
-        return bool(_calls["is_subset"](*self._halves(), *outer._halves()))
+        return bool(_calls["is_subset"](*self._halves(), *_capability(outer, "the outer")._halves()))
+
+    # ---- One field changed, and nothing checked: the word may grant more than before, so it has no tag
+
+    def with_address(self, address: SupportsIndex) -> "Capability":
+        """Returns the word with this address. It may decode to other bounds."""
+        return Capability(self._word >> 64 << 64 | _address(address))
+
+    def with_perms(self, perms: Mask) -> "Capability":
+        """Returns the word with these permissions."""
+        return Capability.from_fields(self.fields._replace(perms=_mask(perms)))
+
+    def with_flag(self, flag: bool) -> "Capability":
+        """Returns the word with this flag."""
+        return Capability.from_fields(self.fields._replace(flag=_flag(flag)))
+
+    def with_type(self, otype: SupportsIndex) -> "Capability":
+        """Returns the word with this type, such as `UNSEALED` or `SENTRY`."""
+        return Capability.from_fields(self.fields._replace(otype=_at_most(otype, UNSEALED, "a type")))
 
     # ---- Strings
 
@@ -717,12 +819,26 @@ class Capability:
         return self._bounds
 
 
-def mask_of(names: str) -> int:
+def _capability(value: Capability, what: str) -> Capability:
+    if not isinstance(value, Capability):
+        raise TypeError(f"{what} must be a Capability, not {type(value).__name__}")
+    return value
+
+
+def _flag(flag: bool) -> bool:
+    if flag not in (False, True):
+        raise TypeError(f"a flag must be a bool, not {flag!r}")
+    return bool(flag)
+
+
+def mask_of(names: Union[str, Iterable[str]]) -> int:
     """Returns the mask of permissions by their names, joined by "+", as in a script. "-" is none of them.
+
+    The names may also be a list.
 
     Errors: ValueError for another name."""
     mask = 0
-    for name in names.split("+") if names != "-" else ():
+    for name in () if names == "-" else names.split("+") if isinstance(names, str) else names:
         if name not in PERMISSIONS:
             raise ValueError(f"{name!r} is not a permission: the names are {', '.join(PERMISSIONS)}")
         mask |= 1 << PERMISSIONS.index(name)
@@ -771,32 +887,93 @@ def alignment_mask(length: SupportsIndex) -> int:
 # ---- Many words
 
 # A buffer of words has 16 bytes for each, one after the other, in the byte order of the memory that it was read from.
-# Its items are bytes, or integers in that byte order, of any shape: bytes, bytearray, memoryview, array.array, mmap, or an
-# array of numpy.
+# Its items are bytes, or integers in that byte order: bytes, bytearray, memoryview, array.array, mmap, or an array of numpy
+# whose last axis is a multiple of 16 bytes. Lists and other collections of capabilities are taken too.
 
 
-class ManyBounds(Sequence[Bounds]):
+def _numpy() -> Any:
+    return import_module("numpy")
+
+
+class Column(Sequence[_Item]):
+    """Numbers or bools, one for each word. numpy.asarray(COLUMN) is an array over the same memory.
+
+    It can be pickled, which copies it, and compared with ==."""
+
+    __slots__ = ("view",)
+
+    #: the memoryview, of the format "Q", "B" or "?"
+    view: memoryview
+
+    def __init__(self, view: memoryview):
+        self.view = view
+
+    def __len__(self) -> int:
+        return len(self.view)
+
+    @overload
+    def __getitem__(self, position: int) -> _Item: ...
+
+    @overload
+    def __getitem__(self, position: slice) -> "Column[_Item]": ...
+
+    def __getitem__(self, position: Union[int, slice]) -> Union[_Item, "Column[_Item]"]:
+        if isinstance(position, slice):
+            return Column(self.view[position])
+        item: Any = self.view[position]
+        return item  # type: ignore[no-any-return]
+
+    def __iter__(self) -> Iterator[_Item]:
+        items: Iterator[Any] = iter(self.view)
+        return items
+
+    def __eq__(self, other: object) -> bool:
+        return isinstance(other, Column) and bool(self.view == other.view)
+
+    def tolist(self) -> List[_Item]:
+        """Returns the numbers as a list."""
+        items: List[Any] = self.view.tolist()
+        return items
+
+    def __array__(self, *how: object, **named: object) -> Any:
+        return _numpy().asarray(self.view, *how, **named)
+
+    def __reduce__(self) -> Tuple[Any, Tuple[bytes, str]]:
+        return _column_of, (self.view.tobytes(), self.view.format)
+
+    def __repr__(self) -> str:
+        return f"<Column of {len(self):,}: {', '.join(map(str, self.view[:3].tolist()))}{', ..' if len(self) > 3 else ''}>"
+
+
+def _column_of(data: Any, kind: str) -> "Column[Any]":
+    return Column(memoryview(data).cast("B").cast(kind))
+
+
+class ManyBounds:
     """The bounds of many words: a sequence of `Bounds`, in the order of the words.
 
-    The columns are memoryviews, and numpy.asarray(BOUNDS.base) is an array over the same memory. The last address of a
-    word is top_low - 1 modulo 2**64, and a top of 2**64 has top_high 1 and top_low 0."""
+    `array()` is a structured array of numpy of the words and their bounds. The last address of a word is top_low - 1 modulo
+    2**64, and a top of 2**64 has top_high 1 and top_low 0."""
 
-    __slots__ = ("base", "top_high", "top_low", "exponent")
+    # not a Sequence: of one, pandas reads the bounds of one word after the other, which takes seconds for a million
+
+    __slots__ = ("base", "top_high", "top_low", "exponent", "_results", "_words", "_byteorder")
 
     #: the bases, 64 bits each
-    base: memoryview
+    base: Column[int]
     #: the tops divided by 2**64: 0 or 1, 64 bits each
-    top_high: memoryview
+    top_high: Column[int]
     #: the tops modulo 2**64, 64 bits each
-    top_low: memoryview
+    top_low: Column[int]
     #: the exponents, a byte each
-    exponent: memoryview
+    exponent: Column[int]
 
-    def __init__(self, results: "array[int]"):
+    def __init__(self, results: "Uint64s", words: bytes, byteorder: ByteOrder):
+        self._results, self._words, self._byteorder = results, words, byteorder
         numbers = memoryview(results)
-        self.base, self.top_high, self.top_low = numbers[0::4], numbers[1::4], numbers[2::4]
+        self.base, self.top_high, self.top_low = Column(numbers[0::4]), Column(numbers[1::4]), Column(numbers[2::4])
         # the struct's byte after its numbers
-        self.exponent = numbers.cast("B")[24::32]
+        self.exponent = Column(numbers.cast("B")[24::32])
 
     def __len__(self) -> int:
         return len(self.base)
@@ -813,9 +990,96 @@ class ManyBounds(Sequence[Bounds]):
         top = self.top_high[position] << 64 | self.top_low[position]
         return Bounds(self.base[position], top, self.exponent[position])
 
-    def __array__(self, *_arguments: object, **_named: object) -> object:
-        """Raises TypeError: numpy would read the bounds of one word after the other, which takes minutes for millions."""
-        raise TypeError("pass one column, such as numpy.asarray(BOUNDS.base)")
+    def __iter__(self) -> Iterator[Bounds]:
+        return (self[it] for it in range(len(self)))
+
+    def array(self) -> Any:
+        """Returns a structured array of numpy, with a row for each word, which pandas.DataFrame takes.
+
+        Its fields are address, base, top, length, perms, type, flag and exponent. A top of 2**64 is 0, and a length of
+        2**64 is 2**64 - 1, which no canonical word has. The length is 0 if the top is below the base."""
+        return self._filled(_numpy().empty(len(self), _ROW))
+
+    def _filled(self, rows: Any) -> Any:
+        """Returns a structured array, with the fields of `array` filled in."""
+        uint64 = _numpy().uint64
+        for start, count, piece in _pieces(memoryview(self._words)):
+            part, here = rows[start : start + count], slice(start, start + count)
+            part["address"], high = _halves_in(piece, self._byteorder)
+            layout = high ^ uint64(_NULL_HIGH)
+            part["perms"], part["flag"] = high >> uint64(48), layout >> uint64(45) & uint64(1)
+            part["type"] = layout >> uint64(27) & uint64(UNSEALED)
+            _fill_ends(part, self.base[here], self.top_high[here], self.top_low[here])
+            part["exponent"] = self.exponent[here]
+        return rows
+
+    def __array__(self, *_how: object, **_named: object) -> Any:
+        """Raises TypeError: numpy and pandas would read the bounds of one word after the other."""
+        raise TypeError("BOUNDS.array() is an array of the bounds, and pandas.DataFrame(BOUNDS.array()) a frame")
+
+    def __reduce__(self) -> Tuple[Type["ManyBounds"], Tuple["Uint64s", bytes, ByteOrder]]:
+        return ManyBounds, (self._results, self._words, self._byteorder)
+
+    def __repr__(self) -> str:
+        return f"<ManyBounds of {len(self):,} words>"
+
+
+class Found(Sequence[Tuple[int, Capability]]):
+    """The words that `find_capabilities` found: a sequence of their positions, each with its word."""
+
+    __slots__ = ("positions", "words", "byteorder")
+
+    #: the positions, in increasing order. The word at position N begins at byte 16 * N
+    positions: Column[int]
+    #: their words, 16 bytes each, in the byte order of the memory
+    words: bytes
+    byteorder: ByteOrder
+
+    def __init__(self, positions: Column[int], words: bytes, byteorder: ByteOrder):
+        self.positions, self.words, self.byteorder = positions, words, byteorder
+
+    def __len__(self) -> int:
+        return len(self.positions)
+
+    @overload
+    def __getitem__(self, position: int) -> Tuple[int, Capability]: ...
+
+    @overload
+    def __getitem__(self, position: slice) -> List[Tuple[int, Capability]]: ...
+
+    def __getitem__(self, position: Union[int, slice]) -> Union[Tuple[int, Capability], List[Tuple[int, Capability]]]:
+        if isinstance(position, slice):
+            return [self[it] for it in range(*position.indices(len(self)))]
+        at = range(len(self))[position] * _WORD_SIZE
+        return self.positions[position], Capability.from_bytes(self.words[at : at + _WORD_SIZE], self.byteorder)
+
+    def bounds(self) -> ManyBounds:
+        """Returns the bounds of the words found."""
+        return decode_many(self.words, self.byteorder)
+
+    def array(self) -> Any:
+        """Returns the structured array of the bounds, after a field `position`."""
+        rows = _numpy().zeros(len(self), [("position", "u8"), *_ROW])
+        rows["position"] = self.positions
+        return self.bounds()._filled(rows)
+
+    def __eq__(self, other: object) -> bool:
+        return isinstance(other, Found) and self.__reduce__() == other.__reduce__()
+
+    def __reduce__(self) -> Tuple[Type["Found"], Tuple[Column[int], bytes, ByteOrder]]:
+        return Found, (self.positions, self.words, self.byteorder)
+
+    def __repr__(self) -> str:
+        return f"<Found: {len(self):,} words>"
+
+
+class Derived(NamedTuple):
+    """The words that a rule derives from many, and its refusals."""
+
+    #: the words, 16 bytes each, in the byte order of the memory; null if it refused
+    words: bytes
+    #: 0, or a code of `REFUSALS`, for each word
+    refusals: Column[int]
 
 
 # The marks of a byte order in a buffer's format.
@@ -834,21 +1098,48 @@ def _is_memory(kind: str, byteorder: str) -> bool:
     return True
 
 
-def _memory_of(data: "ReadableBuffer", byteorder: str) -> memoryview:
+def _buffer(data: Any, what: str) -> memoryview:
+    """Returns the memory of a buffer, a column, or a series of pandas."""
+    if isinstance(data, Column):
+        return data.view
+    try:
+        return memoryview(data)
+    except TypeError:
+        pass
+    try:
+        return memoryview(data.__array__())
+    except (AttributeError, TypeError):
+        raise TypeError(f"{what}, not {type(data).__name__}") from None
+
+
+def _view_of(data: Words, byteorder: ByteOrder) -> memoryview:
+    """Returns the buffer of words, or the bytes of a collection of capabilities."""
+    words: Any = data
+    is_list = isinstance(data, (list, tuple))
+    if (is_list or hasattr(data, "dtype") and data.dtype == object) and all(isinstance(it, Capability) for it in words):
+        return memoryview(b"".join(it.to_bytes(byteorder) for it in words))
+    return _buffer(data, "words must be a buffer, such as bytes or an array of numpy, or a list of Capability")
+
+
+def _memory_of(data: Words, byteorder: ByteOrder) -> memoryview:
     """Returns the bytes of a buffer of words, copied if they are not contiguous or if its items are structs."""
     if byteorder not in ("little", "big"):
         raise ValueError(f"byteorder must be 'little' or 'big', not {byteorder!r}")
-    view = memoryview(data)
+    view = _view_of(data, byteorder)
     if not _is_memory(view.format, byteorder):
         what = f"bytes, or integers in the byte order {byteorder!r}"
         raise ValueError(f"words must be {what}, not of format {view.format!r}; bytes(WORDS) has their bytes")
+    if view.ndim == 1 and 1 < view.itemsize < _WORD_SIZE and not view.contiguous:
+        raise ValueError("words must be 16 bytes that follow one another; one column of an array skips the others")
+    if view.shape and view.ndim > 1 and view.itemsize * view.shape[-1] % _WORD_SIZE:
+        raise ValueError(f"the last axis of words must have a multiple of 16 bytes; their shape is {view.shape}")
     try:
         return view.cast("B")
     except TypeError:
         return memoryview(view.tobytes())
 
 
-def _words_of(data: "ReadableBuffer", byteorder: str) -> memoryview:
+def _words_of(data: Words, byteorder: ByteOrder) -> memoryview:
     """Returns the bytes of a buffer of words, 16 for each."""
     memory = _memory_of(data, byteorder)
     if memory.nbytes % _WORD_SIZE:
@@ -863,142 +1154,312 @@ def _pieces(memory: memoryview) -> Iterator[Tuple[int, int, bytes]]:
         yield start, len(piece) // _WORD_SIZE, piece
 
 
-def _decode_into(results: "array[int]", start: int, count: int, piece: bytes, big: bool) -> None:
-    """Writes the bounds of a piece of words, as structs of the header, from a position on."""
-    bounds = (_Bounds * count).from_buffer(results, start * ctypes.sizeof(_Bounds))
-    _calls["decode_memory"](piece, count, big, bounds, count)
-
-
-def _is_canonical_into(results: bytearray, start: int, count: int, piece: bytes, big: bool) -> None:
-    answers = (c_uint8 * count).from_buffer(results, start)
-    _calls["is_canonical_memory"](piece, count, big, answers, count)
-
-
-def _empty_bounds(count: int) -> "array[int]":
-    return array("Q", bytes(ctypes.sizeof(_Bounds))) * count
-
-
-def _filled(
-    words: "ReadableBuffer",
-    byteorder: ByteOrder,
-    empty: Callable[[int], _Results],
-    fill: Callable[[_Results, int, int, bytes, bool], None],
-) -> _Results:
-    """Returns the results for the words of a buffer: those of `empty`, into which `fill` writes piece by piece."""
-    memory = _words_of(words, byteorder)
-    results = empty(memory.nbytes // _WORD_SIZE)
-    for start, count, piece in _pieces(memory):
-        fill(results, start, count, piece, byteorder == "big")
-    return results
-
-
-def decode_many(words: "ReadableBuffer", byteorder: ByteOrder = "little") -> ManyBounds:
+def decode_many(words: Words, byteorder: ByteOrder = "little") -> ManyBounds:
     """Returns the bounds of each word of a buffer, canonical or not.
 
     Errors: ValueError for a buffer whose size is not a multiple of 16 bytes, or whose items are neither bytes nor
     integers in that byte order."""
-    return ManyBounds(_filled(words, byteorder, _empty_bounds, _decode_into))
+    memory = _words_of(words, byteorder)
+    results = array("Q", bytes(ctypes.sizeof(_Bounds))) * (memory.nbytes // _WORD_SIZE)
+    for start, count, piece in _pieces(memory):
+        bounds = (_Bounds * count).from_buffer(results, start * ctypes.sizeof(_Bounds))
+        _calls["decode_memory"](piece, count, byteorder == "big", bounds, count)
+    return ManyBounds(results, words if isinstance(words, bytes) else memory.tobytes(), byteorder)
 
 
-def is_canonical_many(words: "ReadableBuffer", byteorder: ByteOrder = "little") -> memoryview:
-    """Returns whether each word of a buffer is canonical: a memoryview of bools, which numpy takes as a mask.
+def is_canonical_many(words: Words, byteorder: ByteOrder = "little") -> Column[bool]:
+    """Returns whether each word of a buffer is canonical: a column of bools, which numpy takes as a mask.
 
     Errors: ValueError for a buffer whose size is not a multiple of 16 bytes, or whose items are neither bytes nor
     integers in that byte order."""
-    return memoryview(_filled(words, byteorder, bytearray, _is_canonical_into)).cast("?")
+    memory = _words_of(words, byteorder)
+    results = bytearray(memory.nbytes // _WORD_SIZE)
+    for start, count, piece in _pieces(memory):
+        answers = (c_uint8 * count).from_buffer(results, start)
+        _calls["is_canonical_memory"](piece, count, byteorder == "big", answers, count)
+    return _column_of(results, "?")
 
 
-def represents_many(
-    words: "ReadableBuffer", addresses: Union["ReadableBuffer", SupportsIndex], byteorder: ByteOrder = "little"
-) -> memoryview:
-    """Returns whether each word of a buffer is representable with its address: a memoryview of bools.
+def represents_many(words: Words, addresses: Numbers, byteorder: ByteOrder = "little") -> Column[bool]:
+    """Returns whether each word of a buffer is representable with its address: a column of bools.
 
-    `addresses` is one address for all words, or a buffer of an unsigned 64-bit number for each, in the order of this
-    machine, such as array("Q") or an array of numpy.uint64.
+    `addresses` is one address for all words, or an array or a list with one for each.
 
     Errors: ValueError for a buffer whose size is not a multiple of 16 bytes, or whose items are neither bytes nor
     integers in that byte order, and for another number of addresses."""
     memory = _words_of(words, byteorder)
-    count = memory.nbytes // _WORD_SIZE
-    given = _addresses_of(addresses, count)
-    results = bytearray(count)
-    for start, size, piece in _pieces(memory):
-        at = (c_uint64 * size).from_buffer(given, start * ctypes.sizeof(c_uint64))
-        answers = (c_uint8 * size).from_buffer(results, start)
-        _calls["represents_memory"](piece, size, byteorder == "big", at, size, answers, size)
-    return memoryview(results).cast("?")
+    results = bytearray(memory.nbytes // _WORD_SIZE)
+    given = _repeated(_numbers(addresses, _HALF, "an address"), len(results), "an address")
+    for start, count, piece in _pieces(memory):
+        at = (c_uint64 * count).from_buffer(given, start * ctypes.sizeof(c_uint64))
+        answers = (c_uint8 * count).from_buffer(results, start)
+        _calls["represents_memory"](piece, count, byteorder == "big", at, count, answers, count)
+    return _column_of(results, "?")
 
 
-def _addresses_of(addresses: Union["ReadableBuffer", SupportsIndex], count: int) -> "array[int]":
-    """Returns `count` addresses: those given, or the one given."""
-    try:
-        # first, since a number of numpy is a buffer too
-        return array("Q", [_address(addresses)]) * count  # type: ignore[arg-type]
-    except TypeError:
-        view = memoryview(addresses)  # type: ignore[arg-type]
-    if view.itemsize != 8 or view.format[-1:] not in tuple("QLN") or _ORDERS.get(view.format[:-1] or "@") != sys.byteorder:
-        raise ValueError(f"addresses must be unsigned 64-bit numbers of this machine, not of format {view.format!r}")
-    if view.nbytes != 8 * count:
-        raise ValueError(f"each of {count} words must have an address, not {view.nbytes // 8} of them")
-    return array("Q", view.tobytes())
+def set_bounds_many(words: Words, lengths: Numbers, byteorder: ByteOrder = "little", *, exact: bool = False) -> Derived:
+    """CSetBounds or, if `exact`, CSetBoundsExact: derives from each word of a buffer the bounds of a length from its address.
+
+    `lengths` is one length for all words, or an array or a list with one for each."""
+    memory = _words_of(words, byteorder)
+    made, refusals = bytearray(memory.nbytes), bytearray(memory.nbytes // _WORD_SIZE)
+    pairs = _pairs(_numbers(lengths, 2**128 - 1, "a length"), len(refusals), "a length")
+    for start, count, piece in _pieces(memory):
+        sizes = (_Halves * count).from_buffer(pairs, start * _WORD_SIZE)
+        into = (c_uint8 * len(piece)).from_buffer(made, start * _WORD_SIZE)
+        answers = (c_uint8 * count).from_buffer(refusals, start)
+        given = piece, count, byteorder == "big", exact, sizes, count
+        _calls["set_bounds_memory"](*given, into, count, answers, count)
+    return Derived(bytes(made), _column_of(refusals, "B"))
+
+
+def and_perms_many(words: Words, masks: Union[Numbers, str], byteorder: ByteOrder = "little") -> Derived:
+    """CAndPerm: derives from each word of a buffer one with those of its permissions that are also in a mask.
+
+    `masks` is one mask for all words, also as names, or an array or a list with one for each. It needs numpy."""
+    numpy = _numpy()
+    memory = _words_of(words, byteorder)
+    refusals = numpy.zeros(memory.nbytes // _WORD_SIZE, "u1")
+    wanted = _numbers(mask_of(masks) if isinstance(masks, str) else masks, 0xFFFF, "a mask")
+    kept = numpy.array(_repeated(wanted, len(refusals), "a mask"), "u8") << numpy.uint64(48)
+    made = bytearray(memory.nbytes)
+    for start, count, piece in _pieces(memory):
+        low, high = _halves_in(piece, byteorder)
+        here = slice(start, start + count)
+        is_sealed = high >> numpy.uint64(27) & numpy.uint64(UNSEALED) != 0
+        refusals[here] = numpy.where(is_canonical_many(piece, byteorder), numpy.where(is_sealed, 7, 0), 15)
+        is_made = refusals[here] == 0
+        new_low, new_high = _halves_in(memoryview(made)[start * _WORD_SIZE :][: len(piece)], byteorder)
+        new_low[:] = numpy.where(is_made, low, 0)
+        new_high[:] = numpy.where(is_made, high & (kept[here] | numpy.uint64(2**48 - 1)), 0)
+    return Derived(bytes(made), _column_of(refusals.tobytes(), "B"))
+
+
+def _halves_in(memory: Any, byteorder: ByteOrder) -> Tuple[Any, Any]:
+    """Returns the low and the high halves of words, arrays of numpy."""
+    halves = _numpy().frombuffer(memory, "<u8" if byteorder == "little" else ">u8").reshape(-1, 2)
+    return (halves[:, 0], halves[:, 1]) if byteorder == "little" else (halves[:, 1], halves[:, 0])
+
+
+def _fill_ends(rows: Any, base: Any, top_high: Any, top_low: Any) -> None:
+    """Writes the fields base, top and length of a structured array."""
+    numpy = _numpy()
+    base, low, is_above = numpy.asarray(base), numpy.asarray(top_low), numpy.asarray(top_high) != 0
+    rows["base"], rows["top"], rows["length"] = base, low, low - base
+    rows["length"][is_above & (low >= base)] = _HALF
+    rows["length"][~is_above & (low < base)] = 0
+
+
+# ---- Searches
+
+
+def find_capabilities(
+    words: Words,
+    *,
+    tags: Union["ReadableBuffer", "NumpyArray", Sequence[bool], None] = None,
+    sentries: bool = True,
+    unsealed: bool = False,
+    within: Union[Region, Sequence[Region], None] = None,
+    holds: Optional[SupportsIndex] = None,
+    perms: Mask = 0,
+    byteorder: ByteOrder = "little",
+) -> Found:
+    """Returns the words of a buffer that could be capabilities: those that are canonical, and sentries.
+
+    A sentry could be a capability if it is canonical with the type `UNSEALED` in place of its own. Without tags, a word
+    must also have a permission: null, and every integer below 2**64, is a canonical word whose bounds contain each
+    address, but it has none. Other bytes can be canonical by chance: of random words, 22 in 100 are.
+
+    `tags` has a byte of 0 or 1 for each word, or a bit, the lowest of a byte first. Only tagged words are found.
+    `sentries` says whether sentries are found. If `unsealed`, no sealed words are, and no sentries.
+    `within` is a region (BASE, LENGTH), or a list of them: the bounds must lie in one of them.
+    `holds` is an address that the bounds must contain.
+    `perms` is a mask, or names joined by "+": a word must have all of these permissions.
+
+    Errors: ValueError for a buffer whose size is not a multiple of 16 bytes, or whose items are neither bytes nor
+    integers in that byte order, and for another number of tags."""
+    memory = _words_of(words, byteorder)
+    is_tagged, bits = tags is not None, _tag_bits(tags, memory.nbytes // _WORD_SIZE)
+    address = 0 if holds is None else _address(holds)
+    kinds = not unsealed, sentries and not unsealed
+    query = _Query(address, _mask(perms), not is_tagged, holds is not None, is_tagged, *kinds)
+    regions = None if within is None else _Regions(within)
+    positions, found = array("Q"), []
+    room, after = (c_uint64 * _PIECE)(), c_size_t()
+    for start, count, piece in _pieces(memory):
+        size = (count + 7) // 8 if is_tagged else 0
+        tagged = (c_uint8 * (size or 1)).from_buffer(bits, start // 8 if is_tagged else 0)
+        given = piece, count, byteorder == "big", tagged, size, query
+        chosen = room[: _calls["search_memory"](*given, room, _PIECE, after)]
+        here = _words_at(piece, chosen)
+        if here and regions:
+            kept = regions.hold(decode_many(here, byteorder))
+            here = _words_at(here, list(compress(range(len(kept)), kept)))
+            chosen = list(compress(chosen, kept))
+        positions.extend([start + it for it in chosen])
+        found.append(here)
+    return Found(Column(memoryview(positions)), b"".join(found), byteorder)
+
+
+def _words_at(words: bytes, positions: List[int]) -> bytes:
+    """Returns the words at positions, by numpy if the program has imported it."""
+    if positions and "numpy" in sys.modules:
+        taken: bytes = _numpy().frombuffer(words, "V16")[positions].tobytes()
+        return taken
+    return b"".join([words[_WORD_SIZE * it : _WORD_SIZE * it + _WORD_SIZE] for it in positions])
 
 
 def find_holding(
-    words: "ReadableBuffer",
+    words: Words,
     address: SupportsIndex,
-    perms: SupportsIndex = 0,
+    perms: Mask = 0,
     byteorder: ByteOrder = "little",
-    sentries: bool = False,
+    sentries: bool = True,
+    unsealed: bool = False,
 ) -> List[int]:
     """Returns the positions of the words of a buffer that could be capabilities to the byte at an address.
 
-    These words are canonical, their bounds contain the address, and they have at least one permission and all of the
-    mask `perms`, which `mask_of` makes from names. Null, and every integer below 2**64, is a canonical word whose
-    bounds contain each address, but it has no permission. The word at position N begins at byte 16 * N.
-
-    If `sentries`, a sentry is one of them if it would be after it is unsealed, as a return address of CheriBSD is.
-
-    Errors: ValueError for a buffer whose size is not a multiple of 16 bytes, or whose items are neither bytes nor
-    integers in that byte order."""
-    at, mask = _address(address), _halves(perms, 0xFFFF, "a mask")[1]
-    bounds, canonical = _empty_bounds(_PIECE), bytearray(_PIECE)
-    found: List[int] = []
-    for start, count, piece in _pieces(_words_of(words, byteorder)):
-        plain = _without_sentries(piece, byteorder) if sentries else piece
-        _is_canonical_into(canonical, 0, count, plain, byteorder == "big")
-        held = _perms_in(piece, byteorder)
-        likely = [i for i in compress(range(count), canonical) if held[i] and held[i] & mask == mask]
-        if likely:
-            _decode_into(bounds, 0, count, piece, byteorder == "big")
-        for i in likely:
-            if bounds[4 * i] <= at and (bounds[4 * i + 1] or at < bounds[4 * i + 2]):
-                found.append(start + i)
-    return found
+    They are those that `find_capabilities` finds with `holds=address`."""
+    how: Any = {"holds": address, "perms": perms, "byteorder": byteorder, "sentries": sentries, "unsealed": unsealed}
+    return find_capabilities(words, **how).positions.tolist()
 
 
-# For the bytes with bits 24 to 47 of an upper half, which have the type at 27 to 44: 1 if a sentry has these bits.
-_TYPE_OF_SENTRY = [
-    bytes(it & 0xF8 == 0x08 for it in range(256)),
-    bytes(it == 0 for it in range(256)),
-    bytes(it & 0x1F == 0 for it in range(256)),
-]
+class _Regions:
+    """Regions, in the order of their bases."""
+
+    def __init__(self, within: Any):
+        pairs = [within] if len(within) == 2 and hasattr(within[0], "__index__") else within
+        ends = sorted((_address(base), index(base) + _at_most(length, 2**64, "a length")) for base, length in pairs)
+        self.bases = [base for base, _ in ends]
+        # the highest end of the first regions: bounds from a base on lie in one of these if they end there or below
+        highest: Iterator[int] = accumulate((end for _, end in ends), max)
+        self.highest = [-1, *highest]
+
+    def hold(self, bounds: ManyBounds) -> List[bool]:
+        """Returns whether each of the bounds lies in a region."""
+        tops = zip(bounds.base, bounds.top_high, bounds.top_low)
+        return [high << 64 | low <= self.highest[bisect_right(self.bases, base)] for base, high, low in tops]
 
 
-def _without_sentries(piece: bytes, byteorder: ByteOrder) -> bytes:
-    """Returns a piece with each sentry unsealed. In memory the type of a sentry is 1, and that of an unsealed word 0."""
-    places = (11, 12, 13) if byteorder == "little" else (4, 3, 2)
-    marks = (int.from_bytes(piece[at::16].translate(table), "big") for at, table in zip(places, _TYPE_OF_SENTRY))
-    sentries = next(marks) & next(marks) & next(marks)
-    if not sentries:
-        return piece
-    plain, lowest = bytearray(piece), piece[places[0] :: 16]
-    plain[places[0] :: 16] = (int.from_bytes(lowest, "big") ^ sentries << 3).to_bytes(len(lowest), "big")
-    return bytes(plain)
+# the digits of bytes of 0 and 1
+_DIGITS = bytes.maketrans(b"\0\1", b"01")
 
 
-def _perms_in(piece: bytes, byteorder: str) -> "array[int]":
-    """Returns the permissions of each word of a piece: its highest 16 bits."""
-    perms = array("H", piece)[7 if byteorder == "little" else 0 :: 8]
-    if byteorder != sys.byteorder:
-        perms.byteswap()
-    return perms
+def _tag_bits(tags: Any, count: int) -> bytearray:
+    """Returns a bit for each of `count` words, the lowest of a byte first, and a byte more."""
+    if tags is None:
+        return bytearray(1)
+    view = _buffer(bytes(map(_flag, tags)) if isinstance(tags, (list, tuple)) else tags, "tags must be a buffer or a list of bools")
+    data, size = view.tobytes(), (count + 7) // 8
+    if view.itemsize == 1 and len(data) == count and not data.translate(None, b"\0\1"):
+        # binary digits, the last word first
+        return bytearray(int(b"0" + data[::-1].translate(_DIGITS), 2).to_bytes(size + 1, "little"))
+    if view.itemsize == 1 and len(data) == size:
+        return bytearray(data + b"\0")
+    raise ValueError(f"tags must be a byte of 0 or 1, or a bit, for each of {count} words, not {len(data)} bytes")
+
+
+# ---- Many numbers
+
+
+def grant_many(bases: Numbers, lengths: Numbers) -> Any:
+    """Returns the bounds that each request is granted, as `grant` does: a structured array of numpy, which it needs.
+
+    Its fields are base, top, length, exponent, exact and in_range. A top of 2**64 is 0, and a length of 2**64 is
+    2**64 - 1. All fields are 0 for a request that ends above 2**64."""
+    numpy = _numpy()
+    base, length = _numbers(bases, _HALF, "a base"), _numbers(lengths, 2**64, "a length")
+    count = _size(length if isinstance(base, int) else base)
+    at, pairs = _repeated(base, count, "a base"), _pairs(length, count, "a length")
+    rows = numpy.zeros(count, _GRANTS)
+    if count:
+        results, sizes = (_Granted * count)(), (_Halves * count).from_buffer(pairs)
+        _calls["set_bounds_many"]((c_uint64 * count).from_buffer(at), count, sizes, count, results, count)
+        granted = numpy.ctypeslib.as_array(results)
+        _fill_ends(rows, granted["base"], granted["top_high"], granted["top_low"])
+        for name in "exponent", "exact", "in_range":
+            rows[name] = granted[name]
+    return rows
+
+
+def round_length_many(lengths: Numbers) -> Column[int]:
+    """CRRL: returns the representable length of each length, 2**64 - 1 for 2**64, which a column cannot have."""
+    rounded = _of_lengths("round_length_many", lengths, 2)
+    low = rounded[1::2]
+    for position in compress(range(len(low)), rounded[0::2]):
+        low[position] = _HALF
+    return Column(memoryview(low))
+
+
+def alignment_mask_many(lengths: Numbers) -> Column[int]:
+    """CRAM: returns the representable alignment mask of each length."""
+    return Column(memoryview(_of_lengths("alignment_mask_many", lengths, 1)))
+
+
+def _of_lengths(call: str, lengths: Numbers, halves: int) -> "Uint64s":
+    """Returns the results of a call for lengths: so many halves for each."""
+    numbers = _numbers(lengths, 2**64, "a length")
+    count = _size(numbers)
+    pairs, results = _pairs(numbers, count, "a length"), array("Q", bytes(8 * halves)) * count
+    if count:
+        kind: Any = c_uint64 if halves == 1 else _Halves
+        _calls[call]((_Halves * count).from_buffer(pairs), count, (kind * count).from_buffer(results), count)
+    return results
+
+
+def _numbers(given: Numbers, most: int, what: str) -> Union[int, Sequence[int]]:
+    """Returns the number given, or the numbers, each from 0 to `most`."""
+    try:
+        # first, since a number of numpy is a buffer too
+        number = index(given)  # type: ignore[arg-type]
+    except TypeError:
+        pass
+    else:
+        return _at_most(number, most, what)
+    numbers: Any = given
+    if not isinstance(given, (list, tuple, range)):
+        view = _buffer(given, f"{what} must be an integer, or be one of many in a list or an array")
+        if view.ndim != 1:
+            raise ValueError(f"{what} must be one of many in one row; their shape is {view.shape}")
+        kind, order = view.format[-1:], _ORDERS.get(view.format[:-1] or "@")
+        if kind in tuple("QLN") and view.itemsize == 8:
+            numbers = array("Q", view.tobytes())
+            if order != sys.byteorder:
+                numbers.byteswap()
+        elif view.format in tuple("?bBhHiIlLqQnN"):
+            numbers = view.tolist()
+        else:
+            raise TypeError(f"{what} must be an integer, not of format {view.format!r}")
+    try:
+        many = array("Q", numbers)
+    except (OverflowError, TypeError):
+        return [_at_most(it, most, what) for it in numbers]
+    if many and most < _HALF:
+        _at_most(max(many), most, what)
+    return many
+
+
+def _size(numbers: Union[int, Sequence[int]]) -> int:
+    return 1 if isinstance(numbers, int) else len(numbers)
+
+
+def _repeated(numbers: Union[int, Sequence[int]], count: int, what: str) -> "Uint64s":
+    """Returns `count` numbers of 64 bits: those given, or the one given."""
+    many = array("Q", [numbers]) * count if isinstance(numbers, int) else numbers
+    if len(many) != count:
+        raise ValueError(f"each of {count} must have {what}, not {len(many)} of them")
+    return many if isinstance(many, array) else array("Q", many)
+
+
+def _pairs(numbers: Union[int, Sequence[int]], count: int, what: str) -> "Uint64s":
+    """Returns the two halves of `count` numbers, the high one first."""
+    if isinstance(numbers, array):
+        high, low = array("Q", bytes(8)) * count, _repeated(numbers, count, what)
+    elif isinstance(numbers, int):
+        high, low = (_repeated(it, count, what) for it in divmod(numbers, 2**64))
+    else:
+        low = _repeated([it & _HALF for it in numbers], count, what)
+        high = array("Q", [it >> 64 for it in numbers])
+    pairs = array("Q", bytes(_WORD_SIZE)) * count
+    pairs[0::2], pairs[1::2] = high, low
+    return pairs

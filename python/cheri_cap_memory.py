@@ -4,25 +4,22 @@ A `read` function takes an address and a size in bytes, and returns that many by
 read in blocks. If a block cannot be read, its pages are read one by one.
 """
 
-import re
 from typing import Any, Callable, Iterator, List, Optional, Sequence, Tuple
 
-from cheri_cap import REFUSALS, ByteOrder, Capability, find_holding, mask_of
+from cheri_cap import REFUSALS, UNSEALED, ByteOrder, Capability, find_capabilities, mask_of
 
 BYTES = 16
 PAGE = 1 << 12
 BLOCK = 1 << 20
 ADDRESSES = 1 << 64
+# the most bytes that are read if it is not known what is mapped: some seconds
+LARGEST = 1 << 32
 
 # the types of cheri_cap.h, cheri_cap.hpp and cheri_cap_isa9.h that are words; cheri_cap_u128 may be a length
 KNOWN = "cheri::word", "cheri::result", "cheri_cap_made", "cheri_cap_read", "cheri_isa9_cap"
 
 Read = Callable[[int, int], bytes]
 Ranges = Sequence[Tuple[int, int]]
-
-_UNSEALED = 0x3FFFF
-_HALF = "(?:0[xX])?([0-9a-fA-F]{16})"
-_WORD = re.compile(f"(?:0[xX])?([0-9a-fA-F]{{32}})|0[xX]([0-9a-fA-F]{{17,32}})|{_HALF}[_:]{_HALF}")
 
 
 class Refused(Exception):
@@ -34,12 +31,16 @@ class Unreadable(Exception):
 
 
 def word_in(text: str) -> Optional[Capability]:
-    """Returns the word that a text is, or None.
+    """Returns the word that a text is, as `Capability.parse` takes it, or None."""
+    try:
+        return Capability.parse(text.strip())
+    except ValueError:
+        return None
 
-    It is 32 hexadecimal digits, with or without 0x, two halves of 16 joined by "_" or ":", high first, or 0x and 17 to
-    31 digits of a word whose leading zeros are omitted."""
-    found = _WORD.fullmatch(text.strip())
-    return Capability(int("".join(it for it in found.groups() if it), 16)) if found else None
+
+def without_unsealed(words: Sequence[str]) -> Tuple[List[str], bool]:
+    """Returns the words of a command except the option --unsealed, and whether this was one."""
+    return [it for it in words if it != "--unsealed"], "--unsealed" in words
 
 
 def mask_in(names: str) -> int:
@@ -52,7 +53,7 @@ def mask_in(names: str) -> int:
 
 def could_be(cap: Capability) -> bool:
     """Returns whether a word can be that of a capability: it is canonical, or a sentry of one that is."""
-    return cap.is_canonical or cap.is_sentry and Capability.from_fields(cap.fields._replace(otype=_UNSEALED)).is_canonical
+    return (cap.with_type(UNSEALED) if cap.is_sentry else cap).is_canonical
 
 
 def refused_for(code: int) -> str:
@@ -119,27 +120,46 @@ def _readable(read: Read, start: int, size: int) -> bytes:
 
 
 def found(
-    read: Read, order: ByteOrder, address: int, start: int, end: int, perms: int = 0, mapped: Optional[Ranges] = None
+    read: Read,
+    order: ByteOrder,
+    mapped: Optional[Ranges],
+    address: int,
+    start: Optional[int] = None,
+    end: int = 0,
+    *,
+    perms: int = 0,
+    unsealed: bool = False,
 ) -> Iterator[str]:
     """Yields the lines of the words from `start` to below `end` that could be capabilities to an address, and a summary.
 
-    A word begins at a multiple of 16. Those without permissions, as null, are omitted. The last line has the number of
-    the words, and that of the bytes that could not be read. If `mapped` has ranges, no other memory is read."""
-    if not 0 <= start <= end <= ADDRESSES:
-        raise Refused("START must not be above END")
-    first, last = _whole_words(start, end)
-    ranges = [(first, last)] if mapped is None else [(max(low, first), min(high, last)) for low, high in mapped]
-    yield from _found(read, order, address, ranges, perms, _size([(first, last)]))
-
-
-def found_everywhere(
-    read: Read, order: ByteOrder, address: int, mapped: Optional[Ranges], perms: int = 0
-) -> Iterator[str]:
-    """Yields the same for all words of the ranges of `mapped`."""
-    if not mapped:
+    Without `start`, the words of all ranges of `mapped` are searched. A word begins at a multiple of 16. Words without
+    permissions, such as null, are omitted, and sealed words if `unsealed`. The last line has the number of the words, and
+    that of the bytes that could not be read. If `mapped` has ranges, no other memory is read."""
+    if start is not None:
+        if not 0 <= start <= end <= ADDRESSES:
+            raise Refused("START must not be above END")
+        first, last = _whole_words(start, end)
+        if mapped is None and last - first > LARGEST:
+            raise Refused(f"the ranges of memory are not known: END - START must be at most {LARGEST:#x}")
+        ranges = [(first, last)] if mapped is None else [(max(low, first), min(high, last)) for low, high in mapped]
+        unread = _size([(first, last)])
+    elif mapped:
+        ranges = [_whole_words(*it) for it in mapped]
+        unread = _size(ranges)
+    else:
         raise Refused("the ranges of memory are not known: give START and END")
-    ranges = [_whole_words(*it) for it in mapped]
-    yield from _found(read, order, address, ranges, perms, _size(ranges))
+    if not 0 <= address < ADDRESSES:
+        raise Refused("ADDRESS must be from 0 to 2^64 - 1")
+    count = 0
+    for low, high in ranges:
+        for at, size, data in _blocks(read, *_whole_words(low, high)):
+            if data is None:
+                continue
+            unread -= size
+            for position, cap in find_capabilities(data, holds=address, perms=perms, unsealed=unsealed, byteorder=order):
+                yield line_of(at + position * BYTES, cap)
+                count += 1
+    yield f"{count} found" + (f"; {unread:,} bytes could not be read" if unread else "")
 
 
 def disjoint(ranges: Ranges) -> Ranges:
@@ -159,22 +179,6 @@ def _whole_words(start: int, end: int) -> Tuple[int, int]:
 
 def _size(ranges: Ranges) -> int:
     return sum(max(end - start, 0) for start, end in ranges)
-
-
-def _found(read: Read, order: ByteOrder, address: int, ranges: Ranges, perms: int, unread: int) -> Iterator[str]:
-    if not 0 <= address < ADDRESSES:
-        raise Refused("ADDRESS must be from 0 to 2^64 - 1")
-    count = 0
-    for start, end in ranges:
-        for at, size, data in _blocks(read, *_whole_words(start, end)):
-            if data is None:
-                continue
-            unread -= size
-            for position in find_holding(data, address, perms, order, sentries=True):
-                word = data[position * BYTES : (position + 1) * BYTES]
-                yield line_of(at + position * BYTES, Capability.from_bytes(word, order))
-                count += 1
-    yield f"{count} found" + (f"; {unread:,} bytes could not be read" if unread else "")
 
 
 def _blocks(read: Read, start: int, end: int) -> Iterator[Tuple[int, int, Optional[bytes]]]:
