@@ -14,6 +14,7 @@ end are listed.
 """
 import argparse
 import mmap
+import signal
 import struct
 import sys
 from pathlib import Path
@@ -114,6 +115,8 @@ def main() -> int:
     parser.add_argument("--unsealed", action="store_true")
     parser.add_argument("--mapped", action="store_true")
     given = parser.parse_args()
+    # a reader that has read enough, such as head, ends this program
+    signal.signal(signal.SIGPIPE, signal.SIG_DFL)
     try:
         with open(given.core, "rb") as file:
             core = core_of(mmap.mmap(file.fileno(), 0, access=mmap.ACCESS_READ))

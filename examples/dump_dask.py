@@ -21,6 +21,7 @@ the table is that of one process.
 """
 import argparse
 import os
+import signal
 import sys
 from pathlib import Path
 from typing import Any, Callable, Dict, List, Optional, Sequence, Tuple
@@ -128,6 +129,8 @@ def main() -> None:
         place = {"n_workers": given.workers, "threads_per_worker": 1, "dashboard_address": None}
         with LocalCluster(**place) as cluster, Client(cluster) as client:
             table = counts(client, parts, given.region, how)
+    # a reader that has read enough, such as head, ends this program, which has no connections any more
+    signal.signal(signal.SIGPIPE, signal.SIG_DFL)
     table.to_csv(sys.stdout, index=False)
 
 
