@@ -1245,9 +1245,10 @@ def _fill_ends(rows: Any, base: Any, top_high: Any, top_low: Any) -> None:
     """Writes the fields base, top and length of a structured array."""
     numpy = _numpy()
     base, low, is_above = numpy.asarray(base), numpy.asarray(top_low), numpy.asarray(top_high) != 0
-    rows["base"], rows["top"], rows["length"] = base, low, low - base
-    rows["length"][is_above & (low >= base)] = _HALF
-    rows["length"][~is_above & (low < base)] = 0
+    length, is_below = low - base, low < base
+    length[is_above & ~is_below] = _HALF
+    length[is_below & ~is_above] = 0
+    rows["base"], rows["top"], rows["length"] = base, low, length
 
 
 # ---- Searches
