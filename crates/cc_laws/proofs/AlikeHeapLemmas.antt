@@ -23,8 +23,8 @@ use Rattle.cc_heap.specs.Policy.{AsksForSweep, is_of_the_trace}
 use Rattle.cc_heap.specs.Reallocation.{can_take, is_keep}
 use Rattle.cc_heap.specs.Totals.{with_made, with_sweep, with_usage}
 use Rattle.cc_heap.specs.Run.{Runs}
-use Rattle.cc_changes.specs.Kept.{id_weight}
-use Rattle.cc_changes.proofs.EntryLemmas.{none_counted, none_is, one_more, once_more, same_key}
+use Rattle.cc_replay.specs.Kept.{id_weight}
+use Rattle.cc_replay.proofs.EntryLemmas.{none_counted, none_is, one_more, once_more, same_key}
 use Rattle.cc_laws.specs.OneOutcome.{AreAlike}
 use Rattle.cc_laws.proofs.EntryOrderLemmas.{Entry, AreOnceIn, HaveSameSums, lookup_along, own_weight, reordered}
 

@@ -7,8 +7,8 @@ use Rattle.std.proofs.lemmas.List.Sorted.{IsPermutation-cons, IsPermutation-refl
 use Rattle.std.proofs.lemmas.Bool.Decides.{nat_tests}
 use Rattle.cc_heap.specs.declared.object.Object.{Object}
 use Rattle.cc_heap.proofs.MemoryLemmas.{found_first}
-use Rattle.cc_changes.specs.Kept.{id_weight}
-use Rattle.cc_changes.proofs.EntryLemmas.{itself, none_counted}
+use Rattle.cc_replay.specs.Kept.{id_weight}
+use Rattle.cc_replay.proofs.EntryLemmas.{itself, none_counted}
 
 -- an object under an id
 abbrev pub Entry : Type 0

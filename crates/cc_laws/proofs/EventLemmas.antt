@@ -16,11 +16,11 @@ use Rattle.cc_heap.specs.Reallocation.{can_take, is_keep}
 use Rattle.cc_heap.specs.Heap.{Heap, empty_heap, kept_object, object_under, swept}
 use Rattle.cc_heap.specs.Events.{FreesIfLive, IsEvent, KeepsPlace, Reallocates, Remakes}
 use Rattle.cc_heap.specs.Run.{Runs}
-use Rattle.cc_changes.specs.Changes.{AreChangesOf, AsksForUnit, CanBePlanned, Change, Changes, objects_made}
-use Rattle.cc_changes.specs.Operations.{Numbers}
-use Rattle.cc_changes.specs.Kept.{IsKept}
-use Rattle.cc_changes.proofs.HistoryLemmas.{HasHistory, all_joined, allocates, frees_last, joined, many_joined, moves, objects_joined, replaces_live, same, sweeps_once}
-use Rattle.cc_changes.proofs.ScriptLemmas.{kept_empty}
+use Rattle.cc_replay.specs.Changes.{AreChangesOf, AsksForUnit, CanBePlanned, Change, Changes, objects_made}
+use Rattle.cc_replay.specs.Operations.{Numbers}
+use Rattle.cc_replay.specs.Kept.{IsKept}
+use Rattle.cc_replay.proofs.HistoryLemmas.{HasHistory, all_joined, allocates, frees_last, joined, many_joined, moves, objects_joined, replaces_live, same, sweeps_once}
+use Rattle.cc_replay.proofs.ScriptLemmas.{kept_empty}
 
 -- the changes of events
 pub record HasChanges (settings : Settings) (events : List Event) (heap : Heap) : Type 0 where

@@ -24,7 +24,7 @@ use Rattle.cc_heap.proofs.MemoryLemmas.{found_first}
 use Rattle.cc_heap.proofs.StepLemmas.{free_settings}
 use Rattle.cc_laws.proofs.EntryOrderLemmas.{Entry, AreOnceIn, found_one, lookup_along, reordered}
 use Rattle.cc_heap.specs.declared.settings.Settings.{Settings}
-use Rattle.cc_changes.proofs.EntryLemmas.{other_key}
+use Rattle.cc_replay.proofs.EntryLemmas.{other_key}
 use Rattle.cc_laws.proofs.AlikeHeapLemmas.{IsOnceWithout, clears_without, makes_once, without_along}
 use Rattle.cc_laws.proofs.SearchLemmas.{HasPlacement, placement_or_none}
 

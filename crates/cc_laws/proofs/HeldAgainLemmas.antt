@@ -27,9 +27,9 @@ use Rattle.cc_heap.specs.Lost.{empty_run}
 use Rattle.cc_heap.specs.Memory.{Memory, held_spans as heap_spans, span_of, usage_of}
 use Rattle.cc_heap.specs.Run.{Runs}
 use Rattle.cc_replay.specs.Replay.{ReplayState, TakesLine, TakesRest, begun, events_in}
-use Rattle.cc_changes.specs.Changes.{AreChangesOf, Change}
-use Rattle.cc_changes.specs.Operations.{no_numbers, operations_of}
-use Rattle.cc_changes.specs.Script.{ScriptState, ScriptsLine, ScriptsRest, script_begun}
+use Rattle.cc_replay.specs.Changes.{AreChangesOf, Change}
+use Rattle.cc_replay.specs.Operations.{no_numbers, operations_of}
+use Rattle.cc_replay.specs.Script.{ScriptState, ScriptsLine, ScriptsRest, script_begun}
 use Rattle.cc_laws.specs.OneOutcome.{AreAlike}
 use Rattle.cc_laws.specs.Translation.{IsAccepted, IsReadAs}
 use Rattle.cc_laws.proofs.AlikeHeapLemmas.{usage_along, sum_spans}

@@ -14,9 +14,9 @@ use Rattle.cc_plan.specs.Plan.{held_spans as planned_spans, is_freed, swept as p
 use Rattle.cc_plan.proofs.HeldSpanLemmas.{as_freed, held_weight, sum_held}
 use Rattle.cc_heap.specs.declared.object.Object.{Object}
 use Rattle.cc_heap.specs.Memory.{Memory, held_spans, span_of}
-use Rattle.cc_changes.specs.Operations.{Numbers, with_number}
-use Rattle.cc_changes.specs.Kept.{id_weight}
-use Rattle.cc_changes.proofs.EntryLemmas.{HasOneMore, itself, once_more}
+use Rattle.cc_replay.specs.Operations.{Numbers, with_number}
+use Rattle.cc_replay.specs.Kept.{id_weight}
+use Rattle.cc_replay.proofs.EntryLemmas.{HasOneMore, itself, once_more}
 
 -- ---- sums over the objects of a plan
 

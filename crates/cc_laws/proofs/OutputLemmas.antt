@@ -18,9 +18,9 @@ use Rattle.cc_heap.specs.Heap.{empty_heap}
 use Rattle.cc_formats.specs.declared.reading.Progress.TheVariants.{OutOfMemory}
 use Rattle.cc_formats.specs.declared.reading.Reading.{Reading}
 use Rattle.cc_replay.specs.Replay.{events_in}
-use Rattle.cc_changes.specs.Changes.{objects_made}
-use Rattle.cc_changes.specs.Operations.{no_numbers, operations_of}
-use Rattle.cc_changes.specs.Script.{ScriptState, ScriptsLine, ScriptsRest, script_begun}
+use Rattle.cc_replay.specs.Changes.{objects_made}
+use Rattle.cc_replay.specs.Operations.{no_numbers, operations_of}
+use Rattle.cc_replay.specs.Script.{ScriptState, ScriptsLine, ScriptsRest, script_begun}
 use Rattle.cc_laws.proofs.ScriptedLemmas.{output_is_script}
 use Rattle.cc_laws.specs.Translation.{IsAccepted, IsFollowed, IsReadAs}
 use Rattle.cc_laws.proofs.PlacedAlikeLemmas.{places_alike}

@@ -34,12 +34,12 @@ use Rattle.cc_heap.specs.Memory.{Memory, held_spans as heap_spans, object_at, st
 use Rattle.cc_heap.specs.Heap.{FreesObject, Heap, empty_heap, swept}
 use Rattle.cc_heap.proofs.HeapLemmas.{memory_of}
 use Rattle.cc_heap.proofs.MemoryLemmas.{found_first}
-use Rattle.cc_changes.specs.Changes.{CanBePlanned, Change, Changes, MakesThis, ReplacesThis, objects_made}
-use Rattle.cc_changes.specs.Changes.Change.{Make, Free, Replace, Sweep}
-use Rattle.cc_changes.specs.Operations.{Numbers, freeing, no_numbers, operations_of, with_number}
+use Rattle.cc_replay.specs.Changes.{CanBePlanned, Change, Changes, MakesThis, ReplacesThis, objects_made}
+use Rattle.cc_replay.specs.Changes.Change.{Make, Free, Replace, Sweep}
+use Rattle.cc_replay.specs.Operations.{Numbers, freeing, no_numbers, operations_of, with_number}
 use Rattle.cc_laws.specs.Translation.{IsAccepted, PlacesAlike, spans_in, spans_of}
-use Rattle.cc_changes.specs.Kept.{id_weight}
-use Rattle.cc_changes.proofs.EntryLemmas.{HasOneMore, itself, none_counted, one_fewer, one_more}
+use Rattle.cc_replay.specs.Kept.{id_weight}
+use Rattle.cc_replay.proofs.EntryLemmas.{HasOneMore, itself, none_counted, one_fewer, one_more}
 use Rattle.cc_laws.proofs.HoldLemmas.{HoldAlike, alike_freed, alike_made, alike_swept, hold_same_spans, new_object, numbered}
 use Rattle.cc_laws.proofs.PlacedStepLemmas.{IsAllocated, IsReady, alloc_step, free_step, objects_of, sweep_step}
 use Rattle.cc_laws.proofs.OpeningLemmas.{opened_ready}

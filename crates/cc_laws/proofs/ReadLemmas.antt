@@ -22,9 +22,9 @@ use Rattle.cc_heap.specs.declared.policy.Policy.{Policy}
 use Rattle.cc_heap.specs.declared.settings.Settings.{Settings}
 use Rattle.cc_heap.specs.Heap.{Heap}
 use Rattle.cc_heap.specs.Policy.{is_immediate}
-use Rattle.cc_changes.specs.Changes.{Change, Changes, MakesThis, objects_made}
-use Rattle.cc_changes.specs.Changes.Change.{Make as MakeOne, Free as FreeOne, Replace as ReplaceOne, Sweep as SweepAll}
-use Rattle.cc_changes.specs.Operations.{Numbers, freeing, operation_line, operation_lines, operations_of, with_number}
+use Rattle.cc_replay.specs.Changes.{Change, Changes, MakesThis, objects_made}
+use Rattle.cc_replay.specs.Changes.Change.{Make as MakeOne, Free as FreeOne, Replace as ReplaceOne, Sweep as SweepAll}
+use Rattle.cc_replay.specs.Operations.{Numbers, freeing, operation_line, operation_lines, operations_of, with_number}
 use Rattle.cc_laws.proofs.ScriptedLemmas.{change_settings}
 use Rattle.cc_laws.specs.Translation.{IsReadAs}
 

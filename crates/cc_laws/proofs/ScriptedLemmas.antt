@@ -15,13 +15,13 @@ use Rattle.cc_formats.specs.declared.reading.Progress.{Progress}
 use Rattle.cc_formats.specs.declared.reading.Progress.TheVariants.{Running, Stopped, OutOfMemory}
 use Rattle.cc_formats.specs.declared.reading.Reading.{Reading}
 use Rattle.cc_replay.specs.Replay.{event_before, events_in}
-use Rattle.cc_changes.specs.Changes.{AreChangesOf, CanBePlanned, Change, Changes, IsChange, objects_made}
-use Rattle.cc_changes.specs.Changes.Change.{Make as MakeOne, Free as FreeOne, Replace as ReplaceOne, Sweep as SweepAll}
-use Rattle.cc_changes.specs.Operations.{Numbers, no_numbers, numbers_after, operation_lines, operations_of, with_number}
-use Rattle.cc_changes.specs.Deeds.{numbers_of}
-use Rattle.cc_changes.specs.Script.{ScriptState, ScriptsLine, ScriptsLineIn, ScriptsRest, ScriptsRestIn, TakesEntry, at_entry, most_objects, next_entry, script_begun}
-use Rattle.cc_changes.proofs.HistoryLemmas.{all_joined, joined, numbers_joined, objects_joined, operations_joined}
-use Rattle.cc_changes.proofs.LineLemmas.{lines_joined}
+use Rattle.cc_replay.specs.Changes.{AreChangesOf, CanBePlanned, Change, Changes, IsChange, objects_made}
+use Rattle.cc_replay.specs.Changes.Change.{Make as MakeOne, Free as FreeOne, Replace as ReplaceOne, Sweep as SweepAll}
+use Rattle.cc_replay.specs.Operations.{Numbers, no_numbers, numbers_after, operation_lines, operations_of, with_number}
+use Rattle.cc_replay.specs.Deeds.{numbers_of}
+use Rattle.cc_replay.specs.Script.{ScriptState, ScriptsLine, ScriptsLineIn, ScriptsRest, ScriptsRestIn, TakesEntry, at_entry, most_objects, next_entry, script_begun}
+use Rattle.cc_replay.proofs.HistoryLemmas.{all_joined, joined, numbers_joined, objects_joined, operations_joined}
+use Rattle.cc_replay.proofs.LineLemmas.{lines_joined}
 use Rattle.cc_laws.specs.Translation.{HasScript}
 use Rattle.cc_laws.proofs.SeenLemmas.{events_seen}
 

@@ -6,7 +6,7 @@ use Rattle.cc_bounds.specs.declared.align.Align.TheVariants.{One}
 use Rattle.cc_values.specs.declared.op.Op.TheVariants.{Addr}
 use Rattle.cc_machine.specs.Run.{IsInAddressSpace}
 use Rattle.cc_placer.specs.declared.event.Event.TheVariants.{Allocate, Free}
-use Rattle.cc_changes.specs.Changes.{AsksForUnit}
+use Rattle.cc_replay.specs.Changes.{AsksForUnit}
 use Rattle.cc_formats.specs.Trace.{HasNumbersInRange}
 use Rattle.cc_formats.specs.Mtrace.{IsCaller, allocation_line, free_line}
 use Rattle.cc_laws.proofs.TraceWitnessLemmas.{unit-one}

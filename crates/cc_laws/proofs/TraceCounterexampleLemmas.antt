@@ -20,9 +20,9 @@ use Rattle.cc_heap.specs.Heap.{Heap, empty_heap, no_totals}
 use Rattle.cc_heap.specs.Lost.{empty_run}
 use Rattle.cc_heap.specs.Memory.{Memory, usage_of}
 use Rattle.cc_replay.specs.Replay.{ReplayState, begun}
-use Rattle.cc_changes.specs.Changes.{AreChangesOf, Change}
-use Rattle.cc_changes.specs.Changes.Change.{Sweep}
-use Rattle.cc_changes.specs.Operations.{no_numbers, operation_lines, operations_of}
+use Rattle.cc_replay.specs.Changes.{AreChangesOf, Change}
+use Rattle.cc_replay.specs.Changes.Change.{Sweep}
+use Rattle.cc_replay.specs.Operations.{no_numbers, operation_lines, operations_of}
 use Rattle.cli_replay.specs.Charting.{begun_chart}
 use Rattle.cc_laws.specs.ChartedRun.{HasLevels, RunsWithLevels, ShowsRun}
 use Rattle.cc_laws.specs.OneOutcome.{AreAlikeReplays}

@@ -11,7 +11,7 @@ use Rattle.cc_heap.specs.declared.reallocation.Reallocation.TheVariants.{Move}
 use Rattle.cc_heap.specs.declared.settings.Settings.{Settings}
 use Rattle.cc_heap.specs.Heap.{Heap, empty_heap}
 use Rattle.cc_heap.specs.Run.{Runs}
-use Rattle.cc_changes.specs.Changes.{AsksForUnit, objects_made}
+use Rattle.cc_replay.specs.Changes.{AsksForUnit, objects_made}
 use Rattle.cc_laws.specs.Translation.{IsAccepted, IsTranslated}
 use Rattle.cc_laws.proofs.EventLemmas.{has_changes}
 use Rattle.cc_laws.proofs.PlacedAlikeLemmas.{places_alike}

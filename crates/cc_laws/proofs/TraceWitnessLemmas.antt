@@ -34,11 +34,11 @@ use Rattle.cc_heap.specs.Memory.{object_at, start_unit, usage_of}
 use Rattle.cc_heap.specs.Run.{Runs}
 use Rattle.cc_heap.specs.declared.policy.Policy.TheVariants.{Trace}
 use Rattle.cc_heap.specs.Totals.{with_made, with_usage}
-use Rattle.cc_changes.specs.Changes.Change.{Make, Free as FreeLive, Sweep as SweepAll}
-use Rattle.cc_changes.specs.Changes.{AsksForUnit, CanBePlanned, Change, Changes, IsChange, objects_made}
-use Rattle.cc_changes.specs.Deeds.{NumberedIds}
-use Rattle.cc_changes.specs.Operations.{no_numbers, operation_lines, operations_of}
-use Rattle.cc_changes.specs.Script.{ScriptState, ScriptsEvent, ScriptsLine, ScriptsRest, can_have, script_begun}
+use Rattle.cc_replay.specs.Changes.Change.{Make, Free as FreeLive, Sweep as SweepAll}
+use Rattle.cc_replay.specs.Changes.{AsksForUnit, CanBePlanned, Change, Changes, IsChange, objects_made}
+use Rattle.cc_replay.specs.Deeds.{NumberedIds}
+use Rattle.cc_replay.specs.Operations.{no_numbers, operation_lines, operations_of}
+use Rattle.cc_replay.specs.Script.{ScriptState, ScriptsEvent, ScriptsLine, ScriptsRest, can_have, script_begun}
 use Rattle.cc_formats.specs.Trace.{entry_of}
 use Rattle.cc_laws.specs.Translation.{IsAccepted, IsReadAs}
 use Rattle.cc_laws.specs.WorkedTrace.{worked_settings, worked_reading, worked_trace, worked_trace_script}

@@ -18,9 +18,9 @@ use Rattle.cc_heap.specs.Memory.{held_spans as heap_spans}
 use Rattle.cc_heap.specs.Heap.{Heap, empty_heap}
 use Rattle.cc_formats.specs.declared.reading.Progress.{Progress}
 use Rattle.cc_formats.specs.declared.reading.Progress.TheVariants.{Running}
-use Rattle.cc_changes.specs.Changes.{AreChangesOf, CanBePlanned, Change, Changes, objects_made}
-use Rattle.cc_changes.specs.Operations.{no_numbers, operation_lines, operations_of}
-use Rattle.cc_changes.specs.Script.{most_objects}
+use Rattle.cc_replay.specs.Changes.{AreChangesOf, CanBePlanned, Change, Changes, objects_made}
+use Rattle.cc_replay.specs.Operations.{no_numbers, operation_lines, operations_of}
+use Rattle.cc_replay.specs.Script.{most_objects}
 
 -- ---- The replies.
 

@@ -21,9 +21,9 @@ ghost use Rattle.cc_heap.specs.Run.{Runs};
 ghost use Rattle.cc_replay.specs.Replay.{ReplayState, TakesLine, TakesRest, begun, events_in};
 ghost use Rattle.cc_formats.specs.declared.reading.Progress.TheVariants.{Running, OutOfMemory};
 ghost use Rattle.cc_formats.specs.declared.reading.Reading.{Reading};
-ghost use Rattle.cc_changes.specs.Changes.{AsksForUnit, CanBePlanned, Change, Changes, objects_made};
-ghost use Rattle.cc_changes.specs.Operations.{no_numbers, operations_of};
-ghost use Rattle.cc_changes.specs.Script.{ScriptState, ScriptsLine, ScriptsRest, script_begun};
+ghost use Rattle.cc_replay.specs.Changes.{AsksForUnit, CanBePlanned, Change, Changes, objects_made};
+ghost use Rattle.cc_replay.specs.Operations.{no_numbers, operations_of};
+ghost use Rattle.cc_replay.specs.Script.{ScriptState, ScriptsLine, ScriptsRest, script_begun};
 ghost use Rattle.cc_laws.specs.Translation.{IsAccepted, IsFollowed, IsReadAs, IsTranslated, PlacesAlike};
 
 /// Proves that a machine that takes the changes of a heap as operations places each object at the bytes
@@ -71,7 +71,7 @@ pub fn traces_are_placed_alike()
 /// which the heap placed it, and holds the same spans in the end.
 ///
 /// `Output` is the relation between a trace and its output that
-/// [`script_trace`](cc_changes::script_trace) states by `Pumps`. The output is the script of the
+/// [`script_trace`](cc_replay::script_trace) states by `Pumps`. The output is the script of the
 /// trace's own events, as [`outputs_are_scripts`](crate::scripting::outputs_are_scripts) says. Its
 /// lines are read by [`parse_line`](cc_syntax::parse_line) as the operations of the changes of
 /// these events, and the machine has a run of these. The machine has the pool of the heap, made by

@@ -7,7 +7,7 @@ ghost use Rattle.cc_values.specs.declared.op.Op.TheVariants.{Addr};
 ghost use Rattle.cc_machine.specs.Run.{IsInAddressSpace};
 ghost use Rattle.cc_placer.specs.Alignment.{HasAlignment};
 ghost use Rattle.cc_placer.specs.declared.event.Event.TheVariants.{Allocate, Free};
-ghost use Rattle.cc_changes.specs.Changes.{AsksForUnit};
+ghost use Rattle.cc_replay.specs.Changes.{AsksForUnit};
 ghost use Rattle.cc_formats.specs.Trace.{HasNumbersInRange};
 ghost use Rattle.cc_formats.specs.Mtrace.{IsCaller, allocation_line, free_line};
 

@@ -17,9 +17,9 @@ ghost use Rattle.cc_heap.specs.Lost.{empty_run};
 ghost use Rattle.cc_heap.specs.Run.{Runs};
 ghost use Rattle.cc_replay.specs.Replay.{ReplayState, TakesLine, TakesRest, begun};
 ghost use Rattle.cc_formats.specs.declared.reading.Progress.TheVariants.{Running};
-ghost use Rattle.cc_changes.specs.Changes.{AsksForUnit, CanBePlanned, Change, Changes, objects_made};
-ghost use Rattle.cc_changes.specs.Operations.{no_numbers, operations_of};
-ghost use Rattle.cc_changes.specs.Script.{ScriptState, ScriptsLine, ScriptsRest, script_begun};
+ghost use Rattle.cc_replay.specs.Changes.{AsksForUnit, CanBePlanned, Change, Changes, objects_made};
+ghost use Rattle.cc_replay.specs.Operations.{no_numbers, operations_of};
+ghost use Rattle.cc_replay.specs.Script.{ScriptState, ScriptsLine, ScriptsRest, script_begun};
 ghost use Rattle.cc_laws.specs.Translation.{IsAccepted, IsReadAs};
 ghost use Rattle.cc_laws.specs.WorkedTrace.{worked_settings, worked_reading, worked_trace, worked_trace_script};
 

@@ -6,3 +6,8 @@ pub mod Summary
 pub mod SizeTable
 pub mod Replay
 pub mod Summarizing
+pub mod Changes
+pub mod Operations
+pub mod Script
+pub mod Deeds
+pub mod Kept

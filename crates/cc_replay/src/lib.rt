@@ -1,11 +1,16 @@
 //! Replays a trace of allocations: reads its lines as the events of a heap, counts them, and writes
-//! the numbers of the heap as a summary and as a series.
+//! the numbers of the heap as a summary and as a series, or its changes as a script for a machine.
 #![tactic(auto)]
 
 mod counts;
+mod deeds;
+mod doing;
+mod numbering;
 mod policy_text;
 mod replay;
 mod rows;
+mod script;
+mod script_lines;
 mod series;
 mod size_table;
 mod summarizing;
@@ -19,6 +24,7 @@ pub use cc_heap::{
 pub use counts::{Count, Counts};
 pub use policy_text::read_policy;
 pub use replay::{Replay, replay_trace};
+pub use script::{Script, script_trace};
 pub use series::{MOST_SAMPLE, push_sample, push_series_header};
 pub use size_table::write_sizes;
 pub use summarizing::{Failure, summarize_trace};

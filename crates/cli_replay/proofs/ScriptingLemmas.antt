@@ -3,7 +3,7 @@ use Rattle.std.proofs.Common.{◌≡◌, ◌≢◌, ℕ, List, Option, Result, O
 use Rattle.cc_io.specs.declared.summary.IoError.{IoError}
 use Rattle.cc_io.specs.declared.summary.Summary.{Summary}
 use Rattle.cc_formats.specs.declared.reading.Progress.TheVariants.{OutOfMemory}
-use Rattle.cc_changes.specs.Script.{ScriptState}
+use Rattle.cc_replay.specs.Script.{ScriptState}
 use Rattle.cli.specs.Devices.{Traffic}
 use Rattle.cli_replay.specs.Scripting.{ScriptsAll, StopsScript, Writes}
 

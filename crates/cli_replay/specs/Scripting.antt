@@ -8,7 +8,7 @@ use Rattle.cc_heap.specs.declared.settings.Settings.{Settings}
 use Rattle.cc_formats.specs.declared.reading.Progress.TheVariants.{OutOfMemory}
 use Rattle.cc_formats.specs.declared.reading.Reading.{Reading}
 use Rattle.cc_formats.specs.Reading.{is_over}
-use Rattle.cc_changes.specs.Script.{ScriptState, ScriptsLine, ScriptsRest, script_begun}
+use Rattle.cc_replay.specs.Script.{ScriptState, ScriptsLine, ScriptsRest, script_begun}
 use Rattle.cli.specs.Devices.{Traffic}
 
 -- Writes holds if the lines that the source gave were taken, and the bytes after the last of them, until the script had the state

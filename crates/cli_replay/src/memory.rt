@@ -4,18 +4,17 @@ ghost use Rattle.cc_formats.specs.declared.reading.Progress.TheVariants.{OutOfMe
 ghost use Rattle.cc_formats.specs.Reading.{is_over};
 ghost use Rattle.cc_heap.specs.Lost.{empty_run};
 ghost use Rattle.cc_replay.specs.Replay.{begun};
-ghost use Rattle.cc_changes.specs.Script.{script_begun};
+ghost use Rattle.cc_replay.specs.Script.{script_begun};
 ghost use Rattle.cli_replay.specs.Charting.{TakesLines, begun_chart};
 ghost use Rattle.cli_replay.specs.Replaying.{Replays};
 ghost use Rattle.cli_replay.specs.Scripting.{Writes};
 ghost use Rattle.cli_replay.specs.Settings.{IsForHeap, IsForScript};
 
 use crate::charting::{Charting, take_trace};
-use cc_changes::{Script, script_trace};
 use cli::{GlobalMemory, Memory};
 use cc_gaps::GapPlacer;
 use cc_io::{IoError, Sink, Source, Summary};
-use cc_replay::{Progress, Reading, Replay, Settings, replay_trace};
+use cc_replay::{Progress, Reading, Replay, Script, Settings, replay_trace, script_trace};
 use std::alloc::AllocError;
 
 /// The memory for the heap of a trace, which grows while lines are taken.

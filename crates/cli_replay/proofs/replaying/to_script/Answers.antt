@@ -1,6 +1,6 @@
 use Rattle.std.proofs.Common.{subst}
 use Rattle.cli.specs.Devices.{FromInput, OnOutput}
-use Rattle.cc_changes.specs.Script.{ScriptState}
+use Rattle.cc_replay.specs.Script.{ScriptState}
 use Rattle.cli_replay.specs.Scripting.{Scripts}
 use Rattle.cli_replay.proofs.replaying.to_script.Goals as goal
 

@@ -1,10 +1,10 @@
 //! The lines of operations.
 ghost use Rattle.std.specs.Prelude.{◌≡◌, ◌≤◌, ◌+◌, ◌++◌, length, replicate};
 ghost use Rattle.cc_values.specs.declared.op.Op.TheVariants.{Sweep};
-ghost use Rattle.cc_changes.specs.Operations.{operation_lines};
-ghost use Rattle.cc_changes.specs.Deeds.{alloc_operations, numbered_free, numbered_operations};
+ghost use Rattle.cc_replay.specs.Operations.{operation_lines};
+ghost use Rattle.cc_replay.specs.Deeds.{alloc_operations, numbered_free, numbered_operations};
 
-use crate::deeds::{Deeds, Entry};
+use crate::deeds::{Deeds, MadeEntry};
 use crate::doing::as_number;
 use cc_heap::Policy;
 use cc_io::Page;
@@ -61,7 +61,7 @@ fn push_sweeps<const N: usize>(page: &mut Page<N>, count: u64)
 }
 
 /// Appends the line by which an object is made, if there is one.
-fn push_alloc<const N: usize>(page: &mut Page<N>, entry: Option<Entry>)
+fn push_alloc<const N: usize>(page: &mut Page<N>, entry: Option<MadeEntry>)
     requires { length page.old + 47 ≤ N }
     ensures value { page.new ≡ page.old ++ operation_lines (alloc_operations entry) }
     ensures fits { length page.new ≤ length page.old + 47 }

@@ -2,7 +2,7 @@
 use Rattle.std.proofs.Common.{ℕ, ◌≡◌, List, [], ◌∷◌, ◌++◌, refl, sym, ap, ◌∙◌}
 use Rattle.std.proofs.lemmas.List.{append_assoc}
 use Rattle.cc_values.specs.declared.op.Op.{Op}
-use Rattle.cc_changes.specs.Operations.{operation_line, operation_lines}
+use Rattle.cc_replay.specs.Operations.{operation_line, operation_lines}
 
 pub lines_joined : (ops others : List Op) → operation_lines (ops ++ others) ≡ operation_lines ops ++ operation_lines others
 lines_joined [] others = refl

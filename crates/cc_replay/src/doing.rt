@@ -1,10 +1,12 @@
-//! The deeds of an event.
+//! The deeds of an event, and whether a script can have it.
 ghost use Rattle.std.specs.Prelude.{◌≡◌};
-ghost use Rattle.cc_changes.specs.Deeds.{as_number, asked_entry, deeds_of, was_made};
+ghost use Rattle.cc_replay.specs.Changes.{asks_for_unit};
+ghost use Rattle.cc_replay.specs.Deeds.{as_number, asked_entry, deeds_of, was_made};
 
-use crate::deeds::{Deeds, Entry};
+use crate::deeds::{Deeds, MadeEntry};
+use cc_bounds::Align;
 use cc_heap::{Making, Outcome};
-use cc_placer::Event;
+use cc_placer::{Event, unit};
 
 /// Returns the deeds of an event with this outcome, in which there was this number of sweeps, and after which the
 /// quarantine is empty or is not.
@@ -42,15 +44,15 @@ pub(crate) fn as_number(flag: bool) -> u64
 }
 
 /// Returns the id and the size of the object that an event requests, or `None` if it requests none.
-pub(crate) fn asked_entry(event: Event) -> Option<Entry>
+pub(crate) fn asked_entry(event: Event) -> Option<MadeEntry>
     ensures { result ≡ asked_entry event }
 {
     match event {
-        Event::Allocate { id, size, .. } | Event::Clear { id, size } => Some(Entry {
+        Event::Allocate { id, size, .. } | Event::Clear { id, size } => Some(MadeEntry {
             id,
             size: size.max(1),
         }),
-        Event::Reallocate { new, size, .. } => Some(Entry {
+        Event::Reallocate { new, size, .. } => Some(MadeEntry {
             id: new,
             size: size.max(1),
         }),
@@ -63,4 +65,18 @@ fn was_made(making: Option<Making>) -> bool
     ensures { result ≡ was_made making }
 {
     matches!(making, Some(Making::Made))
+}
+
+/// Returns whether the alignment that an event requests is at most the unit of its size.
+pub(crate) fn asks_for_unit(align: Align, event: Event) -> bool
+    ensures { result ≡ asks_for_unit align event }
+{
+    match event {
+        Event::Allocate {
+            size,
+            align: requested,
+            ..
+        } => requested <= unit(align, u128::from(size.max(1))),
+        _ => true,
+    }
 }

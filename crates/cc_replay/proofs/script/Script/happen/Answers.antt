@@ -1,8 +1,8 @@
 use Rattle.std.proofs.Common.{rules, ◌≡◌, ap, sym}
-use Rattle.cc_changes.specs.Deeds.{told_deeds}
-use Rattle.cc_changes.specs.Script.{ScriptState}
-use Rattle.cc_changes.proofs.ScriptLemmas.{happened_deeds, happened_kept, made_few}
-use Rattle.cc_changes.proofs.script.Script.happen.Goals as goal
+use Rattle.cc_replay.specs.Deeds.{told_deeds}
+use Rattle.cc_replay.specs.Script.{ScriptState}
+use Rattle.cc_replay.proofs.ScriptLemmas.{happened_deeds, happened_kept, made_few}
+use Rattle.cc_replay.proofs.script.Script.happen.Goals as goal
 
 pub invariant_of-self-2 : goal.invariant_of-self-2
 invariant_of-self-2 g c =

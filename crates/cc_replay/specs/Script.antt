@@ -14,9 +14,9 @@ use Rattle.cc_formats.specs.declared.reading.Reading.{Reading}
 use Rattle.cc_formats.specs.Formats.{entry_in}
 use Rattle.cc_formats.specs.Reading.{progress_after}
 use Rattle.cc_heap.specs.Outcomes.{is_refused}
-use Rattle.cc_changes.specs.Changes.{CanBePlanned, Change, Changes, asks_for_unit, objects_made}
-use Rattle.cc_changes.specs.Operations.{numbers_after, operation_lines, operations_of}
-use Rattle.cc_changes.specs.Deeds.{NumberedIds, asked_entry, numbers_of}
+use Rattle.cc_replay.specs.Changes.{CanBePlanned, Change, Changes, asks_for_unit, objects_made}
+use Rattle.cc_replay.specs.Operations.{numbers_after, operation_lines, operations_of}
+use Rattle.cc_replay.specs.Deeds.{NumberedIds, asked_entry, numbers_of}
 
 -- The state of a script: the heap, how the trace is read, the pointer of the first half of a reallocation whose second
 -- half has not come, the numbers of objects, and whether further lines are taken.

@@ -6,7 +6,7 @@ use Rattle.std.proofs.lemmas.Bool.Decides.{nat_tests}
 use Rattle.std.proofs.lemmas.List.Sums.{sum_by-cons}
 use Rattle.std.proofs.lemmas.List.Sorted.{sum_by-IsPermutation}
 use Rattle.cc_heap.specs.declared.object.Object.{Object}
-use Rattle.cc_changes.specs.Kept.{id_weight}
+use Rattle.cc_replay.specs.Kept.{id_weight}
 
 -- one list has the entries of another and one more
 abbrev pub HasOneMore : List (ℕ × Object) → ℕ × Object → List (ℕ × Object) → Type 0

@@ -2,7 +2,7 @@
 
 /// The id and the size of an object.
 #[derive(Clone, Copy)]
-pub struct Entry {
+pub struct MadeEntry {
     /// The id.
     pub id: u64,
     /// The size in bytes.
@@ -17,7 +17,7 @@ pub struct Deeds {
     /// The number of sweeps before an object is made.
     pub sweeps: u64,
     /// The object that is made, if it is.
-    pub made: Option<Entry>,
+    pub made: Option<MadeEntry>,
     /// The id of the object that is freed last, if it is.
     pub freed: Option<u64>,
     /// Whether the quarantine is swept after that.

@@ -17,14 +17,14 @@ use Rattle.cc_formats.specs.declared.reading.Progress.{Progress}
 use Rattle.cc_formats.specs.declared.reading.Progress.TheVariants.{Running, Stopped, OutOfMemory}
 use Rattle.cc_formats.specs.Reading.{is_over, progress_after}
 use Rattle.cc_heap.specs.Outcomes.{is_refused}
-use Rattle.cc_changes.specs.declared.deeds.Deeds.{Deeds}
-use Rattle.cc_changes.specs.declared.deeds.Entry.{Entry as MadeEntry}
-use Rattle.cc_changes.specs.Changes.{AsksForUnit, asks_for_unit}
-use Rattle.cc_changes.specs.Operations.{Numbers, operation_lines}
-use Rattle.cc_changes.specs.Deeds.{DoesDeeds, NumberedIds, asked_entry, deed_operations, numbers_of, numbers_with, told_deeds, was_made}
-use Rattle.cc_changes.specs.Kept.{HasBytes, IsKept}
-use Rattle.cc_changes.specs.Script.{AppendsEntry, AppendsEvent, Refuses, ScriptState, ScriptsLine, ScriptsLineIn, ScriptsNext, ScriptsRest, ScriptsRestIn, can_have, most_objects, next_entry}
-use Rattle.cc_changes.proofs.HistoryLemmas.{HasDeeds, clears, event_deeds}
+use Rattle.cc_replay.specs.declared.deeds.Deeds.{Deeds}
+use Rattle.cc_replay.specs.declared.deeds.MadeEntry.{MadeEntry}
+use Rattle.cc_replay.specs.Changes.{AsksForUnit, asks_for_unit}
+use Rattle.cc_replay.specs.Operations.{Numbers, operation_lines}
+use Rattle.cc_replay.specs.Deeds.{DoesDeeds, NumberedIds, asked_entry, deed_operations, numbers_of, numbers_with, told_deeds, was_made}
+use Rattle.cc_replay.specs.Kept.{HasBytes, IsKept}
+use Rattle.cc_replay.specs.Script.{AppendsEntry, AppendsEvent, Refuses, ScriptState, ScriptsLine, ScriptsLineIn, ScriptsNext, ScriptsRest, ScriptsRestIn, can_have, most_objects, next_entry}
+use Rattle.cc_replay.proofs.HistoryLemmas.{HasDeeds, clears, event_deeds}
 
 -- a heap that held nothing
 pub kept_empty : (settings : Settings) → settings.realloc ≡ Move → IsKept (empty_heap settings)

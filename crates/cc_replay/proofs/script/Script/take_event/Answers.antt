@@ -1,8 +1,8 @@
 use Rattle.std.proofs.Common.{rules, ◌≡◌, ap, false}
 use Rattle.cc_formats.specs.declared.reading.Progress.TheVariants.{Stopped}
-use Rattle.cc_changes.specs.Script.{ScriptState, can_have}
-use Rattle.cc_changes.proofs.ScriptLemmas.{event_ends}
-use Rattle.cc_changes.proofs.script.Script.take_event.Goals as goal
+use Rattle.cc_replay.specs.Script.{ScriptState, can_have}
+use Rattle.cc_replay.proofs.ScriptLemmas.{event_ends}
+use Rattle.cc_replay.proofs.script.Script.take_event.Goals as goal
 
 pub returns-then-not-can_have : goal.returns-then-not-can_have
 returns-then-not-can_have g c =

@@ -6,11 +6,11 @@ use Rattle.cc_heap.specs.declared.settings.Settings.{Settings}
 use Rattle.cc_formats.specs.Reading.{progress_after}
 use Rattle.cc_heap.specs.Outcomes.{is_refused}
 use Rattle.cc_formats.specs.declared.reading.Reading.{Reading}
-use Rattle.cc_changes.specs.Deeds.{DoesDeeds, NumberedIds, deed_operations, numbers_of, numbers_with}
-use Rattle.cc_changes.specs.Operations.{operation_lines}
-use Rattle.cc_changes.specs.Script.{ScriptState, most_objects}
-use Rattle.cc_changes.proofs.ScriptLemmas.{event_runs_out, event_scripted}
-use Rattle.cc_changes.proofs.script.Script.take_possible.Goals as goal
+use Rattle.cc_replay.specs.Deeds.{DoesDeeds, NumberedIds, deed_operations, numbers_of, numbers_with}
+use Rattle.cc_replay.specs.Operations.{operation_lines}
+use Rattle.cc_replay.specs.Script.{ScriptState, most_objects}
+use Rattle.cc_replay.proofs.ScriptLemmas.{event_runs_out, event_scripted}
+use Rattle.cc_replay.proofs.script.Script.take_possible.Goals as goal
 
 pub returns-in_default : goal.returns-in_default
 returns-in_default g c = event_runs_out c.args.self.now c.args.event c.args.out.now refl

@@ -4,8 +4,8 @@ use Rattle.cc_values.specs.declared.op.Op.{Op}
 use Rattle.cc_values.specs.declared.op.Op.TheVariants.{Alloc, Free, Sweep}
 use Rattle.cc_heap.specs.declared.policy.Policy.{Policy}
 use Rattle.cc_heap.specs.Policy.{is_immediate}
-use Rattle.cc_changes.specs.Changes.{Change}
-use Rattle.cc_changes.specs.Changes.Change.{Make, Free as FreeLive, Replace, Sweep as SweepAll}
+use Rattle.cc_replay.specs.Changes.{Change}
+use Rattle.cc_replay.specs.Changes.Change.{Make, Free as FreeLive, Replace, Sweep as SweepAll}
 
 -- ---- The numbers of objects.
 

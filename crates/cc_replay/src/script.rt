@@ -7,15 +7,14 @@ ghost use Rattle.cc_heap.specs.declared.reallocation.Reallocation.TheVariants.{M
 ghost use Rattle.cc_placer.specs.Alignment.{HasAlignment};
 ghost use Rattle.cc_formats.specs.Reading.{is_over};
 ghost use Rattle.cc_heap.specs.Events.{IsEvent};
-ghost use Rattle.cc_changes.specs.Operations.{operation_lines};
-ghost use Rattle.cc_changes.specs.Deeds.{DoesDeeds, deed_operations, is_swept_clean, numbers_of, numbers_with};
-ghost use Rattle.cc_changes.specs.Script.{AppendsEntry, AppendsEvent, Refuses, ScriptsLine, ScriptsRest, can_have, most_objects, script_begun};
+ghost use Rattle.cc_replay.specs.Operations.{operation_lines};
+ghost use Rattle.cc_replay.specs.Deeds.{DoesDeeds, deed_operations, is_swept_clean, numbers_of, numbers_with};
+ghost use Rattle.cc_replay.specs.Script.{AppendsEntry, AppendsEvent, Refuses, ScriptsLine, ScriptsRest, can_have, most_objects, script_begun};
 
 use crate::deeds::Deeds;
-use crate::doing::{asked_entry, deeds_of};
-use crate::lines::push_deeds;
+use crate::doing::{asked_entry, asks_for_unit, deeds_of};
 use crate::numbering::Numbering;
-use crate::rules::asks_for_unit;
+use crate::script_lines::push_deeds;
 use cc_formats::{Entry, Progress, Reading, read_entry};
 use cc_heap::{Heap, Outcome, Settings};
 use cc_io::{Answerer, IoError, Lines, Page, Sink, Source, Summary, Pending, pump};
@@ -40,8 +39,8 @@ pub struct Script<P: Placer> {
 }
 
 impl<P: Placer> Model for Script<P> {
-    ghost use Rattle.cc_changes.specs.Kept.{IsKept};
-    ghost use Rattle.cc_changes.specs.Script.{ScriptState};
+    ghost use Rattle.cc_replay.specs.Kept.{IsKept};
+    ghost use Rattle.cc_replay.specs.Script.{ScriptState};
 
     ghost Value = { ScriptState };
 

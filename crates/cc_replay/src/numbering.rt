@@ -1,9 +1,9 @@
 //! The numbers of objects.
 ghost use Rattle.std.specs.Prelude.{◌≡◌, [], ◌<◌, IfSome, OnOk};
-ghost use Rattle.cc_changes.specs.Deeds.{number_in, numbers_of, numbers_with};
-ghost use Rattle.cc_changes.specs.Script.{most_objects};
+ghost use Rattle.cc_replay.specs.Deeds.{number_in, numbers_of, numbers_with};
+ghost use Rattle.cc_replay.specs.Script.{most_objects};
 
-use crate::deeds::Entry;
+use crate::deeds::MadeEntry;
 use std::alloc::{AllocError, Global};
 use std::collections::HashMap;
 use std::marker::Model;
@@ -16,7 +16,7 @@ pub struct Numbering {
 }
 
 impl Model for Numbering {
-    ghost use Rattle.cc_changes.specs.Deeds.{NumberedIds};
+    ghost use Rattle.cc_replay.specs.Deeds.{NumberedIds};
 
     ghost Value = { NumberedIds };
 
@@ -54,7 +54,7 @@ impl Numbering {
     /// Gives an object that was made its number, if there is one.
     ///
     /// Errors: `AllocError` if an allocation fails.
-    pub fn note(&mut self, entry: Option<Entry>) -> Result<(), AllocError>
+    pub fn note(&mut self, entry: Option<MadeEntry>) -> Result<(), AllocError>
         requires few { IfSome entry (λ _. self.old.made < most_objects) }
         ensures noted { OnOk result (numbers_of self.new ≡ numbers_with (numbers_of self.old) entry) }
     {

@@ -15,13 +15,13 @@ use Rattle.cc_heap.specs.Heap.{Heap, is_made}
 use Rattle.cc_placer.specs.Ids.{freed_id, made_id}
 use Rattle.cc_heap.specs.Memory.{usage_of}
 use Rattle.cc_heap.specs.Policy.{is_immediate}
-use Rattle.cc_changes.specs.declared.deeds.Deeds.{Deeds}
-use Rattle.cc_changes.specs.declared.deeds.Entry.{Entry}
-use Rattle.cc_changes.specs.Changes.{CanBePlanned, Change, Changes, objects_made}
-use Rattle.cc_changes.specs.Operations.{Numbers, freeing, numbers_after, operations_of, with_number}
+use Rattle.cc_replay.specs.declared.deeds.Deeds.{Deeds}
+use Rattle.cc_replay.specs.declared.deeds.MadeEntry.{MadeEntry}
+use Rattle.cc_replay.specs.Changes.{CanBePlanned, Change, Changes, objects_made}
+use Rattle.cc_replay.specs.Operations.{Numbers, freeing, numbers_after, operations_of, with_number}
 
 -- The id and the size of the object that an event requests, or none.
-abbrev pub asked_entry : Event → Option Entry
+abbrev pub asked_entry : Event → Option MadeEntry
 asked_entry (Allocate id size align) = Some (record { id = id; size = size_of size })
 asked_entry (Clear id size) = Some (record { id = id; size = size_of size })
 asked_entry (Reallocate old new size) = Some (record { id = new; size = size_of size })
@@ -86,7 +86,7 @@ abbrev pub free_operations : Policy → Numbers → Option ℕ → List Op
 free_operations policy numbers id = numbered_free policy (number_in numbers id)
 
 -- The operations by which an object is made, if there is one.
-abbrev pub alloc_operations : Option Entry → List Op
+abbrev pub alloc_operations : Option MadeEntry → List Op
 alloc_operations (Some entry) = Alloc entry.size ∷ []
 alloc_operations None = []
 
@@ -104,7 +104,7 @@ deed_operations policy numbers deeds =
     numbered_operations policy (number_in numbers deeds.cleared) (number_in numbers deeds.freed) deeds
 
 -- The numbers after deeds.
-abbrev pub numbers_with : Numbers → Option Entry → Numbers
+abbrev pub numbers_with : Numbers → Option MadeEntry → Numbers
 numbers_with numbers (Some entry) = with_number numbers entry.id
 numbers_with numbers None = numbers
 

@@ -29,14 +29,14 @@ use Rattle.cc_heap.specs.Policy.{AsksForSweep, Gauge, is_immediate, is_of_the_tr
 use Rattle.cc_heap.specs.Reallocation.{can_take, is_keep}
 use Rattle.cc_heap.specs.Heap.{Attempts, FreesObject, Heap, MakesObject, gauge_of, is_made, kept_object, object_under, quarantined_with, swept}
 use Rattle.cc_heap.specs.Events.{Allocates, FollowsPolicy, FollowsReplacing, Frees, FreesIfLive, IsEvent, KeepsPlace, Reallocates, Remakes, Replaces, ReplacesLive, Tries, TriesToReplace, outcome_of}
-use Rattle.cc_changes.specs.declared.deeds.Deeds.{Deeds}
-use Rattle.cc_changes.specs.declared.deeds.Entry.{Entry}
-use Rattle.cc_changes.specs.Changes.{AsksForUnit, CanBePlanned, Change, Changes, objects_made}
-use Rattle.cc_changes.specs.Changes.Change.{Make as MakeOne, Free as FreeOne, Replace as ReplaceOne, Sweep as SweepAll}
-use Rattle.cc_changes.specs.Operations.{Numbers, freeing, numbers_after, operations_of, with_number}
-use Rattle.cc_changes.specs.Deeds.{alloc_operations, as_number, deed_operations, deeds_of, free_operations, is_swept_clean, numbers_with, told_deeds}
-use Rattle.cc_changes.specs.Kept.{HasBytes, IsKept, id_weight}
-use Rattle.cc_changes.proofs.EntryLemmas.{found_none, itself, none_counted, none_is, once_more, one_fewer, one_more, other_key, same_key}
+use Rattle.cc_replay.specs.declared.deeds.Deeds.{Deeds}
+use Rattle.cc_replay.specs.declared.deeds.MadeEntry.{MadeEntry}
+use Rattle.cc_replay.specs.Changes.{AsksForUnit, CanBePlanned, Change, Changes, objects_made}
+use Rattle.cc_replay.specs.Changes.Change.{Make as MakeOne, Free as FreeOne, Replace as ReplaceOne, Sweep as SweepAll}
+use Rattle.cc_replay.specs.Operations.{Numbers, freeing, numbers_after, operations_of, with_number}
+use Rattle.cc_replay.specs.Deeds.{alloc_operations, as_number, deed_operations, deeds_of, free_operations, is_swept_clean, numbers_with, told_deeds}
+use Rattle.cc_replay.specs.Kept.{HasBytes, IsKept, id_weight}
+use Rattle.cc_replay.proofs.EntryLemmas.{found_none, itself, none_counted, none_is, once_more, one_fewer, one_more, other_key, same_key}
 
 -- no entry has the id
 abbrev pub IsFree : Heap → ℕ → Type 0
@@ -389,7 +389,7 @@ clears old new id false kept (none, is) = record {
 }
 
 -- an object is made, or not
-abbrev made_entry : Making → (id size : ℕ) → Option Entry
+abbrev made_entry : Making → (id size : ℕ) → Option MadeEntry
 made_entry making id size = if is_made making then Some (record { id = id; size = size }) else None
 
 attempts : (old new : Heap) (id requested size : ℕ) (making : Making) → IsKept old → IsFree old id → 0 < size
@@ -576,7 +576,7 @@ allocated old new event id requested size outcome told_outcome unknown kept some
     })
 
 -- what an object frees last, after one is made in its place or not
-pub record HasMoved (old : Heap) (cleared : Option ℕ) (made : Option Entry) (id : ℕ) (new : Heap) : Type 0 where
+pub record HasMoved (old : Heap) (cleared : Option ℕ) (made : Option MadeEntry) (id : ℕ) (new : Heap) : Type 0 where
   count : ℕ
   last : ℕ
   few : count ≤ 2
@@ -588,7 +588,7 @@ pub record HasMoved (old : Heap) (cleared : Option ℕ) (made : Option Entry) (i
       ++ (alloc_operations made ++ (freeing old.settings.policy (n.number_of id) ++ replicate last SweepOp))))
       (λ n. numbers_with n made) (count + last)
 
-moved_deeds : (old new : Heap) (event : Event) (outcome : Outcome) (cleared : Option ℕ) (made : Option Entry) (id : ℕ)
+moved_deeds : (old new : Heap) (event : Event) (outcome : Outcome) (cleared : Option ℕ) (made : Option MadeEntry) (id : ℕ)
     → HasMoved old cleared made id new
     → ((clean : Bool) (sweeps : ℕ) → deeds_of event outcome sweeps clean ≡ record {
       cleared = cleared;

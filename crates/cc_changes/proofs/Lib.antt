@@ -1,4 +1,0 @@
-pub mod EntryLemmas
-pub mod HistoryLemmas
-pub mod LineLemmas
-pub mod ScriptLemmas
