@@ -1,91 +1,68 @@
 -- The chart of a replay shows the events of the lines that it takes.
-use Rattle.std.proofs.Common.{◌≡◌, ◌≢◌, ◌⊎◌, ℕ, Bool, true, false, ◌+◌, ◌<◌, ◌^◌, ◌==◌, max, List, [], ◌∷◌, ◌++◌, length, length-append, Option, Some, None, Result, Ok, Err, arith, refl, sym, ◌∙◌, ap, subst, inl, inr, if◌then◌else◌}
+use Rattle.std.proofs.Common.{◌≡◌, ◌≢◌, ◌⊎◌, ℕ, Bool, ◌+◌, ◌<◌, ◌^◌, max, List, [], ◌∷◌, ◌++◌, length, length-append, Option, Some, None, Result, Ok, Err, arith, refl, sym, ◌∙◌, ap, subst, inl, inr}
 use Rattle.cc_word.specs.declared.refusal.Refusal.{Refusal}
-use Rattle.cc_word.specs.declared.refusal.Refusal.TheVariants.{OutOfRange, Unfinished}
 use Rattle.cc_io.specs.Answers.{Answer, AnswersAll, EndsWith, Output, entries_of, rest_of}
 use Rattle.cc_io.specs.Frames.{lines}
 use Rattle.cc_io.specs.Lines.{lines_of}
 use Rattle.cc_chart.specs.declared.levels.Levels.{Levels}
-use Rattle.cc_chart.specs.Chart.{Chart, IsChartOf, with_event as with_levels, with_events}
+use Rattle.cc_chart.specs.Chart.{Chart, IsChartOf, with_events}
 use Rattle.cc_laws.proofs.ChartLemmas.{shows_all}
 use Rattle.cc_placer.specs.declared.event.Event.{Event}
-use Rattle.cc_placer.specs.declared.event.Event.TheVariants.{Allocate, Clear, Reallocate, Free, Sweep, Clock}
 use Rattle.cc_heap.specs.declared.outcome.Outcome.{Outcome}
 use Rattle.cc_heap.specs.declared.settings.Settings.{Settings}
 use Rattle.cc_heap.specs.Events.{IsEvent}
 use Rattle.cc_heap.specs.Heap.{Heap, empty_heap}
 use Rattle.cc_heap.specs.Memory.{usage_of}
 use Rattle.cc_heap.specs.Peaks.{without_peaks}
-use Rattle.cc_heap.specs.Totals.{capped_count, capped_sum}
+use Rattle.cc_heap.specs.Totals.{capped_sum}
 use Rattle.cc_laws.proofs.PeakLemmas.{has_peaks}
-use Rattle.cc_replay.specs.declared.counts.Counts.{Counts}
 use Rattle.cc_formats.specs.declared.formats.Entry.{Entry}
 use Rattle.cc_formats.specs.declared.reading.Progress.{Progress}
 use Rattle.cc_formats.specs.declared.reading.Progress.TheVariants.{Running, Stopped, OutOfMemory}
 use Rattle.cc_formats.specs.declared.reading.Reading.{Reading}
-use Rattle.cc_replay.specs.Counts.{with_kind, with_refusal}
-use Rattle.cc_replay.specs.Replay.{ReplayState, TakesEntry, TakesLine, TakesLineIn, TakesRestIn, at_entry, event_before, events_in, figures_of, next_entry}
+use Rattle.cc_replay.specs.Replay.{ReplayState, TakesLine, at_entry, event_before, events_in, figures_of, replaying}
+use Rattle.cc_replay.specs.Taking.{TakesEntry, TakesLineIn, TakesRestIn, next_entry}
 use Rattle.cc_laws.specs.ChartedRun.{HasLevels, RunsWithLevels, ShowsRun}
 use Rattle.cc_laws.proofs.SeenLemmas.{events_seen}
-use Rattle.cli_replay.specs.Charting.{Charted, ChartsLine, ChartsRest, begun_chart, levels_of, peakless}
-
--- ---- the number of events
-
-kind_events : (event : Event) (counts : Counts) → (with_kind event counts).events ≡ counts.events
-kind_events (Allocate id size align) counts = refl
-kind_events (Clear id size) counts = refl
-kind_events (Reallocate from to size) counts = refl
-kind_events (Free id) counts = refl
-kind_events Sweep counts = refl
-kind_events (Clock time) counts = refl
-
-refusal_events : (refusal : Refusal) (counts : Counts) → (with_refusal refusal counts).events ≡ counts.events
-refusal_events OutOfRange counts = refl
-refusal_events Unfinished counts = refl
-refusal_events _ counts = refl
+use Rattle.cli_replay.specs.Charting.{Charted, ChartsLine, ChartsRest, begun_chart, charted, levels_of, peakless}
 
 -- ---- a line
 
--- the event of a line's entry happens to the heap and is counted, or neither changes
+-- the event of a line's entry happens to the heap, or the heap stays
 abbrev Steps : Result (Option Event) Refusal → ReplayState → ReplayState → Type 0
 Steps (Ok (Some event)) old new =
-    (outcome : Outcome) × IsEvent old.run.heap event outcome new.run.heap × (new.counts.events ≡ capped_count (old.counts.events + 1))
-Steps _ old new = (new.run.heap ≡ old.run.heap) × (new.counts.events ≡ old.counts.events)
+    (outcome : Outcome) × IsEvent old.run.heap event outcome new.run.heap
+Steps _ old new = new.run.heap ≡ old.run.heap
 
 -- the trace is read as before, and the entry has the half of a reallocation that is pending
 abbrev ReadsOn : Entry → ReplayState → ReplayState → Type 0
 ReadsOn entry old new = (new.reading ≡ old.reading) × (new.pending ≡ entry.pending)
 
 entry_steps : (entry : Entry) (event : Result (Option Event) Refusal) (old new : ReplayState) (text : List ℕ) (is_error : Bool)
-    → TakesEntry (at_entry entry old) event text is_error new → new.progress ≢ OutOfMemory
+    → TakesEntry replaying (at_entry entry old) event text is_error new → new.progress ≢ OutOfMemory
     → ReadsOn entry old new × Steps event old new
 entry_steps entry (Ok (Some event)) old new text is_error (inl t) has = (
   (ap (λ (s : ReplayState). s.reading) t.is_new, ap (λ (s : ReplayState). s.pending) t.is_new),
   (
     t.is_event.told,
     subst (λ (heap : Heap). IsEvent old.run.heap event t.is_event.told heap) (sym (ap (λ (s : ReplayState). s.run.heap) t.is_new)) t.is_event.is_event,
-    ap (λ (s : ReplayState). s.counts.events) t.is_new
-        ∙ kind_events event (record (at_entry entry old).counts { events = capped_count ((at_entry entry old).counts.events + 1) }),
   ),
 )
 entry_steps entry (Ok (Some event)) old new text is_error (inr t) has = absurd (has (ap (λ (s : ReplayState). s.progress) t.is_new))
 entry_steps entry (Ok None) old new text is_error t has = (
   (ap (λ (s : ReplayState). s.reading) t.2, ap (λ (s : ReplayState). s.pending) t.2),
-  (ap (λ (s : ReplayState). s.run.heap) t.2, ap (λ (s : ReplayState). s.counts.events) t.2),
+  ap (λ (s : ReplayState). s.run.heap) t.2,
 )
 entry_steps entry (Err refusal) old new text is_error t has = (
   (ap (λ (s : ReplayState). s.reading) t.is_new, ap (λ (s : ReplayState). s.pending) t.is_new),
-  (
-    ap (λ (s : ReplayState). s.run.heap) t.is_new,
-    ap (λ (s : ReplayState). s.counts.events) t.is_new ∙ refusal_events refusal (at_entry entry old).counts,
-  ),
+  ap (λ (s : ReplayState). s.run.heap) t.is_new,
 )
 
 -- the line is taken from a state that runs
 record IsTaken (old : ReplayState) (line : List ℕ) (new : ReplayState) : Type 0 where
   running : old.progress ≡ Running
-  reads : ReadsOn (next_entry old line) old new
-  steps : Steps (next_entry old line).event old new
+  reads : ReadsOn (next_entry replaying old line) old new
+  steps : Steps (next_entry replaying old line).event old new
 
 -- the line is taken, or passed by a state that has stopped
 abbrev LineSteps : (old : ReplayState) (line : List ℕ) (new : ReplayState) → Type 0
@@ -94,9 +71,9 @@ LineSteps old line new = IsTaken old line new ⊎ ((old.progress ≡ Stopped) ×
 line_steps : (old new : ReplayState) (line text : List ℕ) (is_error : Bool) → TakesLine old line text is_error new
     → new.progress ≢ OutOfMemory → LineSteps old line new
 line_steps old new line text is_error t has = by old.progress refl t where
-  by : (progress : Progress) → old.progress ≡ progress → TakesLineIn progress old line text is_error new → LineSteps old line new
+  by : (progress : Progress) → old.progress ≡ progress → TakesLineIn replaying progress old line text is_error new → LineSteps old line new
   by Running is t =
-      let entry = entry_steps (next_entry old line) (next_entry old line).event old new text is_error t has in
+      let entry = entry_steps (next_entry replaying old line) (next_entry replaying old line).event old new text is_error t has in
       inl (record { running = is; reads = entry.0; steps = entry.1 })
   by Stopped is t = inr (is, t.2)
   by OutOfMemory is t = absurd (has (ap (λ (s : ReplayState). s.progress) t.2 ∙ is))
@@ -169,12 +146,6 @@ record Shown (old : Charted) (events : List Event) (new : Charted) : Type 0 wher
   runs : RunsWithLevels old.replay.run.heap taken levels new.replay.run.heap
   chart : new.chart ≡ with_events levels old.chart
 
-if_same : (now before : ℕ) (same other : Chart) → now ≡ before → (if now == before then same else other) ≡ same
-if_same now before same other is = let yes : (now == before) ≡ true = grind (arith, is) in rw yes refl
-
-if_more : (now before : ℕ) (same other : Chart) → before < now → (if now == before then same else other) ≡ other
-if_more now before same other more = let no : (now == before) ≡ false = grind (arith, more) in rw no refl
-
 no_event : (old mid new : Charted) (events : List Event) → old.replay.progress ≡ Running
     → mid.replay.run.heap ≡ without_peaks old.replay.run.heap → mid.chart ≡ old.chart → Shown mid events new → Shown old events new
 no_event old mid new events running heap chart later = record {
@@ -190,11 +161,10 @@ no_event old mid new events running heap chart later = record {
   chart = later.chart ∙ ap (with_events later.levels) chart;
 }
 
-joins : (event : Result (Option Event) Refusal) (old mid new : Charted) (events : List Event) (line text : List ℕ) (is_error : Bool)
-    → old.replay.progress ≡ Running → Steps event (peakless old.replay) mid.replay → ChartsLine old line text is_error mid
-    → old.replay.counts.events + length (event_before event events) < 2 ^ 64
+joins : (event : Result (Option Event) Refusal) (old mid new : Charted) (events : List Event) → old.replay.progress ≡ Running
+    → Steps event (peakless old.replay) mid.replay → mid.chart ≡ charted Running event (figures_of mid.replay) old.chart
     → Shown mid events new → Shown old (event_before event events) new
-joins (Ok (Some event)) old mid new events line text is_error running (outcome, is, count) taken few later = record {
+joins (Ok (Some event)) old mid new events running (outcome, is) chart later = record {
   taken = event ∷ later.taken;
   left = later.left;
   in_order = ap (λ (es : List Event). event ∷ es) later.in_order;
@@ -203,15 +173,10 @@ joins (Ok (Some event)) old mid new events line text is_error running (outcome, 
   halted = λ stops. absurd (not_stopped old.replay running stops);
   levels = levels_of (figures_of mid.replay) ∷ later.levels;
   runs = (outcome, mid.replay.run.heap, is, event_levels old.replay.run.heap event outcome mid.replay is, later.runs);
-  chart = later.chart ∙ ap (with_events later.levels) (taken.chart ∙ if_more mid.replay.counts.events old.replay.counts.events
-      old.chart (with_levels (levels_of (figures_of mid.replay)) old.chart) (omega (arith, count, few)));
+  chart = later.chart ∙ ap (with_events later.levels) chart;
 }
-joins (Ok None) old mid new events line text is_error running (heap, count) taken few later =
-    no_event old mid new events running heap (taken.chart ∙ if_same mid.replay.counts.events old.replay.counts.events
-    old.chart (with_levels (levels_of (figures_of mid.replay)) old.chart) count) later
-joins (Err refusal) old mid new events line text is_error running (heap, count) taken few later =
-    no_event old mid new events running heap (taken.chart ∙ if_same mid.replay.counts.events old.replay.counts.events
-    old.chart (with_levels (levels_of (figures_of mid.replay)) old.chart) count) later
+joins (Ok None) old mid new events running heap chart later = no_event old mid new events running heap chart later
+joins (Err refusal) old mid new events running heap chart later = no_event old mid new events running heap chart later
 
 -- a state that has stopped passes the line
 passes : (old mid new : Charted) (events others : List Event) (line text : List ℕ) (is_error : Bool) → old.replay.progress ≡ Stopped
@@ -226,48 +191,33 @@ passes old mid new events others line text is_error stops is taken later = recor
   levels = later.levels;
   runs = from_peakless old.replay.run.heap new.replay.run.heap later.taken later.levels
       (subst (λ (h : Heap). RunsWithLevels h later.taken later.levels new.replay.run.heap) (ap (λ (s : ReplayState). s.run.heap) is) later.runs);
-  chart = later.chart ∙ ap (with_events later.levels) (taken.chart ∙ if_same mid.replay.counts.events old.replay.counts.events
-      old.chart (with_levels (levels_of (figures_of mid.replay)) old.chart) (ap (λ (s : ReplayState). s.counts.events) is));
+  chart = later.chart ∙ ap (with_events later.levels) (taken.chart
+      ∙ ap (λ (p : Progress). charted p (next_entry replaying old.replay line).event (figures_of mid.replay) old.chart) stops);
 } where
   stopped : mid.replay.progress ≡ Stopped
   stopped = ap (λ (s : ReplayState). s.progress) is ∙ stops
-
--- as many events are left as are counted less
-counts_on : (event : Result (Option Event) Refusal) (old new : ReplayState) (events : List Event) → Steps event old new
-    → old.counts.events + length (event_before event events) < 2 ^ 64 → new.counts.events + length events < 2 ^ 64
-counts_on (Ok (Some event)) old new events (outcome, is, count) few = omega (arith, count, few)
-counts_on (Ok None) old new events (heap, count) few = omega (arith, count, few)
-counts_on (Err refusal) old new events (heap, count) few = omega (arith, count, few)
 
 -- the events of lines in the format of a state, after the half of a reallocation that is pending in it
 abbrev events_from : ReplayState → (entries : List (List ℕ)) → List Event
 events_from state entries = events_in state.reading.format state.pending entries
 
--- the events of lines are counted, if lines are taken
-abbrev AreFew : ReplayState → (entries : List (List ℕ)) → Type 0
-AreFew state entries = state.progress ≡ Running → state.counts.events + length (events_from state entries) < 2 ^ 64
-
 line_shows : (old mid new : Charted) (line text : List ℕ) (is_error : Bool) (entries : List (List ℕ)) → ChartsLine old line text is_error mid
-    → LineSteps (peakless old.replay) line mid.replay → AreFew old.replay (line ∷ entries)
-    → (AreFew mid.replay entries → Shown mid (events_from mid.replay entries) new)
+    → LineSteps (peakless old.replay) line mid.replay → Shown mid (events_from mid.replay entries) new
     → Shown old (events_from old.replay (line ∷ entries)) new
-line_shows old mid new line text is_error entries charts (inl taken) few later =
-    let entry = next_entry old.replay line in
+line_shows old mid new line text is_error entries charts (inl taken) later =
+    let entry = next_entry replaying old.replay line in
     let same : events_from mid.replay entries ≡ events_in old.replay.reading.format entry.pending entries =
     ap (λ (reading : Reading). events_in reading.format mid.replay.pending entries) taken.reads.0
     ∙ ap (λ (pending : Option ℕ). events_in old.replay.reading.format pending entries) taken.reads.1 in
-    let less = counts_on entry.event (peakless old.replay) mid.replay (events_in old.replay.reading.format entry.pending entries) taken.steps
-    (few taken.running) in
-    joins entry.event old mid new (events_in old.replay.reading.format entry.pending entries) line text is_error taken.running taken.steps charts
-    (few taken.running) (subst (λ (events : List Event). Shown mid events new) same
-    (later (λ runs. subst (λ (events : List Event). mid.replay.counts.events + length events < 2 ^ 64) (sym same) less)))
-line_shows old mid new line text is_error entries charts (inr (stops, is)) few later =
-    passes old mid new (events_from old.replay (line ∷ entries)) (events_from mid.replay entries) line text is_error stops is charts
-    (later (λ runs. absurd (not_stopped mid.replay runs (ap (λ (s : ReplayState). s.progress) is ∙ stops))))
+    joins entry.event old mid new (events_in old.replay.reading.format entry.pending entries) taken.running taken.steps
+    (charts.chart ∙ ap (λ (p : Progress). charted p entry.event (figures_of mid.replay) old.chart) taken.running)
+    (subst (λ (events : List Event). Shown mid events new) same later)
+line_shows old mid new line text is_error entries charts (inr (stops, is)) later =
+    passes old mid new (events_from old.replay (line ∷ entries)) (events_from mid.replay entries) line text is_error stops is charts later
 
 lines_show : (old new : Charted) (entries : List (List ℕ)) (answers : List Answer) → AnswersAll ChartsLine old entries answers new
-    → new.replay.progress ≢ OutOfMemory → AreFew old.replay entries → Shown old (events_from old.replay entries) new
-lines_show old new [] [] t has few = record {
+    → new.replay.progress ≢ OutOfMemory → Shown old (events_from old.replay entries) new
+lines_show old new [] [] t has = record {
   taken = [];
   left = [];
   in_order = refl;
@@ -278,12 +228,12 @@ lines_show old new [] [] t has few = record {
   runs = ap (λ (s : Charted). without_peaks s.replay.run.heap) t;
   chart = ap (λ (s : Charted). s.chart) t;
 }
-lines_show old new (line ∷ entries) (answer ∷ answers) t has few =
+lines_show old new (line ∷ entries) (answer ∷ answers) t has =
     line_shows old t.0 new line answer.text answer.is_error entries t.1
-    (line_steps (peakless old.replay) t.0.replay line answer.text answer.is_error t.1.takes (all_have t.0 new entries answers t.2 has)) few
-    (λ less. lines_show t.0 new entries answers t.2 has less)
-lines_show old new [] (answer ∷ answers) t has few = absurd t
-lines_show old new (line ∷ entries) [] t has few = absurd t
+    (line_steps (peakless old.replay) t.0.replay line answer.text answer.is_error t.1.takes (all_have t.0 new entries answers t.2 has))
+    (lines_show t.0 new entries answers t.2 has)
+lines_show old new [] (answer ∷ answers) t has = absurd t
+lines_show old new (line ∷ entries) [] t has = absurd t
 
 -- ---- the trailing bytes
 
@@ -309,7 +259,7 @@ rest_keeps old new [] ending t has =
 rest_keeps old new (byte ∷ rest) ending t has = by old.replay.progress refl t.takes
   where
     by : (progress : Progress) → old.replay.progress ≡ progress
-        → TakesRestIn progress old.replay (byte ∷ rest) ending.text ending.is_error new.replay → IsEnd old new
+        → TakesRestIn replaying progress old.replay (byte ∷ rest) ending.text ending.is_error new.replay → IsEnd old new
     by Running is takes = record {
       had_memory = running_has old.replay is;
       was_running = λ runs. is;
@@ -345,9 +295,6 @@ shows_run settings reading events new few shown =
           (shows_all shown.levels (omega (arith, few, both, each, many)));
     }
 
-from_none : (count : ℕ) → count < 2 ^ 64 → 0 + count < 2 ^ 64
-from_none count few = omega (arith, few)
-
 -- the trailing bytes change neither the heap nor the chart
 ended : (old mid new : Charted) (events : List Event) → Shown old events mid → IsEnd mid new → Shown old events new
 ended old mid new events shown end = record {
@@ -370,9 +317,7 @@ charts_show_runs settings reading text output any_error new o has few =
     let end = rest_keeps o.mid new (rest_of lines text) o.ending o.ends has in
     let same : events_in reading.format None (entries_of lines text) ≡ events_in reading.format None (lines_of text) =
     events_seen reading.format None (lines_of text) in
-    let shown = lines_show (begun_chart settings reading) o.mid (entries_of lines text) o.answers o.takes end.had_memory
-    (λ runs. from_none (length (events_in reading.format None (entries_of lines text)))
-    (subst (λ (events : List Event). length events < 2 ^ 64) (sym same) few)) in
+    let shown = lines_show (begun_chart settings reading) o.mid (entries_of lines text) o.answers o.takes end.had_memory in
     shows_run settings reading (events_in reading.format None (lines_of text)) new few
     (ended (begun_chart settings reading) o.mid new (events_in reading.format None (lines_of text))
     (subst (λ (events : List Event). Shown (begun_chart settings reading) events o.mid) same shown) end)

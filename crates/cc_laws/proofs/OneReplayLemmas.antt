@@ -22,7 +22,8 @@ use Rattle.cc_heap.specs.Memory.{usage_of}
 use Rattle.cc_heap.specs.Outcomes.{is_refused}
 use Rattle.cc_replay.specs.declared.summary.Figures.{Figures}
 use Rattle.cc_replay.specs.Counts.{with_event, with_outcome, with_refusal}
-use Rattle.cc_replay.specs.Replay.{Passes, Refuses, ReplayState, TakesEntry, TakesEvent, TakesLine, TakesLineIn, TakesRest, TakesRestIn, at_entry, at_line, begun, figures_of, next_entry, sample_text, time_after}
+use Rattle.cc_replay.specs.Replay.{ReplayState, TakesEvent, TakesLine, TakesRest, at_entry, begun, figures_of, replaying, sample_text, time_after}
+use Rattle.cc_replay.specs.Taking.{Passes, Refuses, TakesEntry, TakesLineIn, TakesRestIn, next_entry}
 use Rattle.cc_replay.specs.Rows.{values_line}
 use Rattle.cc_replay.specs.Summary.{sample_rows}
 use Rattle.cc_laws.specs.OneOutcome.{AreAlikeReplays, AreAlikeRuns}
@@ -84,7 +85,7 @@ passes old new another run text told is_error is_told once alike (none, not, is)
 }
 
 refuses : (old new another : ReplayState) (run : RunState) (refusal : Refusal) (text told : List ℕ) (is_error is_told : Bool) → IsOnce old
-    → AreAlikeRuns old.run run → Refuses old refusal text is_error new → Refuses (re run old) refusal told is_told another
+    → AreAlikeRuns old.run run → Refuses (replaying.refused refusal old) text is_error new → Refuses (replaying.refused refusal (re run old)) told is_told another
     → IsOneAnswer text told is_error is_told new another
 refuses old new another run refusal text told is_error is_told once alike first second = record {
   same_text = second.text_is ∙ sym first.text_is;
@@ -130,8 +131,8 @@ takes_event old new another run event text told is_error is_told once alike firs
     }
 
 takes_entry : (old new another : ReplayState) (run : RunState) (event : Result (Option Event) Refusal) (text told : List ℕ)
-    (is_error is_told : Bool) → IsOnce old → AreAlikeRuns old.run run → TakesEntry old event text is_error new
-    → TakesEntry (re run old) event told is_told another → new.progress ≢ OutOfMemory → another.progress ≢ OutOfMemory
+    (is_error is_told : Bool) → IsOnce old → AreAlikeRuns old.run run → TakesEntry replaying old event text is_error new
+    → TakesEntry replaying (re run old) event told is_told another → new.progress ≢ OutOfMemory → another.progress ≢ OutOfMemory
     → IsOneAnswer text told is_error is_told new another
 takes_entry old new another run (Ok (Some event)) text told is_error is_told once alike (inl first) (inl second) left left_too =
     takes_event old new another run event text told is_error is_told once alike first second
@@ -149,10 +150,10 @@ takes_line : (old new another : ReplayState) (run : RunState) (line text told : 
     → new.progress ≢ OutOfMemory → another.progress ≢ OutOfMemory → IsOneAnswer text told is_error is_told new another
 takes_line old new another run line text told is_error is_told once alike first second left left_too = by_progress old.progress first second
   where
-    by_progress : (progress : Progress) → TakesLineIn progress old line text is_error new
-        → TakesLineIn progress (re run old) line told is_told another → IsOneAnswer text told is_error is_told new another
+    by_progress : (progress : Progress) → TakesLineIn replaying progress old line text is_error new
+        → TakesLineIn replaying progress (re run old) line told is_told another → IsOneAnswer text told is_error is_told new another
     by_progress Running first second =
-        takes_entry (at_entry (next_entry old line) old) new another run (next_entry old line).event text told is_error is_told once alike
+        takes_entry (at_entry (next_entry replaying old line) old) new another run (next_entry replaying old line).event text told is_error is_told once alike
         first second left left_too
     by_progress Stopped first second = passes old new another run text told is_error is_told once alike first second
     by_progress OutOfMemory first second = passes old new another run text told is_error is_told once alike first second
@@ -164,7 +165,7 @@ line_left : (old new : ReplayState) (line text : List ℕ) (is_error : Bool) →
     → old.progress ≢ OutOfMemory
 line_left old new line text is_error takes left out = by_progress old.progress out takes
   where
-    by_progress : (progress : Progress) → progress ≡ OutOfMemory → TakesLineIn progress old line text is_error new → ⊥
+    by_progress : (progress : Progress) → progress ≡ OutOfMemory → TakesLineIn replaying progress old line text is_error new → ⊥
     by_progress Running is takes = let e = is in cc
     by_progress Stopped is takes = let e = is in cc
     by_progress OutOfMemory is (none, not, same) = left (ap (λ (s : ReplayState). s.progress) same ∙ out)
@@ -216,11 +217,11 @@ ends_with old new another run [] ending told once alike first second =
     passes old new another run ending.text told.text ending.is_error told.is_error once alike first second
 ends_with old new another run (byte ∷ rest) ending told once alike first second = by_progress old.progress first second
   where
-    by_progress : (progress : Progress) → TakesRestIn progress old (byte ∷ rest) ending.text ending.is_error new
-        → TakesRestIn progress (re run old) (byte ∷ rest) told.text told.is_error another
+    by_progress : (progress : Progress) → TakesRestIn replaying progress old (byte ∷ rest) ending.text ending.is_error new
+        → TakesRestIn replaying progress (re run old) (byte ∷ rest) told.text told.is_error another
         → IsOneAnswer ending.text told.text ending.is_error told.is_error new another
     by_progress Running first second =
-        refuses (at_line old) new another run Unfinished ending.text told.text ending.is_error told.is_error once alike first second
+        refuses (replaying.at_rest old) new another run Unfinished ending.text told.text ending.is_error told.is_error once alike first second
     by_progress Stopped first second =
         passes old new another run ending.text told.text ending.is_error told.is_error once alike first second
     by_progress OutOfMemory first second =
@@ -231,7 +232,7 @@ rest_left : (old new : ReplayState) (rest : List ℕ) (ending : Answer) → Ends
 rest_left old new [] ending (none, not, is) left out = left (ap (λ (s : ReplayState). s.progress) is ∙ out)
 rest_left old new (byte ∷ rest) ending ends left out = by_progress old.progress out ends
   where
-    by_progress : (progress : Progress) → progress ≡ OutOfMemory → TakesRestIn progress old (byte ∷ rest) ending.text ending.is_error new → ⊥
+    by_progress : (progress : Progress) → progress ≡ OutOfMemory → TakesRestIn replaying progress old (byte ∷ rest) ending.text ending.is_error new → ⊥
     by_progress Running is ends = let e = is in cc
     by_progress Stopped is ends = let e = is in cc
     by_progress OutOfMemory is (none, not, same) = left (ap (λ (s : ReplayState). s.progress) same ∙ out)
@@ -298,7 +299,7 @@ not_out reading refused = by_test (reading.is_strict && refused)
     by_test false e = cc
 
 entry_leads : (old : ReplayState) (event : Result (Option Event) Refusal) → IsOnce old → old.progress ≢ OutOfMemory
-    → LeadsOn old (TakesEntry old event)
+    → LeadsOn old (TakesEntry replaying old event)
 entry_leads old (Ok (Some event)) once left =
     let made = run_leads old.run event once in
     record {
@@ -338,9 +339,9 @@ entry_leads old (Err refusal) once left = record {
 pub line_leads : (old : ReplayState) (line : List ℕ) → IsOnce old → old.progress ≢ OutOfMemory → LeadsOn old (TakesLine old line)
 line_leads old line once left = by_progress old.progress left
   where
-    by_progress : (progress : Progress) → progress ≢ OutOfMemory → LeadsOn old (TakesLineIn progress old line)
+    by_progress : (progress : Progress) → progress ≢ OutOfMemory → LeadsOn old (TakesLineIn replaying progress old line)
     by_progress Running runs =
-        let made = entry_leads (at_entry (next_entry old line) old) (next_entry old line).event once left in
+        let made = entry_leads (at_entry (next_entry replaying old line) old) (next_entry replaying old line).event once left in
         record { text = made.text; is_error = made.is_error; new = made.new; takes = made.takes; once = made.once; left = made.left; runs = made.runs }
     by_progress Stopped runs = record { text = []; is_error = false; new = old; takes = (refl, refl, refl); once = once; left = left; runs = λ loose running. (running, loose) }
     by_progress OutOfMemory runs = absurd (runs refl)
@@ -350,11 +351,11 @@ pub rest_leads : (old : ReplayState) (rest : List ℕ) → IsOnce old → old.pr
 rest_leads old [] once left = record { text = []; is_error = false; new = old; takes = (refl, refl, refl); once = once; left = left; runs = λ loose running. (running, loose) }
 rest_leads old (byte ∷ rest) once left = by_progress old.progress left
   where
-    by_progress : (progress : Progress) → progress ≢ OutOfMemory → LeadsOn old (TakesRestIn progress old (byte ∷ rest))
+    by_progress : (progress : Progress) → progress ≢ OutOfMemory → LeadsOn old (TakesRestIn replaying progress old (byte ∷ rest))
     by_progress Running runs = record {
       text = [];
       is_error = true;
-      new = record (at_line old) { counts = with_refusal Unfinished (at_line old).counts; progress = progress_after old.reading true };
+      new = record (replaying.at_rest old) { counts = with_refusal Unfinished (replaying.at_rest old).counts; progress = progress_after old.reading true };
       takes = record { is_new = refl; error_is = refl; text_is = refl };
       once = once;
       left = not_out old.reading true;

@@ -19,7 +19,8 @@ use Rattle.cc_replay.specs.Changes.{AreChangesOf, CanBePlanned, Change, Changes,
 use Rattle.cc_replay.specs.Changes.Change.{Make as MakeOne, Free as FreeOne, Replace as ReplaceOne, Sweep as SweepAll}
 use Rattle.cc_replay.specs.Operations.{Numbers, no_numbers, numbers_after, operation_lines, operations_of, with_number}
 use Rattle.cc_replay.specs.Deeds.{numbers_of}
-use Rattle.cc_replay.specs.Script.{ScriptState, ScriptsLine, ScriptsLineIn, ScriptsRest, ScriptsRestIn, TakesEntry, at_entry, most_objects, next_entry, script_begun}
+use Rattle.cc_replay.specs.Script.{ScriptState, ScriptsLine, ScriptsRest, most_objects, script_begun, scripting}
+use Rattle.cc_replay.specs.Taking.{TakesEntry, TakesLineIn, TakesRestIn, next_entry}
 use Rattle.cc_replay.proofs.HistoryLemmas.{all_joined, joined, numbers_joined, objects_joined, operations_joined}
 use Rattle.cc_replay.proofs.LineLemmas.{lines_joined}
 use Rattle.cc_laws.specs.Translation.{HasScript}
@@ -194,7 +195,7 @@ read_on old mid new entry entries text reading pending later =
     ∙ ap (λ (p : Option ℕ). events_in old.reading.format p entries) pending) later
 
 entry_part : (old mid new : ScriptState) (entry : Entry) (event : Result (Option Event) Refusal) (text more : List ℕ) (is_error : Bool)
-    (entries : List (List ℕ)) → old.progress ≡ Running → TakesEntry (at_entry entry old) event text is_error mid
+    (entries : List (List ℕ)) → old.progress ≡ Running → TakesEntry scripting (scripting.at_entry entry old) event text is_error mid
     → IsPart mid (events_from mid entries) more new
     → IsPart old (event_before event (events_in old.reading.format entry.pending entries)) (text ++ more) new
 entry_part old mid new entry (Ok (Some event)) text more is_error entries runs (inl taken) later =
@@ -251,10 +252,10 @@ line_part : (old mid new : ScriptState) (line text more : List ℕ) (is_error : 
     → IsPart old (events_from old (line ∷ entries)) (text ++ more) new
 line_part old mid new line text more is_error entries taken later = by old.progress refl taken
   where
-    by : (progress : Progress) → old.progress ≡ progress → ScriptsLineIn progress old line text is_error mid
+    by : (progress : Progress) → old.progress ≡ progress → TakesLineIn scripting progress old line text is_error mid
         → IsPart old (events_from old (line ∷ entries)) (text ++ more) new
     by Running runs next =
-        entry_part old mid new (next_entry old line) (next_entry old line).event text more is_error entries runs next later
+        entry_part old mid new (next_entry scripting old line) (next_entry scripting old line).event text more is_error entries runs next later
     by Stopped stops (none, no_error, is) =
         let stopped : mid.progress ≡ Stopped = ap (λ (s : ScriptState). s.progress) is ∙ stops in
         halts old mid new (events_from old (line ∷ entries)) (events_from mid entries) text more
@@ -301,7 +302,7 @@ rest_part old [] ending new (none, no_error, is) has_memory = passed_end old new
 rest_part old (byte ∷ rest) ending new taken has_memory = by old.progress refl taken
   where
     by : (progress : Progress) → old.progress ≡ progress
-        → ScriptsRestIn progress old (byte ∷ rest) ending.text ending.is_error new → IsEnd old ending.text new
+        → TakesRestIn scripting progress old (byte ∷ rest) ending.text ending.is_error new → IsEnd old ending.text new
     by Running runs refused = record {
       had_memory = running_has old runs;
       was_running = λ running. runs;

@@ -11,7 +11,8 @@ use Rattle.cc_formats.specs.declared.reading.Progress.{Progress}
 use Rattle.cc_formats.specs.declared.reading.Progress.TheVariants.{Running, Stopped, OutOfMemory}
 use Rattle.cc_formats.specs.declared.reading.Reading.{Reading}
 use Rattle.cc_heap.specs.Lost.{IsRunEvent, RunState, RunsNoting}
-use Rattle.cc_replay.specs.Replay.{ReplayState, TakesEntry, TakesLine, TakesLineIn, TakesRest, TakesRestIn, at_entry, event_before, events_in, next_entry}
+use Rattle.cc_replay.specs.Replay.{ReplayState, TakesLine, TakesRest, at_entry, event_before, events_in, replaying}
+use Rattle.cc_replay.specs.Taking.{TakesEntry, TakesLineIn, TakesRestIn, next_entry}
 use Rattle.cc_heap.specs.Run.{Runs}
 use Rattle.cc_laws.proofs.SeenLemmas.{events_seen}
 
@@ -25,7 +26,7 @@ abbrev ReadsOn : Entry → ReplayState → ReplayState → Type 0
 ReadsOn entry old new = (new.reading ≡ old.reading) × (new.pending ≡ entry.pending)
 
 event_runs : (entry : Entry) (event : Result (Option Event) Refusal) (old new : ReplayState) (text : List ℕ) (is_error : Bool)
-    → TakesEntry (at_entry entry old) event text is_error new → new.progress ≡ Running
+    → TakesEntry replaying (at_entry entry old) event text is_error new → new.progress ≡ Running
     → ReadsOn entry old new × EventRuns event old.run new.run
 event_runs entry (Ok (Some event)) old new text is_error (inl t) r = (
   (ap (λ (s : ReplayState). s.reading) t.is_new, ap (λ (s : ReplayState). s.pending) t.is_new),
@@ -39,11 +40,11 @@ event_runs entry (Err refusal) old new text is_error t r =
     ((ap (λ (s : ReplayState). s.reading) t.is_new, ap (λ (s : ReplayState). s.pending) t.is_new), ap (λ (s : ReplayState). s.run) t.is_new)
 
 line_runs : (old new : ReplayState) (line text : List ℕ) (is_error : Bool) → TakesLine old line text is_error new → new.progress ≡ Running
-    → (old.progress ≡ Running) × (ReadsOn (next_entry old line) old new × EventRuns (next_entry old line).event old.run new.run)
+    → (old.progress ≡ Running) × (ReadsOn (next_entry replaying old line) old new × EventRuns (next_entry replaying old line).event old.run new.run)
 line_runs old new line text is_error t r = by old.progress refl t where
-  by : (progress : Progress) → old.progress ≡ progress → TakesLineIn progress old line text is_error new
-      → (old.progress ≡ Running) × (ReadsOn (next_entry old line) old new × EventRuns (next_entry old line).event old.run new.run)
-  by Running is t = (is, event_runs (next_entry old line) (next_entry old line).event old new text is_error t r)
+  by : (progress : Progress) → old.progress ≡ progress → TakesLineIn replaying progress old line text is_error new
+      → (old.progress ≡ Running) × (ReadsOn (next_entry replaying old line) old new × EventRuns (next_entry replaying old line).event old.run new.run)
+  by Running is t = (is, event_runs (next_entry replaying old line) (next_entry replaying old line).event old new text is_error t r)
   by Stopped is t =
       let stopped : Stopped ≡ Running = sym is ∙ sym (ap (λ (s : ReplayState). s.progress) t.2) ∙ r in absurd cc
   by OutOfMemory is t =
@@ -67,7 +68,7 @@ lines_run old new (line ∷ entries) (answer ∷ answers) t r =
     let first = line_runs old t.0 line answer.text answer.is_error t.1 later.0 in
     let after = subst (λ (reading : Reading). RunsNoting t.0.run (events_in reading.format t.0.pending entries) new.run) first.1.0.0 later.1 in
     let then = subst (λ (pending : Option ℕ). RunsNoting t.0.run (events_in old.reading.format pending entries) new.run) first.1.0.1 after in
-    (first.0, joined (next_entry old line).event old.run t.0.run new.run (events_in old.reading.format (next_entry old line).pending entries) first.1.1 then)
+    (first.0, joined (next_entry replaying old line).event old.run t.0.run new.run (events_in old.reading.format (next_entry replaying old line).pending entries) first.1.1 then)
 lines_run old new [] (answer ∷ answers) t r = absurd t
 lines_run old new (line ∷ entries) [] t r = absurd t
 
@@ -78,7 +79,7 @@ rest_runs old new (byte ∷ rest) ending t r = by old.progress refl t where
   stays : new ≡ old → (old.progress ≡ Running) × (new.run ≡ old.run)
   stays is = (sym (ap (λ (s : ReplayState). s.progress) is) ∙ r, ap (λ (s : ReplayState). s.run) is)
 
-  by : (progress : Progress) → old.progress ≡ progress → TakesRestIn progress old (byte ∷ rest) ending.text ending.is_error new
+  by : (progress : Progress) → old.progress ≡ progress → TakesRestIn replaying progress old (byte ∷ rest) ending.text ending.is_error new
       → (old.progress ≡ Running) × (new.run ≡ old.run)
   by Running is t = (is, ap (λ (s : ReplayState). s.run) t.is_new)
   by Stopped is t = stays t.2

@@ -5,3 +5,4 @@ pub mod EntryLemmas
 pub mod HistoryLemmas
 pub mod LineLemmas
 pub mod ScriptLemmas
+pub mod TakingLemmas

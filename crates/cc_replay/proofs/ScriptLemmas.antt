@@ -13,8 +13,7 @@ use Rattle.cc_heap.specs.Events.{FailsInEvent, FailsToMake, IsEvent, IsSweptOrNo
 use Rattle.cc_heap.specs.Heap.{Heap, empty_heap}
 use Rattle.cc_io.specs.Answers.{AnswersInto}
 use Rattle.cc_formats.specs.declared.formats.Entry.{Entry}
-use Rattle.cc_formats.specs.declared.reading.Progress.{Progress}
-use Rattle.cc_formats.specs.declared.reading.Progress.TheVariants.{Running, Stopped, OutOfMemory}
+use Rattle.cc_formats.specs.declared.reading.Progress.TheVariants.{Stopped, OutOfMemory}
 use Rattle.cc_formats.specs.Reading.{is_over, progress_after}
 use Rattle.cc_heap.specs.Outcomes.{is_refused}
 use Rattle.cc_replay.specs.declared.deeds.Deeds.{Deeds}
@@ -23,7 +22,10 @@ use Rattle.cc_replay.specs.Changes.{AsksForUnit, asks_for_unit}
 use Rattle.cc_replay.specs.Operations.{Numbers, operation_lines}
 use Rattle.cc_replay.specs.Deeds.{DoesDeeds, NumberedIds, asked_entry, deed_operations, numbers_of, numbers_with, told_deeds, was_made}
 use Rattle.cc_replay.specs.Kept.{HasBytes, IsKept}
-use Rattle.cc_replay.specs.Script.{AppendsEntry, AppendsEvent, Refuses, ScriptState, ScriptsLine, ScriptsLineIn, ScriptsNext, ScriptsRest, ScriptsRestIn, can_have, most_objects, next_entry}
+use Rattle.cc_replay.specs.Script.{ScriptState, ScriptsLine, ScriptsRest, can_have, most_objects, scripting}
+use Rattle.cc_replay.specs.Taking.{AppendsEntry, AppendsEvent, Refuses, next_entry}
+use Rattle.cc_replay.proofs.TakingLemmas.{entry_answers, rest_answers}
+use Rattle.cc_word.specs.declared.refusal.Refusal.TheVariants.{Unfinished}
 use Rattle.cc_replay.proofs.HistoryLemmas.{HasDeeds, clears, event_deeds}
 
 -- a heap that held nothing
@@ -111,7 +113,7 @@ made_few state event outcome heap deeds can deeds_are =
 
 -- a script ends before an event that it cannot have, or where memory runs out
 pub event_ends : {new : ScriptState} (old : ScriptState) (event : Event) (out : List ℕ) → can_have old event ≡ false
-    → new ≡ record old { progress = Stopped } → AppendsEvent old event out out true new
+    → new ≡ record old { progress = Stopped } → AppendsEvent scripting old event out out true new
 event_ends old event out cannot is_new = record {
   text = [];
   out_is = sym (append-nil out);
@@ -119,7 +121,7 @@ event_ends old event out cannot is_new = record {
 }
 
 pub event_runs_out : {new : ScriptState} (old : ScriptState) (event : Event) (out : List ℕ)
-    → new.progress ≡ OutOfMemory → AppendsEvent old event out out false new
+    → new.progress ≡ OutOfMemory → AppendsEvent scripting old event out out false new
 event_runs_out old event out progress = record {
   text = [];
   out_is = sym (append-nil out);
@@ -170,7 +172,7 @@ pub event_scripted : (old : ScriptState) (event : Event) (outcome : Outcome) (de
     → out_now ≡ out ++ operation_lines (deed_operations old.heap.settings.policy (numbers_of old.ids) deeds)
     → refused ≡ is_refused outcome → new.progress ≡ progress_after old.reading refused
     → new.reading ≡ old.reading → new.pending ≡ old.pending
-    → AppendsEvent old event out out_now refused new
+    → AppendsEvent scripting old event out out_now refused new
 event_scripted old event outcome deeds out out_now refused new can is does left ids_are out_is refused_is progress_is reading_is pending_is =
     record {
       text = operation_lines (deed_operations old.heap.settings.policy (numbers_of old.ids) deeds);
@@ -199,27 +201,13 @@ event_scripted old event outcome deeds out out_now refused new can is does left 
     }
 
 -- the next line is taken as its entry is
-pub entry_answers : (old : ScriptState) (entry : Entry) (line out out_now : List ℕ) (is_error : Bool) (new : ScriptState)
-    → is_over old.progress ≡ false → entry ≡ next_entry old line → AppendsEntry old entry out out_now is_error new
+pub line_scripted : (old : ScriptState) (entry : Entry) (line out out_now : List ℕ) (is_error : Bool) (new : ScriptState)
+    → is_over old.progress ≡ false → entry ≡ next_entry scripting old line → AppendsEntry scripting old entry out out_now is_error new
     → AnswersInto ScriptsLine old line out out_now is_error new
-entry_answers old entry line out out_now is_error new going is taken =
-    let next : AppendsEntry old (next_entry old line) out out_now is_error new =
-    subst (λ (e : Entry). AppendsEntry old e out out_now is_error new) is taken in
-    record { text = next.text; out_is = next.out_is; answered = by_progress next.text old.progress going next.takes }
-  where
-    by_progress : (text : List ℕ) (progress : Progress) → is_over progress ≡ false → ScriptsNext old line text is_error new
-        → ScriptsLineIn progress old line text is_error new
-    by_progress text Running goes takes = takes
-    by_progress text Stopped goes takes = cc goes
-    by_progress text OutOfMemory goes takes = cc goes
+line_scripted old entry line out out_now is_error new going is taken = entry_answers scripting old entry line out out_now is_error new going is taken
 
 -- trailing bytes are refused
-pub rest_answers : (old : ScriptState) (rest out : List ℕ) (is_error : Bool) (new : ScriptState)
-    → is_over old.progress ≡ false → Refuses old [] is_error new → AnswersInto ScriptsRest old rest out out is_error new
-rest_answers old rest out is_error new going refuses =
-    record { text = []; out_is = sym (append-nil out); answered = by_progress old.progress going }
-  where
-    by_progress : (progress : Progress) → is_over progress ≡ false → ScriptsRestIn progress old rest [] is_error new
-    by_progress Running goes = refuses
-    by_progress Stopped goes = cc goes
-    by_progress OutOfMemory goes = cc goes
+pub rest_scripted : (old : ScriptState) (rest out : List ℕ) (is_error : Bool) (new : ScriptState)
+    → is_over old.progress ≡ false → Refuses (scripting.refused Unfinished old) [] is_error new
+    → AnswersInto ScriptsRest old rest out out is_error new
+rest_scripted old rest out is_error new going refuses = rest_answers scripting old rest out is_error new going refuses

@@ -4,6 +4,7 @@ pub mod Counts
 pub mod Rows
 pub mod Summary
 pub mod SizeTable
+pub mod Taking
 pub mod Replay
 pub mod Summarizing
 pub mod Changes

@@ -1,7 +1,6 @@
 -- A heap over a trace that takes its lines, and the output: the samples of a series.
 use Rattle.std.specs.Prelude.{◌≡◌, ◌⊎◌, ℕ, Bool, true, false, not, ◌&&◌, ◌==◌, List, [], ◌∷◌, ◌++◌, if◌then◌else◌, Option, Some, None, Result, Ok, Err}
 use Rattle.cc_word.specs.declared.refusal.Refusal.{Refusal}
-use Rattle.cc_word.specs.declared.refusal.Refusal.TheVariants.{Unfinished}
 use Rattle.cc_replay.specs.declared.counts.Count.{Count}
 use Rattle.cc_replay.specs.declared.counts.Counts.{Counts}
 use Rattle.cc_placer.specs.declared.event.Event.{Event}
@@ -21,6 +20,7 @@ use Rattle.cc_heap.specs.Memory.{IsSound, usage_of}
 use Rattle.cc_formats.specs.Reading.{is_due, progress_after}
 use Rattle.cc_replay.specs.Rows.{names_line, values_line}
 use Rattle.cc_replay.specs.Summary.{sample_rows}
+use Rattle.cc_replay.specs.Taking.{Taker, TakesLineIn, TakesRestIn}
 
 -- The state of a replay: the heap with the lost ids; how the trace is read; the counts of its lines; the
 -- pointer of a pending first half of a reallocation; the time that the trace gave last; whether further
@@ -116,75 +116,29 @@ pub record RunsOut (old : ReplayState) (text : List ℕ) (is_error : Bool) (new 
   pub error_is : is_error ≡ false
   pub text_is : text ≡ []
 
--- Refuses holds if the last line is counted as refused, and nothing is written.
-pub record Refuses (old : ReplayState) (refusal : Refusal) (text : List ℕ) (is_error : Bool) (new : ReplayState) : Type 0 where
-  pub is_new : new ≡ record old {
-    counts = with_refusal refusal old.counts;
-    progress = progress_after old.reading true;
-  }
-  pub error_is : is_error ≡ true
-  pub text_is : text ≡ []
-
--- Passes holds if nothing happens, and nothing is written.
-abbrev pub Passes : (old : ReplayState) (text : List ℕ) (is_error : Bool) (new : ReplayState) → Type 0
-Passes old text is_error new = (text ≡ []) × (is_error ≡ false) × (new ≡ old)
-
--- TakesEntry holds if the entry of a line is taken: an event, nothing, or a refusal.
-abbrev pub TakesEntry : (old : ReplayState) → Result (Option Event) Refusal → (text : List ℕ) → (is_error : Bool) → (new : ReplayState) → Type 0
-TakesEntry old (Ok (Some event)) text is_error new =
-    TakesEvent old event text is_error new ⊎ RunsOut old text is_error new
-TakesEntry old (Ok None) text is_error new = Passes old text is_error new
-TakesEntry old (Err refusal) text is_error new = Refuses old refusal text is_error new
-
--- The state with one more line.
-abbrev pub at_line : ReplayState → ReplayState
-at_line state = record state { counts = with_line state.counts }
-
 -- The state with one more line, which has this entry.
 abbrev pub at_entry : Entry → ReplayState → ReplayState
 at_entry entry state = record state { counts = with_failure entry.is_failure (with_line state.counts); pending = entry.pending }
 
--- The entry of the next line, in the format of the trace.
-abbrev pub next_entry : ReplayState → (line : List ℕ) → Entry
-next_entry state line = entry_in state.reading.format state.pending line
-
--- AppendsEvent holds if an event is taken, or memory ran out, and its text is appended to the output.
-pub record AppendsEvent (old : ReplayState) (event : Event) (out out_now : List ℕ) (is_error : Bool) (new : ReplayState) : Type 0 where
-  pub text : List ℕ
-  pub out_is : out_now ≡ out ++ text
-  pub takes : TakesEvent old event text is_error new ⊎ RunsOut old text is_error new
-
--- AppendsEntry holds if a line of this entry is counted and taken, and its text is appended to the output.
-pub record AppendsEntry (old : ReplayState) (entry : Entry) (out out_now : List ℕ) (is_error : Bool) (new : ReplayState) : Type 0 where
-  pub text : List ℕ
-  pub out_is : out_now ≡ out ++ text
-  pub takes : TakesEntry (at_entry entry old) entry.event text is_error new
-
--- TakesNext holds if a line is counted and taken.
-abbrev pub TakesNext : (old : ReplayState) → (line text : List ℕ) → (is_error : Bool) → (new : ReplayState) → Type 0
-TakesNext old line text is_error new =
-    TakesEntry (at_entry (next_entry old line) old) (next_entry old line).event text is_error new
-
--- TakesLineIn holds if a line is counted and taken by a replay with this progress, unless no further
--- line is taken.
-abbrev pub TakesLineIn : Progress → (old : ReplayState) → (line text : List ℕ) → (is_error : Bool) → (new : ReplayState) → Type 0
-TakesLineIn Running old line text is_error new = TakesNext old line text is_error new
-TakesLineIn _ old line text is_error new = Passes old text is_error new
+-- The replay as a taker of events: each line is counted, and the last one as refused if it is.
+abbrev pub replaying : Taker ReplayState
+replaying = record {
+  format = λ state. state.reading.format;
+  pending = λ state. state.pending;
+  progress = λ state. state.progress;
+  at_entry = at_entry;
+  at_rest = λ state. record state { counts = with_line state.counts };
+  refused = λ refusal old. record old { counts = with_refusal refusal old.counts; progress = progress_after old.reading true };
+  takes_event = λ old event text is_error new. TakesEvent old event text is_error new ⊎ RunsOut old text is_error new;
+}
 
 -- TakesLine holds if a line is counted and taken, unless no further line is.
 abbrev pub TakesLine : (old : ReplayState) → (line text : List ℕ) → (is_error : Bool) → (new : ReplayState) → Type 0
-TakesLine old = TakesLineIn old.progress old
+TakesLine old = TakesLineIn replaying old.progress old
 
--- TakesRestIn holds if trailing bytes are counted as a refused line by a replay with this progress,
--- unless no further line is taken.
-abbrev pub TakesRestIn : Progress → (old : ReplayState) → (rest text : List ℕ) → (is_error : Bool) → (new : ReplayState) → Type 0
-TakesRestIn Running old rest text is_error new = Refuses (at_line old) Unfinished text is_error new
-TakesRestIn _ old rest text is_error new = Passes old text is_error new
-
--- TakesRest holds if trailing bytes are counted as a line that is refused, unless no further line is
--- taken.
+-- TakesRest holds if trailing bytes are counted as a line that is refused, unless no further line is taken.
 abbrev pub TakesRest : (old : ReplayState) → (rest text : List ℕ) → (is_error : Bool) → (new : ReplayState) → Type 0
-TakesRest old = TakesRestIn old.progress old
+TakesRest old = TakesRestIn replaying old.progress old
 
 -- The header of the series: the names of its columns, or nothing if there is no series.
 abbrev pub series_header : ReplayState → List ℕ

@@ -1,21 +1,19 @@
 -- The script of a trace: the lines of the operations that its changes are, written while its lines are taken.
-use Rattle.std.specs.Prelude.{◌≡◌, ◌≤◌, ◌⊎◌, ℕ, Bool, true, false, ◌-◌, ◌^◌, ◌&&◌, ◌||◌, nat_lt, is_none, List, [], ◌++◌, Option, Some, None, Result, Ok, Err}
+use Rattle.std.specs.Prelude.{◌≡◌, ◌≤◌, ◌⊎◌, ℕ, Bool, true, false, ◌-◌, ◌^◌, ◌&&◌, ◌||◌, nat_lt, is_none, List, [], Option, None}
 use Rattle.std.specs.List.{AllByRecursion}
-use Rattle.cc_word.specs.declared.refusal.Refusal.{Refusal}
 use Rattle.cc_placer.specs.declared.event.Event.{Event}
 use Rattle.cc_heap.specs.declared.outcome.Outcome.{Outcome}
 use Rattle.cc_heap.specs.declared.settings.Settings.{Settings}
 use Rattle.cc_heap.specs.Events.{IsEvent}
 use Rattle.cc_heap.specs.Heap.{Heap, empty_heap}
-use Rattle.cc_formats.specs.declared.formats.Entry.{Entry}
 use Rattle.cc_formats.specs.declared.reading.Progress.{Progress}
 use Rattle.cc_formats.specs.declared.reading.Progress.TheVariants.{Running, Stopped, OutOfMemory}
 use Rattle.cc_formats.specs.declared.reading.Reading.{Reading}
-use Rattle.cc_formats.specs.Formats.{entry_in}
 use Rattle.cc_formats.specs.Reading.{progress_after}
 use Rattle.cc_heap.specs.Outcomes.{is_refused}
 use Rattle.cc_replay.specs.Changes.{CanBePlanned, Change, Changes, asks_for_unit, objects_made}
 use Rattle.cc_replay.specs.Operations.{numbers_after, operation_lines, operations_of}
+use Rattle.cc_replay.specs.Taking.{Taker, TakesLineIn, TakesRestIn}
 use Rattle.cc_replay.specs.Deeds.{NumberedIds, asked_entry, numbers_of}
 
 -- The state of a script: the heap, how the trace is read, the pointer of the first half of a reallocation whose second
@@ -72,68 +70,29 @@ pub record EndsBefore (old : ScriptState) (event : Event) (text : List ℕ) (is_
   pub error_is : is_error ≡ true
   pub text_is : text ≡ []
 
--- RunsOut holds if memory ran out in an event: nothing is written, and no further line is taken.
-pub record RunsOut (old : ScriptState) (text : List ℕ) (is_error : Bool) (new : ScriptState) : Type 0 where
+-- EndsOutOfMemory holds if memory ran out in an event: nothing is written, and no further line is taken.
+pub record EndsOutOfMemory (old : ScriptState) (text : List ℕ) (is_error : Bool) (new : ScriptState) : Type 0 where
   pub progress : new.progress ≡ OutOfMemory
   pub error_is : is_error ≡ false
   pub text_is : text ≡ []
 
--- Refuses holds if a line is refused, and nothing is written.
-pub record Refuses (old : ScriptState) (text : List ℕ) (is_error : Bool) (new : ScriptState) : Type 0 where
-  pub is_new : new ≡ record old { progress = progress_after old.reading true }
-  pub error_is : is_error ≡ true
-  pub text_is : text ≡ []
-
--- Passes holds if nothing happens, and nothing is written.
-abbrev pub Passes : (old : ScriptState) (text : List ℕ) (is_error : Bool) (new : ScriptState) → Type 0
-Passes old text is_error new = (text ≡ []) × (is_error ≡ false) × (new ≡ old)
-
--- TakesEntry holds if the entry of a line is taken: an event, nothing, or a refusal.
-abbrev pub TakesEntry : (old : ScriptState) → Result (Option Event) Refusal → (text : List ℕ) → (is_error : Bool) → (new : ScriptState) → Type 0
-TakesEntry old (Ok (Some event)) text is_error new =
-    ScriptsEvent old event text is_error new ⊎ (EndsBefore old event text is_error new ⊎ RunsOut old text is_error new)
-TakesEntry old (Ok None) text is_error new = Passes old text is_error new
-TakesEntry old (Err refusal) text is_error new = Refuses old text is_error new
-
--- The entry of the next line, in the format of the trace.
-abbrev pub next_entry : ScriptState → (line : List ℕ) → Entry
-next_entry state line = entry_in state.reading.format state.pending line
-
--- The state before the entry of a line is taken.
-abbrev pub at_entry : Entry → ScriptState → ScriptState
-at_entry entry state = record state { pending = entry.pending }
-
--- AppendsEntry holds if a line of this entry is taken, and its text is appended to the output.
-pub record AppendsEntry (old : ScriptState) (entry : Entry) (out out_now : List ℕ) (is_error : Bool) (new : ScriptState) : Type 0 where
-  pub text : List ℕ
-  pub out_is : out_now ≡ out ++ text
-  pub takes : TakesEntry (at_entry entry old) entry.event text is_error new
-
--- AppendsEvent holds if an event is taken, the script ends before it, or memory ran out, and the text is appended to the
--- output.
-pub record AppendsEvent (old : ScriptState) (event : Event) (out out_now : List ℕ) (is_error : Bool) (new : ScriptState) : Type 0 where
-  pub text : List ℕ
-  pub out_is : out_now ≡ out ++ text
-  pub takes : ScriptsEvent old event text is_error new ⊎ (EndsBefore old event text is_error new ⊎ RunsOut old text is_error new)
-
--- ScriptsNext holds if the entry of the next line is taken.
-abbrev pub ScriptsNext : (old : ScriptState) → (line text : List ℕ) → (is_error : Bool) → (new : ScriptState) → Type 0
-ScriptsNext old line text is_error new = TakesEntry (at_entry (next_entry old line) old) (next_entry old line).event text is_error new
-
--- ScriptsLineIn holds if a line is taken, or passed, by the progress.
-abbrev pub ScriptsLineIn : Progress → (old : ScriptState) → (line text : List ℕ) → (is_error : Bool) → (new : ScriptState) → Type 0
-ScriptsLineIn Running old line text is_error new = ScriptsNext old line text is_error new
-ScriptsLineIn _ old line text is_error new = Passes old text is_error new
+-- The script as a taker of events.
+abbrev pub scripting : Taker ScriptState
+scripting = record {
+  format = λ state. state.reading.format;
+  pending = λ state. state.pending;
+  progress = λ state. state.progress;
+  at_entry = λ entry state. record state { pending = entry.pending };
+  at_rest = λ state. state;
+  refused = λ refusal old. record old { progress = progress_after old.reading true };
+  takes_event = λ old event text is_error new.
+      ScriptsEvent old event text is_error new ⊎ (EndsBefore old event text is_error new ⊎ EndsOutOfMemory old text is_error new);
+}
 
 -- ScriptsLine holds if a line is taken, unless no further line is.
 abbrev pub ScriptsLine : (old : ScriptState) → (line text : List ℕ) → (is_error : Bool) → (new : ScriptState) → Type 0
-ScriptsLine old = ScriptsLineIn old.progress old
-
--- ScriptsRestIn holds if trailing bytes are refused, or passed, by the progress.
-abbrev pub ScriptsRestIn : Progress → (old : ScriptState) → (rest text : List ℕ) → (is_error : Bool) → (new : ScriptState) → Type 0
-ScriptsRestIn Running old rest text is_error new = Refuses old text is_error new
-ScriptsRestIn _ old rest text is_error new = Passes old text is_error new
+ScriptsLine old = TakesLineIn scripting old.progress old
 
 -- ScriptsRest holds if trailing bytes are refused, unless no further line is taken.
 abbrev pub ScriptsRest : (old : ScriptState) → (rest text : List ℕ) → (is_error : Bool) → (new : ScriptState) → Type 0
-ScriptsRest old = ScriptsRestIn old.progress old
+ScriptsRest old = TakesRestIn scripting old.progress old

@@ -10,7 +10,8 @@ ghost use Rattle.cc_formats.specs.Reading.{is_over};
 ghost use Rattle.cc_placer.specs.Alignment.{HasAlignment};
 ghost use Rattle.cc_heap.specs.Lost.{empty_run};
 ghost use Rattle.cc_heap.specs.Peaks.{without_peaks};
-ghost use Rattle.cc_replay.specs.Replay.{AppendsEntry, AppendsEvent, Refuses, TakesLine, TakesRest, begun, figures_of, last_sample, most_sample, series_header, time_after};
+ghost use Rattle.cc_replay.specs.Replay.{TakesLine, TakesRest, begun, figures_of, last_sample, most_sample, replaying, series_header, time_after};
+ghost use Rattle.cc_replay.specs.Taking.{AppendsEntry, AppendsEvent, Refuses, next_entry};
 
 use crate::counts::{Count, Counts};
 use crate::series::{MOST_SAMPLE, push_sample, push_series_header};
@@ -176,21 +177,31 @@ impl<P: Placer> Replay<P> {
     }
 
     /// Takes a line, and appends a sample if it is due. Returns whether the line is refused.
-    #[tactic(auto, using(crate::proofs::ReplayLemmas::entry_answers))]
+    #[tactic(auto, using(crate::proofs::ReplayLemmas::line_replayed))]
     fn take_line<const N: usize>(&mut self, line: &[u8], out: &mut Page<N>) -> bool
         requires room { length out.old + most_sample ≤ N }
         requires goes_on { is_over self.old.progress ≡ false }
         ensures { AnswersInto TakesLine self.old line.now out.old out.new result self.new }
     {
-        let entry = read_entry(self.reading.format, self.pending, line);
+        let entry = self.read(line);
         self.take_entry(entry, out)
     }
 
-    /// Counts a line and takes its entry.
-    fn take_entry<const N: usize>(&mut self, entry: Entry, out: &mut Page<N>) -> bool
+    /// Returns the entry of the next line, in the format of the trace.
+    pub fn read(&self, line: &[u8]) -> Entry
+        ensures value { result ≡ next_entry replaying self.now line.now }
+        ensures aligned { IfOk result.event (λ event. IfSome event HasAlignment) }
+    {
+        read_entry(self.reading.format, self.pending, line)
+    }
+
+    /// Counts a line and takes its entry, and appends a sample if it is due. Returns whether it is refused.
+    ///
+    /// Requires: the alignment that its event requests is a power of two; 1,301 bytes of the page are free.
+    pub fn take_entry<const N: usize>(&mut self, entry: Entry, out: &mut Page<N>) -> bool
         requires aligned { IfOk entry.event (λ event. IfSome event HasAlignment) }
         requires room { length out.old + most_sample ≤ N }
-        ensures { AppendsEntry self.old entry out.old out.new result self.new }
+        ensures { AppendsEntry replaying self.old entry out.old out.new result self.new }
     {
         self.counts = self.counts.with_line().with_failure(entry.is_failure);
         self.pending = entry.pending;
@@ -202,7 +213,7 @@ impl<P: Placer> Replay<P> {
     }
 
     /// Counts trailing bytes as a line that is refused.
-    #[tactic(auto, using(crate::proofs::ReplayLemmas::rest_answers))]
+    #[tactic(auto, using(crate::proofs::ReplayLemmas::rest_replayed))]
     fn take_rest<const N: usize>(&mut self, rest: &[u8], out: &mut Page<N>) -> bool
         requires { is_over self.old.progress ≡ false }
         ensures { AnswersInto TakesRest self.old rest.now out.old out.new result self.new }
@@ -223,7 +234,7 @@ impl<P: Placer> Replay<P> {
 
     /// Counts the last line as refused.
     fn refuse(&mut self, refusal: Refusal) -> bool
-        ensures { Refuses self.old refusal [] result self.new }
+        ensures { Refuses (replaying.refused refusal self.old) [] result self.new }
     {
         self.counts = self.counts.with_refusal(refusal);
         self.progress = self.reading.progress_after(true);
@@ -234,7 +245,7 @@ impl<P: Placer> Replay<P> {
     fn take_event<const N: usize>(&mut self, event: Event, out: &mut Page<N>) -> bool
         requires aligned { HasAlignment event }
         requires room { length out.old + most_sample ≤ N }
-        ensures { AppendsEvent self.old event out.old out.new result self.new }
+        ensures { AppendsEvent replaying self.old event out.old out.new result self.new }
     {
         let sweeps = self.run.totals().sweeps;
         let outcome = match self.run.event(event) {

@@ -3,13 +3,15 @@ ghost use Rattle.std.specs.Prelude.{◌≡◌, ◌≤◌, ◌<◌, ◌+◌, ◌^
 ghost use Rattle.cc_io.specs.Answers.{AnswersInto};
 ghost use Rattle.cc_io.specs.Correct.{Pumps};
 ghost use Rattle.cc_io.specs.Frames.{lines};
+ghost use Rattle.cc_word.specs.declared.refusal.Refusal.TheVariants.{Unfinished};
 ghost use Rattle.cc_heap.specs.declared.reallocation.Reallocation.TheVariants.{Move};
 ghost use Rattle.cc_placer.specs.Alignment.{HasAlignment};
 ghost use Rattle.cc_formats.specs.Reading.{is_over};
 ghost use Rattle.cc_heap.specs.Events.{IsEvent};
 ghost use Rattle.cc_replay.specs.Operations.{operation_lines};
 ghost use Rattle.cc_replay.specs.Deeds.{DoesDeeds, deed_operations, is_swept_clean, numbers_of, numbers_with};
-ghost use Rattle.cc_replay.specs.Script.{AppendsEntry, AppendsEvent, Refuses, ScriptsLine, ScriptsRest, can_have, most_objects, script_begun};
+ghost use Rattle.cc_replay.specs.Script.{ScriptsLine, ScriptsRest, can_have, most_objects, script_begun, scripting};
+ghost use Rattle.cc_replay.specs.Taking.{AppendsEntry, AppendsEvent, Refuses};
 
 use crate::deeds::Deeds;
 use crate::doing::{asked_entry, asks_for_unit, deeds_of};
@@ -85,7 +87,7 @@ impl<P: Placer> Script<P> {
     }
 
     /// Takes a line, and appends the lines of its operations. Returns whether the line is refused.
-    #[tactic(auto, using(crate::proofs::ScriptLemmas::entry_answers))]
+    #[tactic(auto, using(crate::proofs::ScriptLemmas::line_scripted))]
     fn take_line<const N: usize>(&mut self, line: &[u8], out: &mut Page<N>) -> bool
         requires room { length out.old + 128 ≤ N }
         requires goes_on { is_over self.old.progress ≡ false }
@@ -99,7 +101,7 @@ impl<P: Placer> Script<P> {
     fn take_entry<const N: usize>(&mut self, entry: Entry, out: &mut Page<N>) -> bool
         requires aligned { IfOk entry.event (λ event. IfSome event HasAlignment) }
         requires room { length out.old + 128 ≤ N }
-        ensures { AppendsEntry self.old entry out.old out.new result self.new }
+        ensures { AppendsEntry scripting self.old entry out.old out.new result self.new }
     {
         self.pending = entry.pending;
         match entry.event {
@@ -110,7 +112,7 @@ impl<P: Placer> Script<P> {
     }
 
     /// Refuses trailing bytes.
-    #[tactic(auto, using(crate::proofs::ScriptLemmas::rest_answers))]
+    #[tactic(auto, using(crate::proofs::ScriptLemmas::rest_scripted))]
     fn take_rest<const N: usize>(&mut self, rest: &[u8], out: &mut Page<N>) -> bool
         requires { is_over self.old.progress ≡ false }
         ensures { AnswersInto ScriptsRest self.old rest.now out.old out.new result self.new }
@@ -120,7 +122,7 @@ impl<P: Placer> Script<P> {
 
     /// Refuses a line.
     fn refuse(&mut self) -> bool
-        ensures { Refuses self.old [] result self.new }
+        ensures { Refuses (scripting.refused Unfinished self.old) [] result self.new }
     {
         self.progress = self.reading.progress_after(true);
         true
@@ -130,7 +132,7 @@ impl<P: Placer> Script<P> {
     fn take_event<const N: usize>(&mut self, event: Event, out: &mut Page<N>) -> bool
         requires aligned { HasAlignment event }
         requires room { length out.old + 128 ≤ N }
-        ensures { AppendsEvent self.old event out.old out.new result self.new }
+        ensures { AppendsEvent scripting self.old event out.old out.new result self.new }
     {
         if !self.can_have(event) {
             self.progress = Progress::Stopped;
@@ -144,7 +146,7 @@ impl<P: Placer> Script<P> {
         requires aligned { HasAlignment event }
         requires can { can_have self.old event ≡ true }
         requires room { length out.old + 128 ≤ N }
-        ensures { AppendsEvent self.old event out.old out.new result self.new }
+        ensures { AppendsEvent scripting self.old event out.old out.new result self.new }
     {
         let Ok((outcome, deeds)) = self.happen(event) else {
             self.progress = Progress::OutOfMemory;

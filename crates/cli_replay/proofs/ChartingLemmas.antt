@@ -1,13 +1,18 @@
 -- The output of `replay --svg`, from that of its parts.
-use Rattle.std.proofs.Common.{◌≡◌, ◌≢◌, ℕ, Bool, ◌∙◌, ap₂, List, Option, None, Ok, subst, sym}
+use Rattle.std.proofs.Common.{◌≡◌, ◌≢◌, ℕ, Bool, false, refl, ◌∙◌, ap₂, List, Option, None, Ok, subst, sym}
 use Rattle.std.specs.Io.KnownBytes.{Appends}
 use Rattle.cc_io.specs.Answers.{AnswersInto}
 use Rattle.cc_io.specs.Devices.{TakesPrefix}
 use Rattle.cc_io.specs.declared.summary.Summary.{Summary}
 use Rattle.cc_chart.specs.Chart.{Chart}
 use Rattle.cc_chart.specs.Drawing.{chart_text}
-use Rattle.cc_formats.specs.declared.reading.Progress.TheVariants.{OutOfMemory}
-use Rattle.cc_replay.specs.Replay.{ReplayState, TakesLine, figures_of}
+use Rattle.cc_formats.specs.declared.formats.Entry.{Entry}
+use Rattle.cc_formats.specs.declared.reading.Progress.{Progress}
+use Rattle.cc_formats.specs.declared.reading.Progress.TheVariants.{Running, Stopped, OutOfMemory}
+use Rattle.cc_formats.specs.Reading.{is_over}
+use Rattle.cc_replay.specs.Replay.{ReplayState, TakesLine, figures_of, replaying}
+use Rattle.cc_replay.specs.Taking.{AppendsEntry, next_entry}
+use Rattle.cc_replay.proofs.ReplayLemmas.{line_replayed}
 use Rattle.cc_replay.specs.declared.summary.Figures.{Figures}
 use Rattle.cli.specs.Devices.{Traffic}
 use Rattle.cli_replay.specs.Charting.{Charted, ChartsAll, ChartsLine, StopsInChart, TakesAll, TakesLines, charted, peakless}
@@ -48,15 +53,26 @@ stops_in_chart old new traffic unread left output output_now summary u l o n tak
 }
 
 -- A line that a replay without peaks took, and the chart with the levels of its event.
-pub charts_line : (old quiet next : ReplayState) (chart chart_now : Chart) (before after : Figures) (line out out_now : List ℕ) (is_error : Bool)
-    → before ≡ figures_of old → quiet ≡ peakless old → AnswersInto TakesLine quiet line out out_now is_error next → after ≡ figures_of next
-    → chart_now ≡ charted before.counts.events after chart
+pub charts_line : (old quiet next : ReplayState) (chart chart_now : Chart) (after : Figures) (entry : Entry) (line out out_now : List ℕ) (is_error : Bool)
+    → is_over old.progress ≡ false → entry ≡ next_entry replaying old line → quiet ≡ peakless old
+    → AppendsEntry replaying quiet entry out out_now is_error next → after ≡ figures_of next → chart_now ≡ charted Running entry.event after chart
     → AnswersInto ChartsLine (record { replay = old; chart = chart }) line out out_now is_error (record { replay = next; chart = chart_now })
-charts_line old quiet next chart chart_now before after line out out_now is_error b q takes a charts = record {
-  text = takes.text;
-  out_is = takes.out_is;
-  answered = record {
-    takes = subst (λ (state : ReplayState). TakesLine state line takes.text is_error next) q takes.answered;
-    chart = charts ∙ ap₂ (λ (x y : Figures). charted x.counts.events y chart) b a;
-  };
-}
+charts_line old quiet next chart chart_now after entry line out out_now is_error going e q takes a charts =
+    let took : AnswersInto TakesLine (peakless old) line out out_now is_error next =
+    line_replayed (peakless old) entry line out out_now is_error next going e
+    (subst (λ (state : ReplayState). AppendsEntry replaying state entry out out_now is_error next) q takes) in
+    record {
+      text = took.text;
+      out_is = took.out_is;
+      answered = record {
+        takes = took.answered;
+        chart = charts ∙ ap₂ (λ (x : Entry) (y : Figures). charted Running x.event y chart) e a
+            ∙ by_progress old.progress (next_entry replaying old line) (figures_of next) chart going;
+      };
+    }
+  where
+    by_progress : (progress : Progress) (entry : Entry) (figures : Figures) (chart : Chart) → is_over progress ≡ false
+        → charted Running entry.event figures chart ≡ charted progress entry.event figures chart
+    by_progress Running entry figures chart goes = refl
+    by_progress Stopped entry figures chart goes = cc goes
+    by_progress OutOfMemory entry figures chart goes = cc goes

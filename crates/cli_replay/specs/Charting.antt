@@ -1,5 +1,5 @@
 -- The output of `replay --svg`: a chart of the heap of a trace over its events.
-use Rattle.std.specs.Prelude.{ℕ, Bool, ◌≡◌, ◌≢◌, ◌+◌, ◌==◌, max, List, [], Option, None, Result, Ok, Err, if◌then◌else◌}
+use Rattle.std.specs.Prelude.{ℕ, Bool, ◌≡◌, ◌≢◌, ◌+◌, max, List, [], Option, Some, None, Result, Ok, Err}
 use Rattle.std.specs.Io.KnownBytes.{Appends}
 use Rattle.cc_io.specs.Correct.{Pumps}
 use Rattle.cc_io.specs.Devices.{TakesPrefix}
@@ -14,8 +14,12 @@ use Rattle.cc_heap.specs.Lost.{empty_run}
 use Rattle.cc_heap.specs.Peaks.{without_peaks}
 use Rattle.cc_heap.specs.Totals.{capped_sum}
 use Rattle.cc_heap.specs.declared.settings.Settings.{Settings}
-use Rattle.cc_replay.specs.Replay.{ReplayState, TakesLine, TakesRest, begun, figures_of, most_sample}
-use Rattle.cc_formats.specs.declared.reading.Progress.TheVariants.{OutOfMemory}
+use Rattle.cc_placer.specs.declared.event.Event.{Event}
+use Rattle.cc_word.specs.declared.refusal.Refusal.{Refusal}
+use Rattle.cc_replay.specs.Replay.{ReplayState, TakesLine, TakesRest, begun, figures_of, most_sample, replaying}
+use Rattle.cc_replay.specs.Taking.{next_entry}
+use Rattle.cc_formats.specs.declared.reading.Progress.{Progress}
+use Rattle.cc_formats.specs.declared.reading.Progress.TheVariants.{Running, OutOfMemory}
 use Rattle.cc_formats.specs.declared.reading.Reading.{Reading}
 use Rattle.cc_formats.specs.Reading.{is_over}
 use Rattle.cc_replay.specs.declared.summary.Figures.{Figures}
@@ -44,15 +48,15 @@ levels_of figures = record {
   high = figures.totals.high;
 }
 
--- The chart with the levels of the last line, if the line is an event.
-abbrev pub charted : (events_before : ℕ) → Figures → Chart → Chart
-charted events_before figures chart =
-    if figures.counts.events == events_before then chart else with_event (levels_of figures) chart
+-- The chart with the levels of a line's entry, if it is an event, and lines are taken.
+abbrev pub charted : Progress → Result (Option Event) Refusal → Figures → Chart → Chart
+charted Running (Ok (Some event)) figures chart = with_event (levels_of figures) chart
+charted _ _ figures chart = chart
 
 -- ChartsLine holds if the line is taken, and the levels of its event, if it is one, join the chart.
 pub record ChartsLine (old : Charted) (line text : List ℕ) (is_error : Bool) (new : Charted) : Type 0 where
   pub takes : TakesLine (peakless old.replay) line text is_error new.replay
-  pub chart : new.chart ≡ charted old.replay.counts.events (figures_of new.replay) old.chart
+  pub chart : new.chart ≡ charted old.replay.progress (next_entry replaying old.replay line).event (figures_of new.replay) old.chart
 
 -- ChartsRest holds if the trailing bytes are taken, and the chart stays the same.
 pub record ChartsRest (old : Charted) (rest text : List ℕ) (is_error : Bool) (new : Charted) : Type 0 where

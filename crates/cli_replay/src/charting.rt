@@ -4,6 +4,7 @@ ghost use Rattle.cc_io.specs.Answers.{AnswersInto};
 ghost use Rattle.cli.specs.Devices.{FromInput, OnDevices, OnOutput, Traffic};
 ghost use Rattle.cli.specs.Input.{IsFile};
 ghost use Rattle.cc_formats.specs.Reading.{is_over};
+ghost use Rattle.cc_formats.specs.declared.reading.Progress.TheVariants.{Running};
 ghost use Rattle.cc_replay.specs.Replay.{most_sample};
 ghost use Rattle.cli_replay.specs.Charting.{Charts, ChartsLine, ChartsRest, TakesLines, begun_chart, charted, levels_of};
 ghost use Rattle.cli_replay.specs.Settings.{IsForHeap};
@@ -14,7 +15,7 @@ use cli::{Content, Discard, Fault, InputName, Inputs};
 use cc_gaps::GapPlacer;
 use cc_io::{Answerer, IoError, Lines, Page, Sink, Source, Summary, Pending, pump};
 use cc_placer::Placer;
-use cc_replay::{Figures, MOST_SAMPLE, Progress, Reading, Replay, Settings};
+use cc_replay::{Entry, Figures, MOST_SAMPLE, Progress, Reading, Replay, Settings};
 use std::alloc::{AllocError, Global};
 use std::marker::Model;
 
@@ -71,10 +72,10 @@ impl<P: Placer> Charting<P> {
         requires goes_on { is_over self.old.replay.progress ≡ false }
         ensures { AnswersInto ChartsLine self.old line.now out.old out.new result self.new }
     {
-        let events = self.replay.figures().counts.events;
+        let entry = self.replay.read(line);
         self.replay.forget_peaks();
-        let is_refused = self.replay.answer(line, out);
-        add_event(&mut self.chart, events, &self.replay.figures());
+        let is_refused = self.replay.take_entry(entry, out);
+        add_event(&mut self.chart, entry, &self.replay.figures());
         is_refused
     }
 
@@ -88,11 +89,11 @@ impl<P: Placer> Charting<P> {
     }
 }
 
-/// Adds the levels of the last line to the chart, if there is one event more than before it.
-fn add_event(chart: &mut Chart, events_before: u64, figures: &Figures)
-    ensures { chart.new ≡ charted events_before figures.now chart.old }
+/// Adds the levels of a line to the chart, if its entry is an event.
+fn add_event(chart: &mut Chart, entry: Entry, figures: &Figures)
+    ensures { chart.new ≡ charted Running entry.event figures.now chart.old }
 {
-    if figures.counts.events != events_before {
+    if let Ok(Some(_)) = entry.event {
         chart.add(levels_of(figures));
     }
 }

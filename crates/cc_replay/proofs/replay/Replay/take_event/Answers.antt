@@ -4,7 +4,8 @@ use Rattle.cc_replay.specs.declared.summary.Figures.{Figures}
 use Rattle.cc_heap.specs.declared.totals.Totals.{Totals}
 use Rattle.cc_replay.specs.Counts.{with_outcome}
 use Rattle.cc_formats.specs.Reading.{is_due}
-use Rattle.cc_replay.specs.Replay.{AppendsEvent, ReplayState, sample_text}
+use Rattle.cc_replay.specs.Replay.{ReplayState, replaying, sample_text}
+use Rattle.cc_replay.specs.Taking.{AppendsEvent}
 use Rattle.cc_replay.specs.Rows.{values_line}
 use Rattle.cc_replay.specs.Summary.{sample_rows}
 use Rattle.cc_replay.proofs.ReplayLemmas.{event_taken, state_of}
@@ -13,7 +14,7 @@ use Rattle.cc_replay.proofs.replay.Replay.take_event.Goals as goal
 pub returns-in-Err : goal.returns-in-Err
 returns-in-Err g c =
     let inside = c.self.inside in
-    subst (λ (old : ReplayState). AppendsEvent old c.args.event c.args.out.now c.args.out.now false
+    subst (λ (old : ReplayState). AppendsEvent replaying old c.args.event c.args.out.now c.args.out.now false
     (state_of c.event.new.self inside.reading inside.counts inside.pending inside.time OutOfMemory inside.is_sampled)) c.self.view_is (record {
       text = [];
       out_is = sym (append-nil c.args.out.now);
@@ -35,7 +36,7 @@ returns-then-self g c =
     ∙ ap (λ (t : Totals). is_due inside.reading counts.events inside.run.heap.totals.sweeps t.sweeps) c.totals.ensures in
     let text_is : values_line (sample_rows time c.figures.result) ≡ sample_text sampled new =
     ap (λ (f : Figures). values_line (sample_rows time f)) c.figures.ensures ∙ sym (ap (λ (b : Bool). sample_text b new) c.if-self.true) in
-    subst (λ (old : ReplayState). AppendsEvent old c.args.event c.args.out.now c.push_sample.new.page c.is_refused-is_refused.result new) c.self.view_is
+    subst (λ (old : ReplayState). AppendsEvent replaying old c.args.event c.args.out.now c.push_sample.new.page c.is_refused-is_refused.result new) c.self.view_is
     (event_taken (state_of inside.run inside.reading inside.counts inside.pending inside.time inside.progress inside.is_sampled) c.args.event c.in-Ok.outcome run counts time
     progress sampled c.args.out.now c.push_sample.new.page c.is_refused-is_refused.result c.in-Ok.ensures.is_event counts_is c.time_after-self-inside.ensures
     c.is_refused-is_refused.ensures c.progress_after-self-inside.ensures sampled_is
@@ -55,7 +56,7 @@ returns-else-self g c =
     ∙ ap (λ (t : Totals). is_due inside.reading counts.events t.sweeps c.totals.result.sweeps) c.totals-sweeps.ensures
     ∙ ap (λ (t : Totals). is_due inside.reading counts.events inside.run.heap.totals.sweeps t.sweeps) c.totals.ensures in
     let text_is : [] ≡ sample_text sampled new = sym (ap (λ (b : Bool). sample_text b new) c.if-self.false) in
-    subst (λ (old : ReplayState). AppendsEvent old c.args.event c.args.out.now c.args.out.now c.is_refused-is_refused.result new) c.self.view_is
+    subst (λ (old : ReplayState). AppendsEvent replaying old c.args.event c.args.out.now c.args.out.now c.is_refused-is_refused.result new) c.self.view_is
     (event_taken (state_of inside.run inside.reading inside.counts inside.pending inside.time inside.progress inside.is_sampled) c.args.event c.in-Ok.outcome run counts time
     progress sampled c.args.out.now c.args.out.now c.is_refused-is_refused.result c.in-Ok.ensures.is_event counts_is c.time_after-self-inside.ensures
     c.is_refused-is_refused.ensures c.progress_after-self-inside.ensures sampled_is
