@@ -118,7 +118,7 @@ Words = Union["ReadableBuffer", "NumpyArray", Sequence["Capability"]]
 Numbers = Union[SupportsIndex, Sequence[SupportsIndex], "ReadableBuffer", "NumpyArray"]
 
 #: Permissions: 16 bits, or names that `mask_of` takes.
-Mask = Union[SupportsIndex, str]
+Mask = Union[SupportsIndex, str, List[str], Tuple[str, ...]]
 
 #: A base and a length.
 Region = Tuple[SupportsIndex, SupportsIndex]
@@ -360,7 +360,7 @@ def _address(number: SupportsIndex) -> int:
 
 
 def _mask(perms: Mask) -> int:
-    return mask_of(perms) if isinstance(perms, str) else _at_most(perms, 0xFFFF, "a mask")
+    return mask_of(perms) if isinstance(perms, (str, list, tuple)) else _at_most(perms, 0xFFFF, "a mask")
 
 
 def _length(number: SupportsIndex) -> Tuple[int, int]:
@@ -837,6 +837,8 @@ def mask_of(names: Union[str, Iterable[str]]) -> int:
     The names may also be a list.
 
     Errors: ValueError for another name."""
+    if not isinstance(names, (str, Iterable)):
+        raise TypeError(f"names must be a str or a list of str, not {type(names).__name__}")
     mask = 0
     for name in () if names == "-" else names.split("+") if isinstance(names, str) else names:
         if name not in PERMISSIONS:
@@ -1329,8 +1331,12 @@ class _Regions:
     """Regions, in the order of their bases."""
 
     def __init__(self, within: Any):
-        pairs = [within] if len(within) == 2 and hasattr(within[0], "__index__") else within
-        ends = sorted((_address(base), index(base) + _at_most(length, 2**64, "a length")) for base, length in pairs)
+        try:
+            pairs = [within] if len(within) == 2 and not hasattr(within[0], "__len__") else within
+            regions = [(base, length) for base, length in pairs]
+        except (TypeError, ValueError):
+            raise TypeError(f"within must be a region (BASE, LENGTH), or a list of them, not {within!r}") from None
+        ends = sorted((_address(base), index(base) + _at_most(length, 2**64, "a length")) for base, length in regions)
         self.bases = [base for base, _ in ends]
         # the highest end of the first regions: bounds from a base on lie in one of these if they end there or below
         highest: Iterator[int] = accumulate((end for _, end in ends), max)
