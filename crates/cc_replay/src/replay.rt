@@ -1,10 +1,9 @@
 //! A heap over a trace that takes the lines of it.
-ghost use Rattle.std.specs.Prelude.{◌≡◌, ◌≤◌, ◌+◌, ◌↔◌, ◌++◌, ◌^◌, [], true, false, length, Err, IfOk, IfSome, IsErr, IsTrue, OnErr, OnOk};
+ghost use Rattle.std.specs.Prelude.{◌≡◌, ◌≤◌, ◌+◌, ◌↔◌, ◌++◌, ◌^◌, [], true, false, length, Err, IfOk, IfSome, IsTrue, OnErr};
 ghost use Rattle.cc_io.specs.Answers.{AnswersInto};
 ghost use Rattle.cc_io.specs.Correct.{Pumps};
 ghost use Rattle.cc_io.specs.Frames.{lines};
-ghost use Rattle.cc_io.specs.Devices.{TakesPrefix};
-ghost use Rattle.std.specs.Io.KnownBytes.{Appends};
+ghost use Rattle.cc_io.specs.Devices.{IsOutcome, SendsBytes};
 ghost use Rattle.cc_formats.specs.declared.reading.Progress.TheVariants.{OutOfMemory};
 ghost use Rattle.cc_formats.specs.Reading.{is_over};
 ghost use Rattle.cc_placer.specs.Alignment.{HasAlignment};
@@ -137,10 +136,7 @@ impl<P: Placer> Replay<P> {
     /// Errors: `Write` if the sink fails. A prefix of the sample is then written.
     pub fn end_series<W: Sink>(&self, series: &mut W) -> Result<(), IoError>
         requires { (W.state series.old).has_failed ≡ false }
-        ensures ok { OnOk result (Appends (W.state series.old).taken (W.state series.new).taken (last_sample self.now)) }
-        ensures err { OnErr result (TakesPrefix (W.state series.old).taken (W.state series.new).taken (last_sample self.now)) }
-        ensures flushed { OnOk result ((W.state series.new).is_flushed ≡ true) }
-        ensures fails { IsErr result ↔ ((W.state series.new).has_failed ≡ true) }
+        ensures sends { SendsBytes (W.state series.old) (W.state series.new) (last_sample self.now) result }
         ensures write { OnErr result (result ≡ Err IoError.Write) }
     {
         let mut page: Page<MOST_SAMPLE> = Page::new();
@@ -329,9 +325,7 @@ pub fn replay_trace<P: Placer, R: Source, W: Sink>(
     // and the samples of the events that have one.
     ensures replays { Pumps (λ state. is_over state.progress) TakesLine TakesRest lines 65536 most_sample replay.old (series_header replay.old)
         (R.state source.old).unread (R.state source.new).unread (W.state series.old).taken (W.state series.new).taken result replay.new }
-    ensures read { (result ≡ Err IoError.Read) ↔ ((R.state source.new).has_failed ≡ true) }
-    ensures write { (result ≡ Err IoError.Write) ↔ ((W.state series.new).has_failed ≡ true) }
-    ensures flushed { OnOk result ((W.state series.new).is_flushed ≡ true) }
+    ensures outcome { IsOutcome (R.state source.new) (W.state series.new) result }
 {
     let mut page = Pending::new();
     replay.push_header(&mut page);

@@ -1,7 +1,8 @@
 //! A script that is written while the lines of a trace are taken.
-ghost use Rattle.std.specs.Prelude.{◌≡◌, ◌≤◌, ◌<◌, ◌+◌, ◌^◌, ◌↔◌, ◌++◌, [], true, false, length, Err, IfOk, IfSome, IsErr, OnErr, OnOk};
+ghost use Rattle.std.specs.Prelude.{◌≡◌, ◌≤◌, ◌<◌, ◌+◌, ◌^◌, ◌++◌, [], true, false, length, Err, IfOk, IfSome, OnErr, OnOk};
 ghost use Rattle.cc_io.specs.Answers.{AnswersInto};
 ghost use Rattle.cc_io.specs.Correct.{Pumps};
+ghost use Rattle.cc_io.specs.Devices.{IsOutcome};
 ghost use Rattle.cc_io.specs.Frames.{lines};
 ghost use Rattle.cc_word.specs.declared.refusal.Refusal.TheVariants.{Unfinished};
 ghost use Rattle.cc_heap.specs.declared.reallocation.Reallocation.TheVariants.{Move};
@@ -267,9 +268,7 @@ pub fn script_trace<P: Placer, R: Source, W: Sink>(
     requires goes_on { is_over script.old.progress ≡ false }
     ensures scripts { Pumps (λ state. is_over state.progress) ScriptsLine ScriptsRest lines 65536 128 script.old []
         (R.state source.old).unread (R.state source.new).unread (W.state sink.old).taken (W.state sink.new).taken result script.new }
-    ensures read { (result ≡ Err IoError.Read) ↔ ((R.state source.new).has_failed ≡ true) }
-    ensures write { (result ≡ Err IoError.Write) ↔ ((W.state sink.new).has_failed ≡ true) }
-    ensures flushed { OnOk result ((W.state sink.new).is_flushed ≡ true) }
+    ensures outcome { IsOutcome (R.state source.new) (W.state sink.new) result }
 {
     let mut page = Pending::new();
     pump(&Lines, script, source, sink, &mut page)

@@ -1,7 +1,6 @@
 //! The table of the objects that were made, by the powers of two of their sizes.
-ghost use Rattle.std.specs.Prelude.{◌≡◌, ◌≤◌, ◌<◌, ◌+◌, ◌^◌, ◌++◌, ◌↔◌, length, false, true, Err, OnOk, OnErr, IsErr};
-ghost use Rattle.std.specs.Io.KnownBytes.{Appends};
-ghost use Rattle.cc_io.specs.Devices.{TakesPrefix};
+ghost use Rattle.std.specs.Prelude.{◌≡◌, ◌≤◌, ◌<◌, ◌+◌, ◌^◌, ◌++◌, length, false, Err, OnErr};
+ghost use Rattle.cc_io.specs.Devices.{SendsBytes};
 ghost use Rattle.cc_replay.specs.Rows.{rows_of};
 ghost use Rattle.cc_replay.specs.SizeTable.{all_sizes, between_sizes, size_rows, size_text, sizes_text};
 
@@ -25,10 +24,7 @@ pub fn write_sizes<W: Sink>(
     sink: &mut W,
 ) -> Result<(), IoError>
     requires { (W.state sink.old).has_failed ≡ false }
-    ensures ok { OnOk result (Appends (W.state sink.old).taken (W.state sink.new).taken (sizes_text format sizes.now)) }
-    ensures err { OnErr result (TakesPrefix (W.state sink.old).taken (W.state sink.new).taken (sizes_text format sizes.now)) }
-    ensures flushed { OnOk result ((W.state sink.new).is_flushed ≡ true) }
-    ensures fails { IsErr result ↔ ((W.state sink.new).has_failed ≡ true) }
+    ensures sends { SendsBytes (W.state sink.old) (W.state sink.new) (sizes_text format sizes.now) result }
     ensures write { OnErr result (result ≡ Err IoError.Write) }
 {
     let mut page: Page<MOST_SIZES> = Page::new();

@@ -1,8 +1,7 @@
 //! The summary of a replay.
-ghost use Rattle.std.specs.Prelude.{◌≡◌, ◌≤◌, ◌<◌, ◌+◌, ◌-◌, ◌*◌, ◌^◌, ◌++◌, ◌↔◌, [], length, false, true, Err, OnOk, OnErr, IsErr};
-ghost use Rattle.std.specs.Io.KnownBytes.{Appends};
+ghost use Rattle.std.specs.Prelude.{◌≡◌, ◌≤◌, ◌<◌, ◌+◌, ◌-◌, ◌++◌, length, false, true, Err, OnErr};
 ghost use Rattle.arrayvec.specs.ArrayVec.{array_vec_len};
-ghost use Rattle.cc_io.specs.Devices.{TakesPrefix};
+ghost use Rattle.cc_io.specs.Devices.{SendsBytes};
 ghost use Rattle.cc_replay.specs.Rows.{rows_of, table_text};
 ghost use Rattle.cc_replay.specs.Summary.{end_rows, failure_rows, line_rows, made_rows, peak_rows, refusal_rows, summary_rows};
 
@@ -43,16 +42,21 @@ pub fn write_summary<W: Sink>(
     sink: &mut W,
 ) -> Result<(), IoError>
     requires sink { (W.state sink.old).has_failed ≡ false }
-    ensures ok { OnOk result (Appends (W.state sink.old).taken (W.state sink.new).taken (table_text format (summary_rows figures.now))) }
-    ensures err { OnErr result (TakesPrefix (W.state sink.old).taken (W.state sink.new).taken (table_text format (summary_rows figures.now))) }
-    ensures flushed { OnOk result ((W.state sink.new).is_flushed ≡ true) }
-    ensures fails { IsErr result ↔ ((W.state sink.new).has_failed ≡ true) }
+    ensures sends { SendsBytes (W.state sink.old) (W.state sink.new) (table_text format (summary_rows figures.now)) result }
     ensures write { OnErr result (result ≡ Err IoError.Write) }
 {
-    let rows = summary_rows(figures);
     let mut page: Page<MOST_SUMMARY> = Page::new();
-    push_table(&mut page, format, rows.as_slice());
+    push_summary(&mut page, figures, format);
     write_and_flush(&page, sink)
+}
+
+/// Appends the summary of a replay in a format.
+fn push_summary<const N: usize>(page: &mut Page<N>, figures: &Figures, format: Format)
+    requires { length page.old + 16384 ≤ N }
+    ensures { page.new ≡ page.old ++ table_text format (summary_rows figures.now) }
+{
+    let rows = summary_rows(figures);
+    push_table(page, format, rows.as_slice());
 }
 
 /// Returns the rows of a summary.

@@ -1,7 +1,7 @@
 //! A replay whose heap is drawn as a chart.
 ghost use Rattle.std.specs.Prelude.{◌≡◌, ◌≢◌, ◌≤◌, ◌+◌, ◌↔◌, IfOk, false, true, length, Err, OnOk};
 ghost use Rattle.cc_io.specs.Answers.{AnswersInto};
-ghost use Rattle.cli.specs.Devices.{FromInput, OnDevices, OnOutput, Traffic};
+ghost use Rattle.cli.specs.Devices.{FromInput, IsEnd, OnDevices, OnOutput, Traffic};
 ghost use Rattle.cli.specs.Input.{IsFile};
 ghost use Rattle.cc_formats.specs.Reading.{is_over};
 ghost use Rattle.cc_formats.specs.declared.reading.Progress.TheVariants.{Running};
@@ -172,14 +172,10 @@ pub(crate) fn draw_input<M: TraceMemory, I: Inputs, W: Sink>(
     ensures charts { OnOutput (I.bytes_of inputs.old) (I.Opened.state source.new) (W.state sink.old) (W.state sink.new)
         (λ console. FromInput input.entry console (Charts charting.old)) result }
     ensures open { result ≡ Err Fault.Open → IsFile input.entry }
-    ensures untouched { result ≡ Err Fault.Open → (W.state sink.new).taken ≡ (W.state sink.old).taken }
     ensures starved { result ≡ Err Fault.Memory → (W.state sink.new).taken ≡ (W.state sink.old).taken }
     ensures asked { I.last_asked inputs.new input.entry Content.Trace ≡ false → (inputs.new ≡ inputs.old) × (source.new ≡ source.old) }
-    ensures refused { (result ≡ Err Fault.Open) ↔ (I.has_refused inputs.new ≡ true) }
-    ensures read { (result ≡ Err Fault.Read) ↔ ((I.Opened.state source.new).has_failed ≡ true) }
     ensures allocates { (result ≡ Err Fault.Memory) ↔ (M.has_failed memory.new ≡ true) }
-    ensures write { (result ≡ Err Fault.Write) ↔ ((W.state sink.new).has_failed ≡ true) }
-    ensures flushed { OnOk result ((W.state sink.new).is_flushed ≡ true) }
+    ensures end { IsEnd (I.has_refused inputs.new) (I.Opened.state source.new) (W.state sink.old) (W.state sink.new) result }
 {
     inputs.open(input, Content::Trace, source)?;
     draw(memory, charting, source, sink)

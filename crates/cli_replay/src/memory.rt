@@ -3,6 +3,7 @@ ghost use Rattle.std.specs.Prelude.{◌≡◌, ◌≢◌, ◌↔◌, Err, IfOk, 
 ghost use Rattle.cc_formats.specs.declared.reading.Progress.TheVariants.{OutOfMemory};
 ghost use Rattle.cc_formats.specs.Reading.{is_over};
 ghost use Rattle.cc_heap.specs.Lost.{empty_run};
+ghost use Rattle.cc_io.specs.Devices.{IsOutcome};
 ghost use Rattle.cc_replay.specs.Replay.{begun};
 ghost use Rattle.cc_replay.specs.Script.{script_begun};
 ghost use Rattle.cli_replay.specs.Charting.{TakesLines, begun_chart};
@@ -48,9 +49,7 @@ pub trait TraceMemory: Memory {
         requires sink { (W.state sink.old).has_failed ≡ false }
         requires goes_on { is_over replay.old.progress ≡ false }
         ensures takes { Replays replay.old (S.state source.old).unread (S.state source.new).unread (W.state sink.old).taken (W.state sink.new).taken result replay.new }
-        ensures read { (result ≡ Err IoError.Read) ↔ ((S.state source.new).has_failed ≡ true) }
-        ensures write { (result ≡ Err IoError.Write) ↔ ((W.state sink.new).has_failed ≡ true) }
-        ensures flushed { OnOk result ((W.state sink.new).is_flushed ≡ true) }
+        ensures outcome { IsOutcome (S.state source.new) (W.state sink.new) result }
         ensures fails { OnOk result ((replay.new.progress ≡ OutOfMemory) ↔ (Self.has_failed self.new ≡ true)) }
         ensures stopped { OnErr result (Self.has_failed self.new ≡ false) };
 
@@ -104,9 +103,7 @@ pub trait TraceMemory: Memory {
         requires sink { (W.state sink.old).has_failed ≡ false }
         requires goes_on { is_over script.old.progress ≡ false }
         ensures takes { Writes script.old (S.state source.old).unread (S.state source.new).unread (W.state sink.old).taken (W.state sink.new).taken result script.new }
-        ensures read { (result ≡ Err IoError.Read) ↔ ((S.state source.new).has_failed ≡ true) }
-        ensures write { (result ≡ Err IoError.Write) ↔ ((W.state sink.new).has_failed ≡ true) }
-        ensures flushed { OnOk result ((W.state sink.new).is_flushed ≡ true) }
+        ensures outcome { IsOutcome (S.state source.new) (W.state sink.new) result }
         ensures fails { OnOk result ((script.new.progress ≡ OutOfMemory) ↔ (Self.has_failed self.new ≡ true)) }
         ensures stopped { OnErr result (Self.has_failed self.new ≡ false) };
 }

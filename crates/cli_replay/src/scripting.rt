@@ -1,6 +1,6 @@
 //! A trace whose script is written.
 ghost use Rattle.std.specs.Prelude.{◌≡◌, ◌≢◌, ◌↔◌, false, true, Err, OnOk};
-ghost use Rattle.cli.specs.Devices.{FromInput, OnDevices, OnOutput, Traffic};
+ghost use Rattle.cli.specs.Devices.{FromInput, IsEnd, OnDevices, OnOutput, Traffic};
 ghost use Rattle.cli.specs.Input.{IsFile};
 ghost use Rattle.cc_formats.specs.Reading.{is_over};
 ghost use Rattle.cli_replay.specs.Scripting.{Scripts};
@@ -28,13 +28,9 @@ pub(crate) fn script_input<M: TraceMemory, I: Inputs, W: Sink>(
     ensures scripts { OnOutput (I.bytes_of inputs.old) (I.Opened.state source.new) (W.state sink.old) (W.state sink.new)
         (λ console. FromInput input.entry console (Scripts script.old)) result }
     ensures open { result ≡ Err Fault.Open → IsFile input.entry }
-    ensures untouched { result ≡ Err Fault.Open → (W.state sink.new).taken ≡ (W.state sink.old).taken }
     ensures asked { I.last_asked inputs.new input.entry Content.Changes ≡ false → (inputs.new ≡ inputs.old) × (source.new ≡ source.old) }
-    ensures refused { (result ≡ Err Fault.Open) ↔ (I.has_refused inputs.new ≡ true) }
-    ensures read { (result ≡ Err Fault.Read) ↔ ((I.Opened.state source.new).has_failed ≡ true) }
     ensures allocates { (result ≡ Err Fault.Memory) ↔ (M.has_failed memory.new ≡ true) }
-    ensures write { (result ≡ Err Fault.Write) ↔ ((W.state sink.new).has_failed ≡ true) }
-    ensures flushed { OnOk result ((W.state sink.new).is_flushed ≡ true) }
+    ensures end { IsEnd (I.has_refused inputs.new) (I.Opened.state source.new) (W.state sink.old) (W.state sink.new) result }
 {
     inputs.open(input, Content::Changes, source)?;
     write_script(memory, script, source, sink)

@@ -11,7 +11,7 @@ returns-in-Ok-write_summary-clause-summarizes g c = (
   c.in-Ok.ensures.takes,
   λ out. true≢false (sym (c.is_out_of_memory.ensures.1 out) ∙ c.if-is_out_of_memory.false),
   subst (λ (figures : Figures). Appends (g.W.Sink.state c.args.sink.now).taken (g.W.Sink.state c.write_summary.new.sink).taken
-      (table_text c.args.format (summary_rows figures))) c.figures.ensures c.in-Ok-write_summary.ensures.ok,
+      (table_text c.args.format (summary_rows figures))) c.figures.ensures c.in-Ok-write_summary.ensures.sends.ok,
 )
 
 pub returns-in-Err-clause-summarizes : goal.returns-in-Err-clause-summarizes
@@ -20,5 +20,5 @@ returns-in-Err-clause-summarizes g c = (
   c.in-Ok.ensures.takes,
   λ out. true≢false (sym (c.is_out_of_memory.ensures.1 out) ∙ c.if-is_out_of_memory.false),
   subst (λ (figures : Figures). TakesPrefix (g.W.Sink.state c.args.sink.now).taken (g.W.Sink.state c.write_summary.new.sink).taken
-      (table_text c.args.format (summary_rows figures))) c.figures.ensures c.in-Err.ensures.err,
+      (table_text c.args.format (summary_rows figures))) c.figures.ensures c.in-Err.ensures.sends.err,
 )

@@ -20,9 +20,9 @@ returns-in_err-end_series-clause-samples g c = λ traffic unread left output out
     on_devices (Samples c.args.replay.now traffic) c.from_residual-in_err-end_series.result (Err Write)
     (told.1 ∙ ap Err (told.2 ∙ ap fault_of is_write))
     (stops_in_last c.args.replay.now c.take_replay.new.replay traffic _ _ _ _ _ _ unread left output output_now c.in_ok-summary.ensures.takes
-    (λ is. c.in_default.not-OutOfMemory (c.progress.ensures ∙ is)) c.in_err-end_series.ensures.err)
+    (λ is. c.in_default.not-OutOfMemory (c.progress.ensures ∙ is)) c.in_err-end_series.ensures.sends.err)
 
 pub returns-clause-samples : goal.returns-clause-samples
 returns-clause-samples g c = λ traffic unread left output output_now.
     samples_all c.args.replay.now c.take_replay.new.replay traffic _ _ _ _ _ _ unread left output output_now c.in_ok-summary.ensures.takes
-    (λ is. c.in_default.not-OutOfMemory (c.progress.ensures ∙ is)) c.in_ok-end_series.ensures.ok
+    (λ is. c.in_default.not-OutOfMemory (c.progress.ensures ∙ is)) c.in_ok-end_series.ensures.sends.ok

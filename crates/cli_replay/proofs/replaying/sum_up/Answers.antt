@@ -15,9 +15,9 @@ returns-in_err-write_table-clause-sums_up g c = λ traffic unread left output ou
     on_devices (SumsUp text_of c.args.replay.now traffic) c.from_residual-in_err-write_table.result (Err Write)
     (told.1 ∙ ap Err (told.2 ∙ ap fault_of is_write))
     (stops_in_summary text_of c.args.replay.now c.take_replay.new.replay traffic _ _ _ _ _ unread left output output_now c.in_ok-summary.ensures.takes
-    (λ is. c.in_default.not-OutOfMemory (c.progress.ensures ∙ is)) c.in_err-write_table.ensures.err)
+    (λ is. c.in_default.not-OutOfMemory (c.progress.ensures ∙ is)) c.in_err-write_table.ensures.sends.err)
 
 pub returns-clause-sums_up : goal.returns-clause-sums_up
 returns-clause-sums_up g c = λ traffic unread left output output_now.
     sums_up_all (end_text c.args.table c.args.format) c.args.replay.now c.take_replay.new.replay traffic _ _ _ _ _ unread left output output_now
-    c.in_ok-summary.ensures.takes (λ is. c.in_default.not-OutOfMemory (c.progress.ensures ∙ is)) c.in_ok-write_table.ensures.ok
+    c.in_ok-summary.ensures.takes (λ is. c.in_default.not-OutOfMemory (c.progress.ensures ∙ is)) c.in_ok-write_table.ensures.sends.ok
