@@ -1,13 +1,17 @@
 //! The heap.
-ghost use Rattle.std.specs.Prelude.{◌≡◌, ℕ, false, true, None, Some, nat_eq, ◌+◌, ◌<◌, ◌≤◌, ◌^◌, ◌↔◌, length, All, IfOk, OnErr, OnOk, IfSome, IsNone, IsSome, IsTrue};
+ghost use Rattle.std.specs.Prelude.{◌≡◌, ℕ, false, true, None, Some, nat_eq, ◌+◌, ◌<◌, ◌≤◌, ◌^◌, ◌↔◌, length, All, IfOk,
+    OnErr, OnOk, IfSome, IsNone, IsSome, IsTrue};
 ghost use Rattle.std.specs.Bool.{OnFalse, OnTrue};
 ghost use Rattle.std.specs.Int.{IsPowerOfTwo};
 ghost use Rattle.cc_heap.specs.Memory.{IsSound, held_spans, usage_of};
 ghost use Rattle.cc_heap.specs.Totals.{with_usage};
-ghost use Rattle.cc_heap.specs.Heap.{Attempts, KeepsObject, MustSweep, empty_heap, kept_object, object_under, swept, swept_memory};
+ghost use Rattle.cc_heap.specs.Heap.{Attempts, KeepsObject, MustSweep, empty_heap, kept_object, object_under, swept,
+    swept_memory};
 ghost use Rattle.cc_heap.specs.Reallocation.{can_take};
 ghost use Rattle.cc_placer.specs.Alignment.{HasAlignment};
-ghost use Rattle.cc_heap.specs.Events.{Allocates, AttemptsToReplace, ClearsOther, FailsInEvent, FailsToMake, FailsToReallocate, FollowsPolicy, FollowsReplacing, FreesIfLive, FreesOrNot, IsEvent, IsSweptOrNot, KeepsPlace, Moves, Reallocates, Remakes, ReplacesLive, Tries, TriesToReplace, outcome_of, swept_if_asked};
+ghost use Rattle.cc_heap.specs.Events.{Allocates, AttemptsToReplace, ClearsOther, FailsInEvent, FailsToMake,
+    FailsToReallocate, FollowsPolicy, FollowsReplacing, FreesIfLive, FreesOrNot, IsEvent, IsSweptOrNot, KeepsPlace,
+    Moves, Reallocates, Remakes, ReplacesLive, Tries, TriesToReplace, outcome_of, swept_if_asked};
 ghost use Rattle.cc_heap.specs.Peaks.{without_peaks};
 ghost use Rattle.cc_heap.specs.Run.{Runs};
 ghost use Rattle.cc_heap.specs.HeapState.{PutsOver, QuarantinesLive, ReleasesLast, Settles};
@@ -225,7 +229,8 @@ impl<P: Placer> Heap<P> {
         requires aligned { IsPowerOfTwo align }
         ensures allocates { IfOk result (λ outcome. Allocates self.old id align size outcome self.new) }
         ensures refused { OnErr result (FailsToMake self.old id self.new) }
-        ensures others { (other : ℕ) → nat_eq id other ≡ false → object_under self.new other ≡ object_under self.old other }
+        ensures others { (other : ℕ) → nat_eq id other ≡ false
+            → object_under self.new other ≡ object_under self.old other }
         ensures sound { IsSound self.new.settings.align self.new.memory }
     {
         let was_live = self.free(id);
@@ -431,7 +436,8 @@ impl<P: Placer> Heap<P> {
         requires fresh { IsNone (object_under self.old id) }
         ensures tries { IfOk result (λ making. Tries self.old id align size making self.new) }
         ensures refused { OnErr result (IsSweptOrNot self.old self.new) }
-        ensures others { (other : ℕ) → nat_eq id other ≡ false → object_under self.new other ≡ object_under self.old other }
+        ensures others { (other : ℕ) → nat_eq id other ≡ false
+            → object_under self.new other ≡ object_under self.old other }
         ensures sound { IsSound self.new.settings.align self.new.memory }
     {
         let making = self.make(id, align, size)?;
@@ -488,11 +494,14 @@ impl<P: Placer> Heap<P> {
     fn make(&mut self, id: u64, align: u64, size: u64) -> Result<Making, AllocError>
         requires some { 0 < size }
         requires aligned { IsPowerOfTwo align }
-        ensures attempts { IsNone (object_under self.old id) → IfOk result (λ making. Attempts self.old id align size making self.new) }
-        ensures replaces { IsSome (object_under self.old id) → IfOk result (λ making. PutsOver self.old id align size making self.new) }
+        ensures attempts { IsNone (object_under self.old id)
+            → IfOk result (λ making. Attempts self.old id align size making self.new) }
+        ensures replaces { IsSome (object_under self.old id)
+            → IfOk result (λ making. PutsOver self.old id align size making self.new) }
         ensures refused { OnErr result (self.new ≡ self.old) }
         ensures live { IsSome (object_under self.old id) → IsSome (object_under self.new id) }
-        ensures others { (other : ℕ) → nat_eq id other ≡ false → object_under self.new other ≡ object_under self.old other }
+        ensures others { (other : ℕ) → nat_eq id other ≡ false
+            → object_under self.new other ≡ object_under self.old other }
         ensures sound { IsSound self.new.settings.align self.new.memory }
     {
         if self.objects.len() + self.quarantine.len() >= self.settings.limit as usize {
@@ -522,7 +531,8 @@ impl<P: Placer> Heap<P> {
     fn free(&mut self, id: u64) -> bool
         ensures frees { FreesIfLive self.old id result self.new }
         ensures gone { IsNone (object_under self.new id) }
-        ensures others { (other : ℕ) → nat_eq id other ≡ false → object_under self.new other ≡ object_under self.old other }
+        ensures others { (other : ℕ) → nat_eq id other ≡ false
+            → object_under self.new other ≡ object_under self.old other }
         ensures sound { IsSound self.new.settings.align self.new.memory }
     {
         if !self.quarantine_object(id) {
@@ -539,7 +549,8 @@ impl<P: Placer> Heap<P> {
         ensures quarantined { OnTrue result (QuarantinesLive self.old id self.new) }
         ensures unknown { OnFalse result (IsNone (object_under self.old id) × (self.new ≡ self.old)) }
         ensures gone { IsNone (object_under self.new id) }
-        ensures others { (other : ℕ) → nat_eq id other ≡ false → object_under self.new other ≡ object_under self.old other }
+        ensures others { (other : ℕ) → nat_eq id other ≡ false
+            → object_under self.new other ≡ object_under self.old other }
         ensures sound { IsSound self.new.settings.align self.new.memory }
     {
         let Some(object) = self.objects.remove(&id) else {

@@ -60,7 +60,8 @@ impl Policy {
     pub(crate) fn asks_for_sweep(self, usage: Usage, high: u128, waiting: usize) -> bool
         requires usage_fits { usage.live + usage.quarantine ≤ 2 ^ 90 }
         requires high_fits { high ≤ 2 ^ 90 }
-        ensures { IsTrue result ↔ AsksForSweep self (record { live = usage.live; quarantine = usage.quarantine; high = high; waiting = waiting }) }
+        ensures { IsTrue result ↔ AsksForSweep self (record
+            { live = usage.live; quarantine = usage.quarantine; high = high; waiting = waiting }) }
     {
         match self {
             Policy::Immediate | Policy::Never | Policy::Trace => false,

@@ -122,7 +122,8 @@ impl<P: Placer> Run<P> {
 
     /// Notes that the id, if there is one, is lost or is not.
     fn note(&mut self, id: Option<u64>, lost: bool) -> Result<(), AllocError>
-        ensures noted { OnOk result ((other : ℕ) → is_lost self.new.lost other ≡ noted id lost (is_lost self.old.lost) other) }
+        ensures noted { OnOk result ((other : ℕ) → is_lost self.new.lost other ≡ noted id lost (is_lost self.old.lost)
+            other) }
         ensures heap { self.new.heap ≡ self.old.heap }
         ensures sizes { self.new.sizes ≡ self.old.sizes }
     {

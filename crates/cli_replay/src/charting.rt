@@ -6,7 +6,8 @@ ghost use Rattle.cli.specs.Input.{IsFile};
 ghost use Rattle.cc_formats.specs.Reading.{is_over};
 ghost use Rattle.cc_formats.specs.declared.reading.Progress.TheVariants.{Running};
 ghost use Rattle.cc_replay.specs.Replay.{most_sample};
-ghost use Rattle.cli_replay.specs.Charting.{Charts, ChartsLine, ChartsRest, TakesLines, begun_chart, charted, levels_of};
+ghost use Rattle.cli_replay.specs.Charting.{Charts, ChartsLine, ChartsRest, TakesLines, begun_chart, charted,
+    levels_of};
 ghost use Rattle.cli_replay.specs.Settings.{IsForHeap};
 
 use crate::memory::TraceMemory;
@@ -147,7 +148,8 @@ pub(crate) fn take_trace<P: Placer, S: Source>(
 ) -> Result<Summary, IoError>
     requires source { (S.state source.old).has_failed ≡ false }
     requires goes_on { is_over charting.old.replay.progress ≡ false }
-    ensures takes { TakesLines charting.old (S.state source.old).unread (S.state source.new).unread result charting.new }
+    ensures takes { TakesLines charting.old (S.state source.old).unread (S.state source.new).unread result charting.new
+        }
     ensures read { (result ≡ Err IoError.Read) ↔ ((S.state source.new).has_failed ≡ true) }
     ensures written { result ≢ Err IoError.Write }
 {
@@ -173,9 +175,11 @@ pub(crate) fn draw_input<M: TraceMemory, I: Inputs, W: Sink>(
         (λ console. FromInput input.entry console (Charts charting.old)) result }
     ensures open { result ≡ Err Fault.Open → IsFile input.entry }
     ensures starved { result ≡ Err Fault.Memory → (W.state sink.new).taken ≡ (W.state sink.old).taken }
-    ensures asked { I.last_asked inputs.new input.entry Content.Trace ≡ false → (inputs.new ≡ inputs.old) × (source.new ≡ source.old) }
+    ensures asked { I.last_asked inputs.new input.entry Content.Trace ≡ false → (inputs.new ≡ inputs.old)
+        × (source.new ≡ source.old) }
     ensures allocates { (result ≡ Err Fault.Memory) ↔ (M.has_failed memory.new ≡ true) }
-    ensures end { IsEnd (I.has_refused inputs.new) (I.Opened.state source.new) (W.state sink.old) (W.state sink.new) result }
+    ensures end { IsEnd (I.has_refused inputs.new) (I.Opened.state source.new) (W.state sink.old) (W.state sink.new)
+        result }
 {
     inputs.open(input, Content::Trace, source)?;
     draw(memory, charting, source, sink)
@@ -192,7 +196,8 @@ fn draw<M: TraceMemory, S: Source, W: Sink>(
     requires memory { M.has_failed memory.old ≡ false }
     requires source { (S.state source.old).has_failed ≡ false }
     requires sink { (W.state sink.old).has_failed ≡ false }
-    ensures charts { (traffic : Traffic) → traffic.source.unread ≡ (S.state source.old).unread → traffic.source_now.unread ≡ (S.state source.new).unread
+    ensures charts { (traffic : Traffic) → traffic.source.unread ≡ (S.state source.old).unread
+        → traffic.source_now.unread ≡ (S.state source.new).unread
         → traffic.output.taken ≡ (W.state sink.old).taken → traffic.output_now.taken ≡ (W.state sink.new).taken
         → OnDevices (Charts charting.old traffic) result }
     ensures open { result ≢ Err Fault.Open }

@@ -22,7 +22,8 @@ use std::alloc::AllocError;
 ///
 /// Each of its types has no parameter, so that no caller can bring one whose allocations always fail.
 ///
-/// Each function that takes a trace requires that neither the source nor the sink has failed, and that lines are taken. Its
+/// Each function that takes a trace requires that neither the source nor the sink has failed, and that lines are taken.
+/// Its
 /// errors are `Read` if and only if the source failed, and `Write` if and only if the sink failed.
 pub trait TraceMemory: Memory {
     /// Begins a replay with a heap that holds nothing, before the first line of a trace.
@@ -48,7 +49,8 @@ pub trait TraceMemory: Memory {
         requires source { (S.state source.old).has_failed ≡ false }
         requires sink { (W.state sink.old).has_failed ≡ false }
         requires goes_on { is_over replay.old.progress ≡ false }
-        ensures takes { Replays replay.old (S.state source.old).unread (S.state source.new).unread (W.state sink.old).taken (W.state sink.new).taken result replay.new }
+        ensures takes { Replays replay.old (S.state source.old).unread (S.state source.new).unread
+            (W.state sink.old).taken (W.state sink.new).taken result replay.new }
         ensures outcome { IsOutcome (S.state source.new) (W.state sink.new) result }
         ensures fails { OnOk result ((replay.new.progress ≡ OutOfMemory) ↔ (Self.has_failed self.new ≡ true)) }
         ensures stopped { OnErr result (Self.has_failed self.new ≡ false) };
@@ -73,7 +75,8 @@ pub trait TraceMemory: Memory {
     ) -> Result<Summary, IoError>
         requires source { (S.state source.old).has_failed ≡ false }
         requires goes_on { is_over charting.old.replay.progress ≡ false }
-        ensures takes { TakesLines charting.old (S.state source.old).unread (S.state source.new).unread result charting.new }
+        ensures takes { TakesLines charting.old (S.state source.old).unread (S.state source.new).unread result
+            charting.new }
         ensures read { (result ≡ Err IoError.Read) ↔ ((S.state source.new).has_failed ≡ true) }
         ensures written { result ≢ Err IoError.Write }
         ensures fails { OnOk result ((charting.new.replay.progress ≡ OutOfMemory) ↔ (Self.has_failed self.new ≡ true)) }
@@ -102,7 +105,8 @@ pub trait TraceMemory: Memory {
         requires source { (S.state source.old).has_failed ≡ false }
         requires sink { (W.state sink.old).has_failed ≡ false }
         requires goes_on { is_over script.old.progress ≡ false }
-        ensures takes { Writes script.old (S.state source.old).unread (S.state source.new).unread (W.state sink.old).taken (W.state sink.new).taken result script.new }
+        ensures takes { Writes script.old (S.state source.old).unread (S.state source.new).unread
+            (W.state sink.old).taken (W.state sink.new).taken result script.new }
         ensures outcome { IsOutcome (S.state source.new) (W.state sink.new) result }
         ensures fails { OnOk result ((script.new.progress ≡ OutOfMemory) ↔ (Self.has_failed self.new ≡ true)) }
         ensures stopped { OnErr result (Self.has_failed self.new ≡ false) };

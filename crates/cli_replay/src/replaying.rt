@@ -5,7 +5,8 @@ ghost use Rattle.cli.specs.Devices.{FromInput, IsEnd, OnDevices, OnOutput, Traff
 ghost use Rattle.cli.specs.Input.{IsFile, file_input, trace_content};
 ghost use Rattle.cli_replay.specs.Charting.{ChartsTrace};
 ghost use Rattle.cli_replay.specs.ReplayTexts.{replay_in};
-ghost use Rattle.cli_replay.specs.Replaying.{IsStreaming, IsTable, ReplaysTrace, Samples, SumsUp, WithReplay, WritesReplay, end_text, summary_text, table_format};
+ghost use Rattle.cli_replay.specs.Replaying.{IsStreaming, IsTable, ReplaysTrace, Samples, SumsUp, WithReplay,
+    WritesReplay, end_text, summary_text, table_format};
 ghost use Rattle.cc_formats.specs.Reading.{is_over};
 ghost use Rattle.cc_heap.specs.Lost.{empty_run};
 ghost use Rattle.cc_replay.specs.Replay.{begun};
@@ -65,14 +66,20 @@ pub fn replay_file<M: TraceMemory, I: Inputs, W: Sink>(
     requires inputs { I.has_refused inputs.old ≡ false }
     requires sink { (W.state sink.old).has_failed ≡ false }
     ensures replays { OnOutput (I.bytes_of inputs.old) (I.Opened.state source.new) (W.state sink.old) (W.state sink.new)
-        (λ console. WithReplay align strict texts.entry console (λ output settings reading. FromInput (file_input file.entry) console (ReplaysTrace output settings reading))) result }
+        (λ console. WithReplay align strict texts.entry console
+            (λ output settings reading. FromInput (file_input file.entry) console
+            (ReplaysTrace output settings reading))) result }
     ensures memory { result ≡ Err Fault.Memory → IsOk (replay_in align strict texts.entry) }
     ensures open { result ≡ Err Fault.Open → IsFile (file_input file.entry) }
-    ensures starved { ¬ IsStreaming texts.entry.output → result ≡ Err Fault.Memory → (W.state sink.new).taken ≡ (W.state sink.old).taken }
-    ensures asked { I.last_asked inputs.new (file_input file.entry) (trace_content texts.entry.output) ≡ false → (inputs.new ≡ inputs.old) × (source.new ≡ source.old) }
-    ensures unused { ¬ IsOk (replay_in align strict texts.entry) → (inputs.new ≡ inputs.old) × (source.new ≡ source.old) }
+    ensures starved { ¬ IsStreaming texts.entry.output → result ≡ Err Fault.Memory
+        → (W.state sink.new).taken ≡ (W.state sink.old).taken }
+    ensures asked { I.last_asked inputs.new (file_input file.entry) (trace_content texts.entry.output) ≡ false
+        → (inputs.new ≡ inputs.old) × (source.new ≡ source.old) }
+    ensures unused { ¬ IsOk (replay_in align strict texts.entry) → (inputs.new ≡ inputs.old)
+        × (source.new ≡ source.old) }
     ensures allocates { (result ≡ Err Fault.Memory) ↔ (M.has_failed memory.new ≡ true) }
-    ensures end { IsEnd (I.has_refused inputs.new) (I.Opened.state source.new) (W.state sink.old) (W.state sink.new) result }
+    ensures end { IsEnd (I.has_refused inputs.new) (I.Opened.state source.new) (W.state sink.old) (W.state sink.new)
+        result }
 {
     match replay_of(align, strict, texts) {
         Ok((output, (settings, reading))) => {
@@ -113,12 +120,16 @@ fn replay<M: TraceMemory, I: Inputs, W: Sink>(
     requires inputs { I.has_refused inputs.old ≡ false }
     requires sink { (W.state sink.old).has_failed ≡ false }
     ensures replays { OnOutput (I.bytes_of inputs.old) (I.Opened.state source.new) (W.state sink.old) (W.state sink.new)
-        (λ console. FromInput input.entry console (WritesReplay output.entry (begun (empty_run settings) reading))) result }
+        (λ console. FromInput input.entry console (WritesReplay output.entry (begun (empty_run settings) reading)))
+            result }
     ensures open { result ≡ Err Fault.Open → IsFile input.entry }
-    ensures starved { IsTable output.entry → result ≡ Err Fault.Memory → (W.state sink.new).taken ≡ (W.state sink.old).taken }
-    ensures asked { I.last_asked inputs.new input.entry Content.Trace ≡ false → (inputs.new ≡ inputs.old) × (source.new ≡ source.old) }
+    ensures starved { IsTable output.entry → result ≡ Err Fault.Memory
+        → (W.state sink.new).taken ≡ (W.state sink.old).taken }
+    ensures asked { I.last_asked inputs.new input.entry Content.Trace ≡ false → (inputs.new ≡ inputs.old)
+        × (source.new ≡ source.old) }
     ensures allocates { (result ≡ Err Fault.Memory) ↔ (M.has_failed memory.new ≡ true) }
-    ensures end { IsEnd (I.has_refused inputs.new) (I.Opened.state source.new) (W.state sink.old) (W.state sink.new) result }
+    ensures end { IsEnd (I.has_refused inputs.new) (I.Opened.state source.new) (W.state sink.old) (W.state sink.new)
+        result }
 {
     let mut replay = memory.begin_replay(settings, reading)?;
     replay_input(memory, output, &mut replay, inputs, source, input, sink)
@@ -142,10 +153,13 @@ fn replay_input<M: TraceMemory, I: Inputs, W: Sink>(
     ensures replays { OnOutput (I.bytes_of inputs.old) (I.Opened.state source.new) (W.state sink.old) (W.state sink.new)
         (λ console. FromInput input.entry console (WritesReplay output.entry replay.old)) result }
     ensures open { result ≡ Err Fault.Open → IsFile input.entry }
-    ensures starved { IsTable output.entry → result ≡ Err Fault.Memory → (W.state sink.new).taken ≡ (W.state sink.old).taken }
-    ensures asked { I.last_asked inputs.new input.entry Content.Trace ≡ false → (inputs.new ≡ inputs.old) × (source.new ≡ source.old) }
+    ensures starved { IsTable output.entry → result ≡ Err Fault.Memory
+        → (W.state sink.new).taken ≡ (W.state sink.old).taken }
+    ensures asked { I.last_asked inputs.new input.entry Content.Trace ≡ false → (inputs.new ≡ inputs.old)
+        × (source.new ≡ source.old) }
     ensures allocates { (result ≡ Err Fault.Memory) ↔ (M.has_failed memory.new ≡ true) }
-    ensures end { IsEnd (I.has_refused inputs.new) (I.Opened.state source.new) (W.state sink.old) (W.state sink.new) result }
+    ensures end { IsEnd (I.has_refused inputs.new) (I.Opened.state source.new) (W.state sink.old) (W.state sink.new)
+        result }
 {
     inputs.open(input, Content::Trace, source)?;
     match output {
@@ -178,9 +192,11 @@ fn chart<M: TraceMemory, I: Inputs, W: Sink>(
         (λ console. FromInput input.entry console (ChartsTrace settings reading)) result }
     ensures open { result ≡ Err Fault.Open → IsFile input.entry }
     ensures starved { result ≡ Err Fault.Memory → (W.state sink.new).taken ≡ (W.state sink.old).taken }
-    ensures asked { I.last_asked inputs.new input.entry Content.Trace ≡ false → (inputs.new ≡ inputs.old) × (source.new ≡ source.old) }
+    ensures asked { I.last_asked inputs.new input.entry Content.Trace ≡ false → (inputs.new ≡ inputs.old)
+        × (source.new ≡ source.old) }
     ensures allocates { (result ≡ Err Fault.Memory) ↔ (M.has_failed memory.new ≡ true) }
-    ensures end { IsEnd (I.has_refused inputs.new) (I.Opened.state source.new) (W.state sink.old) (W.state sink.new) result }
+    ensures end { IsEnd (I.has_refused inputs.new) (I.Opened.state source.new) (W.state sink.old) (W.state sink.new)
+        result }
 {
     let mut charting = memory.begin_chart(settings, reading)?;
     draw_input(memory, &mut charting, inputs, source, input, sink)
@@ -206,9 +222,11 @@ fn to_script<M: TraceMemory, I: Inputs, W: Sink>(
     ensures scripts { OnOutput (I.bytes_of inputs.old) (I.Opened.state source.new) (W.state sink.old) (W.state sink.new)
         (λ console. FromInput input.entry console (ScriptsTrace settings reading)) result }
     ensures open { result ≡ Err Fault.Open → IsFile input.entry }
-    ensures asked { I.last_asked inputs.new input.entry Content.Changes ≡ false → (inputs.new ≡ inputs.old) × (source.new ≡ source.old) }
+    ensures asked { I.last_asked inputs.new input.entry Content.Changes ≡ false → (inputs.new ≡ inputs.old)
+        × (source.new ≡ source.old) }
     ensures allocates { (result ≡ Err Fault.Memory) ↔ (M.has_failed memory.new ≡ true) }
-    ensures end { IsEnd (I.has_refused inputs.new) (I.Opened.state source.new) (W.state sink.old) (W.state sink.new) result }
+    ensures end { IsEnd (I.has_refused inputs.new) (I.Opened.state source.new) (W.state sink.old) (W.state sink.new)
+        result }
 {
     let mut script = memory.begin_script(settings, reading)?;
     script_input(memory, &mut script, inputs, source, input, sink)
@@ -227,7 +245,8 @@ fn sum_up<M: TraceMemory, S: Source, W: Sink>(
     requires memory { M.has_failed memory.old ≡ false }
     requires source { (S.state source.old).has_failed ≡ false }
     requires sink { (W.state sink.old).has_failed ≡ false }
-    ensures sums_up { (traffic : Traffic) → traffic.source.unread ≡ (S.state source.old).unread → traffic.source_now.unread ≡ (S.state source.new).unread
+    ensures sums_up { (traffic : Traffic) → traffic.source.unread ≡ (S.state source.old).unread
+        → traffic.source_now.unread ≡ (S.state source.new).unread
         → traffic.output.taken ≡ (W.state sink.old).taken → traffic.output_now.taken ≡ (W.state sink.new).taken
         → OnDevices (SumsUp (end_text table format) replay.old traffic) result }
     ensures open { result ≢ Err Fault.Open }
@@ -287,7 +306,8 @@ fn sample<M: TraceMemory, S: Source, W: Sink>(
     requires memory { M.has_failed memory.old ≡ false }
     requires source { (S.state source.old).has_failed ≡ false }
     requires sink { (W.state sink.old).has_failed ≡ false }
-    ensures samples { (traffic : Traffic) → traffic.source.unread ≡ (S.state source.old).unread → traffic.source_now.unread ≡ (S.state source.new).unread
+    ensures samples { (traffic : Traffic) → traffic.source.unread ≡ (S.state source.old).unread
+        → traffic.source_now.unread ≡ (S.state source.new).unread
         → traffic.output.taken ≡ (W.state sink.old).taken → traffic.output_now.taken ≡ (W.state sink.new).taken
         → OnDevices (Samples replay.old traffic) result }
     ensures open { result ≢ Err Fault.Open }

@@ -28,9 +28,11 @@ pub(crate) fn script_input<M: TraceMemory, I: Inputs, W: Sink>(
     ensures scripts { OnOutput (I.bytes_of inputs.old) (I.Opened.state source.new) (W.state sink.old) (W.state sink.new)
         (λ console. FromInput input.entry console (Scripts script.old)) result }
     ensures open { result ≡ Err Fault.Open → IsFile input.entry }
-    ensures asked { I.last_asked inputs.new input.entry Content.Changes ≡ false → (inputs.new ≡ inputs.old) × (source.new ≡ source.old) }
+    ensures asked { I.last_asked inputs.new input.entry Content.Changes ≡ false → (inputs.new ≡ inputs.old)
+        × (source.new ≡ source.old) }
     ensures allocates { (result ≡ Err Fault.Memory) ↔ (M.has_failed memory.new ≡ true) }
-    ensures end { IsEnd (I.has_refused inputs.new) (I.Opened.state source.new) (W.state sink.old) (W.state sink.new) result }
+    ensures end { IsEnd (I.has_refused inputs.new) (I.Opened.state source.new) (W.state sink.old) (W.state sink.new)
+        result }
 {
     inputs.open(input, Content::Changes, source)?;
     write_script(memory, script, source, sink)
@@ -47,7 +49,8 @@ fn write_script<M: TraceMemory, S: Source, W: Sink>(
     requires memory { M.has_failed memory.old ≡ false }
     requires source { (S.state source.old).has_failed ≡ false }
     requires sink { (W.state sink.old).has_failed ≡ false }
-    ensures scripts { (traffic : Traffic) → traffic.source.unread ≡ (S.state source.old).unread → traffic.source_now.unread ≡ (S.state source.new).unread
+    ensures scripts { (traffic : Traffic) → traffic.source.unread ≡ (S.state source.old).unread
+        → traffic.source_now.unread ≡ (S.state source.new).unread
         → traffic.output.taken ≡ (W.state sink.old).taken → traffic.output_now.taken ≡ (W.state sink.new).taken
         → OnDevices (Scripts script.old traffic) result }
     ensures open { result ≢ Err Fault.Open }
