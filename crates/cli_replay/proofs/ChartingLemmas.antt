@@ -15,12 +15,12 @@ use Rattle.cc_replay.specs.Taking.{AppendsEntry, next_entry}
 use Rattle.cc_replay.proofs.ReplayLemmas.{line_replayed}
 use Rattle.cc_replay.specs.declared.summary.Figures.{Figures}
 use Rattle.cli.specs.Devices.{Traffic}
-use Rattle.cli_replay.specs.Charting.{Charted, ChartsAll, ChartsLine, StopsInChart, TakesAll, TakesLines, charted, peakless}
+use Rattle.cli_replay.specs.Charting.{Charted, ChartsAll, ChartsLine, StopsInChart, ReachesEnd, TakesLines, charted, peakless}
 
 -- The whole trace was taken, for bytes that are the same.
 takes_all : (old new : Charted) (unread unread_too left left_too : Option (List ℕ)) (summary : Summary) → unread_too ≡ unread → left_too ≡ left
     → TakesLines old unread left (Ok summary) new → new.replay.progress ≢ OutOfMemory
-    → TakesAll old unread_too left_too summary new
+    → ReachesEnd old unread_too left_too summary new
 takes_all old new unread unread_too left left_too summary u l takes has_memory = record {
   takes = subst (λ (b : Option (List ℕ)). TakesLines old b left_too (Ok summary) new) (sym u)
       (subst (λ (b : Option (List ℕ)). TakesLines old unread b (Ok summary) new) (sym l) takes);

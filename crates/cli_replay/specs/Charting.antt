@@ -68,22 +68,22 @@ pub record ChartsRest (old : Charted) (rest text : List ℕ) (is_error : Bool) (
 abbrev pub TakesLines : (old : Charted) (unread left : Option (List ℕ)) → Result Summary IoError → (new : Charted) → Type 0
 TakesLines old unread left result new = Pumps (λ state. is_over state.replay.progress) ChartsLine ChartsRest lines 65536 most_sample old [] unread left None None result new
 
--- TakesAll holds if the trace was taken, as `TakesLines` says without an error, and no allocation failed.
-pub record TakesAll (old : Charted) (unread left : Option (List ℕ)) (summary : Summary) (new : Charted) : Type 0 where
+-- ReachesEnd holds if the trace was taken, as `TakesLines` says without an error, and no allocation failed.
+pub record ReachesEnd (old : Charted) (unread left : Option (List ℕ)) (summary : Summary) (new : Charted) : Type 0 where
   pub takes : TakesLines old unread left (Ok summary) new
   pub has_memory : new.replay.progress ≢ OutOfMemory
 
 -- ChartsAll holds if the trace was taken, and the chart was written.
 pub record ChartsAll (old : Charted) (traffic : Traffic) (summary : Summary) : Type 0 where
   pub new : Charted
-  pub all : TakesAll old traffic.source.unread traffic.source_now.unread summary new
+  pub all : ReachesEnd old traffic.source.unread traffic.source_now.unread summary new
   pub written : Appends traffic.output.taken traffic.output_now.taken (chart_text new.chart)
 
 -- StopsInChart holds if the trace was taken, and a prefix of the chart was written.
 pub record StopsInChart (old : Charted) (traffic : Traffic) : Type 0 where
   pub summary : Summary
   pub new : Charted
-  pub all : TakesAll old traffic.source.unread traffic.source_now.unread summary new
+  pub all : ReachesEnd old traffic.source.unread traffic.source_now.unread summary new
   pub written : TakesPrefix traffic.output.taken traffic.output_now.taken (chart_text new.chart)
 
 -- Charts holds if the chart of the trace's replay was written, up to a failed write. Nothing was written if a read failed.
