@@ -43,9 +43,9 @@ abbrev pub summary_text : SummaryFormat → ReplayState → List ℕ
 summary_text format state = table_text (table_format format) (summary_rows (figures_of state))
 
 -- The text of a table of a replay: the summary, or the table of sizes.
-abbrev pub end_text : Table → SummaryFormat → ReplayState → List ℕ
-end_text table.Summary format state = summary_text format state
-end_text table.Sizes format state = sizes_text (table_format format) state.run.sizes
+abbrev pub replay_table_text : Table → SummaryFormat → ReplayState → List ℕ
+replay_table_text table.Summary format state = summary_text format state
+replay_table_text table.Sizes format state = sizes_text (table_format format) state.run.sizes
 
 -- Replays holds if the replay took the lines that the source gave, and the bytes after the last of them, until it had the state `new`.
 -- The samples were written. With a result that is `Ok` the source was read to its end, or until no further line is taken.
@@ -105,8 +105,8 @@ Samples old traffic (Err Write) = StopsSampling old traffic Write ⊎ StopsInLas
 
 -- WritesReplay holds if the table of the output was written, or for another output the series.
 abbrev pub WritesReplay : ReplayOutput → (old : ReplayState) → Traffic → Result Summary IoError → Type 0
-WritesReplay (output.Summary format) old traffic result = SumsUp (end_text table.Summary format) old traffic result
-WritesReplay (output.Sizes format) old traffic result = SumsUp (end_text table.Sizes format) old traffic result
+WritesReplay (output.Summary format) old traffic result = SumsUp (replay_table_text table.Summary format) old traffic result
+WritesReplay (output.Sizes format) old traffic result = SumsUp (replay_table_text table.Sizes format) old traffic result
 WritesReplay _ old traffic result = Samples old traffic result
 
 -- ReplaysTrace holds if the trace was replayed on a heap of these settings that held nothing, and this output of it was written.

@@ -6,7 +6,7 @@ ghost use Rattle.cli.specs.Input.{IsFile, file_input, trace_content};
 ghost use Rattle.cli_replay.specs.Charting.{ChartsTrace};
 ghost use Rattle.cli_replay.specs.ReplayTexts.{replay_in};
 ghost use Rattle.cli_replay.specs.Replaying.{IsStreaming, IsTable, ReplaysTrace, Samples, SumsUp, WithReplay,
-    WritesReplay, end_text, summary_text, table_format};
+    WritesReplay, replay_table_text, summary_text, table_format};
 ghost use Rattle.cc_formats.specs.Reading.{is_over};
 ghost use Rattle.cc_heap.specs.Lost.{empty_run};
 ghost use Rattle.cc_replay.specs.Replay.{begun};
@@ -248,7 +248,7 @@ fn sum_up<M: TraceMemory, S: Source, W: Sink>(
     ensures sums_up { (traffic : Traffic) → traffic.source.unread ≡ (S.state source.old).unread
         → traffic.source_now.unread ≡ (S.state source.new).unread
         → traffic.output.taken ≡ (W.state sink.old).taken → traffic.output_now.taken ≡ (W.state sink.new).taken
-        → OnDevices (SumsUp (end_text table format) replay.old traffic) result }
+        → OnDevices (SumsUp (replay_table_text table format) replay.old traffic) result }
     ensures open { result ≢ Err Fault.Open }
     ensures starved { result ≡ Err Fault.Memory → (W.state sink.new).taken ≡ (W.state sink.old).taken }
     ensures read { (result ≡ Err Fault.Read) ↔ ((S.state source.new).has_failed ≡ true) }
@@ -272,7 +272,7 @@ fn write_table<P: Placer, W: Sink>(
     sink: &mut W,
 ) -> Result<(), IoError>
     requires { (W.state sink.old).has_failed ≡ false }
-    ensures sends { SendsBytes (W.state sink.old) (W.state sink.new) (end_text table format replay.now) result }
+    ensures sends { SendsBytes (W.state sink.old) (W.state sink.new) (replay_table_text table format replay.now) result }
     ensures write { OnErr result (result ≡ Err IoError.Write) }
 {
     match table {
