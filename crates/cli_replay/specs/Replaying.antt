@@ -39,12 +39,12 @@ table_format summary.Csv = Csv
 table_format summary.Json = Json
 
 -- The text of the summary of a replay.
-abbrev pub summary_text : SummaryFormat → ReplayState → List ℕ
-summary_text format state = table_text (table_format format) (summary_rows (figures_of state))
+abbrev pub command_summary_text : SummaryFormat → ReplayState → List ℕ
+command_summary_text format state = table_text (table_format format) (summary_rows (figures_of state))
 
 -- The text of a table of a replay: the summary, or the table of sizes.
 abbrev pub replay_table_text : Table → SummaryFormat → ReplayState → List ℕ
-replay_table_text table.Summary format state = summary_text format state
+replay_table_text table.Summary format state = command_summary_text format state
 replay_table_text table.Sizes format state = sizes_text (table_format format) state.run.sizes
 
 -- Replays holds if the replay took the lines that the source gave, and the bytes after the last of them, until it had the state `new`.

@@ -6,7 +6,7 @@ ghost use Rattle.cli.specs.Input.{IsFile, file_input, trace_content};
 ghost use Rattle.cli_replay.specs.Charting.{ChartsTrace};
 ghost use Rattle.cli_replay.specs.ReplayTexts.{replay_in};
 ghost use Rattle.cli_replay.specs.Replaying.{IsStreaming, IsTable, ReplaysTrace, Samples, SumsUp, WithReplay,
-    WritesReplay, replay_table_text, summary_text, table_format};
+    WritesReplay, replay_table_text, command_summary_text, table_format};
 ghost use Rattle.cc_formats.specs.Reading.{is_over};
 ghost use Rattle.cc_heap.specs.Lost.{empty_run};
 ghost use Rattle.cc_replay.specs.Replay.{begun};
@@ -288,7 +288,7 @@ fn write_figures<P: Placer, W: Sink>(
     sink: &mut W,
 ) -> Result<(), IoError>
     requires { (W.state sink.old).has_failed ≡ false }
-    ensures sends { SendsBytes (W.state sink.old) (W.state sink.new) (summary_text format replay.now) result }
+    ensures sends { SendsBytes (W.state sink.old) (W.state sink.new) (command_summary_text format replay.now) result }
     ensures write { OnErr result (result ≡ Err IoError.Write) }
 {
     let table = table_format(format);
