@@ -26,9 +26,9 @@ use Rattle.cli.specs.declared.invocation.ReplayTexts.{ReplayTexts}
 use Rattle.cc_io.specs.CommandOutput.{changed}
 
 -- The policy that `--sweep` names: 25 percent of the held bytes if the option is not given.
-abbrev pub sweep_in : Option (Bor Text) → Result Policy Refusal
-sweep_in None = Ok (Percent 25 Held)
-sweep_in (Some text) = policy_in text.now
+abbrev pub sweep_given : Option (Bor Text) → Result Policy Refusal
+sweep_given None = Ok (Percent 25 Held)
+sweep_given (Some text) = policy_in text.now
 
 -- The number of quarantined bytes that `--min` gives, or 0.
 abbrev pub least_in : Option (Bor Text) → Result ℕ Refusal
@@ -105,4 +105,4 @@ replay_in align strict texts =
         record { format = found.1.1.1.0; is_strict = strict; each = found.1.0.1 },
       ),
     ))
-    (both (both (sweep_in texts.sweep) (least_in texts.least)) (both (output_in texts.output) (both (span_given texts.pool) (both (format_in texts.format) (realloc_in texts.output texts.realloc)))))
+    (both (both (sweep_given texts.sweep) (least_in texts.least)) (both (output_in texts.output) (both (span_given texts.pool) (both (format_in texts.format) (realloc_in texts.output texts.realloc)))))

@@ -4,7 +4,7 @@ ghost use Rattle.cc_bounds.specs.Span.{IsSpan};
 ghost use Rattle.cli.specs.declared.invocation.ReplayOutput.TheVariants.{Script};
 ghost use Rattle.cc_heap.specs.declared.reallocation.Reallocation.TheVariants.{Move};
 ghost use Rattle.cli_replay.specs.ReplayTexts.{format_in, format_named, in_output, least_in, output_in, realloc_in,
-    realloc_named, replay_in, span_given, span_in, sweep_in};
+    realloc_named, replay_in, span_given, span_in, sweep_given};
 
 use cc_bounds::{Align, Span};
 use cc_command::read_request;
@@ -70,7 +70,7 @@ pub(crate) fn replay_of<'a>(
 
 /// Returns the policy that `--sweep` names, or 25 percent of the held bytes.
 fn policy_of(text: Option<&str>) -> Result<Policy, Refusal>
-    ensures { result ≡ sweep_in text.entry }
+    ensures { result ≡ sweep_given text.entry }
 {
     match text {
         Some(text) => read_policy(text.as_bytes()),
