@@ -21,7 +21,7 @@ use Rattle.cli.specs.declared.invocation.ReplayOutput.{ReplayOutput}
 use Rattle.cli.specs.declared.invocation.ReplayOutput.TheVariants.{Summary, Sizes, Chart, Script, Series}
 use Rattle.cli.specs.declared.invocation.ReplayTexts.{ReplayTexts}
 use Rattle.cc_io.specs.CommandOutput.{changed}
-use Rattle.cli_replay.specs.ReplayTexts.{format_in, least_in, not_zero, output_in, realloc_in, replay_in, span_given, span_in, sweep_given}
+use Rattle.cli_replay.specs.ReplayTexts.{format_in, least_in, not_zero, output_in, realloc_given, replay_in, span_given, span_in, sweep_given}
 
 -- The two results have both values.
 pub parts_of_both : {A B : Type 0} (first : Result A Refusal) (second : Result B Refusal) (found : A × B) → both first second ≡ Ok found
@@ -78,14 +78,14 @@ output_found sweeping given placing found told =
 
 -- A refusal of one of the texts.
 pub replay_refused : (align : Align) (strict : Bool) (texts : ReplayTexts) (refusal : Refusal)
-    → both (both (sweep_given texts.sweep) (least_in texts.least)) (both (output_in texts.output) (both (span_given texts.pool) (both (format_in texts.format) (realloc_in texts.output texts.realloc)))) ≡ Err refusal
+    → both (both (sweep_given texts.sweep) (least_in texts.least)) (both (output_in texts.output) (both (span_given texts.pool) (both (format_in texts.format) (realloc_given texts.output texts.realloc)))) ≡ Err refusal
     → Err refusal ≡ replay_in align strict texts
 replay_refused align strict texts refusal told = ap (changed _) (sym told)
 
 -- The values of all texts.
 pub replay_found : (align : Align) (strict : Bool) (texts : ReplayTexts) (policy : Policy) (least : ℕ) (output : ReplayOutput) (each : ℕ) (pool : Span) (format : TraceFormat)
     (realloc : Reallocation)
-    → both (both (sweep_given texts.sweep) (least_in texts.least)) (both (output_in texts.output) (both (span_given texts.pool) (both (format_in texts.format) (realloc_in texts.output texts.realloc))))
+    → both (both (sweep_given texts.sweep) (least_in texts.least)) (both (output_in texts.output) (both (span_given texts.pool) (both (format_in texts.format) (realloc_given texts.output texts.realloc))))
     ≡ Ok ((policy, least), ((output, each), (pool, (format, realloc))))
     → Ok (
       output,

@@ -87,9 +87,9 @@ in_output (Some Script) (Ok Keep) = Err Syntax
 in_output _ found = found
 
 -- The effect of a reallocation that `--realloc` names: it moves the object if the option is not given.
-abbrev pub realloc_in : Option ReplayOutput → Option (Bor Text) → Result Reallocation Refusal
-realloc_in output None = Ok Move
-realloc_in output (Some text) = in_output output (realloc_named text.now)
+abbrev pub realloc_given : Option ReplayOutput → Option (Bor Text) → Result Reallocation Refusal
+realloc_given output None = Ok Move
+realloc_given output (Some text) = in_output output (realloc_named text.now)
 
 -- The output, the settings of the heap and how the trace is read, or the first error. `Syntax` comes first: a text is not a
 -- number, not a policy, not a pool or not one of the names, or two of `--sizes`, `--svg`, `--script` and `--each`
@@ -105,4 +105,4 @@ replay_in align strict texts =
         record { format = found.1.1.1.0; is_strict = strict; each = found.1.0.1 },
       ),
     ))
-    (both (both (sweep_given texts.sweep) (least_in texts.least)) (both (output_in texts.output) (both (span_given texts.pool) (both (format_in texts.format) (realloc_in texts.output texts.realloc)))))
+    (both (both (sweep_given texts.sweep) (least_in texts.least)) (both (output_in texts.output) (both (span_given texts.pool) (both (format_in texts.format) (realloc_given texts.output texts.realloc)))))

@@ -3,7 +3,7 @@ ghost use Rattle.std.specs.Prelude.{◌≡◌, ◌^◌, IfOk, Some};
 ghost use Rattle.cc_bounds.specs.Span.{IsSpan};
 ghost use Rattle.cli.specs.declared.invocation.ReplayOutput.TheVariants.{Script};
 ghost use Rattle.cc_heap.specs.declared.reallocation.Reallocation.TheVariants.{Move};
-ghost use Rattle.cli_replay.specs.ReplayTexts.{format_in, format_named, in_output, least_in, output_in, realloc_in,
+ghost use Rattle.cli_replay.specs.ReplayTexts.{format_in, format_named, in_output, least_in, output_in, realloc_given,
     realloc_named, replay_in, span_given, span_in, sweep_given};
 
 use cc_bounds::{Align, Span};
@@ -136,7 +136,7 @@ fn read_format(name: &[u8]) -> Result<TraceFormat, Refusal>
 /// Returns the effect of a reallocation that `--realloc` names, or that it moves the object. `--script` excludes
 /// `keep`.
 fn realloc_of(output: Option<ReplayOutput<'_>>, text: Option<&str>) -> Result<Reallocation, Refusal>
-    ensures value { result ≡ realloc_in output.entry text.entry }
+    ensures value { result ≡ realloc_given output.entry text.entry }
     ensures moves { output.entry ≡ Some Script → IfOk result (λ realloc. realloc ≡ Move) }
 {
     match text {

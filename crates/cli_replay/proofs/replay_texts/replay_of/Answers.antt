@@ -1,20 +1,20 @@
 use Rattle.std.proofs.Common.{◌≡◌, Err, Ok}
 use Rattle.cc_values.specs.Values.{both}
-use Rattle.cli_replay.specs.ReplayTexts.{format_in, least_in, output_in, realloc_in, span_given, sweep_given}
+use Rattle.cli_replay.specs.ReplayTexts.{format_in, least_in, output_in, realloc_given, span_given, sweep_given}
 use Rattle.cli_replay.proofs.ReplayTextsLemmas.{moves_found, output_found, pool_found, replay_found, replay_refused}
 use Rattle.cli_replay.proofs.replay_texts.replay_of.Goals as goal
 
 pub returns-in-Err-clause-value : goal.returns-in-Err-clause-value
 returns-in-Err-clause-value c =
     let texts = c.args.texts in
-    let told : both (both (sweep_given texts.sweep) (least_in texts.least)) (both (output_in texts.output) (both (span_given texts.pool) (both (format_in texts.format) (realloc_in texts.output texts.realloc)))) ≡ Err c.in-Err.refusal =
+    let told : both (both (sweep_given texts.sweep) (least_in texts.least)) (both (output_in texts.output) (both (span_given texts.pool) (both (format_in texts.format) (realloc_given texts.output texts.realloc)))) ≡ Err c.in-Err.refusal =
     cc (c.both-sweeping.ensures, c.both-placing.ensures, c.both.ensures, c.both-2.ensures, c.both-naming.ensures, c.policy_of.ensures, c.least_of.ensures, c.output_of.ensures, c.pool_of.ensures.value, c.format_of.ensures, c.realloc_of.ensures.value, c.in-Err.is) in
     replay_refused c.args.align c.args.strict texts c.in-Err.refusal told
 
 pub returns-in-Ok-clause-value : goal.returns-in-Ok-clause-value
 returns-in-Ok-clause-value c =
     let texts = c.args.texts in
-    let told : both (both (sweep_given texts.sweep) (least_in texts.least)) (both (output_in texts.output) (both (span_given texts.pool) (both (format_in texts.format) (realloc_in texts.output texts.realloc)))) ≡ Ok ((c.in-Ok.policy, c.in-Ok.least_quarantine), ((c.in-Ok.output, c.in-Ok.each), (c.in-Ok.pool, (c.in-Ok.format, c.in-Ok.realloc)))) =
+    let told : both (both (sweep_given texts.sweep) (least_in texts.least)) (both (output_in texts.output) (both (span_given texts.pool) (both (format_in texts.format) (realloc_given texts.output texts.realloc)))) ≡ Ok ((c.in-Ok.policy, c.in-Ok.least_quarantine), ((c.in-Ok.output, c.in-Ok.each), (c.in-Ok.pool, (c.in-Ok.format, c.in-Ok.realloc)))) =
     cc (c.both-sweeping.ensures, c.both-placing.ensures, c.both.ensures, c.both-2.ensures, c.both-naming.ensures, c.policy_of.ensures, c.least_of.ensures, c.output_of.ensures, c.pool_of.ensures.value, c.format_of.ensures, c.realloc_of.ensures.value, c.in-Ok.is) in
     replay_found c.args.align c.args.strict texts c.in-Ok.policy c.in-Ok.least_quarantine c.in-Ok.output c.in-Ok.each c.in-Ok.pool c.in-Ok.format c.in-Ok.realloc told
 
