@@ -61,8 +61,8 @@ span_given None = Ok (record { base = 2 ^ 44; top = 2 ^ 64 })
 span_given (Some text) = span_in text.now
 
 -- The format of a trace that a text names.
-abbrev pub format_named : (name : List ℕ) → Result TraceFormat Refusal
-format_named name =
+abbrev pub trace_format_named : (name : List ℕ) → Result TraceFormat Refusal
+trace_format_named name =
     if bytes_eq name (codes "own") then Ok Own
     else if bytes_eq name (codes "mtrace") then Ok Mtrace
     else if bytes_eq name (codes "heaptrack") then Ok Heaptrack
@@ -72,7 +72,7 @@ format_named name =
 -- The format of the trace that `--format` names: the crate's own if the option is not given.
 abbrev pub format_in : Option (Bor Text) → Result TraceFormat Refusal
 format_in None = Ok Own
-format_in (Some text) = format_named text.now
+format_in (Some text) = trace_format_named text.now
 
 -- The effect of a reallocation of this name.
 abbrev pub realloc_named : (name : List ℕ) → Result Reallocation Refusal

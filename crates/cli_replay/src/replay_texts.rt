@@ -3,7 +3,7 @@ ghost use Rattle.std.specs.Prelude.{◌≡◌, ◌^◌, IfOk, Some};
 ghost use Rattle.cc_bounds.specs.Span.{IsSpan};
 ghost use Rattle.cli.specs.declared.invocation.ReplayOutput.TheVariants.{Script};
 ghost use Rattle.cc_heap.specs.declared.reallocation.Reallocation.TheVariants.{Move};
-ghost use Rattle.cli_replay.specs.ReplayTexts.{format_in, format_named, in_output, least_in, output_in, realloc_given,
+ghost use Rattle.cli_replay.specs.ReplayTexts.{format_in, trace_format_named, in_output, least_in, output_in, realloc_given,
     realloc_named, replay_in, span_given, span_in, sweep_given};
 
 use cc_bounds::{Align, Span};
@@ -118,7 +118,7 @@ fn format_of(text: Option<&str>) -> Result<TraceFormat, Refusal>
 
 /// Parses the name of a format.
 fn read_format(name: &[u8]) -> Result<TraceFormat, Refusal>
-    ensures { result ≡ format_named name.now }
+    ensures { result ≡ trace_format_named name.now }
 {
     if name == b"own".as_slice() {
         Ok(TraceFormat::Own)
