@@ -73,22 +73,22 @@ ends_text steps =
 -- ---- the bounds and the address
 
 -- The rectangle of the bounds.
-abbrev pub bytes_text : Steps → List ℕ
-bytes_text steps =
+abbrev pub bounds_bar_text : Steps → List ℕ
+bounds_bar_text steps =
     with_decimal (codes "<rect y='120' height='480' x='") (units_to steps steps.base)
     ++ line_with_decimal (codes "' width='") (units_to steps steps.top - units_to steps steps.base) (codes "' fill='#067647' stroke='#067647' stroke-width='32'/>")
 
 -- The mark of an end of the bounds.
-abbrev pub mark_text : (units : ℕ) → List ℕ
-mark_text units = line_with_decimal (codes "<path d='M") units (codes ",-480V960' stroke='#067647' stroke-width='32'/>")
+abbrev pub end_mark_text : (units : ℕ) → List ℕ
+end_mark_text units = line_with_decimal (codes "<path d='M") units (codes ",-480V960' stroke='#067647' stroke-width='32'/>")
 
 -- The marks of the base and of the top, with the addresses that the word decodes to.
 abbrev pub bounds_marks_text : Steps → Span → List ℕ
 bounds_marks_text steps bounds =
-    mark_text (units_to steps steps.base)
+    end_mark_text (units_to steps steps.base)
     ++ with_decimal (codes "<text x='") (units_to steps steps.base)
     ++ line_with_hexadecimal (codes "' dx='-96' y='-288' text-anchor='end'>base ") bounds.base (codes "</text>")
-    ++ mark_text (units_to steps steps.top)
+    ++ end_mark_text (units_to steps steps.top)
     ++ with_decimal (codes "<text x='") (units_to steps steps.top)
     ++ line_with_hexadecimal (codes "' dx='96' y='-288'>top ") bounds.top (codes "</text>")
 
@@ -111,7 +111,7 @@ abbrev pub window_drawing_of : (word : ℕ) → Fields → Steps → Span → Li
 window_drawing_of word fields steps bounds =
     opening_text (codes "width='1216' height='197' viewBox='-1536 -1232 19456 3152' font-family='monospace' font-size='240'")
     ++ title_text word fields bounds ++ sheet_text (codes "x='-1536' y='-1232' width='19456' height='3152'") ++ heading_text word steps
-    ++ window_ground_text ++ bytes_text steps ++ numbers_text steps.first_section ++ bounds_marks_text steps bounds ++ address_mark_text steps fields.address
+    ++ window_ground_text ++ bounds_bar_text steps ++ numbers_text steps.first_section ++ bounds_marks_text steps bounds ++ address_mark_text steps fields.address
     ++ ends_text steps ++ markup (codes "</svg>\n")
 
 -- IsWordDrawing holds if the drawing is made of the word's fields, their decoding steps and their

@@ -1,7 +1,7 @@
 //! A drawing of the window of a word: an SVG document with its bounds and its address.
 ghost use Rattle.std.specs.Prelude.{◌≡◌, ◌+◌, ◌-◌, ◌<◌, ◌≤◌, ◌^◌, ◌++◌, ◌↔◌, [], false, true, length, IfOk, IsErr, IsTrue, OnErr, OnOk};
 ghost use Rattle.cc_io.specs.CommandOutput.{IsTypedWord, WritesAnswer};
-ghost use Rattle.cc_explain.specs.WindowDrawing.{IsWindowDrawing, IsWordDrawing, address_mark_text, addresses_text, bounds_marks_text, bytes_text, ends_text, heading_text, mark_text, number_text, numbers_text, side_text, title_text, units_to, window_drawing_of, window_ground_text};
+ghost use Rattle.cc_explain.specs.WindowDrawing.{IsWindowDrawing, IsWordDrawing, address_mark_text, addresses_text, bounds_marks_text, bounds_bar_text, ends_text, heading_text, end_mark_text, number_text, numbers_text, side_text, title_text, units_to, window_drawing_of, window_ground_text};
 
 use crate::steps::{LAPS, Steps, decoding_steps, section, unit};
 use cc_bounds::{Span, decode};
@@ -143,7 +143,7 @@ fn push_window_ground(text: &mut Text)
 fn push_bytes(text: &mut Text, steps: &Steps)
     requires exponent { steps.now.exponent ≤ 52 }
     requires room { length text.old + 180 ≤ MOST_TEXT }
-    ensures value { text.new ≡ text.old ++ bytes_text steps.now }
+    ensures value { text.new ≡ text.old ++ bounds_bar_text steps.now }
     ensures fits { length text.new ≤ length text.old + 180 }
 {
     let base = units_to(steps, steps.base);
@@ -211,7 +211,7 @@ fn push_bounds_marks(text: &mut Text, steps: &Steps, bounds: &Span)
 /// Appends the mark of an end of the bounds.
 fn push_mark(text: &mut Text, units: u128)
     requires { length text.old + 100 ≤ MOST_TEXT }
-    ensures value { text.new ≡ text.old ++ mark_text units }
+    ensures value { text.new ≡ text.old ++ end_mark_text units }
     ensures fits { length text.new ≤ length text.old + 100 }
 {
     end_with_decimal(
