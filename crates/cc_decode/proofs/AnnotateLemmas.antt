@@ -5,7 +5,7 @@ use Rattle.std.proofs.lemmas.List.{take-append-drop}
 use Rattle.std.specs.Str.Parse.{digits_value}
 use Rattle.cc_word.specs.WordText.{IsWordText}
 use Rattle.cc_decode.specs.Annotate.{is_word_byte, IsRun, OpensAfter, ClosesBefore, IsPrefix, IsJoint, IsTextOf, EndsWord, IsAdded, Annotates}
-use Rattle.cc_decode.specs.Annotator.{IsAlone, IsHalf, IsJoined, RunIs, RunHalves, EndsHalf, Knows, Marks, Follows}
+use Rattle.cc_decode.specs.Annotator.{IsAlone, IsHalf, JoinsHalves, RunIs, RunHalves, EndsHalf, Knows, Marks, Follows}
 use Rattle.cc_decode.specs.declared.annotator.Before.{Before}
 use Rattle.cc_decode.specs.declared.annotator.Before.TheVariants.{Outside, Half, Inside}
 use Rattle.cc_decode.proofs.RunLemmas.{run_append, run_left, run_right, hex_run}
@@ -71,7 +71,7 @@ pub record HasColon (text : List ℕ) (word : ℕ) : Type 0 where
   pub low : List ℕ
   pub text_is : text ≡ (prefix ++ high) ++ 58 ∷ low
   pub is_prefix : IsPrefix prefix
-  pub joined : IsJoined high low word
+  pub joined : JoinsHalves high low word
 
 module _ (text : List ℕ) (word : ℕ) (s : IsTextOf text word) where
   high_run : IsRun s.high
@@ -197,7 +197,7 @@ run_alone run word r s = elim (texted_run run word s) [
 
 module _ (before : List ℕ) (d : ℕ) (u : List ℕ) (nd : is_word_byte d ≡ false) (ru : IsRun u) where
   pub word_after : (word : ℕ) → EndsWord (before ++ d ∷ u) word
-      → IsAlone u word ⊎ ((d ≡ 58) × (high : List ℕ) × EndsHalf before high × IsJoined high u word)
+      → IsAlone u word ⊎ ((d ≡ 58) × (high : List ℕ) × EndsHalf before high × JoinsHalves high u word)
   word_after word e = elim (texted_run e.text word e.is_text) [
     | inl run ↦ inl (subst (λ (l : List ℕ). IsAlone l word) (sym (same_run before d u e.first e.text nd ru run.0 e.opens e.before_is)) run.1)
     | inr colon ↦
@@ -216,7 +216,7 @@ module _ (before : List ℕ) (d : ℕ) (u : List ℕ) (nd : is_word_byte d ≡ f
             is_run = run_append colon.prefix colon.high (prefix_run colon.prefix colon.is_prefix) (run_left colon.high colon.low digits);
             opens = e.opens;
           },
-          subst (λ (l : List ℕ). IsJoined colon.high l word) (sym r.2) colon.joined,
+          subst (λ (l : List ℕ). JoinsHalves colon.high l word) (sym r.2) colon.joined,
         )
   ]
 
@@ -233,7 +233,7 @@ module _ (before : List ℕ) (d : ℕ) (u : List ℕ) (nd : is_word_byte d ≡ f
   half_of_run high h = record { first = before ++ d ∷ []; run = u; before_is = sym (append_assoc before (d ∷ []) u); is_half = h; is_run = ru; opens = opened }
 
 -- a half before a colon and the other half after it are a word
-word_of_halves : (before high u : List ℕ) (word : ℕ) → EndsHalf before high → IsJoined high u word → EndsWord (before ++ 58 ∷ u) word
+word_of_halves : (before high u : List ℕ) (word : ℕ) → EndsHalf before high → JoinsHalves high u word → EndsWord (before ++ 58 ∷ u) word
 word_of_halves before high u word h j = record {
   first = h.first;
   text = (h.is_half.prefix ++ high ++ 58 ∷ []) ++ u;
@@ -355,7 +355,7 @@ module _ (old : Before) (before run : List ℕ) (d : ℕ) (knows : Knows old bef
         | inl s ↦ inl s
         | inr j ↦
             let other = halves_half old run j.1 ((knows.halves run j.1 rr).0 j.2) in
-            inr (subst (λ (l : List ℕ). IsJoined l u word) (same_half run j.1 high other (halves_half old run high is)) j.3)
+            inr (subst (λ (l : List ℕ). JoinsHalves l u word) (same_half run j.1 high other (halves_half old run high is)) j.3)
       ],
       λ w. subst (λ (l : List ℕ). EndsWord l word) (sym (moved u)) (elim w [
         | inl s ↦ word_of_run start d u nd ru word s
@@ -382,7 +382,7 @@ pub marked : (state : Before) (before run added after : List ℕ) → Knows stat
 marked state before run added after knows rr (inl m) closes = inl (m.0, ((knows.words run m.0 rr).1 m.1, closes), m.2)
 marked state before run added after knows rr (inr m) closes = inr ((λ w e. m.0 w ((knows.words run w rr).0 e.0)), m.1)
 
-joined_long : (high low : List ℕ) (word : ℕ) → IsJoined high low word → length low ≡ 16
+joined_long : (high low : List ℕ) (word : ℕ) → JoinsHalves high low word → length low ≡ 16
 joined_long high low word j = omega (arith, j.0, j.1.0, length-append high low)
 
 -- without a run there is none

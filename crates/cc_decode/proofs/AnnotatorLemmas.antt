@@ -8,7 +8,7 @@ use Rattle.std.proofs.lemmas.Slice.Eq.{strip_prefix_is}
 use Rattle.std.specs.Str.Parse.{digits_value}
 use Rattle.cc_word.specs.WordText.{IsWordText}
 use Rattle.cc_decode.specs.Annotate.{IsPrefix, IsRun, is_word_byte}
-use Rattle.cc_decode.specs.Annotator.{AreHalves, IsAlone, IsJoined, AnswersRun, Follows, Marks, PushesRun, RunIs}
+use Rattle.cc_decode.specs.Annotator.{AreHalves, IsAlone, JoinsHalves, AnswersRun, Follows, Marks, PushesRun, RunIs}
 use Rattle.cc_decode.specs.Decoder.{AppendsRow}
 use Rattle.cc_io.specs.Answers.{AnswersInto}
 use Rattle.cc_decode.specs.declared.annotator.Annotator.{Annotator}
@@ -116,16 +116,16 @@ halves_parts text front back word is_front is_back full h =
     apart front h.high back (codes "_" ++ h.low) sized whole
 
 pub halves_apart : (text front back low : List ℕ) (r : Option ℕ) → front ≡ take 16 text → back ≡ drop 16 text → length text ≡ 33 → back ≡ codes "_" ++ low
-    → IfNone r ((word : ℕ) → ¬ IsJoined front low word) → IfNone r ((word : ℕ) → ¬ AreHalves text word)
+    → IfNone r ((word : ℕ) → ¬ JoinsHalves front low word) → IfNone r ((word : ℕ) → ¬ AreHalves text word)
 halves_apart text front back low (Some x) is_front is_back full found none = tt
 halves_apart text front back low None is_front is_back full found none = λ word h.
     let parts = halves_parts text front back word is_front is_back full h in
     let both : codes "_" ++ h.low ≡ codes "_" ++ low = sym parts.1 ∙ found in
     let same : h.low ≡ low = cc both in
-    none word (subst (λ (l : List ℕ). IsJoined l low word) (sym parts.0) (subst (λ (l : List ℕ). IsJoined h.high l word) same h.joined))
+    none word (subst (λ (l : List ℕ). JoinsHalves l low word) (sym parts.0) (subst (λ (l : List ℕ). JoinsHalves h.high l word) same h.joined))
 
 pub halves_joined : (text front back low : List ℕ) (r : Option ℕ) → front ≡ take 16 text → back ≡ drop 16 text → back ≡ codes "_" ++ low
-    → IfSome r (λ word. IsJoined front low word) → IfSome r (λ word. AreHalves text word)
+    → IfSome r (λ word. JoinsHalves front low word) → IfSome r (λ word. AreHalves text word)
 halves_joined text front back low None is_front is_back found joined = tt
 halves_joined text front back low (Some word) is_front is_back found joined = record {
   high = front;

@@ -9,7 +9,7 @@ use Rattle.cc_io.specs.Answers.{Answer, AnswersAll, EndsWith, Relation, seen}
 use Rattle.cc_decode.specs.Input.{IsWordEntry, word_of_entry}
 use Rattle.cc_decode.specs.Output.{IsAnswer, IsWordAnswer, AreAnswers}
 use Rattle.cc_decode.specs.Place.{after_entry, options_after}
-use Rattle.cc_decode.specs.Decoder.{AnswersEntry, AnswersPlainly, IsReply, RefusesRest, plain_options}
+use Rattle.cc_decode.specs.Decoder.{AnswersEntry, AnswersPlainly, IsEntryReply, RefusesUnfinished, plain_options}
 use Rattle.cc_decode.specs.declared.decoder.Decoder.{Decoder}
 use Rattle.cc_io.specs.declared.input_form.InputForm.{InputForm}
 use Rattle.cc_io.specs.declared.input_form.InputForm.TheVariants.{Lines, Bytes}
@@ -35,7 +35,7 @@ start_enough options entry answer is = elim (cases_lt (length entry) 129) [
 
 -- the reply to a word that was read, or to an entry that is no word, is that to the entry
 pub is_answer : (options : Options) (entry : List ℕ) (word : Option ℕ) (text : List ℕ) (is_error : Bool) → (IsSome word ↔ IsWordEntry options.input entry)
-    → IfSome word (λ found. found ≡ word_of_entry options.input entry) → IsReply options word text is_error → IsAnswer options entry (record { text = text; is_error = is_error })
+    → IfSome word (λ found. found ≡ word_of_entry options.input entry) → IsEntryReply options word text is_error → IsAnswer options entry (record { text = text; is_error = is_error })
 is_answer options entry None text is_error is_word value reply = inr (λ word. cc (is_word.1 word), reply.0, reply.1)
 is_answer options entry (Some word) text is_error is_word value reply =
     inl (is_word.0 refl, subst (λ (found : ℕ). IsWordAnswer options found text) value reply.0, reply.1)
@@ -75,11 +75,11 @@ module _ {S : Type 0} (options_of : S → Options) (Answered : Relation S) (answ
   are_answers old new (entry ∷ entries) [] t = absurd t
 
 -- trailing bytes are refused, and without them there is no reply
-pub rest_refused : {S : Type 0} (old new : S) (rest : List ℕ) (ending : Answer) → EndsWith RefusesRest old (take 129 rest) ending new → ending.text ≡ rest_text rest
+pub rest_refused : {S : Type 0} (old new : S) (rest : List ℕ) (ending : Answer) → EndsWith RefusesUnfinished old (take 129 rest) ending new → ending.text ≡ rest_text rest
 rest_refused old new [] ending e = e.0
 rest_refused old new (byte ∷ rest) ending e = e.0
 
-pub rest_is_error : {S : Type 0} (old new : S) (rest : List ℕ) (ending : Answer) → EndsWith RefusesRest old (take 129 rest) ending new
+pub rest_is_error : {S : Type 0} (old new : S) (rest : List ℕ) (ending : Answer) → EndsWith RefusesUnfinished old (take 129 rest) ending new
     → ending.is_error ≡ not (length rest == 0)
 rest_is_error old new [] ending e = e.1
 rest_is_error old new (byte ∷ rest) ending e = e.1 ∙ sym (ap not (eqb-suc-zero (length rest)))

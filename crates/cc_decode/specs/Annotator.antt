@@ -14,9 +14,9 @@ pub record IsHalf (run high : List ℕ) : Type 0 where
   pub is_prefix : IsPrefix prefix
   pub half : length high ≡ 16
 
--- IsJoined holds if the digits of the run are the low half of the word, and `high` its high half.
-abbrev pub IsJoined : (high run : List ℕ) (word : ℕ) → Type 0
-IsJoined high run word = (length high ≡ 16) × IsWordText (high ++ run) × (word ≡ digits_value 16 (high ++ run))
+-- JoinsHalves holds if the digits of the run are the low half of the word, and `high` its high half.
+abbrev pub JoinsHalves : (high run : List ℕ) (word : ℕ) → Type 0
+JoinsHalves high run word = (length high ≡ 16) × IsWordText (high ++ run) × (word ≡ digits_value 16 (high ++ run))
 
 -- AreHalves holds if `text` is the 16 digits of the word's high half, an underscore, and the 16
 -- digits of its low half.
@@ -24,7 +24,7 @@ pub record AreHalves (text : List ℕ) (word : ℕ) : Type 0 where
   pub high : List ℕ
   pub low : List ℕ
   pub text_is : text ≡ high ++ codes "_" ++ low
-  pub joined : IsJoined high low word
+  pub joined : JoinsHalves high low word
 
 -- IsAlone holds if `run` is the word: `0x` or not, and then 32 digits, or two halves of 16 with an
 -- underscore between.
@@ -39,7 +39,7 @@ pub record IsAlone (run : List ℕ) (word : ℕ) : Type 0 where
 -- before the run.
 abbrev pub RunIs : Before → (run : List ℕ) (word : ℕ) → Type 0
 RunIs Outside run word = IsAlone run word
-RunIs (Half high) run word = IsAlone run word ⊎ IsJoined high run word
+RunIs (Half high) run word = IsAlone run word ⊎ JoinsHalves high run word
 RunIs Inside run word = ⊥
 
 -- RunHalves holds if the run may be the high half of a word.

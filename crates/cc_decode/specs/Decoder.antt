@@ -25,9 +25,9 @@ abbrev pub AnswersEntry : Relation Decoder
 AnswersEntry old entry text is_error new =
     IsAnswer old.options entry (record { text = text; is_error = is_error }) × (new.options ≡ after_entry old.options)
 
--- RefusesRest holds if `text` is `error 2 unfinished`.
-abbrev pub RefusesRest : {S : Type 0} → Relation S
-RefusesRest {S} old rest text is_error new = (text ≡ with_line_feed (refusal_text Unfinished)) × (is_error ≡ true)
+-- RefusesUnfinished holds if `text` is `error 2 unfinished`.
+abbrev pub RefusesUnfinished : {S : Type 0} → Relation S
+RefusesUnfinished {S} old rest text is_error new = (text ≡ with_line_feed (refusal_text Unfinished)) × (is_error ≡ true)
 
 -- AppendsRow holds if the row of the word was appended.
 pub record AppendsRow (format : Format) (word : ℕ) (old new : List ℕ) : Type 0 where
@@ -41,14 +41,14 @@ pub record AppendsWord (options : Options) (word : ℕ) (old new : List ℕ) : T
   pub is_answer : IsWordAnswer options word text
   pub written : new ≡ old ++ text
 
--- IsReply holds if `text` is the reply to a word, or that to an entry that is not one, which is an
+-- IsEntryReply holds if `text` is the reply to a word, or that to an entry that is not one, which is an
 -- error.
-abbrev pub IsReply : Options → (word : Option ℕ) (text : List ℕ) (is_error : Bool) → Type 0
-IsReply options None text is_error = (text ≡ refused_text options.search) × (is_error ≡ true)
-IsReply options (Some word) text is_error = IsWordAnswer options word text × (is_error ≡ false)
+abbrev pub IsEntryReply : Options → (word : Option ℕ) (text : List ℕ) (is_error : Bool) → Type 0
+IsEntryReply options None text is_error = (text ≡ refused_text options.search) × (is_error ≡ true)
+IsEntryReply options (Some word) text is_error = IsWordAnswer options word text × (is_error ≡ false)
 
 -- AppendsReply holds if the reply to an entry was appended, which is this word, if it is one.
 pub record AppendsReply (options : Options) (word : Option ℕ) (old new : List ℕ) (is_error : Bool) : Type 0 where
   pub text : List ℕ
-  pub is_reply : IsReply options word text is_error
+  pub is_reply : IsEntryReply options word text is_error
   pub written : new ≡ old ++ text

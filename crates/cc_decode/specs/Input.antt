@@ -16,8 +16,8 @@ frame_of Lines = lines
 frame_of (Bytes order) = blocks
 
 -- The entries of an input.
-abbrev pub entries_of : InputForm → List ℕ → List (List ℕ)
-entries_of input text = (frame_of input).entries [] text
+abbrev pub input_entries : InputForm → List ℕ → List (List ℕ)
+input_entries input text = (frame_of input).entries [] text
 
 -- The bytes of an input after its last entry.
 abbrev pub left_of : InputForm → List ℕ → List ℕ

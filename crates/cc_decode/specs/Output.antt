@@ -6,7 +6,7 @@ use Rattle.cc_io.specs.Answers.{Answer}
 use Rattle.cc_decode.specs.Input.{IsWordEntry, word_of_entry}
 use Rattle.cc_decode.specs.Place.{after_entry, place_text}
 use Rattle.cc_decode.specs.Row.{IsWordRow}
-use Rattle.cc_decode.specs.Search.{IsListed}
+use Rattle.cc_decode.specs.Search.{IsListedWord}
 use Rattle.cc_io.specs.declared.format.Format.{Format}
 use Rattle.cc_decode.specs.declared.options.Options.{Options}
 use Rattle.cc_decode.specs.declared.options.Search.{Search}
@@ -22,7 +22,7 @@ pub record IsRowLine (format : Format) (at : Option ℕ) (word : ℕ) (text : Li
 -- nothing.
 abbrev pub IsWordAnswer : Options → (word : ℕ) (text : List ℕ) → Type 0
 IsWordAnswer options word text =
-    (IsListed options.search word × IsRowLine options.format options.at word text) ⊎ ((¬ IsListed options.search word) × (text ≡ []))
+    (IsListedWord options.search word × IsRowLine options.format options.at word text) ⊎ ((¬ IsListedWord options.search word) × (text ≡ []))
 
 -- The reply to an entry that is not a word: `error 1 syntax`, or nothing in a search.
 abbrev pub refused_text : Option Search → List ℕ

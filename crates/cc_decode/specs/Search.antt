@@ -9,9 +9,9 @@ use Rattle.cc_bounds.specs.Span.{HasByte}
 use Rattle.cc_cap.specs.Canonical.{IsCanonical}
 use Rattle.cc_decode.specs.declared.options.Search.{Search}
 
--- Grants holds if there is a permission, and all those of the search, and the bounds have the byte
+-- GrantsSearch holds if there is a permission, and all those of the search, and the bounds have the byte
 -- at the address of the search, if there is one.
-pub record Grants (search : Search) (fields : Fields) (bounds : Span) : Type 0 where
+pub record GrantsSearch (search : Search) (fields : Fields) (bounds : Span) : Type 0 where
   pub some : fields.perms ≢ 0
   pub all : HasAll fields.perms (bits_of search.perms)
   pub holds : IfSome search.holds (λ address. HasByte bounds address)
@@ -24,9 +24,9 @@ pub record IsFound (search : Search) (word : ℕ) : Type 0 where
   pub bounds : Span
   pub of_word : word_of fields ≡ word
   pub decoded : DecodesTo fields bounds
-  pub grants : Grants search fields bounds
+  pub grants : GrantsSearch search fields bounds
 
--- IsListed holds if the word is listed: every word without a search, and otherwise those found.
-abbrev pub IsListed : Option Search → (word : ℕ) → Type 0
-IsListed None word = ⊤
-IsListed (Some search) word = IsFound search word
+-- IsListedWord holds if the word is listed: every word without a search, and otherwise those found.
+abbrev pub IsListedWord : Option Search → (word : ℕ) → Type 0
+IsListedWord None word = ⊤
+IsListedWord (Some search) word = IsFound search word

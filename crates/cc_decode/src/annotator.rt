@@ -1,7 +1,7 @@
 //! The replies to the runs of a text: each run as it is, and after it the line of its word.
 ghost use Rattle.std.specs.Prelude.{◌≡◌, ◌≢◌, ◌≤◌, ◌<◌, ◌+◌, ◌++◌, ℕ, List, codes, length, IfSome, IfNone};
 ghost use Rattle.cc_decode.specs.Annotate.{IsPrefix};
-ghost use Rattle.cc_decode.specs.Annotator.{AnswersRest, AnswersRun, AreHalves, Follows, IsAlone, IsHalf, IsJoined, PushesRun, RunIs};
+ghost use Rattle.cc_decode.specs.Annotator.{AnswersRest, AnswersRun, AreHalves, Follows, IsAlone, IsHalf, JoinsHalves, PushesRun, RunIs};
 
 use crate::rows::push_row;
 use crate::runs::{MOST_RUN, is_word_character};
@@ -161,8 +161,8 @@ fn join_halves(text: &[u8]) -> Option<u128>
 /// Returns the word of a high half and a low half of 16 digits each.
 fn join(high: &[u8], low: &[u8]) -> Option<u128>
     requires { length high.now ≡ 16 }
-    ensures word { IfSome result (λ word. IsJoined high.now low.now word) }
-    ensures none { IfNone result ((word : ℕ) → ¬ IsJoined high.now low.now word) }
+    ensures word { IfSome result (λ word. JoinsHalves high.now low.now word) }
+    ensures none { IfNone result ((word : ℕ) → ¬ JoinsHalves high.now low.now word) }
 {
     if low.len() != HALF {
         return None;

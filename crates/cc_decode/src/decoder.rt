@@ -2,7 +2,7 @@
 ghost use Rattle.std.specs.Prelude.{◌≡◌, ◌≤◌, ◌+◌, ◌++◌, ℕ, length, true};
 ghost use Rattle.cc_io.specs.Text.{refusal_text, with_line_feed};
 ghost use Rattle.cc_word.specs.declared.refusal.Refusal.TheVariants as RefusalSpec;
-ghost use Rattle.cc_decode.specs.Decoder.{AnswersEntry, AnswersPlainly, AppendsReply, AppendsWord, RefusesRest};
+ghost use Rattle.cc_decode.specs.Decoder.{AnswersEntry, AnswersPlainly, AppendsReply, AppendsWord, RefusesUnfinished};
 
 use crate::entries::read_entry;
 use crate::options::Options;
@@ -27,7 +27,7 @@ pub(crate) struct PlainDecoder {
 impl Answerer<ROOM> for PlainDecoder {
     ghost Answered = { AnswersPlainly };
 
-    ghost Ended = { RefusesRest };
+    ghost Ended = { RefusesUnfinished };
 
     ghost MOST = { 512 };
 
@@ -71,7 +71,7 @@ pub(crate) struct Decoder {
 impl Answerer<ROOM> for Decoder {
     ghost Answered = { AnswersEntry };
 
-    ghost Ended = { RefusesRest };
+    ghost Ended = { RefusesUnfinished };
 
     ghost MOST = { 512 };
 

@@ -1,7 +1,7 @@
 //! The words that a search finds.
 ghost use Rattle.std.specs.Prelude.{◌↔◌, IfSome, IsTrue};
 ghost use Rattle.cc_bounds.specs.Span.{HasByte};
-ghost use Rattle.cc_decode.specs.Search.{Grants, IsFound, IsListed};
+ghost use Rattle.cc_decode.specs.Search.{GrantsSearch, IsFound, IsListedWord};
 
 use crate::options::Search;
 use bitflags::Flags;
@@ -11,7 +11,7 @@ use cc_word::{Fields, Perms};
 
 /// Returns whether a word is listed: every word is without a search.
 pub(crate) fn is_listed(search: Option<Search>, word: u128) -> bool
-    ensures { IsTrue result ↔ IsListed search word }
+    ensures { IsTrue result ↔ IsListedWord search word }
 {
     match search {
         Some(search) => is_found(search, word),
@@ -29,7 +29,7 @@ fn is_found(search: Search, word: u128) -> bool
 
 /// Returns whether these fields and bounds have the permissions and the address of a search.
 fn grants(search: Search, fields: &Fields, bounds: &Span) -> bool
-    ensures { IsTrue result ↔ Grants search fields.now bounds.now }
+    ensures { IsTrue result ↔ GrantsSearch search fields.now bounds.now }
 {
     fields.perms != 0
         && Perms::from_bits_retain(fields.perms).contains(search.perms)

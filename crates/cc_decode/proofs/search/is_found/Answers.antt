@@ -3,7 +3,7 @@ use Rattle.cc_word.specs.declared.fields.Fields.{Fields}
 use Rattle.cc_bounds.specs.declared.span.Span.{Span}
 use Rattle.cc_bounds.specs.Decoding.{DecodesTo}
 use Rattle.cc_cap.specs.Canonical.{IsCanonical}
-use Rattle.cc_decode.specs.Search.{Grants}
+use Rattle.cc_decode.specs.Search.{GrantsSearch}
 use Rattle.cc_decode.proofs.search.is_found.Goals as goal
 
 pub returns-then-is_canonical : goal.returns-then-is_canonical
@@ -20,6 +20,6 @@ returns-then-is_canonical c = (
       let fields : found.fields ≡ c.of_word-decoded.result.fields = c.of_word-decoded.ensures.only_fields found.fields found.of_word in
       let decoded : DecodesTo c.of_word-decoded.result.fields found.bounds = subst (λ (f : Fields). DecodesTo f found.bounds) fields found.decoded in
       let bounds : found.bounds ≡ c.of_word-decoded.result.bounds = c.of_word-decoded.ensures.only_bounds found.bounds decoded in
-      c.grants.ensures.1 (subst (λ (span : Span). Grants c.args.search c.of_word-decoded.result.fields span) bounds
-      (subst (λ (f : Fields). Grants c.args.search f found.bounds) fields found.grants)),
+      c.grants.ensures.1 (subst (λ (span : Span). GrantsSearch c.args.search c.of_word-decoded.result.fields span) bounds
+      (subst (λ (f : Fields). GrantsSearch c.args.search f found.bounds) fields found.grants)),
 )
