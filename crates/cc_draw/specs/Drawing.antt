@@ -166,13 +166,13 @@ abbrev pub closing_text : List ℕ
 closing_text = markup (codes "</g>\n</g>\n</svg>\n")
 
 -- The bytes after the live objects: the quarantined ones, and the end of the document.
-abbrev pub end_text : Layout → List PlannedObject → List ℕ
-end_text layout objects = (quarantined_text ++ layer_text layout Freed 1 objects) ++ closing_text
+abbrev pub after_live_text : Layout → List PlannedObject → List ℕ
+after_live_text layout objects = (quarantined_text ++ layer_text layout Freed 1 objects) ++ closing_text
 
 -- The drawing of these objects in this pool, by this layout: the live ones below, and the
 -- quarantined ones above them.
 abbrev pub laid_out_text : Layout → List PlannedObject → (pool : Span) → List ℕ
-laid_out_text layout objects pool = (start_text layout pool ++ layer_text layout Live 1 objects) ++ end_text layout objects
+laid_out_text layout objects pool = (start_text layout pool ++ layer_text layout Live 1 objects) ++ after_live_text layout objects
 
 -- The drawing of these objects in this pool, by the pool's own layout.
 abbrev pub drawing_text : List PlannedObject → (pool : Span) → List ℕ

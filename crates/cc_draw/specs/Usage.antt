@@ -26,13 +26,13 @@ abbrev pub asked_bytes_of : List PlannedObject → ℕ
 asked_bytes_of objects = sum_by (λ object. object.size) (filter (λ object. is_held object.state) objects)
 
 -- The maximum of some numbers, or 0 if there is none.
-abbrev pub greatest : List ℕ → ℕ
-greatest [] = 0
-greatest (number ∷ numbers) = max number (greatest numbers)
+abbrev pub largest_of : List ℕ → ℕ
+largest_of [] = 0
+largest_of (number ∷ numbers) = max number (largest_of numbers)
 
 -- The highest top of all the objects, or 0 if there is none.
 abbrev pub highest_top : List PlannedObject → ℕ
-highest_top objects = greatest (map (λ object. object.span.top) objects)
+highest_top objects = largest_of (map (λ object. object.span.top) objects)
 
 -- The lengths of the holes in a gap of `bytes` bytes: one hole of that length, or none if the gap
 -- is empty.
@@ -56,7 +56,7 @@ pub record HasHoles (pool : Span) (held : List Span) (usage : Usage) : Type 0 wh
   pub same : IsPermutation held order
   pub in_order : IsNonDecreasingBy (λ span. span.base) order
   pub count : usage.holes ≡ length (holes pool.base pool.top order)
-  pub largest : usage.largest ≡ greatest (holes pool.base pool.top order)
+  pub largest : usage.largest ≡ largest_of (holes pool.base pool.top order)
 
 -- UsesOf holds if a plan has this usage: of its pool, its objects and its limit.
 pub record UsesOf (plan : Plan) (usage : Usage) : Type 0 where

@@ -3,7 +3,7 @@ ghost use Rattle.std.specs.Prelude.{◌≡◌, ◌≤◌, ◌<◌, ◌+◌, ◌^
 ghost use Rattle.std.specs.List.Sorted.{IsNonDecreasingBy, IsPermutation};
 ghost use Rattle.cc_bounds.specs.Span.{from_zero};
 ghost use Rattle.cc_plan.specs.Plan.{held_spans, is_freed, is_held};
-ghost use Rattle.cc_draw.specs.Usage.{IsUsage, asked_bytes_of, greatest, highest_top, hole, holes, is_live, is_swept};
+ghost use Rattle.cc_draw.specs.Usage.{IsUsage, asked_bytes_of, largest_of, highest_top, hole, holes, is_live, is_swept};
 
 use cc_bounds::Span;
 use cc_cap::Cap;
@@ -24,7 +24,7 @@ impl Holes {
     fn add(&mut self, gap: u128)
         requires { self.old.count ≤ 65536 }
         ensures count { self.new.count ≡ self.old.count + length (hole gap) }
-        ensures largest { self.new.largest ≡ max self.old.largest (greatest (hole gap)) }
+        ensures largest { self.new.largest ≡ max self.old.largest (largest_of (hole gap)) }
     {
         if gap > 0 {
             self.count += 1;
@@ -169,7 +169,7 @@ fn spans_in_order(alloc: Global, objects: &[PlannedObject]) -> Result<Vec<Span>,
 fn holes_beside(pool: &Span, order: &[Span]) -> Holes
     requires { length order.now ≤ 65536 }
     ensures count { result.count ≡ length (holes pool.now.base pool.now.top order.now) }
-    ensures largest { result.largest ≡ greatest (holes pool.now.base pool.now.top order.now) }
+    ensures largest { result.largest ≡ largest_of (holes pool.now.base pool.now.top order.now) }
 {
     let mut holes = Holes {
         count: 0,

@@ -8,9 +8,9 @@ use Rattle.cc_io.specs.Text.{rest_text}
 use Rattle.cc_io.specs.Answers.{Answer, answers_text}
 use Rattle.cc_io.specs.declared.input_form.InputForm.{InputForm}
 use Rattle.cc_io.specs.declared.input_form.InputForm.TheVariants.{Lines}
-use Rattle.cc_draw.specs.Usage.{greatest}
+use Rattle.cc_draw.specs.Usage.{largest_of}
 use Rattle.cc_decode.specs.declared.options.Options.{Options}
-use Rattle.cc_decode.specs.Input.{entries_of, left_of}
+use Rattle.cc_decode.specs.Input.{input_entries, left_of}
 use Rattle.cc_decode.specs.Output.{AreAnswers}
 use Rattle.cc_decode.specs.Place.{options_after}
 use Rattle.cc_laws.specs.DrawnObjects.{AreHoles, CountsFreeBytes, IsDrawnExactly, IsFree}
@@ -36,7 +36,7 @@ holes-break usage none counts =
     absurd (omega (arith, none, counts.count, within))
 
 -- the length of a hole is at most the largest
-greatest-le : (gaps : List Span) (gap : Span) → Contains gaps gap → length_of gap ≤ greatest (map length_of gaps)
+greatest-le : (gaps : List Span) (gap : Span) → Contains gaps gap → length_of gap ≤ largest_of (map length_of gaps)
 greatest-le [] gap (k, within, is) = absurd (omega (arith, within))
 greatest-le (first ∷ gaps) gap (zero, within, is) =
     let same = ap length_of is in omega (arith, same)
@@ -71,7 +71,7 @@ record HasNoRows (rows : List ℕ) (any_error : Bool) : Type 0 where
 nothing : (options : Options) (rows : List ℕ) (any_error : Bool) → options.input ≡ Lines → AreListingRows options [] rows any_error
     → HasNoRows rows any_error
 nothing options rows any_error lines listing =
-    let entries : entries_of options.input [] ≡ [] = ap (λ (input : InputForm). entries_of input []) lines in
+    let entries : input_entries options.input [] ≡ [] = ap (λ (input : InputForm). input_entries input []) lines in
     let left : left_of options.input [] ≡ [] = ap (λ (input : InputForm). left_of input []) lines in
     let none = no_answers options listing.answers (subst (λ (e : List (List ℕ)). AreAnswers options e listing.answers) entries listing.are_answers) in
     record {
@@ -82,15 +82,15 @@ nothing options rows any_error lines listing =
     }
 
 -- the second part has lines too
-still-lines : (options : Options) → options.input ≡ Lines → (options_after options (length (entries_of options.input []))).input ≡ Lines
+still-lines : (options : Options) → options.input ≡ Lines → (options_after options (length (input_entries options.input []))).input ≡ Lines
 still-lines options lines =
-    let entries : entries_of options.input [] ≡ [] = ap (λ (input : InputForm). entries_of input []) lines in
+    let entries : input_entries options.input [] ≡ [] = ap (λ (input : InputForm). input_entries input []) lines in
     ap (λ (e : List (List ℕ)). (options_after options (length e)).input) entries ∙ lines
 
 pub rows-break : (options : Options) → options.input ≡ Lines → ¬ RowsInParts options [] [] (10 ∷ []) false
 rows-break options lines parts =
     let one = nothing options parts.first parts.first_error lines parts.of_text in
-    let two = nothing (options_after options (length (entries_of options.input []))) parts.second parts.second_error (still-lines options lines) parts.of_more in
+    let two = nothing (options_after options (length (input_entries options.input []))) parts.second parts.second_error (still-lines options lines) parts.of_more in
     let same : 10 ∷ [] ≡ [] = parts.rows_are ∙ (λ i. one.rows_none i ++ two.rows_none i) in
     let count : 1 ≡ 0 = ap (λ (l : List ℕ). length l) same in
     absurd (omega (arith, count))
@@ -98,7 +98,7 @@ rows-break options lines parts =
 pub error-breaks : (options : Options) → options.input ≡ Lines → ¬ RowsInParts options [] [] [] true
 error-breaks options lines parts =
     let one = nothing options parts.first parts.first_error lines parts.of_text in
-    let two = nothing (options_after options (length (entries_of options.input []))) parts.second parts.second_error (still-lines options lines) parts.of_more in
+    let two = nothing (options_after options (length (input_entries options.input []))) parts.second parts.second_error (still-lines options lines) parts.of_more in
     let same : true ≡ false = parts.error_is ∙ (λ i. one.error_none i || two.error_none i) in
     cc
 

@@ -9,7 +9,7 @@ use Rattle.std.proofs.lemmas.List.Sorted.{IsPermutation-refl}
 use Rattle.cc_bounds.specs.declared.span.Span.{Span}
 use Rattle.cc_bounds.specs.Span.{length_of}
 use Rattle.cc_plan.specs.Plan.{Plan, held_bytes_of, held_spans, is_freed}
-use Rattle.cc_draw.specs.Usage.{IsUsage, asked_bytes_of, greatest, highest_top, holes, is_live, is_swept, pool_span}
+use Rattle.cc_draw.specs.Usage.{IsUsage, asked_bytes_of, largest_of, highest_top, holes, is_live, is_swept, pool_span}
 use Rattle.cc_decode.specs.declared.options.Search.{Search}
 use Rattle.cc_decode.specs.Correct.{WritesListing}
 use Rattle.cc_decode.specs.Input.{IsWordEntry}
@@ -38,7 +38,7 @@ own = record {
   held = held_bytes_of plan.objects;
   pool = length_of (pool_span plan);
   holes = length (holes (pool_span plan).base (pool_span plan).top (held_spans plan.objects));
-  largest = greatest (holes (pool_span plan).base (pool_span plan).top (held_spans plan.objects));
+  largest = largest_of (holes (pool_span plan).base (pool_span plan).top (held_spans plan.objects));
   end = highest_top plan.objects;
 }
 

@@ -16,7 +16,7 @@ use Rattle.cc_plan.specs.Plan.{held_bytes_of, held_spans, is_held}
 use Rattle.cc_plan.proofs.HeldSpanLemmas.{sum_held}
 use Rattle.cc_laws.proofs.PackingLemmas.{below, covered-next}
 use Rattle.cc_values.specs.declared.usage.Usage.{Usage}
-use Rattle.cc_draw.specs.Usage.{HasHoles, greatest, hole, holes}
+use Rattle.cc_draw.specs.Usage.{HasHoles, largest_of, hole, holes}
 use Rattle.cc_laws.specs.DrawnObjects.{AreHoles, ArePlaced, CountsFreeBytes, IsFree}
 
 -- ---- lists
@@ -447,6 +447,6 @@ module _ (pool : Span) (objects : List PlannedObject) (placed : ArePlaced pool o
         gaps = list;
         are_holes = holes-found has.order has.same has.in_order;
         count = has.count ∙ ap (λ (l : List ℕ). length l) lengths ∙ many;
-        largest = has.largest ∙ ap greatest lengths;
+        largest = has.largest ∙ ap largest_of lengths;
         adds_up = omega (arith, held_is, pool_is, sum, all);
       }

@@ -12,7 +12,7 @@ use Rattle.cc_io.specs.Text.{rest_text, with_line_feed}
 use Rattle.cc_io.specs.Answers.{Answer, answers_text}
 use Rattle.cc_cap.specs.WordTelling.{TellsWord}
 use Rattle.cc_decode.specs.Correct.{WritesListing}
-use Rattle.cc_decode.specs.Input.{entries_of, left_of, word_of_entry}
+use Rattle.cc_decode.specs.Input.{input_entries, left_of, word_of_entry}
 use Rattle.cc_decode.specs.Output.{IsAnswer, IsRowLine, IsWordAnswer, AreAnswers}
 use Rattle.cc_decode.specs.Place.{after_entry, header_of, place_text}
 use Rattle.cc_decode.specs.Row.{IsWordRow, columns_text, csv_text, fixed_text}
@@ -90,7 +90,7 @@ pub one_listing : (options : Options) (text taken : List ℕ) (one other : Optio
     → (one ≡ other) × (any_error ≡ other_error)
 one_listing options text taken one other any_error other_error p q =
     let rest : List ℕ = left_of options.input text in
-    let same : p.answers ≡ q.answers = one_answers options (entries_of options.input text) p.answers q.answers p.are_answers q.are_answers in (
+    let same : p.answers ≡ q.answers = one_answers options (input_entries options.input text) p.answers q.answers p.are_answers q.are_answers in (
       appended taken _ _ one other p.written q.written (ap (λ (l : List Answer). header_of options ++ answers_text l ++ rest_text rest) same),
       p.error_is ∙ ap (λ (l : List Answer). list_any (λ (answer : Answer). answer.is_error) l || not (length rest == 0)) same ∙ sym q.error_is,
     )

@@ -12,7 +12,7 @@ use Rattle.cc_io.specs.Answers.{Answer, answers_text}
 use Rattle.cc_io.specs.FrameLaws.{lines_frame, blocks_frame}
 use Rattle.cc_io.specs.Frames.{IsFrame}
 use Rattle.cc_decode.specs.Correct.{WritesListing}
-use Rattle.cc_decode.specs.Input.{frame_of, entries_of, left_of}
+use Rattle.cc_decode.specs.Input.{frame_of, input_entries, left_of}
 use Rattle.cc_decode.specs.Output.{AreAnswers}
 use Rattle.cc_decode.specs.Place.{after_entry, header_of, options_after}
 use Rattle.cc_laws.specs.ListingParts.{AreListingRows, RowsInParts}
@@ -104,7 +104,7 @@ answers_cut options (x ∷ xs) ys (r ∷ answers) are =
 -- The rows of an input of this form, whatever form the options have.
 record RowsOf (input : InputForm) (options : Options) (text rows : List ℕ) (any_error : Bool) : Type 0 where
   answers : List Answer
-  are_answers : AreAnswers options (entries_of input text) answers
+  are_answers : AreAnswers options (input_entries input text) answers
   rows_are : rows ≡ answers_text answers ++ rest_text (left_of input text)
   error_is : any_error ≡ (list_any (λ answer. answer.is_error) answers || not (length (left_of input text) == 0))
 
@@ -116,15 +116,15 @@ listing_of options text rows any_error of = record { answers = of.answers; are_a
 
 module _ (options : Options) (text more : List ℕ) (ends : left_of options.input text ≡ []) where
   abbrev count : ℕ
-  count = length (entries_of options.input text)
+  count = length (input_entries options.input text)
 
   abbrev after : Options
   after = options_after options count
 
-  entries : entries_of options.input (text ++ more) ≡ entries_of options.input text ++ entries_of options.input more
+  entries : input_entries options.input (text ++ more) ≡ input_entries options.input text ++ input_entries options.input more
   entries =
       (is_frame options.input).entries_further [] text more
-      ∙ ap (λ (rest : List ℕ). entries_of options.input text ++ (frame_of options.input).entries rest more) ends
+      ∙ ap (λ (rest : List ℕ). input_entries options.input text ++ (frame_of options.input).entries rest more) ends
 
   last : left_of options.input (text ++ more) ≡ left_of options.input more
   last = (is_frame options.input).left_further [] text more ∙ ap (λ (rest : List ℕ). (frame_of options.input).left rest more) ends
@@ -159,7 +159,7 @@ module _ (options : Options) (text more : List ℕ) (ends : left_of options.inpu
         answers = a.answers ++ b.answers;
         are_answers =
             subst (λ (l : List (List ℕ)). AreAnswers options l (a.answers ++ b.answers)) (sym entries)
-            (answers_join options (entries_of options.input text) (entries_of options.input more) a.answers b.answers a.are_answers b.are_answers);
+            (answers_join options (input_entries options.input text) (input_entries options.input more) a.answers b.answers a.are_answers b.are_answers);
         rows_are =
             parts.rows_are ∙ ap (λ (l : List ℕ). l ++ parts.second) a.rows_are
             ∙ ap (λ (l : List ℕ). (answers_text a.answers ++ rest_text (left_of options.input text)) ++ l) b.rows_are
@@ -173,7 +173,7 @@ module _ (options : Options) (text more : List ℕ) (ends : left_of options.inpu
   part : (rows : List ℕ) (any_error : Bool) → AreListingRows options (text ++ more) rows any_error → RowsInParts options text more rows any_error
   part rows any_error whole =
       let parts =
-      answers_cut options (entries_of options.input text) (entries_of options.input more) whole.answers
+      answers_cut options (input_entries options.input text) (input_entries options.input more) whole.answers
       (subst (λ (l : List (List ℕ)). AreAnswers options l whole.answers) entries whole.are_answers) in
       record {
         first = answers_text parts.first ++ rest_text (left_of options.input text);

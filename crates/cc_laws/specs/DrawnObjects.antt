@@ -8,7 +8,7 @@ use Rattle.cc_values.specs.declared.usage.Usage.{Usage}
 use Rattle.cc_plan.specs.declared.object.PlannedObject.{PlannedObject}
 use Rattle.cc_plan.specs.Plan.{HaveDisjointBounds}
 use Rattle.cc_draw.specs.declared.layout.Layout.{Layout}
-use Rattle.cc_draw.specs.Usage.{greatest}
+use Rattle.cc_draw.specs.Usage.{largest_of}
 use Rattle.cc_draw.specs.Drawing.{AreCellsOf, end_cell, first_cell}
 
 -- ArePlaced holds if each object has a byte and lies within the pool, and no two of them share a byte
@@ -38,7 +38,7 @@ pub record CountsFreeBytes (pool : Span) (held : List Span) (usage : Usage) : Ty
   pub gaps : List Span
   pub are_holes : AreHoles pool held gaps
   pub count : usage.holes ≡ length gaps
-  pub largest : usage.largest ≡ greatest (map length_of gaps)
+  pub largest : usage.largest ≡ largest_of (map length_of gaps)
   pub adds_up : usage.held + sum_by length_of gaps ≡ usage.pool
 
 -- IsDrawnExactly holds if the cells of the layout from `first_cell` to before `end_cell` are

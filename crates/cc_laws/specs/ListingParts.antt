@@ -3,7 +3,7 @@ use Rattle.std.specs.Prelude.{◌≡◌, ℕ, Bool, not, ◌||◌, ◌==◌, Lis
 use Rattle.std.specs.List.{list_any}
 use Rattle.cc_io.specs.Text.{rest_text}
 use Rattle.cc_io.specs.Answers.{Answer, answers_text}
-use Rattle.cc_decode.specs.Input.{entries_of, left_of}
+use Rattle.cc_decode.specs.Input.{input_entries, left_of}
 use Rattle.cc_decode.specs.Output.{AreAnswers}
 use Rattle.cc_decode.specs.Place.{options_after}
 use Rattle.cc_decode.specs.declared.options.Options.{Options}
@@ -13,7 +13,7 @@ use Rattle.cc_decode.specs.declared.options.Options.{Options}
 -- there are trailing bytes.
 pub record AreListingRows (options : Options) (text rows : List ℕ) (any_error : Bool) : Type 0 where
   pub answers : List Answer
-  pub are_answers : AreAnswers options (entries_of options.input text) answers
+  pub are_answers : AreAnswers options (input_entries options.input text) answers
   pub rows_are : rows ≡ answers_text answers ++ rest_text (left_of options.input text)
   pub error_is : any_error ≡ (list_any (λ answer. answer.is_error) answers || not (length (left_of options.input text) == 0))
 
@@ -26,6 +26,6 @@ pub record RowsInParts (options : Options) (text more rows : List ℕ) (any_erro
   pub first_error : Bool
   pub second_error : Bool
   pub of_text : AreListingRows options text first first_error
-  pub of_more : AreListingRows (options_after options (length (entries_of options.input text))) more second second_error
+  pub of_more : AreListingRows (options_after options (length (input_entries options.input text))) more second second_error
   pub rows_are : rows ≡ first ++ second
   pub error_is : any_error ≡ (first_error || second_error)

@@ -4,8 +4,8 @@ use Rattle.std.specs.Io.KnownBytes.{Appends}
 use Rattle.cc_io.specs.Answers.{AnswersInto}
 use Rattle.cc_io.specs.Devices.{TakesPrefix}
 use Rattle.cc_io.specs.declared.summary.Summary.{Summary}
-use Rattle.cc_chart.specs.Chart.{Chart}
-use Rattle.cc_chart.specs.Drawing.{chart_text}
+use Rattle.cc_draw.specs.Chart.{Chart}
+use Rattle.cc_draw.specs.ChartDrawing.{chart_text}
 use Rattle.cc_formats.specs.declared.formats.Entry.{Entry}
 use Rattle.cc_formats.specs.declared.reading.Progress.{Progress}
 use Rattle.cc_formats.specs.declared.reading.Progress.TheVariants.{Running, Stopped, OutOfMemory}

@@ -7,9 +7,9 @@ use Rattle.cc_io.specs.Frames.{lines}
 use Rattle.cc_io.specs.declared.summary.IoError.{IoError}
 use Rattle.cc_io.specs.declared.summary.IoError.TheVariants.{Read, Write}
 use Rattle.cc_io.specs.declared.summary.Summary.{Summary}
-use Rattle.cc_chart.specs.declared.levels.Levels.{Levels}
-use Rattle.cc_chart.specs.Chart.{Chart, no_chart, with_event}
-use Rattle.cc_chart.specs.Drawing.{chart_text}
+use Rattle.cc_draw.specs.declared.levels.Levels.{Levels}
+use Rattle.cc_draw.specs.Chart.{Chart, no_chart, with_event}
+use Rattle.cc_draw.specs.ChartDrawing.{chart_text}
 use Rattle.cc_heap.specs.Lost.{empty_run}
 use Rattle.cc_heap.specs.Peaks.{without_peaks}
 use Rattle.cc_heap.specs.Totals.{capped_sum}

@@ -11,7 +11,7 @@ ghost use Rattle.cli_replay.specs.Charting.{Charts, ChartsLine, ChartsRest, Take
 ghost use Rattle.cli_replay.specs.Settings.{IsForHeap};
 
 use crate::memory::TraceMemory;
-use cc_chart::{Chart, Levels, write_chart};
+use cc_draw::{Chart, Levels, write_chart};
 use cli::{Content, Discard, Fault, InputName, Inputs};
 use cc_gaps::GapPlacer;
 use cc_io::{Answerer, IoError, Lines, Page, Sink, Source, Summary, Pending, pump};

@@ -1,3 +1,0 @@
-pub mod LevelLemmas
-pub mod LabelLemmas
-pub mod AxisLemmas

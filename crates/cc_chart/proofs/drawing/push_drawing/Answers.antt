@@ -1,7 +1,0 @@
-use Rattle.std.proofs.Common.{append_assoc}
-use Rattle.cc_chart.proofs.drawing.push_drawing.Goals as goal
-
-pub returns : goal.returns
-returns g c =
-    rw (c.push_closing.ensures.value, c.push_legend.ensures.value, c.push_scaled.ensures.value, c.push_sheet.ensures.value, c.push_counts.ensures.value, c.push_opening.ensures.value)
-    (simp append_assoc)
