@@ -1,5 +1,36 @@
 -- The bytes written for a text, from the contract of the pump.
-use Rattle.std.proofs.Common.{◌≡◌, ℕ, ◌+◌, ◌<◌, ◌≤◌, List, [], ◌∷◌, ◌++◌, length, take, refl, sym, ◌∙◌, ap, ap₂, subst, arith, append-nil, append_assoc, length-append, false, Bool, ◌||◌, Option, Result, Ok, Err, inl, inr}
+use Rattle.std.proofs.Common.{
+  ◌≡◌,
+  ℕ,
+  ◌+◌,
+  ◌<◌,
+  ◌≤◌,
+  List,
+  [],
+  ◌∷◌,
+  ◌++◌,
+  length,
+  take,
+  refl,
+  sym,
+  ◌∙◌,
+  ap,
+  ap₂,
+  subst,
+  arith,
+  append-nil,
+  append_assoc,
+  length-append,
+  false,
+  Bool,
+  ◌||◌,
+  Option,
+  Result,
+  Ok,
+  Err,
+  inl,
+  inr,
+}
 use Rattle.std.proofs.lemmas.List.{take_all}
 use Rattle.std.proofs.Math.Seq.{take-append-add}
 use Rattle.std.specs.List.{AllByRecursion, list_any}
@@ -294,4 +325,9 @@ pub annotated_pumped : (new : Annotator) (pending : List ℕ) (c j : InputState)
     → Pumps (λ (state : Annotator). false) AnswersRun AnswersRest runs 32768 600 begin pending c.unread j.unread t.taken u.taken result new → AnnotatesGiven c j t u result
 annotated_pumped new pending c j t u result none outcome p =
     let q = subst (λ (l : List ℕ). Pumps (λ (state : Annotator). false) AnswersRun AnswersRest runs 32768 600 begin l c.unread j.unread t.taken u.taken result new) none p in
-    record { text = q.text; given = q.given; annotates = annotates_text q.text new j.unread t.taken u.taken result (runs_through (λ (state : Annotator). false) _ _ _ _ _ _ _ _ _ _ _ _ _ refl q); outcome = outcome }
+    record {
+      text = q.text;
+      given = q.given;
+      annotates = annotates_text q.text new j.unread t.taken u.taken result (runs_through (λ (state : Annotator). false) _ _ _ _ _ _ _ _ _ _ _ _ _ refl q);
+      outcome = outcome;
+    }

@@ -1,5 +1,38 @@
 -- Reading and dropping the first bytes of a source.
-use Rattle.std.proofs.Common.{◌≡◌, ◌⊎◌, ℕ, ◌+◌, ◌-◌, ◌<◌, ◌≤◌, zero, suc, true, false, List, [], ◌∷◌, ◌++◌, length, drop, refl, sym, ◌∙◌, ap, subst, arith, append-nil, inl, inr, Option, Some, None, Result, Ok, Err}
+use Rattle.std.proofs.Common.{
+  ◌≡◌,
+  ◌⊎◌,
+  ℕ,
+  ◌+◌,
+  ◌-◌,
+  ◌<◌,
+  ◌≤◌,
+  zero,
+  suc,
+  true,
+  false,
+  List,
+  [],
+  ◌∷◌,
+  ◌++◌,
+  length,
+  drop,
+  refl,
+  sym,
+  ◌∙◌,
+  ap,
+  subst,
+  arith,
+  append-nil,
+  inl,
+  inr,
+  Option,
+  Some,
+  None,
+  Result,
+  Ok,
+  Err,
+}
 use Rattle.std.proofs.lemmas.List.{length-append}
 use Rattle.std.specs.Io.KnownBytes.{Consumes, IsAtEnd, Keeps}
 use Rattle.std.proofs.KnownBytes.{Consumes-nil, Consumes-trans}
@@ -126,7 +159,8 @@ lists_after skipped options a b c t u result skips serves =
     }
 
 -- the source failed among the skipped bytes
-pub lists_none : (skipped : ℕ) (options : Options) (a b : InputState) (t : OutputState) (failed : Failed) → Skips skipped a b (Err failed) → t.has_failed ≡ false → Lists skipped options a b t t (Err Read)
+pub lists_none : (skipped : ℕ) (options : Options) (a b : InputState) (t : OutputState) (failed : Failed) → Skips skipped a b (Err failed) → t.has_failed ≡ false
+    → Lists skipped options a b t t (Err Read)
 lists_none skipped options a b t failed skips works = record {
   text = skips.text;
   given = skips.given;

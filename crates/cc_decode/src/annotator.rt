@@ -1,7 +1,17 @@
 //! The replies to the runs of a text: each run as it is, and after it the line of its word.
 ghost use Rattle.std.specs.Prelude.{◌≡◌, ◌≢◌, ◌≤◌, ◌<◌, ◌+◌, ◌++◌, ℕ, List, codes, length, IfSome, IfNone};
 ghost use Rattle.cc_decode.specs.Annotate.{IsPrefix};
-ghost use Rattle.cc_decode.specs.Annotator.{AnswersRest, AnswersRun, AreHalves, Follows, IsAlone, IsHalf, JoinsHalves, PushesRun, RunIs};
+ghost use Rattle.cc_decode.specs.Annotator.{
+  AnswersRest,
+  AnswersRun,
+  AreHalves,
+  Follows,
+  IsAlone,
+  IsHalf,
+  JoinsHalves,
+  PushesRun,
+  RunIs,
+};
 
 use crate::rows::push_row;
 use crate::runs::{MOST_RUN, is_word_character};

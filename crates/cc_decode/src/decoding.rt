@@ -41,7 +41,8 @@ pub fn decode_words<R: Source, W: Sink>(
 ) -> Result<Summary, IoError>
     requires { AreReady (R.state source.old) (W.state sink.old) }
     // If the source does not say which bytes it has, some input has the listing.
-    ensures { Lists skipped options (R.state source.old) (R.state source.new) (W.state sink.old) (W.state sink.new) result }
+    ensures { Lists skipped options (R.state source.old) (R.state source.new) (W.state sink.old) (W.state sink.new)
+        result }
 {
     match skip(skipped, source) {
         Ok(()) => {}
@@ -85,7 +86,8 @@ fn list_entries<A: Answerer<ROOM>, R: Source, W: Sink>(
     requires room { A.MOST ≤ 32768 }
     requires goes_on { A.done decoder.old ≡ false }
     ensures pumps { Pumps A.done A.Answered A.Ended (frame_of input) 32768 A.MOST decoder.old page.old
-        (R.state source.old).unread (R.state source.new).unread (W.state sink.old).taken (W.state sink.new).taken result decoder.new }
+        (R.state source.old).unread (R.state source.new).unread (W.state sink.old).taken (W.state sink.new).taken
+        result decoder.new }
     ensures outcome { IsOutcome (R.state source.new) (W.state sink.new) result }
 {
     match input {

@@ -1,5 +1,19 @@
 //! The reply to one word, on one line.
-ghost use Rattle.std.specs.Prelude.{◌≡◌, ◌≤◌, ◌<◌, ◌+◌, ◌^◌, ◌∷◌, ◌++◌, [], codes, decimal, length, true, if◌then◌else◌};
+ghost use Rattle.std.specs.Prelude.{
+  ◌≡◌,
+  ◌≤◌,
+  ◌<◌,
+  ◌+◌,
+  ◌^◌,
+  ◌∷◌,
+  ◌++◌,
+  [],
+  codes,
+  decimal,
+  length,
+  true,
+  if◌then◌else◌,
+};
 ghost use Rattle.cc_word.specs.Word.{bit_of};
 ghost use Rattle.cc_word.specs.WordText.{digits_of, hexadecimal};
 ghost use Rattle.cc_cap.specs.LineText.{letter_of, letters_of, word_line_of, marks_of};
@@ -72,7 +86,8 @@ fn push_line_of(batch: &mut Batch, fields: &Fields, bounds: &Span)
 /// Appends the address, a bracket, and the letters of the permissions.
 fn push_address_and_letters(batch: &mut Batch, fields: &Fields)
     requires { length batch.old + 41 ≤ 32768 }
-    ensures value { batch.new ≡ batch.old ++ hexadecimal fields.now.address ++ codes " [" ++ letters_of fields.now.perms }
+    ensures value { batch.new ≡ batch.old ++ hexadecimal fields.now.address ++ codes " ["
+        ++ letters_of fields.now.perms }
     ensures fits { length batch.new ≤ length batch.old + 41 }
 {
     push_hexadecimal(batch, u128::from(fields.address));
@@ -106,7 +121,8 @@ fn push_letter(batch: &mut Batch, letter: u8, perms: Perms, permission: Perms)
 /// Appends a comma, the bounds, the closing bracket, and the mark of a tagged word's type.
 fn push_bounds_and_mark(batch: &mut Batch, fields: &Fields, bounds: &Span)
     requires { length batch.old + 90 ≤ 32768 }
-    ensures value { batch.new ≡ batch.old ++ codes "," ++ hexadecimal bounds.now.base ++ codes "-" ++ hexadecimal bounds.now.top
+    ensures value { batch.new ≡ batch.old ++ codes "," ++ hexadecimal bounds.now.base ++ codes "-"
+        ++ hexadecimal bounds.now.top
         ++ codes "]" ++ marks_of fields.now.otype true }
     ensures fits { length batch.new ≤ length batch.old + 90 }
 {
@@ -154,7 +170,8 @@ fn push_fixed_values(batch: &mut Batch, word: u128, fields: &Fields, bounds: &Sp
 /// Appends the word, its base and its top in one width each.
 fn push_fixed_bounds(batch: &mut Batch, word: u128, bounds: &Span)
     requires { length batch.old + 72 ≤ 32768 }
-    ensures value { batch.new ≡ batch.old ++ digits_of 32 word ++ codes " " ++ padded bounds.now.base ++ codes " " ++ padded bounds.now.top }
+    ensures value { batch.new ≡ batch.old ++ digits_of 32 word ++ codes " " ++ padded bounds.now.base ++ codes " "
+        ++ padded bounds.now.top }
     ensures fits { length batch.new ≤ length batch.old + 72 }
 {
     batch.push_word(word);
@@ -168,7 +185,8 @@ fn push_fixed_bounds(batch: &mut Batch, word: u128, bounds: &Span)
 /// before each.
 fn push_fixed_encoding(batch: &mut Batch, exponent: u8, canonical: bool)
     requires { length batch.old + 6 ≤ 32768 }
-    ensures value { batch.new ≡ batch.old ++ codes " " ++ digits_of 2 exponent ++ codes " " ++ decimal (bit_of canonical) }
+    ensures value { batch.new ≡ batch.old ++ codes " " ++ digits_of 2 exponent ++ codes " "
+        ++ decimal (bit_of canonical) }
     ensures fits { length batch.new ≤ length batch.old + 6 }
 {
     push_byte(batch, b' ');
@@ -243,7 +261,8 @@ fn push_values(
 /// Appends the word, its base and its top, the first three values.
 fn push_bounds(batch: &mut Batch, separator: u8, word: u128, bounds: &Span)
     requires { length batch.old + 102 ≤ 32768 }
-    ensures value { batch.new ≡ batch.old ++ digits_of 32 word ++ (separator ∷ []) ++ hexadecimal bounds.now.base ++ (separator ∷ []) ++ hexadecimal bounds.now.top }
+    ensures value { batch.new ≡ batch.old ++ digits_of 32 word ++ (separator ∷ []) ++ hexadecimal bounds.now.base
+        ++ (separator ∷ []) ++ hexadecimal bounds.now.top }
     ensures fits { length batch.new ≤ length batch.old + 102 }
 {
     batch.push_word(word);
@@ -255,7 +274,8 @@ fn push_bounds(batch: &mut Batch, separator: u8, word: u128, bounds: &Span)
 #[inline(always)]
 fn push_span(batch: &mut Batch, separator: u8, bounds: &Span)
     requires { length batch.old + 69 ≤ 32768 }
-    ensures value { batch.new ≡ batch.old ++ hexadecimal bounds.now.base ++ (separator ∷ []) ++ hexadecimal bounds.now.top }
+    ensures value { batch.new ≡ batch.old ++ hexadecimal bounds.now.base ++ (separator ∷ [])
+        ++ hexadecimal bounds.now.top }
     ensures fits { length batch.new ≤ length batch.old + 69 }
 {
     push_hexadecimal(batch, u128::from(bounds.base));
@@ -266,7 +286,8 @@ fn push_span(batch: &mut Batch, separator: u8, bounds: &Span)
 /// Appends permissions, flag and type, with a separator before each.
 fn push_rights(batch: &mut Batch, separator: u8, fields: &Fields)
     requires { length batch.old + 14 ≤ 32768 }
-    ensures value { batch.new ≡ batch.old ++ (separator ∷ []) ++ digits_of 4 fields.now.perms ++ (separator ∷ []) ++ decimal (bit_of fields.now.flag) ++ (separator ∷ []) ++ digits_of 5 fields.now.otype }
+    ensures value { batch.new ≡ batch.old ++ (separator ∷ []) ++ digits_of 4 fields.now.perms ++ (separator ∷ [])
+        ++ decimal (bit_of fields.now.flag) ++ (separator ∷ []) ++ digits_of 5 fields.now.otype }
     ensures fits { length batch.new ≤ length batch.old + 14 }
 {
     push_byte(batch, separator);
@@ -281,7 +302,8 @@ fn push_rights(batch: &mut Batch, separator: u8, fields: &Fields)
 fn push_encoding(batch: &mut Batch, separator: u8, exponent: u8, canonical: bool)
     requires small { exponent < 100 }
     requires room { length batch.old + 7 ≤ 32768 }
-    ensures value { batch.new ≡ batch.old ++ (separator ∷ []) ++ decimal exponent ++ (separator ∷ []) ++ (if canonical then codes "yes" else codes "no") }
+    ensures value { batch.new ≡ batch.old ++ (separator ∷ []) ++ decimal exponent ++ (separator ∷ [])
+        ++ (if canonical then codes "yes" else codes "no") }
     ensures fits { length batch.new ≤ length batch.old + 7 }
 {
     push_byte(batch, separator);
