@@ -2,16 +2,26 @@
 ghost use Rattle.std.specs.Prelude.{◌≡◌, ◌+◌, ◌≤◌, ◌<◌, ◌^◌, ◌++◌, [], length};
 ghost use Rattle.cc_bounds.specs.Granule.{IsGranule};
 ghost use Rattle.cc_bounds.specs.Span.{IsSpan, IsWithin, length_of};
-ghost use Rattle.cc_explain.specs.Request.{IsGrant, IsRequestExplanation, exact_text, grant_text, half_text, lost_text, span_text, touched_text, unit_text};
+ghost use Rattle.cc_explain.specs.Request.{
+  IsGrant,
+  IsRequestExplanation,
+  exact_text,
+  grant_text,
+  half_text,
+  lost_text,
+  span_text,
+  touched_text,
+  unit_text,
+};
 
 use crate::explained_steps::push_word;
 use crate::request::{Grant, grant_of, granule_count, length_of};
 use cc_bounds::{Span, granule, round_length};
 use cc_io::{MOST_TEXT, Text, end_with_decimal, end_with_hexadecimal, push_hexadecimal};
 
-/// Puts the explanation of a request for bounds into an empty text: the granule, and why half of it is not enough; the
-/// granted bounds, and the number of their bytes below and above the request; the length with exact bounds, and its bases;
-/// and the word of the root capability with the granted bounds.
+/// Puts the explanation of a request for bounds into an empty text: the granule, and why half of it is not enough;
+/// the granted bounds, and the number of their bytes below and above the request; the length with exact bounds, and
+/// its bases; and the word of the root capability with the granted bounds.
 ///
 /// Requires: the request is a span of the address space.
 pub fn push_explained_request(text: &mut Text, request: &Span)

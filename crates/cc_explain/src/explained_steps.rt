@@ -4,7 +4,28 @@ ghost use Rattle.cc_bounds.specs.Granule.{IsSound};
 ghost use Rattle.cc_bounds.specs.Span.{IsSpan};
 ghost use Rattle.cc_cap.specs.declared.canonical.Defect.TheVariants.{OtherFields};
 ghost use Rattle.cc_word.specs.Word.{bit_of};
-ghost use Rattle.cc_explain.specs.Explanation.{base_mantissa_text, bounds_fields_text, bounds_line_text, bounds_lines, canonical_text, other_fields_text, exponent_text, fields_text, granule_text, length_text, mantissas_text, rights_text, section_text, sections_text, stored_text, top_mantissa_text, window_addresses_text, window_lines_text, window_text, word_text};
+ghost use Rattle.cc_explain.specs.Explanation.{
+  base_mantissa_text,
+  bounds_fields_text,
+  bounds_line_text,
+  bounds_lines,
+  canonical_text,
+  other_fields_text,
+  exponent_text,
+  fields_text,
+  granule_text,
+  length_text,
+  mantissas_text,
+  rights_text,
+  section_text,
+  sections_text,
+  stored_text,
+  top_mantissa_text,
+  window_addresses_text,
+  window_lines_text,
+  window_text,
+  word_text,
+};
 
 use crate::steps::{Steps, section, unit};
 use cc_bounds::{Set, Span};

@@ -1,9 +1,34 @@
 //! The listing of a word: thirteen lines with its fields and the values that they decode to.
-ghost use Rattle.std.specs.Prelude.{◌≡◌, ◌+◌, ◌≤◌, ◌++◌, ◌↔◌, [], codes, decimal, false, true, length, IfOk, IsErr, IsTrue, OnErr, OnOk, if◌then◌else◌};
+ghost use Rattle.std.specs.Prelude.{
+  ◌≡◌,
+  ◌+◌,
+  ◌≤◌,
+  ◌++◌,
+  ◌↔◌,
+  [],
+  codes,
+  decimal,
+  false,
+  true,
+  length,
+  IfOk,
+  IsErr,
+  IsTrue,
+  OnErr,
+  OnOk,
+  if◌then◌else◌,
+};
 ghost use Rattle.cc_word.specs.Word.{bit_of, word_of};
 ghost use Rattle.cc_word.specs.WordText.{IsWordText, digits_of, hexadecimal};
 ghost use Rattle.cc_io.specs.CommandOutput.{WritesAnswer};
-ghost use Rattle.cc_explain.specs.Listing.{IsListing, IsWordListing, bounds_lines_of, field_lines_of, line_of, listing_of};
+ghost use Rattle.cc_explain.specs.Listing.{
+  IsListing,
+  IsWordListing,
+  bounds_lines_of,
+  field_lines_of,
+  line_of,
+  listing_of,
+};
 ghost use Rattle.cc_io.specs.Permissions.{permissions_text};
 
 use bitflags::Flags;
@@ -165,7 +190,8 @@ fn push_hexadecimal_line(text: &mut Text, name: &[u8], number: u128)
 /// Appends the line of the permissions, as digits and by name.
 fn push_permissions_line(text: &mut Text, perms: u16)
     requires { length text.old + 137 ≤ MOST_TEXT }
-    ensures value { text.new ≡ text.old ++ line_of (codes "perms") (digits_of 4 perms ++ codes " " ++ permissions_text perms) }
+    ensures value { text.new ≡ text.old
+        ++ line_of (codes "perms") (digits_of 4 perms ++ codes " " ++ permissions_text perms) }
     ensures fits { length text.new ≤ length text.old + 137 }
 {
     let mut line = line_named(b"perms");

@@ -84,7 +84,8 @@ fn byte_at(address: u128) -> Stretch
 fn row_of(steps: &Steps, stretch: &Stretch, mark: u8) -> [u8; CELLS]
     requires exponent { steps.now.exponent ≤ 52 }
     requires start { steps.now.start < 2 ^ 67 }
-    ensures { IsPictureRow steps.now.start (cell_size steps.now) (record { base = stretch.now.first; top = stretch.now.end }) mark result }
+    ensures { IsPictureRow steps.now.start (cell_size steps.now)
+        (record { base = stretch.now.first; top = stretch.now.end }) mark result }
 {
     let start = steps.start;
     let size = cell_size(steps);
@@ -106,7 +107,8 @@ fn row_of(steps: &Steps, stretch: &Stretch, mark: u8) -> [u8; CELLS]
 
 /// Returns whether some byte is in both stretches.
 fn shares_byte(one: &Stretch, other: &Stretch) -> bool
-    ensures { IsTrue result ↔ SharesByte (record { base = one.now.first; top = one.now.end }) (record { base = other.now.first; top = other.now.end }) }
+    ensures { IsTrue result ↔ SharesByte (record { base = one.now.first; top = one.now.end })
+        (record { base = other.now.first; top = other.now.end }) }
 {
     one.first.max(other.first) < one.end.min(other.end)
 }

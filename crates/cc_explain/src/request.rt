@@ -85,7 +85,8 @@ fn word_of(request: &Span, granted: &Span) -> u128
 /// refused.
 fn derived(request: &Span) -> Result<Cap, Refusal>
     requires { IsSpan request.now }
-    ensures { (granted : SpanSpec) × IsGranted request.now granted × (result ≡ Ok (granted_capability request.now granted)) }
+    ensures { (granted : SpanSpec) × IsGranted request.now granted
+        × (result ≡ Ok (granted_capability request.now granted)) }
 {
     Cap::root()
         .set_address(request.base)?

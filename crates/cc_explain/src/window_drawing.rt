@@ -1,7 +1,42 @@
 //! A drawing of the window of a word: an SVG document with its bounds and its address.
-ghost use Rattle.std.specs.Prelude.{◌≡◌, ◌+◌, ◌-◌, ◌<◌, ◌≤◌, ◌^◌, ◌++◌, ◌↔◌, [], false, true, length, IfOk, IsErr, IsTrue, OnErr, OnOk};
+ghost use Rattle.std.specs.Prelude.{
+  ◌≡◌,
+  ◌+◌,
+  ◌-◌,
+  ◌<◌,
+  ◌≤◌,
+  ◌^◌,
+  ◌++◌,
+  ◌↔◌,
+  [],
+  false,
+  true,
+  length,
+  IfOk,
+  IsErr,
+  IsTrue,
+  OnErr,
+  OnOk,
+};
 ghost use Rattle.cc_io.specs.CommandOutput.{IsTypedWord, WritesAnswer};
-ghost use Rattle.cc_explain.specs.WindowDrawing.{IsWindowDrawing, IsWordDrawing, address_mark_text, addresses_text, bounds_marks_text, bounds_bar_text, ends_text, heading_text, end_mark_text, number_text, numbers_text, side_text, title_text, units_to, window_drawing_of, window_ground_text};
+ghost use Rattle.cc_explain.specs.WindowDrawing.{
+  IsWindowDrawing,
+  IsWordDrawing,
+  address_mark_text,
+  addresses_text,
+  bounds_marks_text,
+  bounds_bar_text,
+  ends_text,
+  heading_text,
+  end_mark_text,
+  number_text,
+  numbers_text,
+  side_text,
+  title_text,
+  units_to,
+  window_drawing_of,
+  window_ground_text,
+};
 
 use crate::steps::{LAPS, Steps, decoding_steps, section, unit};
 use cc_bounds::{Span, decode};
@@ -135,7 +170,8 @@ fn push_window_ground(text: &mut Text)
     push_markup(text, b"<rect width='16384' height='960' fill='#f2cf63'/>\n");
     push_markup(
         text,
-        b"<path d='M2048,0V960M4096,0V960M6144,0V960M8192,0V960M10240,0V960M12288,0V960M14336,0V960' stroke='#7c6518' stroke-width='16'/>\n",
+        b"<path d='M2048,0V960M4096,0V960M6144,0V960M8192,0V960M10240,0V960M12288,0V960M14336,0V960' \
+        stroke='#7c6518' stroke-width='16'/>\n",
     );
 }
 

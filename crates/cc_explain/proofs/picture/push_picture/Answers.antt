@@ -19,7 +19,15 @@ pub push_row-requires-3-clause-room : goal.push_row-requires-3-clause-room
 push_row-requires-3-clause-room c = omega (arith, c.end_with_hexadecimal.ensures.fits, c.push_ruler.ensures.fits, c.push_row.ensures.fits, c.push_row-2.ensures.fits, c.requires.room)
 
 pub push_row-requires-4-clause-room : goal.push_row-requires-4-clause-room
-push_row-requires-4-clause-room c = omega (arith, c.end_with_hexadecimal.ensures.fits, c.push_ruler.ensures.fits, c.push_row.ensures.fits, c.push_row-2.ensures.fits, c.push_row-3.ensures.fits, c.requires.room)
+push_row-requires-4-clause-room c = omega (
+  arith,
+  c.end_with_hexadecimal.ensures.fits,
+  c.push_ruler.ensures.fits,
+  c.push_row.ensures.fits,
+  c.push_row-2.ensures.fits,
+  c.push_row-3.ensures.fits,
+  c.requires.room,
+)
 
 pub returns : goal.returns
 returns c =

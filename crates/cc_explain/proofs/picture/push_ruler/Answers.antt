@@ -18,21 +18,70 @@ pub push_decimal-requires-5 : goal.push_decimal-requires-5
 push_decimal-requires-5 c = omega (arith, c.push_decimal.ensures.fits, c.push_decimal-2.ensures.fits, c.push_decimal-3.ensures.fits, c.push_decimal-4.ensures.fits, c.requires.room)
 
 pub push_decimal-requires-6 : goal.push_decimal-requires-6
-push_decimal-requires-6 c = omega (arith, c.push_decimal.ensures.fits, c.push_decimal-2.ensures.fits, c.push_decimal-3.ensures.fits, c.push_decimal-4.ensures.fits, c.push_decimal-5.ensures.fits, c.requires.room)
+push_decimal-requires-6 c = omega (
+  arith,
+  c.push_decimal.ensures.fits,
+  c.push_decimal-2.ensures.fits,
+  c.push_decimal-3.ensures.fits,
+  c.push_decimal-4.ensures.fits,
+  c.push_decimal-5.ensures.fits,
+  c.requires.room,
+)
 
 pub push_decimal-requires-7 : goal.push_decimal-requires-7
-push_decimal-requires-7 c = omega (arith, c.push_decimal.ensures.fits, c.push_decimal-2.ensures.fits, c.push_decimal-3.ensures.fits, c.push_decimal-4.ensures.fits, c.push_decimal-5.ensures.fits, c.push_decimal-6.ensures.fits, c.requires.room)
+push_decimal-requires-7 c = omega (
+  arith,
+  c.push_decimal.ensures.fits,
+  c.push_decimal-2.ensures.fits,
+  c.push_decimal-3.ensures.fits,
+  c.push_decimal-4.ensures.fits,
+  c.push_decimal-5.ensures.fits,
+  c.push_decimal-6.ensures.fits,
+  c.requires.room,
+)
 
 pub push_decimal-requires-8 : goal.push_decimal-requires-8
-push_decimal-requires-8 c = omega (arith, c.push_decimal.ensures.fits, c.push_decimal-2.ensures.fits, c.push_decimal-3.ensures.fits, c.push_decimal-4.ensures.fits, c.push_decimal-5.ensures.fits, c.push_decimal-6.ensures.fits, c.push_decimal-7.ensures.fits, c.requires.room)
+push_decimal-requires-8 c = omega (
+  arith,
+  c.push_decimal.ensures.fits,
+  c.push_decimal-2.ensures.fits,
+  c.push_decimal-3.ensures.fits,
+  c.push_decimal-4.ensures.fits,
+  c.push_decimal-5.ensures.fits,
+  c.push_decimal-6.ensures.fits,
+  c.push_decimal-7.ensures.fits,
+  c.requires.room,
+)
 
 pub push-requires : goal.push-requires
-push-requires c = omega (arith, c.push_decimal.ensures.fits, c.push_decimal-2.ensures.fits, c.push_decimal-3.ensures.fits, c.push_decimal-4.ensures.fits, c.push_decimal-5.ensures.fits, c.push_decimal-6.ensures.fits, c.push_decimal-7.ensures.fits, c.push_decimal-8.ensures.fits, c.requires.room)
+push-requires c = omega (
+  arith,
+  c.push_decimal.ensures.fits,
+  c.push_decimal-2.ensures.fits,
+  c.push_decimal-3.ensures.fits,
+  c.push_decimal-4.ensures.fits,
+  c.push_decimal-5.ensures.fits,
+  c.push_decimal-6.ensures.fits,
+  c.push_decimal-7.ensures.fits,
+  c.push_decimal-8.ensures.fits,
+  c.requires.room,
+)
 
 pub returns-clause-fits : goal.returns-clause-fits
 returns-clause-fits c =
     let with_9 : length c.push.new.self ≤ length c.push_decimal-8.new.page + 8 = longer _ _ _ 8 c.push.ensures (omega arith) in
-    omega (arith, c.push_decimal.ensures.fits, c.push_decimal-2.ensures.fits, c.push_decimal-3.ensures.fits, c.push_decimal-4.ensures.fits, c.push_decimal-5.ensures.fits, c.push_decimal-6.ensures.fits, c.push_decimal-7.ensures.fits, c.push_decimal-8.ensures.fits, with_9)
+    omega (
+      arith,
+      c.push_decimal.ensures.fits,
+      c.push_decimal-2.ensures.fits,
+      c.push_decimal-3.ensures.fits,
+      c.push_decimal-4.ensures.fits,
+      c.push_decimal-5.ensures.fits,
+      c.push_decimal-6.ensures.fits,
+      c.push_decimal-7.ensures.fits,
+      c.push_decimal-8.ensures.fits,
+      with_9,
+    )
 
 pub returns-clause-value : goal.returns-clause-value
 returns-clause-value c =

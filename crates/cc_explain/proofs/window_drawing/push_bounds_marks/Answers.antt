@@ -16,11 +16,37 @@ pub push_decimal-requires-2 : goal.push_decimal-requires-2
 push_decimal-requires-2 c = omega (arith, c.push_mark.ensures.fits, c.push_decimal.ensures.fits, c.end_with_hexadecimal.ensures.fits, c.push_mark-2.ensures.fits, c.requires.room)
 
 pub end_with_hexadecimal-requires-2 : goal.end_with_hexadecimal-requires-2
-end_with_hexadecimal-requires-2 c = omega (arith, c.push_mark.ensures.fits, c.push_decimal.ensures.fits, c.end_with_hexadecimal.ensures.fits, c.push_mark-2.ensures.fits, c.push_decimal-2.ensures.fits, c.requires.room)
+end_with_hexadecimal-requires-2 c = omega (
+  arith,
+  c.push_mark.ensures.fits,
+  c.push_decimal.ensures.fits,
+  c.end_with_hexadecimal.ensures.fits,
+  c.push_mark-2.ensures.fits,
+  c.push_decimal-2.ensures.fits,
+  c.requires.room,
+)
 
 pub returns-clause-fits : goal.returns-clause-fits
-returns-clause-fits c = omega (arith, c.push_mark.ensures.fits, c.push_decimal.ensures.fits, c.end_with_hexadecimal.ensures.fits, c.push_mark-2.ensures.fits, c.push_decimal-2.ensures.fits, c.end_with_hexadecimal-2.ensures.fits)
+returns-clause-fits c = omega (
+  arith,
+  c.push_mark.ensures.fits,
+  c.push_decimal.ensures.fits,
+  c.end_with_hexadecimal.ensures.fits,
+  c.push_mark-2.ensures.fits,
+  c.push_decimal-2.ensures.fits,
+  c.end_with_hexadecimal-2.ensures.fits,
+)
 
 pub returns-clause-value : goal.returns-clause-value
 returns-clause-value c =
-    rw (c.end_with_hexadecimal-2.ensures.value, c.push_decimal-2.ensures.value, c.push_mark-2.ensures.value, c.end_with_hexadecimal.ensures.value, c.push_decimal.ensures.value, c.push_mark.ensures.value, c.from.ensures, c.units_to-base.ensures, c.units_to-top.ensures) (simp append_assoc)
+    rw (
+      c.end_with_hexadecimal-2.ensures.value,
+      c.push_decimal-2.ensures.value,
+      c.push_mark-2.ensures.value,
+      c.end_with_hexadecimal.ensures.value,
+      c.push_decimal.ensures.value,
+      c.push_mark.ensures.value,
+      c.from.ensures,
+      c.units_to-base.ensures,
+      c.units_to-top.ensures,
+    ) (simp append_assoc)

@@ -33,17 +33,50 @@ push_number-requires-6-clause-room c =
 pub push_number-requires-7-clause-room : goal.push_number-requires-7-clause-room
 push_number-requires-7-clause-room c =
     let opened : length c.push.new.self ≤ length c.args.text.now + 25 = longer _ _ _ 25 c.push.ensures (omega arith) in
-    omega (arith, opened, c.push_number.ensures.fits, c.push_number-2.ensures.fits, c.push_number-3.ensures.fits, c.push_number-4.ensures.fits, c.push_number-5.ensures.fits, c.push_number-6.ensures.fits, c.requires.room)
+    omega (
+      arith,
+      opened,
+      c.push_number.ensures.fits,
+      c.push_number-2.ensures.fits,
+      c.push_number-3.ensures.fits,
+      c.push_number-4.ensures.fits,
+      c.push_number-5.ensures.fits,
+      c.push_number-6.ensures.fits,
+      c.requires.room,
+    )
 
 pub push_number-requires-8-clause-room : goal.push_number-requires-8-clause-room
 push_number-requires-8-clause-room c =
     let opened : length c.push.new.self ≤ length c.args.text.now + 25 = longer _ _ _ 25 c.push.ensures (omega arith) in
-    omega (arith, opened, c.push_number.ensures.fits, c.push_number-2.ensures.fits, c.push_number-3.ensures.fits, c.push_number-4.ensures.fits, c.push_number-5.ensures.fits, c.push_number-6.ensures.fits, c.push_number-7.ensures.fits, c.requires.room)
+    omega (
+      arith,
+      opened,
+      c.push_number.ensures.fits,
+      c.push_number-2.ensures.fits,
+      c.push_number-3.ensures.fits,
+      c.push_number-4.ensures.fits,
+      c.push_number-5.ensures.fits,
+      c.push_number-6.ensures.fits,
+      c.push_number-7.ensures.fits,
+      c.requires.room,
+    )
 
 pub push-requires-2 : goal.push-requires-2
 push-requires-2 c =
     let opened : length c.push.new.self ≤ length c.args.text.now + 25 = longer _ _ _ 25 c.push.ensures (omega arith) in
-    omega (arith, opened, c.push_number.ensures.fits, c.push_number-2.ensures.fits, c.push_number-3.ensures.fits, c.push_number-4.ensures.fits, c.push_number-5.ensures.fits, c.push_number-6.ensures.fits, c.push_number-7.ensures.fits, c.push_number-8.ensures.fits, c.requires.room)
+    omega (
+      arith,
+      opened,
+      c.push_number.ensures.fits,
+      c.push_number-2.ensures.fits,
+      c.push_number-3.ensures.fits,
+      c.push_number-4.ensures.fits,
+      c.push_number-5.ensures.fits,
+      c.push_number-6.ensures.fits,
+      c.push_number-7.ensures.fits,
+      c.push_number-8.ensures.fits,
+      c.requires.room,
+    )
 
 pub returns-clause-value : goal.returns-clause-value
 returns-clause-value c =
@@ -65,4 +98,16 @@ pub returns-clause-fits : goal.returns-clause-fits
 returns-clause-fits c =
     let opened : length c.push.new.self ≤ length c.args.text.now + 25 = longer _ _ _ 25 c.push.ensures (omega arith) in
     let closed : length c.push-2.new.self ≤ length c.push_number-8.new.text + 5 = longer _ _ _ 5 c.push-2.ensures (omega arith) in
-    omega (arith, opened, c.push_number.ensures.fits, c.push_number-2.ensures.fits, c.push_number-3.ensures.fits, c.push_number-4.ensures.fits, c.push_number-5.ensures.fits, c.push_number-6.ensures.fits, c.push_number-7.ensures.fits, c.push_number-8.ensures.fits, closed)
+    omega (
+      arith,
+      opened,
+      c.push_number.ensures.fits,
+      c.push_number-2.ensures.fits,
+      c.push_number-3.ensures.fits,
+      c.push_number-4.ensures.fits,
+      c.push_number-5.ensures.fits,
+      c.push_number-6.ensures.fits,
+      c.push_number-7.ensures.fits,
+      c.push_number-8.ensures.fits,
+      closed,
+    )
