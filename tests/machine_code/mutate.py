@@ -1,9 +1,10 @@
 """Makes mistakes that the check must find, each in a copy: in the model, in the machine code of a file, and in the lifter.
 
-Usage: tests/machine_code/mutate.py FILE [COUNT [SEED]]    each mistake of MODEL, and COUNT changed bytes of FILE, a linked file; it prints
-                                                           for each `wrong` (found, with an input that shows it), `refused` (found: the
-                                                           code does what no function may), `equal` (every input has the same result) or
-                                                           `not decided`
+Usage: tests/machine_code/mutate.py FILE [COUNT [SEED [NUMBER..]]]
+
+It makes each mistake of MODEL, and COUNT changed bytes of FILE, a linked file; or of these bytes only those with the numbers. It compares
+random inputs first, and leaves to z3 what agrees. It prints for each `wrong` (found, with an input that shows it), `refused` (found: the
+code does what no function may), `equal` (every input has the same result) or `not decided`.
 """
 import random
 import shutil
@@ -13,6 +14,7 @@ import tempfile
 from pathlib import Path
 
 HERE = Path(__file__).resolve().parent
+INPUTS = 10_000
 # the old and the new text in model.py or functions.py, and a function that shows it
 MODEL = (
     ("carry = one(z3.ULT(t_low", "carry = one(z3.ULE(t_low", "decode"),
@@ -33,12 +35,15 @@ LIFTER = {
     "EM_AARCH64": ("a64.py", "wide(b, size + 1) + wide(less, size + 1)", "wide(b, size + 1)"),
 }
 PROVE = """
-import sys, lift, prove
+import sys, lift, prove, whole
 image = lift.Image(sys.argv[1])
-for name in sys.argv[2:]:
+for name in sys.argv[3:]:
     try:
-        prove.prove(name, prove.ends_of(image, name))
-        print("equal")
+        ends = prove.ends_of(image, name)
+        found = whole.witnessed(name, ends, int(sys.argv[2]))
+        if not found:
+            prove.prove(name, ends)
+        print("wrong: a random input:" if found else "equal", found or "")
     except lift.Refused as error:
         print("refused", error)
     except prove.NotProved as error:
@@ -47,15 +52,16 @@ for name in sys.argv[2:]:
 STEPS = """
 import sys, lift, prove, steps
 image, codes = lift.Image(sys.argv[1]), set()
-for name in sys.argv[2:]:
+for name in sys.argv[3:]:
     machine, entry = prove.machine_of(image, name)
     codes |= {bytes(it.bytes) for it in machine.code(entry).values()}
 print("wrong" if steps.differences(image.machine, codes, 20) else "equal")
 """
 
 
-def said(program, path, *names, change=None):
-    """Returns the output of a program on a copy of these files, in one of which a text is replaced by another."""
+def said(program, path, *names, change=None, inputs=0):
+    """Returns the output of a program on a copy of these files, in one of which a text is replaced by another. Before it asks z3, it compares
+    that many random inputs."""
     with tempfile.TemporaryDirectory() as directory:
         for file in HERE.glob("*.py"):
             shutil.copy(file, directory)
@@ -64,7 +70,7 @@ def said(program, path, *names, change=None):
             text = (HERE / name).read_text()
             assert text.count(old) == 1, (name, old)
             Path(directory, name).write_text(text.replace(old, new))
-        done = subprocess.run([sys.executable, "-Bc", program, path, *names], cwd=directory, capture_output=True, text=True)
+        done = subprocess.run([sys.executable, "-Bc", program, path, str(inputs), *names], cwd=directory, capture_output=True, text=True)
         return done.stdout.strip() or done.stderr.strip()[-300:]
 
 
@@ -131,23 +137,28 @@ def main():
     import prove
 
     path, count, seed = str(Path(sys.argv[1]).resolve()), int((sys.argv[2:] or ["0"])[0]), int((sys.argv[3:] or ["1"])[0])
-    for old, new, name in MODEL:
+    only = {*map(int, sys.argv[4:])}
+    for old, new, name in MODEL if not only else ():
         file = next(it for it in ("model.py", "functions.py") if old in (HERE / it).read_text())
-        print(f"{file}: {new}: {said(PROVE, path, name, change=(file, old, new))[:150]}", flush=True)
+        print(f"{file}: {new}: {said(PROVE, path, name, change=(file, old, new), inputs=INPUTS)[:150]}", flush=True)
     image, chance, places, counted = lift.Image(path), random.Random(seed), [], {}
     for name in prove.FUNCTIONS:
         machine, entry = prove.machine_of(image, name)
         places += [(name, one) for _, one in sorted(machine.code(entry).items())]
-    while sum(counted.values()) < count:
+    number = 0
+    while number < count:
         name, one = chance.choice(places)
         made = [*(of_x86 if image.machine == "EM_X86_64" else of_a64)(one, chance)]
         if made:
+            number += 1
             k, byte, kind = chance.choice(made)
+            if only and number not in only:
+                continue
             with changed(path, one.address + k, byte) as copy:
-                found = said(PROVE, copy.name, name)
+                found = said(PROVE, copy.name, name, inputs=INPUTS)
             verdict = found.split(":")[0].split()[0]
             counted[verdict] = counted.get(verdict, 0) + 1
-            print(f"{name} {one.address:#x} {one.mnemonic} {one.op_str}, {kind} at byte {k}: {' '.join(found.split())[:150]}", flush=True)
+            print(f"{number} {name} {one.address:#x} {one.mnemonic} {one.op_str}, {kind} at byte {k}: {' '.join(found.split())[:150]}", flush=True)
     print(counted)
 
 

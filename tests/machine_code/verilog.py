@@ -6,30 +6,20 @@ sys.dont_write_bytecode = True
 
 import model
 import z3
-
-BINARY = {
-    z3.Z3_OP_BADD: " + ", z3.Z3_OP_BSUB: " - ", z3.Z3_OP_BAND: " & ", z3.Z3_OP_BOR: " | ", z3.Z3_OP_BXOR: " ^ ", z3.Z3_OP_BSHL: " << ",
-    z3.Z3_OP_BLSHR: " >> ", z3.Z3_OP_EQ: " == ", z3.Z3_OP_DISTINCT: " != ", z3.Z3_OP_ULT: " < ", z3.Z3_OP_ULEQ: " <= ",
-    z3.Z3_OP_UGT: " > ", z3.Z3_OP_UGEQ: " >= ", z3.Z3_OP_AND: " && ", z3.Z3_OP_OR: " || ",
-}
+from straight import BINARY, Code
 
 
-class Verilog:
-    """Terms of z3 as wires of a module, one for each operation."""
+class Verilog(Code):
+    """Terms as wires of a module."""
 
-    def __init__(self):
-        self.lines, self.names = [], {}
+    BINARY = BINARY | {z3.Z3_OP_BADD: "+", z3.Z3_OP_BSUB: "-", z3.Z3_OP_BSHL: "<<", z3.Z3_OP_BLSHR: ">>", z3.Z3_OP_AND: "&&", z3.Z3_OP_OR: "||"}
 
-    def text(self, term):
-        """Returns the expression of a term over the wires of its parts."""
-        kind = term.decl().kind()
-        if z3.is_bv_value(term):
-            return f"{term.size()}'h{term.as_long():x}"
-        if z3.is_true(term) or z3.is_false(term):
-            return str(int(z3.is_true(term)))
-        parts = [self.wire(it) for it in term.children()]
-        if kind in BINARY:
-            return BINARY[kind].join(parts)
+    variable = staticmethod(str)
+    number = staticmethod(lambda term: f"{term.size()}'h{term.as_long():x}")
+    line = staticmethod(lambda name, term, text: f"  wire [{size_of(term) - 1}:0] {name} = {text};")
+
+    @staticmethod
+    def text(term, kind, parts):
         high, low = term.params() if kind == z3.Z3_OP_EXTRACT else (0, 0)
         return {
             z3.Z3_OP_BNOT: lambda: f"~{parts[0]}",
@@ -40,22 +30,15 @@ class Verilog:
             z3.Z3_OP_EXTRACT: lambda: f"{parts[0]}[{high}:{low}]" if term.arg(0).size() > 1 else parts[0],
         }[kind]()
 
-    def wire(self, term):
-        """Returns the name of the wire of a term."""
-        if z3.is_const(term) and term.decl().kind() == z3.Z3_OP_UNINTERPRETED:
-            return str(term)
-        # the term is kept, so that z3 gives its number to no other
-        if term.get_id() not in self.names:
-            text, size = self.text(term), term.size() if z3.is_bv(term) else 1
-            self.names[term.get_id()] = f"w{len(self.names)}", term
-            self.lines.append(f"  wire [{size - 1}:0] {self.names[term.get_id()][0]} = {text};")
-        return self.names[term.get_id()][0]
+
+def size_of(term):
+    return term.size() if z3.is_bv(term) else 1
 
 
 def module(name, inputs, outputs):
     """Returns the module of terms over its inputs. An output that is a condition has one bit."""
     verilog = Verilog()
-    ends = {output: (verilog.wire(term), term.size() if z3.is_bv(term) else 1) for output, term in outputs.items()}
+    ends = {output: (verilog.name(term), size_of(term)) for output, term in outputs.items()}
     ports = [f"input [{it.size() - 1}:0] {it}" for it in inputs] + [f"output [{size - 1}:0] {output}" for output, (_, size) in ends.items()]
     lines = verilog.lines + [f"  assign {output} = {wire};" for output, (wire, _) in ends.items()]
     return "\n".join([f"module {name}({', '.join(ports)});", *lines, "endmodule\n"])

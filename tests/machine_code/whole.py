@@ -1,12 +1,14 @@
 """Compares whole functions: the processor, the terms of the lifter and the model, on inputs that z3 finds for each path of a function.
-The processor is this one for x86-64, and QEMU's by unicorn for aarch64."""
+The processor is this one for x86-64, and QEMU's by unicorn for aarch64. The terms and the model are compared on random inputs too."""
 import ctypes
 import random
 
+import model
 import z3
-from functions import FIELDS, FUNCTIONS, NAMES, PACKED, PADDING
-from lift import bv
-from prove import solver
+from functions import FIELDS, FUNCTIONS, NAMES, PACKED, PADDING, WORD
+from prove import merged, solver
+from steps import random_number
+from straight import computed
 
 VARIABLES = [z3.BitVec(name, 64) for name in NAMES.split()] + [*PACKED.values(), *PADDING, *(z3.BitVec(f"junk_{size}", size) for size in (48, 63))]
 
@@ -79,17 +81,80 @@ def real(processor, name, values):
     return {field: int.from_bytes(given[offset : offset + size], "little") for field, offset, size in function.layout}
 
 
+def both(name, ends):
+    """Returns a function of an input: the fields of the lifted function and of the model that differ."""
+    wanted = FUNCTIONS[name].result()
+    compute = computed({(field, who): term for field in wanted for who, term in (("lifted", merged(ends, field)), ("model", wanted[field]))})
+
+    def values(given):
+        found = compute(given)
+        return {field: (found[field, "lifted"], found[field, "model"]) for field in wanted}
+
+    return values, compute.variables
+
+
 def differences(path, image, name, ends):
     """Returns what differs, on an input for each end of a function."""
-    processor, wanted, chance, wrong = MACHINES[image.machine](path, image), FUNCTIONS[name].result(), random.Random(1), []
-    for conditions, fields in ends:
+    processor, (values_of, others), chance, wrong = MACHINES[image.machine](path, image), both(name, ends), random.Random(1), []
+    for conditions, _ in ends:
         values = witness(conditions, chance)
         if values is None:
             continue
-        places = [(variable, bv(value, variable.size())) for variable, value in values.items()]
+        given = {it: chance.getrandbits(size) for it, size in others.items()} | {str(variable): value for variable, value in values.items()}
+        found = values_of(given)
         for field, number in real(processor, name, values).items():
-            lifted, modelled = (z3.simplify(z3.substitute(term, *places)) for term in (fields[field], wanted[field]))
-            if not all(z3.is_bv_value(it) and it.as_long() == number for it in (lifted, modelled)):
-                shown = {str(variable): hex(value) for variable, value in values.items()}
-                wrong.append(f"{field}: the processor has {number:#x}, the lifter {lifted}, the model {modelled}: {shown}")
+            lifted, modelled = found[field]
+            if not lifted == modelled == number:
+                wrong.append(f"{field}: the processor has {number:#x}, the lifter {lifted:#x}, the model {modelled:#x}: {given}")
     return wrong
+
+
+# ---- random inputs
+
+decoded = computed(dict(zip(("base", "top", "e"), model.decode(WORD))))
+
+
+def random_word(chance):
+    """Returns a word, which is canonical in about half of the cases, and its bounds and exponent. Its address is often in these, or next to
+    an end of them."""
+    digits, ie = chance.randrange(54), chance.randrange(8) > 0
+    t, b = ((chance.getrandbits(size) & chance.choice((-1, -1, 7 << size - 3)) & ~(7 * ie) | ie * digit) for size, digit in ((12, digits >> 3), (14, digits & 7)))
+    otype = chance.choice([0x3FFFF] * 4 + [0x3FFF0 + chance.randrange(-1, 16), chance.getrandbits(18), chance.getrandbits(3)])
+    perms, reserved = chance.getrandbits(16) | chance.getrandbits(16), chance.randrange(64) % 61 % 4 * (chance.random() < 0.05)
+    high = (perms << 48 | reserved << 46 | chance.getrandbits(1) << 45 | otype << 27 | ie << 26 | t << 14 | b) ^ model.MASK
+    low = random_number(chance)
+    found = decoded({"high": high, "low": low})
+    length = max(found["top"] - found["base"], 1)
+    if chance.random() < 0.7:
+        low = found["base"] + chance.choice((0, length - 1, length, chance.randrange(length), chance.randrange(1 << 12), otype)) & 2**64 - 1
+    return high, low, decoded({"high": high, "low": low})
+
+
+def random_input(chance, others):
+    """Returns a value for each variable: a word, a second one, which is often its part, and a request for bounds and an address, which are
+    often in the word's or next to an end of them. `others` are the sizes of the other variables."""
+    high, low, found = random_word(chance)
+    other_high, other_low, _ = random_word(chance)
+    if chance.random() < 0.3:
+        other_high, other_low = high ^ (chance.getrandbits(16) & chance.getrandbits(16)) << 48 * chance.getrandbits(1), low
+    if chance.random() < 0.3:
+        other_low = (high ^ model.MASK) >> 27 & 0x3FFFF
+    near = chance.choice((-1, 0, 0, 1))
+    length = chance.choice((random_number(chance), chance.getrandbits(chance.randrange(66)), chance.randrange(1 << chance.randrange(1, found["e"] + 15)),
+                            found["top"] - low + near, (1 << chance.randrange(65)) + near, chance.getrandbits(128))) & 2**128 - 1
+    end = found["base"] + (chance.randrange(-16, 17) << found["e"] + 11) + near
+    number = chance.choice((random_number(chance), end, end - low)) & 2**64 - 1
+    base = chance.choice((random_number(chance), low, 2**64 - length + near)) & 2**64 - 1
+    values = dict(zip(NAMES.split(), (high, low, other_high, other_low, number, length >> 64, length & 2**64 - 1, base)))
+    return {name: chance.getrandbits(size) for name, size in others.items()} | values
+
+
+def witnessed(name, ends, count):
+    """Returns an input for which the lifted function and the model differ, of that many random ones, or None."""
+    (values_of, variables), chance = both(name, ends), random.Random(1)
+    for _ in range(count):
+        given = random_input(chance, variables)
+        found = values_of(given)
+        if any(lifted != modelled for lifted, modelled in found.values()):
+            return found, {it: hex(given[it]) for it in variables}
+    return None
