@@ -15,11 +15,11 @@ MANY = 60  # a term of more nodes is more than a comparison of fields
 
 
 class NotProved(Exception):
-    """The model of z3 is an input for which the two differ, or None if z3 did not decide."""
+    """The model of z3 is an input for which the two differ, with these values of variables, or None if z3 did not decide."""
 
-    def __init__(self, where, found):
+    def __init__(self, where, found, places=()):
         super().__init__(f"{'WRONG' if found is not None else 'not decided'}: {where}")
-        self.found = found
+        self.where, self.found, self.places = where, found, places
 
 
 def solver():
@@ -28,21 +28,21 @@ def solver():
     return made
 
 
-def refute(term, where):
+def refute(term, where, places=()):
     """Raises NotProved unless the term is false for every input."""
     if not z3.is_false(term):
         made = solver()
         made.add(term)
         said = made.check()
         if said != z3.unsat:
-            raise NotProved(where, made.model() if said == z3.sat else None)
+            raise NotProved(where, made.model() if said == z3.sat else None, places)
 
 
 def never(term, where, cases=(("", (), None),)):
     """Does so in each case: its name, the values of variables in it, and what else holds."""
     for name, places, extra in cases:
         one = term if extra is None else z3.And(extra, term)
-        refute(z3.simplify(z3.substitute(one, *places) if places else one), f"{where}{name and f' at {name}'}")
+        refute(z3.simplify(z3.substitute(one, *places) if places else one), f"{where}{name and f' at {name}'}", places)
 
 
 def is_always(term, cases):
@@ -128,13 +128,17 @@ def ends_of(image, name):
     return [(path, {field: z3.simplify(bits(result, high, lowest)) for field, high, lowest in cut}) for path, result in ends]
 
 
-def merged(ends, field):
-    """A field as one term: its value at the end that is reached."""
-    *others, (_, last) = ends
-    term = last[field]
-    for path, fields in reversed(others):
-        term = z3.If(z3.And(*path), fields[field], term)
-    return term
+def merged(ends, field, at=0):
+    """A field as one term: its value at the end that is reached. The paths are a tree: at each place a condition, or its opposite. One
+    that all ends have, or that makes no difference, is left out."""
+    first = ends[0][1][field]
+    if all(fields[field].eq(first) for _, fields in ends):
+        return first
+    condition = ends[0][0][at]
+    there, other = [it for it in ends if it[0][at].eq(condition)], [it for it in ends if not it[0][at].eq(condition)]
+    assert all(path[at].eq(z3.simplify(z3.Not(condition))) for path, _ in other)
+    terms = [merged(it, field, at + 1) for it in (there, other) if it]
+    return z3.If(condition, *terms) if len(terms) == 2 and not terms[0].eq(terms[1]) else terms[0]
 
 
 def by_cases(term, where, *split):
@@ -168,31 +172,34 @@ def is_small(term, most=MANY):
     return len(seen) <= most
 
 
+def is_light(term):
+    """Whether a term is small, or about no word's fields."""
+    return not variables(term) & {"high", "other_high"} or is_small(term)
+
+
 def bounded(name, ends, wanted):
-    """set_bounds_on and set_bounds_exact_on. First each refusal but INEXACT, by the word's exponent; then the result, by the length's place,
-    from no more than that the request ends at 2^64 or below, and those conditions of the path that are small or not about the word."""
-    g = model.Granted(LOW, LENGTH)
-    rough = lambda refusal: z3.If(refusal == model.INEXACT, bv(0, 8), refusal)
-    refusal, inexact = merged(ends, "refusal"), functions.narrowed(False)["refusal"]
-    never(rough(wanted["refusal"]) != inexact, "the model's refusal without INEXACT")
-    never(z3.Or(rough(refusal) != inexact, z3.And(rough(refusal) == 0, z3.Not(g.in_range))), "the refusal", CASES["word"])
+    """set_bounds_on and set_bounds_exact_on. First each refusal but INEXACT, as of functions of two words; then the result, by the length's
+    place, from no more than that the request ends at 2^64 or below, and those conditions of all paths to it that are small or not about
+    the word."""
+    g, inexact = model.Granted(LOW, LENGTH), functions.narrowed(False)["refusal"]
+    rough = lambda refusal: z3.simplify(z3.If(refusal == model.INEXACT, bv(0, 8), refusal))
+    if not all(z3.is_bv_value(fields["refusal"]) for _, fields in ends):
+        raise NotProved("a refusal that is computed", None)
+    never(z3.If(wanted["refusal"] == model.INEXACT, bv(0, 8), wanted["refusal"]) != inexact, "the model's refusal without INEXACT")
+    never(z3.And(inexact == 0, z3.Not(g.in_range)), "a request beyond 2^64", CASES["word"])
+    refused = [(path, {"refusal": rough(fields["refusal"])}) for path, fields in ends]
+    try:
+        two_words(name, refused, {"refusal": inexact})
+    except NotProved:  # a mistake might leave the names without a meaning
+        by_cases(merged(refused, "refusal") != inexact, "the refusal", "word")
     made = functions.narrowed(False)["high"].arg(1)  # the word if no check fails
     holds = g.exact if name == "set_bounds_exact_on" else z3.BoolVal(True)
     given = {"refusal": z3.If(holds, bv(0, 8), bv(model.INEXACT, 8)), "high": functions.whole(holds, made), "low": functions.whole(holds, LOW)}
     never(z3.And(inexact == 0, z3.Or(*[wanted[it] != given[it] for it in given])), "the model's word")
-    seen = {}
-    for path, fields in ends:
-        is_given = z3.simplify(rough(fields["refusal"]) == 0)
-        is_word = z3.Or(fields["high"] != 0, fields["low"] != 0)
-        if not z3.is_true(is_given):
-            never(z3.And(*path, z3.Not(is_given), is_word), "no word", CASES["word"])
-        if z3.is_false(is_given):
-            continue
-        kept = [it for it in path if "high" not in variables(it) or is_small(it)]
-        key = tuple(it.get_id() for it in [*kept, *fields.values()])
-        if key not in seen:
-            seen[key] = kept
-            by_cases(z3.And(g.in_range, is_given, *kept, z3.Or(*[fields[it] != given[it] for it in given])), "the word", "length")
+    others, ends = ([it for it in ends if (rough(it[1]["refusal"]).as_long() == 0) == is_given] for is_given in (False, True))
+    never(z3.Or(*[fields[it] != 0 for _, fields in others for it in ("high", "low")]), "no word")
+    shared = [it for it in ends[0][0] if all(any(it.eq(other) for other in path) for path, _ in ends)]
+    by_cases(z3.And(g.in_range, *filter(is_light, shared), z3.Or(*[merged(ends, it) != given[it] for it in given])), "the word", "length")
 
 
 class Half:
@@ -202,8 +209,8 @@ class Half:
         self.name, self.cases, self.names = name, cases, PAIR[:2] if name == "word" else PAIR[2:]
         self.names = {*map(str, self.names)}
         self.base, self.top, _ = model.decode(f)
-        self.facts = {it: z3.Bool(f"{name}_{it}") for it in ("canonical", "in_bounds")}
-        self.meaning = {"canonical": functions.canonical(f), "in_bounds": functions.in_bounds(f)}
+        self.meaning = {"canonical": functions.canonical(f), "in_bounds": functions.in_bounds(f), "from_base": z3.UGE(f.address, self.base)}
+        self.facts = {it: z3.Bool(f"{name}_{it}") for it in self.meaning}
         self.base_is, self.top_is = z3.BitVec(f"{name}_base", 64), z3.BitVec(f"{name}_top", 65)
 
     def owns(self, term):
@@ -253,8 +260,11 @@ def two_words(name, ends, wanted):
             known[key] = is_always(z3.Implies(z3.And(*own), term), half.cases), own, term
         return known[key][0]
 
+    most = bv(model.TWO64, 65)
+    for half in halves:
+        never(z3.And(half.meaning["canonical"], z3.UGT(half.top, most)), "a canonical word that ends above 2^64", half.cases)
     for path, fields in ends:
-        facts, places = [], []
+        facts, places = [z3.Implies(half.facts["canonical"], z3.ULE(half.top_is, most)) for half in halves], []
         for half in halves:
             own = [it for it in path if half.owns(it)]
             for it, fact in half.facts.items():
@@ -263,7 +273,7 @@ def two_words(name, ends, wanted):
                         facts.append(fact)
                     elif follows(own, z3.Not(half.meaning[it]), half):
                         facts.append(z3.Not(fact))
-            if str(half.base_is) in used:
+            if used & {str(half.base_is), str(half.top_is)}:
                 for term in between([*path, *fields.values()], half):
                     for meaning, is_named in half.parts():
                         size = term.size()
@@ -272,7 +282,7 @@ def two_words(name, ends, wanted):
                             break
         light = [z3.substitute(it, *places) for it in path]
         differs = z3.Or(*[z3.substitute(fields[it], *places) != wanted[it] for it in wanted])
-        never(z3.And(*facts, *filter(is_small, light), differs), "the result")
+        never(z3.And(*facts, *filter(is_light, light), differs), "the result")
 
 
 WAYS = {"set_bounds_on": bounded, "set_bounds_exact_on": bounded, "is_subset": two_words, "seal": two_words, "unseal": two_words, "rebuild": two_words}
@@ -283,4 +293,11 @@ def prove(name, ends):
     wanted = FUNCTIONS[name].result()
     assert ends and {*wanted} == {field for field, _, _ in FUNCTIONS[name].layout}
     never(z3.Not(z3.Or(*[z3.And(*path) for path, _ in ends])), "an input without a path")
-    WAYS.get(name, direct)(name, ends, wanted)
+    try:
+        WAYS.get(name, direct)(name, ends, wanted)
+    except NotProved as error:
+        # what bounded() and two_words() leave out of a query might not hold for the input that z3 found
+        differs = z3.Or(*[merged(ends, field) != wanted[field] for field in wanted])
+        if error.found is None or z3.is_true(error.found.eval(z3.substitute(differs, *error.places) if error.places else differs, True)):
+            raise
+        raise NotProved(f"{error.where}, for more than the inputs of the function", None) from error
