@@ -139,7 +139,7 @@ def defect(f):
     """The first reason why a word is not one that a derivation can make, whether setting its bounds stores them as it does, and its bounds."""
     base, top, e = decode(f)
     made = Granted(base, ext(top, 128) - ext(base, 128))
-    is_same = z3.And(made.exact, flag_bit(made.ie) == f.ie, made.t == f.t, made.b == f.b)
+    is_same = z3.And(flag_bit(made.ie) == f.ie, made.t == f.t, made.b == f.b)
     return *judged(f, base, top, is_same), base, top, e
 
 
