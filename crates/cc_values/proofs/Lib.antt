@@ -4,3 +4,4 @@ pub mod PieceLemmas
 pub mod ValueLemmas
 pub mod SpaceLemmas
 pub mod ReadBackLemmas
+pub mod NameLemmas

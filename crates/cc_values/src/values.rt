@@ -1,12 +1,13 @@
 //! Two values, and sets of permissions.
-ghost use Rattle.std.specs.Prelude.{◌≡◌, ◌==◌, drop, option_map};
+ghost use Rattle.std.specs.Prelude.{◌≡◌, ◌==◌};
 ghost use Rattle.std.specs.List.{slice_split};
-ghost use Rattle.bitflags.specs.Sets.{find_name, find_row};
-ghost use Rattle.cc_word.specs.Permissions.{bits_of, permission_table};
+ghost use Rattle.bitflags.specs.Sets.{find_name};
+ghost use Rattle.cc_word.specs.Permissions.{permission_table};
 ghost use Rattle.cc_values.specs.Values.{both, permissions_in, with_names};
 
 use crate::words::split_at_first;
 use cc_word::{Perms, Refusal};
+use std::str;
 
 /// Returns both values, or the first error: `Syntax` comes before `OutOfRange`.
 pub fn both<A: Copy, B: Copy>(
@@ -60,74 +61,8 @@ fn read_names(text: &[u8]) -> Option<u16>
 fn read_name(name: &[u8]) -> Option<u16>
     ensures { result ≡ find_name permission_table name.now }
 {
-    permission_named(name).map(Perms::bits)
-}
-
-/// Returns the permission of this name.
-// The names appear here once more, so that one is recognized by its bytes alone.
-#[tactic(auto, unfolding(bitflags::specs::Sets::find_row))]
-fn permission_named(name: &[u8]) -> Option<Perms>
-    ensures { option_map bits_of result ≡ find_name permission_table name.now }
-{
-    if name.is_empty() {
-        return None;
+    match str::from_utf8(name) {
+        Ok(name) => Perms::from_name(name).map(Perms::bits),
+        Err(_) => None,
     }
-    let perms = if b"GLOBAL".as_slice() == name {
-        Perms::GLOBAL
-    } else if b"EXECUTE".as_slice() == name {
-        Perms::EXECUTE
-    } else if b"LOAD".as_slice() == name {
-        Perms::LOAD
-    } else if b"STORE".as_slice() == name {
-        Perms::STORE
-    } else if b"LOAD_CAP".as_slice() == name {
-        Perms::LOAD_CAP
-    } else if b"STORE_CAP".as_slice() == name {
-        Perms::STORE_CAP
-    } else if b"STORE_LOCAL_CAP".as_slice() == name {
-        Perms::STORE_LOCAL_CAP
-    } else {
-        return unusual_permission_named(name);
-    };
-    Some(perms)
-}
-
-/// Returns the permission of this name, if it is not one of memory.
-#[tactic(auto, unfolding(bitflags::specs::Sets::find_row))]
-fn unusual_permission_named(name: &[u8]) -> Option<Perms>
-    ensures { option_map bits_of result ≡ find_row (drop 7 permission_table) name.now }
-{
-    let perms = if b"SEAL".as_slice() == name {
-        Perms::SEAL
-    } else if b"CINVOKE".as_slice() == name {
-        Perms::CINVOKE
-    } else if b"UNSEAL".as_slice() == name {
-        Perms::UNSEAL
-    } else if b"SYSTEM_REGS".as_slice() == name {
-        Perms::SYSTEM_REGS
-    } else if b"SET_CID".as_slice() == name {
-        Perms::SET_CID
-    } else {
-        return user_permission_named(name);
-    };
-    Some(perms)
-}
-
-/// Returns the user permission of this name.
-#[tactic(auto, unfolding(bitflags::specs::Sets::find_row))]
-fn user_permission_named(name: &[u8]) -> Option<Perms>
-    ensures { option_map bits_of result ≡ find_row (drop 12 permission_table) name.now }
-{
-    let perms = if b"USER0".as_slice() == name {
-        Perms::USER0
-    } else if b"USER1".as_slice() == name {
-        Perms::USER1
-    } else if b"USER2".as_slice() == name {
-        Perms::USER2
-    } else if b"USER3".as_slice() == name {
-        Perms::USER3
-    } else {
-        return None;
-    };
-    Some(perms)
 }
