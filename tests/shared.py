@@ -2,6 +2,7 @@
 import importlib.machinery
 import importlib.util
 import os
+import re
 import shutil
 import subprocess
 import sys
@@ -55,6 +56,13 @@ def rows(name="conformance"):
     lines = (TOP / f"conformance/{name}.tsv").read_text().splitlines()
     names = lines[0].split("\t")
     return [dict(zip(names, line.split("\t"))) for line in lines[1:]]
+
+
+def permission_names():
+    """Returns the names of the 16 permissions, that of the lowest bit first, as the header defines them."""
+    header = (TOP / "include/cheri_cap.h").read_text()
+    bits = {int(bit, 16): name for name, bit in re.findall(r"#define CHERI_CAP_PERM_(\w+) 0x(\w+)u", header)}
+    return [bits[1 << bit] for bit in range(16)]
 
 
 def python_module():
