@@ -1,11 +1,11 @@
 //! The arguments and options of the commands, as clap reads them.
-ghost use Rattle.std.specs.Prelude.{◌≡◌, Some, codes, false};
+ghost use Rattle.std.specs.Prelude.{◌≡◌, codes, false};
 ghost use Rattle.clap.specs.Words.{rule_of};
 ghost use Rattle.cli.specs.Usage.{argument_of, choice_option, flag_option, optional_argument, slots_option, valued_option, wanted_argument};
 
 use crate::table::{Choices, Kind, Row, help};
 use clap::builder::ValueParser;
-use clap::{Arg, ArgAction, value_parser};
+use clap::{Arg, ArgAction};
 use std::alloc::Global;
 
 /// Returns the argument that a row describes.
@@ -14,31 +14,19 @@ pub(crate) fn argument<'a>(alloc: Global, row: &Row<'a>, choices: Choices<'a>) -
     ensures local { result.global ≡ false }
 {
     let bare = Arg::new(alloc, row.name).help(help(row.topic));
-    match row.kind {
-        Kind::Wanted => taken(bare, row).required(true),
-        Kind::Free => taken(bare, row),
-        Kind::Valued => valued(bare, row),
-        Kind::Flag => bare.long(row.name).action(ArgAction::SetTrue),
-        Kind::Slots => valued(bare, row).value_parser(value_parser!(u32).range(1..=65_536)),
-        Kind::Align => valued(bare, row).value_parser(ValueParser::Names(choices.aligns)),
-        Kind::Format => valued(bare, row).value_parser(ValueParser::Names(choices.formats)),
-        Kind::Order => valued(bare, row).value_parser(ValueParser::Names(choices.orders)),
-        Kind::Summary => valued(bare, row).value_parser(ValueParser::Names(choices.summaries)),
+    if let Kind::Flag = row.kind {
+        return bare.long(row.name).action(ArgAction::SetTrue);
     }
-}
-
-/// Returns an argument that takes a value.
-fn taken<'a>(bare: Arg<'a>, row: &Row<'a>) -> Arg<'a>
-    ensures rule { rule_of result ≡ record (rule_of bare.entry) { action = Some ArgAction.Set; value_names = 1 } }
-    ensures local { result.global ≡ bare.entry.global }
-{
-    bare.value_name(row.placeholder).action(ArgAction::Set)
-}
-
-/// Returns an option `--name` that takes a value.
-fn valued<'a>(bare: Arg<'a>, row: &Row<'a>) -> Arg<'a>
-    ensures rule { rule_of result ≡ record (rule_of bare.entry) { action = Some ArgAction.Set; value_names = 1; long = Some row.now.name.now } }
-    ensures local { result.global ≡ bare.entry.global }
-{
-    taken(bare, row).long(row.name)
+    let taken = bare.value_name(row.placeholder).action(ArgAction::Set);
+    let parser = match row.kind {
+        Kind::Wanted => return taken.required(true),
+        Kind::Free | Kind::Flag => return taken,
+        Kind::Valued => return taken.long(row.name),
+        Kind::Slots => ValueParser::Signed(1, 65_536),
+        Kind::Align => ValueParser::Names(choices.aligns),
+        Kind::Format => ValueParser::Names(choices.formats),
+        Kind::Order => ValueParser::Names(choices.orders),
+        Kind::Summary => ValueParser::Names(choices.summaries),
+    };
+    taken.long(row.name).value_parser(parser)
 }
