@@ -11,11 +11,11 @@ use Rattle.cc_machine.specs.State.{State}
 use Rattle.cc_io.specs.Lines.{lines_of, rest_of, lines_from, rest_from}
 use Rattle.cc_syntax.specs.Commands.{operation_of}
 use Rattle.cc_syntax.specs.Replies.{is_error}
-use Rattle.cc_session.specs.Output.{commands_of, TakesAll, ScriptOutput, replies_text, rest_text}
+use Rattle.cc_script.specs.Output.{commands_of, TakesAll, ScriptOutput, replies_text, rest_text}
 use Rattle.cc_laws.specs.ScriptParts.{EndsLine, OutputInParts}
 use Rattle.cc_io.specs.FrameLaws.{lines_further, rest_further}
-use Rattle.cc_session.proofs.ReplyLemmas.{takes_further, replies_text-append}
-use Rattle.cc_session.proofs.OutputLemmas.{cut}
+use Rattle.cc_script.proofs.ReplyLemmas.{takes_further, replies_text-append}
+use Rattle.cc_script.proofs.OutputLemmas.{cut}
 
 -- A text that ends in a line feed has no trailing bytes.
 pub feed_ends : (text : List ℕ) → EndsLine (text ++ 10 ∷ [])

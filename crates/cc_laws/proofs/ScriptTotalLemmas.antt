@@ -19,7 +19,7 @@ use Rattle.cc_values.specs.Values.{words_of, index_in, address_in, length_in, fl
 use Rattle.cc_syntax.specs.Commands.{Command, align_in, slot_and_perhaps, one, alone, of_value, of_slot, of_slot_perhaps, commands, operation_in, command_in, operation_of}
 use Rattle.cc_io.specs.Lines.{lines_of, rest_of}
 use Rattle.cc_syntax.specs.Replies.{is_error}
-use Rattle.cc_session.specs.Output.{commands_of, Takes, TakesAll, ScriptOutput, replies_text, rest_text}
+use Rattle.cc_script.specs.Output.{commands_of, Takes, TakesAll, ScriptOutput, replies_text, rest_text}
 
 -- ---- the operation of a line
 

@@ -16,9 +16,9 @@ use Rattle.cc_syntax.specs.Replies.{is_error, reply_text}
 use Rattle.cc_machine.specs.State.{State, initial_state}
 use Rattle.cc_machine.specs.Run.{IsInAddressSpace, IsReached}
 use Rattle.cc_io.specs.Lines.{rest_of}
-use Rattle.cc_session.specs.Output.{ScriptOutput, TakesAll, commands_of, replies_text, rest_text}
-use Rattle.cc_session.specs.Failures.{BeginsOutput, StopsAfterLines, StopsInReplies}
-use Rattle.cc_session.specs.Laws.{TakesAllWithin}
+use Rattle.cc_script.specs.Output.{ScriptOutput, TakesAll, commands_of, replies_text, rest_text}
+use Rattle.cc_script.specs.Failures.{BeginsScriptOutput, StopsAfterLines, StopsInReplies}
+use Rattle.cc_script.specs.Laws.{TakesAllWithin}
 use Rattle.cc_laws.specs.ScriptParts.{EndsLine, OutputInParts}
 use Rattle.cc_laws.specs.Witnesses.{is_of_object, with_derived_slot, with_first_object}
 use Rattle.cc_laws.proofs.FrameWitnessLemmas.{none-taken}
@@ -121,7 +121,7 @@ state-breaks old parts =
     let same : old.limit + 1 ≡ old.limit = ap (λ (s : State). s.limit) (two.stays ∙ one.stays) in
     absurd (omega (arith, same))
 
-pub begins-break : (old : State) → ¬ BeginsOutput old [] [] (Appends (Some []) (Some (10 ∷ [])))
+pub begins-break : (old : State) → ¬ BeginsScriptOutput old [] [] (Appends (Some []) (Some (10 ∷ [])))
 begins-break old begins =
     let prefix = begins [] false old (record { replies = []; takes = refl; output_is = refl; error_is = refl }) in
     let same : 10 ∷ [] ≡ [] = prefix.1 ∙ none-taken prefix.0 in

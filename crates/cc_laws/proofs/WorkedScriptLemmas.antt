@@ -35,8 +35,8 @@ use Rattle.std.specs.Fmt.{digits}
 use Rattle.std.proofs.lemmas.List.{append-nil}
 use Rattle.cc_word.specs.WordText.{digits_of}
 use Rattle.cc_syntax.specs.Replies.{reply_text}
-use Rattle.cc_session.specs.Output.{ScriptOutput, TakesAll, replies_text}
-use Rattle.cc_session.proofs.OutputLemmas.{one_output}
+use Rattle.cc_script.specs.Output.{ScriptOutput, TakesAll, replies_text}
+use Rattle.cc_script.proofs.OutputLemmas.{one_output}
 use Rattle.cc_laws.proofs.ResultLemmas.{has_word}
 use Rattle.cc_laws.specs.WorkedScript.{readme_output, readme_script}
 

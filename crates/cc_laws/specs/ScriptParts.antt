@@ -3,7 +3,7 @@ use Rattle.std.specs.Prelude.{◌≡◌, ℕ, Bool, ◌||◌, List, [], ◌++◌
 use Rattle.cc_values.specs.declared.op.Op.{Op}
 use Rattle.cc_machine.specs.State.{State}
 use Rattle.cc_io.specs.Lines.{rest_of}
-use Rattle.cc_session.specs.Output.{ScriptOutput}
+use Rattle.cc_script.specs.Output.{ScriptOutput}
 
 -- EndsLine holds if the text has no trailing bytes: it is empty, or ends in a line feed.
 abbrev pub EndsLine : List ℕ → Type 0

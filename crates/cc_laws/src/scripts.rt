@@ -12,10 +12,10 @@ ghost use Rattle.cc_machine.specs.Objects.{IsHeldObject};
 ghost use Rattle.cc_machine.specs.ObjectConfinement.{AreOfObject, IsConfinedToObject};
 ghost use Rattle.cc_machine.specs.Run.{Run, IsReached, IsInAddressSpace};
 ghost use Rattle.cc_values.specs.Values.{OneJoin};
-ghost use Rattle.cc_session.specs.Output.{commands_of, TakesAll, ScriptOutput, operations_of, operation_replies};
-ghost use Rattle.cc_session.specs.Laws.{TakesAllWithin};
+ghost use Rattle.cc_script.specs.Output.{commands_of, TakesAll, ScriptOutput, operations_among, operation_replies};
+ghost use Rattle.cc_script.specs.Laws.{TakesAllWithin};
 ghost use Rattle.cc_laws.specs.ScriptParts.{EndsLine, OutputInParts};
-ghost use Rattle.cc_session.specs.Failures.{StopsInReplies, StopsAfterLines, BeginsOutput};
+ghost use Rattle.cc_script.specs.Failures.{StopsInReplies, StopsAfterLines, BeginsScriptOutput};
 
 /// Proves that the tokens of a line, with one space between each two, are the line, and that no
 /// other tokens are.
@@ -30,7 +30,7 @@ pub fn one_join()
 /// leads to, the commands lead to such a state.
 pub fn commands_run()
     ensures run { (old new : State) (commands : List (Result Op Refusal)) (replies : List Reply) → TakesAll old commands replies new
-        → Run old (operations_of commands) (operation_replies commands replies) new }
+        → Run old (operations_among commands) (operation_replies commands replies) new }
     ensures reached { (old new : State) (commands : List (Result Op Refusal)) (replies : List Reply)
         → IsReached old → TakesAll old commands replies new → IsReached new }
 {}
@@ -78,5 +78,5 @@ pub fn output_in_parts()
 pub fn stopped_output_begins()
     ensures { (room : ℕ) (old new : State) (opening : List Op) (text : List ℕ) (taken taken_now : Option (List ℕ))
         → StopsInReplies room old (commands_of opening text) (Appends taken taken_now) new ⊎ StopsAfterLines old opening text (Appends taken taken_now) new
-        → BeginsOutput old opening text (Appends taken taken_now) }
+        → BeginsScriptOutput old opening text (Appends taken taken_now) }
 {}

@@ -3,7 +3,7 @@
 ghost use Rattle.std.specs.Prelude.{ℕ, ◌+◌, true, false, [], ◌∷◌, Some};
 ghost use Rattle.std.specs.Io.KnownBytes.{Appends};
 ghost use Rattle.cc_machine.specs.State.{State};
-ghost use Rattle.cc_session.specs.Failures.{BeginsOutput};
+ghost use Rattle.cc_script.specs.Failures.{BeginsScriptOutput};
 ghost use Rattle.cc_laws.specs.ScriptParts.{EndsLine, OutputInParts};
 
 /// Of no script: a byte, an error, and another state.
@@ -11,7 +11,7 @@ fn outputs_of_no_script()
     ensures bytes { (old new : State) → ¬ OutputInParts old [] [] [] (10 ∷ []) false new }
     ensures error { (old new : State) → ¬ OutputInParts old [] [] [] [] true new }
     ensures state { (old : State) → ¬ OutputInParts old [] [] [] [] false (record old { limit = old.limit + 1 }) }
-    ensures begins { (old : State) → ¬ BeginsOutput old [] [] (Appends (Some []) (Some (10 ∷ []))) }
+    ensures begins { (old : State) → ¬ BeginsScriptOutput old [] [] (Appends (Some []) (Some (10 ∷ []))) }
 {}
 
 /// A byte after the last line feed.

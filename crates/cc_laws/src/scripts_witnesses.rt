@@ -11,9 +11,9 @@ ghost use Rattle.cc_values.specs.declared.reply.Reply.TheVariants.{Made, Refused
 ghost use Rattle.cc_syntax.specs.Planning.{plan_opening};
 ghost use Rattle.cc_machine.specs.State.{State, initial_state};
 ghost use Rattle.cc_machine.specs.Run.{IsInAddressSpace, IsReached};
-ghost use Rattle.cc_session.specs.Output.{commands_of};
-ghost use Rattle.cc_session.specs.Failures.{StopsAfterLines, StopsInReplies};
-ghost use Rattle.cc_session.specs.Laws.{TakesAllWithin};
+ghost use Rattle.cc_script.specs.Output.{commands_of};
+ghost use Rattle.cc_script.specs.Failures.{StopsAfterLines, StopsInReplies};
+ghost use Rattle.cc_script.specs.Laws.{TakesAllWithin};
 ghost use Rattle.cc_laws.specs.Witnesses.{is_of_object, with_derived_slot, with_first_object};
 
 /// The state and the setup operations from which the script of README has its output.

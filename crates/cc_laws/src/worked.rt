@@ -3,7 +3,7 @@ ghost use Rattle.std.specs.Prelude.{◌≡◌, ℕ, Bool, true, List};
 ghost use Rattle.cc_bounds.specs.declared.align.Align.TheVariants.{One};
 ghost use Rattle.cc_machine.specs.State.{State, initial_state};
 ghost use Rattle.cc_syntax.specs.Planning.{plan_opening};
-ghost use Rattle.cc_session.specs.Output.{ScriptOutput};
+ghost use Rattle.cc_script.specs.Output.{ScriptOutput};
 ghost use Rattle.cc_laws.specs.WorkedScript.{readme_output, readme_script};
 
 /// Proves that the script of README has the output that README prints, and no other: its eight lines,

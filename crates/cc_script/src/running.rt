@@ -1,94 +1,195 @@
-//! Runs of scripts, with each reply written before the next line is taken.
-ghost use Rattle.std.specs.Prelude.{[]};
+//! The run of a script from a source to a sink.
+ghost use Rattle.std.specs.Prelude.{◌≡◌, ◌+◌, ◌≤◌, ◌<◌, ◌↔◌, [], Err, IfOk, IsErr, OnErr, false, length, map, Ok, true};
+ghost use Rattle.std.specs.Io.KnownBytes.{Appends};
+ghost use Rattle.cc_io.specs.Answers.{AnswersInto};
 ghost use Rattle.cc_io.specs.Devices.{AreReady, IsOutcome};
-ghost use Rattle.cc_session.specs.Main.{io_of};
-ghost use Rattle.cc_session.specs.Failures.{RunsScript, StopsInReply};
-ghost use Rattle.cc_session.specs.Laws.{KeepsLaws};
-ghost use Rattle.cc_syntax.specs.Planning.{plan_opening};
+ghost use Rattle.cc_machine.specs.Run.{IsReached};
+ghost use Rattle.cc_script.specs.Failures.{StopsInReplies};
+ghost use Rattle.cc_script.specs.Main.{io_of};
+ghost use Rattle.cc_script.specs.Laws.{KeepsLaws};
+ghost use Rattle.cc_script.specs.Session.{Opens, RunsSession, TakesOperation};
+ghost use Rattle.cc_script.specs.Lending.{AnswersLine, RefusesScriptRest};
+ghost use Rattle.cc_syntax.specs.Tally.{IsTally};
 
-use cc_bounds::{Align, Len};
-use cc_io::{IoError, Sink, Source, Summary, WholeLine};
+use crate::answering::{answer_line, is_refusal};
+use crate::lent::Lent;
+use cc_io::{
+    Answerer, Failed, IoError, Lines, Page, Sink, Source, Summary, make_room, pump, refusal_bytes,
+};
 use cc_machine::{Machine, Op};
-use cc_session::run_session;
-use cc_syntax::{Tally, plan_opening};
+use cc_syntax::{Tally, reply_line};
+use cc_word::Refusal;
 
-/// Runs the script that the source gives: steps the machine by each line, and writes its reply
-/// before the next line is taken.
-///
-/// The sink is flushed once, at the end of the script. Allocates nothing. Whatever the result, the
-/// machine then keeps the laws of every run.
-///
-/// Requires: neither the source nor the sink has failed.
-/// Errors: `Read` if and only if the source failed. The replies to all complete lines that it gave
-/// are then written, and the machine has taken these lines alone. `Write` if and only if the sink
-/// failed. A prefix of the output is then written, and the machine has taken the line whose reply
-/// was cut, and none after it.
-pub fn run_script<R: Source, W: Sink>(
-    machine: &mut Machine,
-    source: &mut R,
-    sink: &mut W,
-) -> Result<Summary, IoError>
-    requires { AreReady (R.state source.old) (W.state sink.old) }
-    // The main theorem (`main`), and what was written before a failure (`fails`).
-    ensures runs { RunsScript StopsInReply []
-        (io_of machine.old (R.state source.old) (W.state sink.old)) result
-        (io_of machine.new (R.state source.new) (W.state sink.new)) }
-    ensures outcome { IsOutcome (R.state source.new) (W.state sink.new) result }
-    ensures laws { KeepsLaws machine.old machine.new }
-{
-    run_script_after(&[], machine, source, sink)
-}
+impl<const N: usize> Answerer<N> for Lent<'_> {
+    ghost Answered = { AnswersLine };
 
-/// Makes the pool of `length` bytes from `base`, with this alignment, and runs the script that the
-/// source gives.
-///
-/// The machine takes the operations of [`plan_opening`](cc_syntax::plan_opening) first. Their replies are written, including
-/// refusals, and then the script is run whatever they are. Each reply is written before the next
-/// line is taken.
-///
-/// Requires: neither the source nor the sink has failed.
-/// Errors: those of [`run_script`]. Whatever the result, the machine then keeps the laws of every
-/// run.
-pub fn plan_script<R: Source, W: Sink>(
-    machine: &mut Machine,
-    base: u64,
-    length: Len,
-    align: Align,
-    source: &mut R,
-    sink: &mut W,
-) -> Result<Summary, IoError>
-    requires { AreReady (R.state source.old) (W.state sink.old) }
-    ensures runs { RunsScript StopsInReply (plan_opening base length align)
-        (io_of machine.old (R.state source.old) (W.state sink.old)) result
-        (io_of machine.new (R.state source.new) (W.state sink.new)) }
-    ensures outcome { IsOutcome (R.state source.new) (W.state sink.new) result }
-    ensures laws { KeepsLaws machine.old machine.new }
-{
-    run_script_after(&plan_opening(base, length, align), machine, source, sink)
+    ghost Ended = { RefusesScriptRest };
+
+    ghost MOST = { 193 };
+
+    #[inline(always)]
+    fn is_done(&self) -> bool {
+        false
+    }
+
+    #[inline(always)]
+    fn most() -> usize
+        ensures { result ≡ 193 }
+    {
+        193
+    }
+
+    #[inline(always)]
+    fn answer(&mut self, entry: &[u8], out: &mut Page<N>) -> bool
+        requires { length out.old + 193 ≤ N }
+        ensures { AnswersInto AnswersLine self.old entry.now out.old out.new result self.new }
+    {
+        match answer_line(self.machine, out, entry) {
+            Ok(()) => {
+                self.tally.take_line();
+                false
+            }
+            Err(refusal) => {
+                out.push(refusal_bytes(refusal));
+                self.tally.take_refused(entry, refusal);
+                true
+            }
+        }
+    }
+
+    fn end(&mut self, _rest: &[u8], out: &mut Page<N>) -> bool
+        requires { length out.old + 193 ≤ N }
+        ensures { AnswersInto RefusesScriptRest self.old _rest.now out.old out.new result self.new }
+    {
+        out.push(refusal_bytes(Refusal::Unfinished));
+        self.tally.take_refused(b"", Refusal::Unfinished);
+        true
+    }
 }
 
 /// Runs the script that begins with these setup operations and continues with the bytes that the
 /// source gives.
 ///
-/// It runs like a script that [`run_script`] takes from the source alone. The reply to a setup
-/// operation is the same as to a line with this operation.
+/// The replies are collected on the page. It is written when one more reply might not fit, and
+/// before each read of the source. So each reply is written before the next line is taken if the
+/// page holds one reply, 193 bytes. The sink is flushed once, at the end. Allocates nothing.
+/// Whatever the result, the machine then keeps the laws of every run.
 ///
-/// Requires: neither the source nor the sink has failed.
-/// Errors: those of [`run_script`].
-pub fn run_script_after<R: Source, W: Sink>(
+/// Requires: neither the source nor the sink has failed; no reply is counted yet; the page holds at
+/// least one reply.
+/// Errors: `Read` if and only if the source failed. The replies to all complete lines that it gave
+/// are then written, and the machine has taken these lines alone. `Write` if and only if the sink
+/// failed. A prefix of the output is then written. The machine has taken the line whose reply was
+/// cut, and at most the lines after it whose replies were on the same page.
+pub fn run_session<R: Source, W: Sink, const N: usize>(
     opening: &[Op],
     machine: &mut Machine,
+    tally: &mut Tally,
     source: &mut R,
     sink: &mut W,
+    page: &mut Page<N>,
 ) -> Result<Summary, IoError>
-    requires { AreReady (R.state source.old) (W.state sink.old) }
-    ensures runs { RunsScript StopsInReply opening.now
-        (io_of machine.old (R.state source.old) (W.state sink.old)) result
+    requires ready { AreReady (R.state source.old) (W.state sink.old) }
+    requires fresh { IsTally [] [] tally.old }
+    requires room { 193 ≤ N }
+    // The main theorem (`main`), what was written before a failure (`fails`), and the counts of the
+    // replies at `Ok` (`counts`).
+    ensures runs { RunsSession N opening.now
+        (io_of machine.old (R.state source.old) (W.state sink.old)) result tally.new
         (io_of machine.new (R.state source.new) (W.state sink.new)) }
     ensures outcome { IsOutcome (R.state source.new) (W.state sink.new) result }
     ensures laws { KeepsLaws machine.old machine.new }
 {
-    let mut tally = Tally::new();
-    let mut page = WholeLine::new();
-    run_session(opening, machine, &mut tally, source, sink, &mut page)
+    tell_reached(machine);
+    let mut lent = Lent { machine, tally };
+    answer_script(opening, &mut lent, source, sink, page)
+}
+
+/// Proves the claim that holds for every machine: its state is one that a run leads to.
+fn tell_reached(machine: &Machine)
+    ensures { IsReached machine.now }
+{
+    let _ = machine.slots();
+}
+
+/// Replies to the setup operations, and then to the script.
+fn answer_script<R: Source, W: Sink, const N: usize>(
+    opening: &[Op],
+    lent: &mut Lent<'_>,
+    source: &mut R,
+    sink: &mut W,
+    page: &mut Page<N>,
+) -> Result<Summary, IoError>
+    requires ready { AreReady (R.state source.old) (W.state sink.old) }
+    requires reached { IsReached lent.old.machine.now }
+    requires fresh { IsTally [] [] lent.old.tally.now }
+    requires room { 193 ≤ N }
+    ensures same_machine { lent.new.machine.ghost_name ≡ lent.old.machine.ghost_name }
+    ensures same_tally { lent.new.tally.ghost_name ≡ lent.old.tally.ghost_name }
+    ensures runs { RunsSession N opening.now
+        (io_of lent.old.machine.now (R.state source.old) (W.state sink.old)) result lent.new.tally.now
+        (io_of lent.new.machine.now (R.state source.new) (W.state sink.new)) }
+    ensures laws { KeepsLaws lent.old.machine.now lent.new.machine.now }
+    ensures outcome { IsOutcome (R.state source.new) (W.state sink.new) result }
+{
+    page.clear();
+    let opening_error = match take_opening(opening, lent.machine, lent.tally, sink, page) {
+        Ok(is_error) => is_error,
+        Err(Failed) => return Err(IoError::Write),
+    };
+    match pump(&Lines, lent, source, sink, page) {
+        Ok(summary) => Ok(Summary {
+            any_error: opening_error | summary.any_error,
+        }),
+        Err(error) => Err(error),
+    }
+}
+
+/// Steps the machine by the setup operations. Their replies are on the empty page, which is written
+/// when one more might not fit. Returns whether a reply is an error.
+fn take_opening<W: Sink, const N: usize>(
+    opening: &[Op],
+    machine: &mut Machine,
+    tally: &mut Tally,
+    sink: &mut W,
+    page: &mut Page<N>,
+) -> Result<bool, Failed>
+    requires sink { (W.state sink.old).has_failed ≡ false }
+    requires room { 193 ≤ N }
+    requires empty { page.old ≡ [] }
+    ensures ok { IfOk result (λ error.
+        Opens N machine.old tally.old opening.now page.new (W.state sink.old).taken (W.state sink.new).taken error machine.new tally.new) }
+    ensures err { OnErr result (
+        StopsInReplies N machine.old (map Ok opening.now) (Appends (W.state sink.old).taken (W.state sink.new).taken) machine.new) }
+    ensures fails { IsErr result ↔ ((W.state sink.new).has_failed ≡ true) }
+{
+    let mut any_error = false;
+    for op in opening {
+        match make_room(193, page, sink) {
+            Ok(()) => {}
+            Err(Failed) => return Err(Failed),
+        }
+        any_error |= take_operation(op, machine, tally, page);
+    }
+    Ok(any_error)
+}
+
+/// Steps the machine by an operation, and appends the reply and a line feed to the page. Returns
+/// whether the reply is an error.
+fn take_operation<const N: usize>(
+    op: &Op,
+    machine: &mut Machine,
+    tally: &mut Tally,
+    page: &mut Page<N>,
+) -> bool
+    requires { length page.old + 193 ≤ N }
+    ensures takes { TakesOperation machine.old tally.old op.now page.old page.new result machine.new tally.new }
+    ensures fits { length page.new ≤ length page.old + 193 }
+{
+    let reply = machine.step(op);
+    let line = reply_line(&reply);
+    page.push(line.bytes());
+    page.push(b"\n");
+    tally.take_opening(&reply);
+    is_refusal(&reply)
 }

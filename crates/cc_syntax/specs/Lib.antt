@@ -1,6 +1,8 @@
 -- In reading order.
 pub mod Commands
+pub mod Operations
 pub mod Replies
 pub mod Planning
+pub mod Request
 pub mod LineHints
 pub mod Tally

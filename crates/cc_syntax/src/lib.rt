@@ -3,16 +3,20 @@
 
 mod line_hints;
 mod numbers;
+mod operations;
 mod parsing;
 mod planning;
 mod printing;
+mod request;
 mod tally;
 mod values;
 mod words;
 
 pub use cc_values::{both, read_address, read_permissions};
 pub use numbers::read_length;
+pub use operations::op_line;
 pub use parsing::{MOST_BYTES, Taker, parse_line, take_command};
 pub use planning::{plan_numbers, plan_opening};
 pub use printing::{push_any_reply, push_reply, reply_line};
+pub use request::{read_request, request_from};
 pub use tally::{Count, Tally};

@@ -9,14 +9,14 @@ use Rattle.cc_values.specs.declared.op.Op.{Op}
 use Rattle.cc_values.specs.declared.reply.Reply.{Reply}
 use Rattle.cc_machine.specs.State.{State, initial_state}
 use Rattle.cc_syntax.specs.Replies.{reply_text}
-use Rattle.cc_session.specs.Output.{TakesAll, commands_of, replies_text, rest_text}
+use Rattle.cc_script.specs.Output.{TakesAll, commands_of, replies_text, rest_text}
 use Rattle.cli.specs.Devices.{OnDevices}
 use Rattle.cli.specs.Outcome.{ending_of}
 use Rattle.cli.specs.declared.outcome.Ending.TheVariants.{Answered, Stopped}
 use Rattle.cli.specs.declared.fault.Fault.{Fault}
 use Rattle.cli.specs.declared.fault.Fault.TheVariants as fault
 use Rattle.cli_scripts.specs.Runs.{MeetsFrom}
-use Rattle.cheri_cap.specs.Input.{Script}
+use Rattle.cheri_cap.specs.Execution.{Script}
 use Rattle.cheri_cap.specs.Ending.{AnswersScript, Failures, TellsFailures}
 
 with_nothing : (xs : List ℕ) → xs ++ [] ≡ xs

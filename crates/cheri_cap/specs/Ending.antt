@@ -1,20 +1,18 @@
 -- The bytes and the end of the program for a command line that is accepted.
 use Rattle.std.specs.Prelude.{ℕ, ◌≡◌, ◌⊎◌, ◌↔◌, true, false, List, [], Bool, Option, Some, Ok, Err, Result, IfSome, OnErr, OnOk}
-use Rattle.std.specs.Io.KnownBytes.{Appends}
 use Rattle.clap.specs.Words.{Row, Text}
 use Rattle.cc_io.specs.Devices.{InputState, OutputState}
 use Rattle.cc_io.specs.declared.summary.Summary.{Summary}
 use Rattle.cc_machine.specs.State.{initial_state}
 use Rattle.cli.specs.Devices.{Console, OnDevices}
-use Rattle.cheri_cap.specs.Execution.{Executes, StarvesCommand}
+use Rattle.cheri_cap.specs.Execution.{Asked, Effect, IsUnasked, Script, effect_of, script_of}
 use Rattle.cli.specs.Invocation.{IsInvocation}
-use Rattle.cheri_cap.specs.Input.{Asked, IsHinted, IsReported, IsStreamed, IsUnasked, RunsMachine, Script, input_of, script_of, typed_hint}
 use Rattle.cli.specs.Input.{IsFile}
 use Rattle.cli.specs.Outcome.{ending_of}
 use Rattle.cli.specs.declared.input.Content.{Content}
 use Rattle.cli.specs.declared.input.Content.TheVariants as content
 use Rattle.cli.specs.declared.input.InputName.{InputName}
-use Rattle.cli_scripts.specs.Runs.{MeetsFrom, MeetsMain}
+use Rattle.cli_scripts.specs.Runs.{MeetsFrom}
 use Rattle.cli.specs.declared.invocation.Invocation.{Invocation}
 use Rattle.cli.specs.declared.outcome.Ending.{Ending}
 use Rattle.cli.specs.declared.outcome.Ending.TheVariants.{Answered}
@@ -55,33 +53,27 @@ pub record TellsFailures (failures : Failures) (result : Result Summary Fault) :
 abbrev pub ReadsAsked : Option Asked → Failures → Type 0
 ReadsAsked asked failures = IsUnasked asked failures.last_asked → (failures.open_failed ≡ false) × (failures.read_failed ≡ false)
 
--- EndsInvocation holds if the command was executed on devices in these states before and after it, and its result ends the program.
--- The result is an error of a device if and only if that device failed. It also says what was written after a failed opening or
--- allocation, which input was requested, and for `run` and `plan` the main theorem.
-pub record EndsInvocation (invocation : Invocation) (terminals : Terminals) (console : Console) (failures : Failures) (ending : Ending) : Type 0 where
+-- EndsEffect holds if a command with this effect was executed on devices in these states before and after it, and its result ends
+-- the program. The result is an error of a device if and only if that device failed. It also says what was written after a failed
+-- opening or allocation, and which input was requested.
+pub record EndsEffect (effect : Effect) (console : Console) (failures : Failures) (ending : Ending) : Type 0 where
   pub result : Result Summary Fault
-  pub executes : OnDevices (Executes invocation terminals console) result
+  pub executes : OnDevices (effect.Does console) result
   pub fails : TellsFailures failures result
-  pub opens : result ≡ Err fault.Open → IfSome (input_of invocation) (λ asked. IsFile asked.input)
+  pub opens : result ≡ Err fault.Open → IfSome effect.input (λ asked. IsFile asked.input)
   pub untouched : result ≡ Err fault.Open → console.output_now.taken ≡ console.output.taken
-  pub asks : ReadsAsked (input_of invocation) failures
-  pub main :
-      IfSome (script_of invocation)
-      (λ script. OnDevices (MeetsMain script.limit script.opening (console.input script.input) console.source_now.unread console.output.taken console.output_now.taken) result)
-  pub starves : result ≡ Err fault.Memory → RunsMachine invocation × StarvesCommand invocation terminals console
-  pub starved : ¬ IsReported terminals invocation → ¬ IsStreamed invocation → result ≡ Err fault.Memory → console.output_now.taken ≡ console.output.taken
+  pub asks : ReadsAsked effect.input failures
+  pub starves : result ≡ Err fault.Memory → effect.Starves console
   pub flushed : OnOk result (failures.is_flushed ≡ true)
   pub unreported : OnErr result (console.errors_now.taken ≡ console.errors.taken)
-  pub silent : ¬ IsReported terminals invocation → console.errors_now.taken ≡ console.errors.taken
-  pub hinted : IsHinted invocation
-      → OnOk result (console.errors_now.has_failed ≡ false → Appends console.errors.taken console.errors_now.taken (typed_hint terminals.errors invocation))
+  pub silent : ¬ effect.Reports → console.errors_now.taken ≡ console.errors.taken
   pub ends : ending ≡ ending_of result
 
--- ExecutesCommand holds if `EndsInvocation` does for the command that clap found.
+-- ExecutesCommand holds if `EndsEffect` does for the effect of the command that clap found.
 pub record ExecutesCommand (found : Option (Text × List Row)) (terminals : Terminals) (console : Console) (failures : Failures) (ending : Ending) : Type 0 where
   pub invocation : Invocation
   pub is_invocation : IsInvocation found invocation
-  pub executed : EndsInvocation invocation terminals console failures ending
+  pub executed : EndsEffect (effect_of terminals invocation) console failures ending
 
 -- ---- `run` and `plan`
 

@@ -1,36 +1,122 @@
--- The output of a command, by its input: the program's own theorem.
-use Rattle.std.specs.Prelude.{[], ⊤, None, Result, Some}
+-- The effect of each command on its devices: the program's own theorem.
+use Rattle.std.specs.Prelude.{ℕ, ◌≡◌, false, IsTrue, Bool, [], List, ⊤, None, Option, Result, Ok, Err, Some}
+use Rattle.std.specs.Option.{option_map}
+use Rattle.std.specs.Result.{result_ok}
+use Rattle.cc_word.specs.declared.refusal.Refusal.{Refusal}
+use Rattle.cc_bounds.specs.declared.align.Align.{Align}
+use Rattle.cc_io.specs.CommandOutput.{WritesRefusal}
 use Rattle.cc_io.specs.declared.summary.IoError.{IoError}
 use Rattle.cc_io.specs.declared.summary.Summary.{Summary}
 use Rattle.cc_machine.specs.State.{initial_state}
+use Rattle.cc_syntax.specs.Planning.{plan_opening, pool_of}
+use Rattle.cc_values.specs.declared.op.Op.{Op}
+use Rattle.cli.specs.declared.input.Content.{Content}
+use Rattle.cli.specs.declared.input.Content.TheVariants as content
+use Rattle.cli.specs.declared.input.InputName.{InputName}
 use Rattle.cli.specs.declared.invocation.Invocation.{Invocation}
 use Rattle.cli.specs.declared.invocation.Invocation.TheVariants.{Annotate, Ask, Decode, Map, Plan, Replay, RoundList, Run}
-use Rattle.cli.specs.Devices.{Console, FromInput}
-use Rattle.cli.specs.Input.{file_input}
-use Rattle.cli_replay.specs.Replaying.{ReplaysTrace, WithReplay}
-use Rattle.cli_words.specs.Tasks.{AnnotatesWords, AnswersQuestion, ListsWords, RoundsLengths, WithBase, WithListing}
+use Rattle.cli.specs.Devices.{Console, FromInput, Traffic}
+use Rattle.cli.specs.Input.{file_input, trace_content}
+use Rattle.cli_replay.specs.ReplayTexts.{replay_in}
+use Rattle.cli_replay.specs.Replaying.{IsStreaming, ReplaysTrace}
+use Rattle.cli_words.specs.Listing.{listing_in, place_in}
+use Rattle.cli_words.specs.Questions.{has_hint}
+use Rattle.cli_words.specs.Tasks.{AnnotatesWords, AnswersQuestion, ListsWords, RoundsLengths}
 use Rattle.cli_scripts.specs.Report.{report_of}
-use Rattle.cli_scripts.specs.Runs.{MapsFile, PlansFile, ReportsRun, StarvesPlan, StarvesRun}
+use Rattle.cli_scripts.specs.Runs.{DrawsRun, ReportsRun, StarvesRun}
+use Rattle.cli_scripts.specs.declared.report.Report.{Report}
 use Rattle.cli_scripts.specs.declared.report.Terminals.{Terminals}
 
--- Executes holds if the bytes written and the summary are what the command defines for its input, up to a
--- failure.
-abbrev pub Executes : Invocation → Terminals → Console → Result Summary IoError → Type 0
-Executes (Ask question) terminals console result = AnswersQuestion question console.output console.output_now result
-Executes (Run limit stats file) terminals console result =
-    FromInput (file_input file) console (ReportsRun (report_of stats terminals) [] None (initial_state limit)) result
-Executes (Plan limit pool align stats file) terminals console result = PlansFile (report_of stats terminals) limit pool align file console result
-Executes (Map limit pool align svg file) terminals console result = MapsFile limit pool align svg file console result
-Executes (Replay align strict texts file) terminals console result =
-    WithReplay align strict texts console (λ output settings reading. FromInput (file_input file) console (ReplaysTrace output settings reading)) result
-Executes (Decode input format texts file) terminals console result =
-    WithListing input format texts console (λ skipped options. FromInput (file_input file) console (ListsWords skipped options)) result
-Executes (Annotate file) terminals console result = FromInput (file_input file) console AnnotatesWords result
-Executes (RoundList text file) terminals console result =
-    WithBase text console.output console.output_now (λ base. FromInput (file_input (Some file)) console (RoundsLengths text terminals.errors base)) result
+-- An input that is requested, and its content.
+pub record Asked : Type 0 where
+  pub input : InputName
+  pub content : Content
 
--- StarvesCommand holds if `run` or `plan` has written nothing, or, with `--stats`, the whole output, when memory runs out. Of other commands it says nothing.
-abbrev pub StarvesCommand : Invocation → Terminals → Console → Type 0
-StarvesCommand (Run limit stats file) terminals console = StarvesRun (report_of stats terminals) [] (initial_state limit) (file_input file) console
-StarvesCommand (Plan limit pool align stats file) terminals console = StarvesPlan (report_of stats terminals) limit pool align file console
-StarvesCommand _ terminals console = ⊤
+-- IsUnasked holds if the last input that was requested is not this one.
+abbrev pub IsUnasked : Option Asked → (last_asked : InputName → Content → Bool) → Type 0
+IsUnasked (Some asked) last_asked = last_asked asked.input asked.content ≡ false
+IsUnasked None last_asked = ⊤
+
+-- The effect of a command on its devices:
+--
+-- - the input that it reads, if it reads one
+-- - the bytes that it writes and its summary, up to a failure
+-- - what holds if memory runs out
+-- - whether it can write to standard error
+pub record Effect : Type 1 where
+  pub input : Option Asked
+  pub Does : Console → Result Summary IoError → Type 0
+  pub Starves : Console → Type 0
+  pub Reports : Type 0
+
+-- WritesNothing holds if nothing was written to the output.
+abbrev pub WritesNothing : Console → Type 0
+WritesNothing console = console.output_now.taken ≡ console.output.taken
+
+-- The effect of a command that reads this input.
+abbrev pub reads : InputName → Content → (Does : Traffic → Result Summary IoError → Type 0) (Starves : Console → Type 0) (Reports : Type 0) → Effect
+reads input content Does Starves Reports = record {
+  input = Some (record { input = input; content = content });
+  Does = λ console. FromInput input console Does;
+  Starves = Starves;
+  Reports = Reports;
+}
+
+-- The effect of a command whose texts may be refused. Then that refusal is its output: it reads no input, and does not run out of memory.
+abbrev pub with_values : {Values : Type 0} → Result Values Refusal → (Values → Effect) → Effect
+with_values (Ok values) effect = effect values
+with_values (Err refusal) effect = record {
+  input = None;
+  Does = λ console. WritesRefusal console.output console.output_now refusal;
+  Starves = λ console. ⊥;
+  Reports = ⊥;
+}
+
+-- The run of a script: the maximum number of slots, the operations of the opening, and the input that has the script.
+pub record Script : Type 0 where
+  pub limit : ℕ
+  pub opening : List Op
+  pub input : InputName
+
+-- The effect of a command that runs a script. `pool` is the length of the pool that the opening requests, if any.
+abbrev pub script_run : Report → (pool : Option ℕ) → Script → Effect
+script_run report pool script =
+    reads script.input content.Script (ReportsRun report script.opening pool (initial_state script.limit))
+    (StarvesRun report script.opening (initial_state script.limit) script.input) ⊤
+
+-- The script of a machine with this pool.
+abbrev pub pool_script : (limit : ℕ) → Align → InputName → (numbers : ℕ × ℕ) → Script
+pool_script limit align input numbers = record { limit = limit; opening = plan_opening numbers.0 numbers.1 align; input = input }
+
+-- The effect of each command.
+abbrev pub effect_of : Terminals → Invocation → Effect
+effect_of terminals (Ask question) = record {
+  input = None;
+  Does = λ console. AnswersQuestion question terminals.errors console.output console.output_now console.errors console.errors_now;
+  Starves = λ console. ⊥;
+  Reports = IsTrue (has_hint terminals.errors question);
+}
+effect_of terminals (Run limit stats file) = script_run (report_of stats terminals) None (record { limit = limit; opening = []; input = file_input file })
+effect_of terminals (Plan limit pool align stats file) =
+    with_values (pool_of pool.base.now pool.length.now)
+    (λ numbers. script_run (report_of stats terminals) (Some numbers.1) (pool_script limit align (file_input file) numbers))
+effect_of terminals (Map limit pool align svg file) =
+    with_values (pool_of pool.base.now pool.length.now)
+    (λ numbers. reads (file_input file) content.Pool (DrawsRun svg (plan_opening numbers.0 numbers.1 align) (initial_state limit)) WritesNothing ⊥)
+effect_of terminals (Replay align strict texts file) =
+    with_values (replay_in align strict texts)
+    (λ found. reads (file_input file) (trace_content texts.output) (ReplaysTrace found.0 found.1.0 found.1.1)
+    (λ console. ¬ IsStreaming texts.output → WritesNothing console) ⊥)
+effect_of terminals (Decode input format texts file) =
+    with_values (listing_in input format texts)
+    (λ listing. reads (file_input file) content.Words (ListsWords listing.0 listing.1) (λ console. ⊥) (IsTrue terminals.errors))
+effect_of terminals (Annotate file) = reads (file_input file) content.Words AnnotatesWords (λ console. ⊥) ⊥
+effect_of terminals (RoundList text file) =
+    with_values (place_in text)
+    (λ base. reads (file_input (Some file)) content.Words (RoundsLengths text terminals.errors base) (λ console. ⊥) (IsTrue terminals.errors))
+
+-- The script of `run`, and of `plan` if BASE and LENGTH are an address and a length; other commands have none here.
+abbrev pub script_of : Invocation → Option Script
+script_of (Run limit stats file) = Some (record { limit = limit; opening = []; input = file_input file })
+script_of (Plan limit pool align stats file) = option_map (pool_script limit align (file_input file)) (result_ok (pool_of pool.base.now pool.length.now))
+script_of _ = None

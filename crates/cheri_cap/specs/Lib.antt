@@ -1,4 +1,3 @@
 -- In reading order.
-pub mod Input
 pub mod Execution
 pub mod Ending

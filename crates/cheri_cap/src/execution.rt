@@ -1,32 +1,29 @@
 //! Executes a command on given devices.
-ghost use Rattle.std.specs.Prelude.{◌≡◌, ◌↔◌, false, true, Err, IfSome, Option, List, OnErr, OnOk};
+ghost use Rattle.std.specs.Prelude.{◌≡◌, ◌↔◌, false, true, Err, IfSome, Option, List, OnErr};
 ghost use Rattle.clap.specs.Words.{Row, Text};
 ghost use Rattle.cli.specs.Invocation.{IsInvocation};
-ghost use Rattle.std.specs.Io.KnownBytes.{Appends};
 ghost use Rattle.cli.specs.Devices.{IsEnd, OnDevices, console_of};
 ghost use Rattle.cli.specs.Input.{IsFile};
-ghost use Rattle.cheri_cap.specs.Execution.{Executes, StarvesCommand};
-ghost use Rattle.cheri_cap.specs.Input.{IsHinted, IsReported, IsStreamed, IsUnasked, ReadsInput, RunsMachine, input_of, script_of, typed_hint};
-ghost use Rattle.cli_scripts.specs.Runs.{MeetsMain};
+ghost use Rattle.cheri_cap.specs.Execution.{IsUnasked, effect_of};
 
-use cli::{Fault, Inputs, Invocation};
 use cc_io::{Sink, Summary};
-use cli_scripts::{Report, RunMemory, Terminals, map_file, plan_file, run_file};
-use cli_words::{annotate_file, ask, decode_file, hint_on_file, round_file};
+use cli::{Fault, Inputs, Invocation};
 use cli_replay::{TraceMemory, replay_file};
+use cli_scripts::{Report, RunMemory, Terminals, map_file, plan_file, run_file};
+use cli_words::{annotate_file, ask, decode_file, round_file};
 
 /// Executes a command: reads its input, writes its output to `sink`, and reports a run on `errors`. If standard error
-/// is a terminal, hints are written there too: on the word of `show`, and on the numbers of `round`, its list and
-/// `explain --length`.
+/// is a terminal, each command writes its hints there too.
 ///
-/// BASE and LENGTH of `plan` and `map`, the numbers and names of `decode`, the base of `round` and the texts of `replay`
-/// are read first. If one is refused, the output is that refusal, and nothing is read. The machine or the heap is
-/// created next, and then the input is opened.
+/// BASE and LENGTH of `plan` and `map`, the numbers and names of `decode`, the base of `round` and the texts of
+/// `replay` are read first. If one is refused, the output is that refusal, and nothing is read. The machine or the heap
+/// is created next, and then the input is opened.
 ///
 /// Requires: no device has failed.
-/// Errors: `Memory`, `Open`, `Read` and `Write`, each if and only if an allocation, the opening of the command's input, a read
-/// of it, or the sink failed. Memory is allocated by commands that create a machine or a heap. Nothing is reported then. If the error is `Open`, or
-/// if it is `Memory` in `map` or in `replay` without `--each` and `--script`, nothing was written to `sink` either.
+/// Errors: `Memory`, `Open`, `Read` and `Write`, each if and only if an allocation, the opening of the command's input,
+/// a read of it, or the sink failed. Memory is allocated by commands that create a machine or a heap. Nothing is
+/// reported then. If the error is `Open`, or if it is `Memory` in `map` or in `replay` without `--each` and `--script`,
+/// nothing was written to `sink` either.
 pub fn execute<M: RunMemory + TraceMemory, I: Inputs, W: Sink, E: Sink>(
     memory: &mut M,
     invocation: Invocation<'_>,
@@ -43,32 +40,29 @@ pub fn execute<M: RunMemory + TraceMemory, I: Inputs, W: Sink, E: Sink>(
     requires inputs { I.has_refused inputs.old ≡ false }
     requires sink { (W.state sink.old).has_failed ≡ false }
     requires errors { (E.state errors.old).has_failed ≡ false }
-    // The command's bytes are written, and the summary says whether there is an error.
-    ensures executes { OnDevices (Executes invocation.entry terminals
-        (console_of (I.bytes_of inputs.old) (I.Opened.state source.new) (W.state sink.old) (W.state sink.new) (E.state errors.old) (E.state errors.new))) result }
-    ensures memory { result ≡ Err Fault.Memory → RunsMachine invocation.entry }
-    // Opening fails only for a FILE that is given and is not `-`.
-    ensures open { result ≡ Err Fault.Open → IfSome (input_of invocation.entry) (λ asked. IsFile asked.input) }
-    // Unless the last input that was requested is the command's, neither inputs nor source were
-    // used.
-    ensures asked { IsUnasked (input_of invocation.entry) (I.last_asked inputs.new) → (inputs.new ≡ inputs.old) × (source.new ≡ source.old) }
-    // A command without an input, or with refused arguments, uses neither inputs nor source.
-    ensures unused { ¬ ReadsInput invocation.entry → (inputs.new ≡ inputs.old) × (source.new ≡ source.old) }
-    // The main theorem, for `run` and `plan`.
-    ensures main { IfSome (script_of invocation.entry) (λ script. OnDevices (MeetsMain script.limit script.opening (I.bytes_of inputs.old script.input) (I.Opened.state source.new).unread (W.state sink.old).taken (W.state sink.new).taken) result) }
-    ensures allocates { (result ≡ Err Fault.Memory) ↔ (M.has_failed memory.new ≡ true) }
-    ensures unreported { OnErr result ((E.state errors.new).taken ≡ (E.state errors.old).taken) }
-    ensures end { IsEnd (I.has_refused inputs.new) (I.Opened.state source.new) (W.state sink.old) (W.state sink.new) result }
-    // At `Ok`, the hint on the argument of `show`, `round` or `explain` is written, if there is one
-    // and standard error does not fail.
-    ensures hinted { IsHinted invocation.entry → OnOk result ((E.state errors.new).has_failed ≡ false → Appends (E.state errors.old).taken (E.state errors.new).taken (typed_hint terminals.errors invocation.entry)) }
-    // Other commands than those that can report write nothing to standard error.
-    ensures silent { ¬ IsReported terminals invocation.entry → errors.new ≡ errors.old }
+    // The command's bytes are written, and the summary says whether there is an error. At `Ok`, so is
+    // the hint of `show`, `round` or `explain`, if there is one and standard error does not fail.
+    ensures executes { OnDevices ((effect_of terminals invocation.entry).Does
+        (console_of (I.bytes_of inputs.old) (I.Opened.state source.new) (W.state sink.old) (W.state sink.new)
+        (E.state errors.old) (E.state errors.new))) result }
     // If memory runs out in `run` or `plan`, nothing was written, or, with `--stats`, the whole
-    // output.
-    ensures stopped { result ≡ Err Fault.Memory → StarvesCommand invocation.entry terminals
-        (console_of (I.bytes_of inputs.old) (I.Opened.state source.new) (W.state sink.old) (W.state sink.new) (E.state errors.old) (E.state errors.new)) }
-    ensures starved { ¬ IsReported terminals invocation.entry → ¬ IsStreamed invocation.entry → result ≡ Err Fault.Memory → (W.state sink.new).taken ≡ (W.state sink.old).taken }
+    // output. Only a command that creates a machine or a heap runs out of memory.
+    ensures starved { result ≡ Err Fault.Memory → (effect_of terminals invocation.entry).Starves
+        (console_of (I.bytes_of inputs.old) (I.Opened.state source.new) (W.state sink.old) (W.state sink.new)
+        (E.state errors.old) (E.state errors.new)) }
+    ensures allocates { (result ≡ Err Fault.Memory) ↔ (M.has_failed memory.new ≡ true) }
+    // Opening fails only for a FILE that is given and is not `-`.
+    ensures open { result ≡ Err Fault.Open → IfSome (effect_of terminals invocation.entry).input
+        (λ asked. IsFile asked.input) }
+    // Unless the last input that was requested is the command's, neither inputs nor source were
+    // used. A command with refused arguments has no input.
+    ensures asked { IsUnasked (effect_of terminals invocation.entry).input (I.last_asked inputs.new)
+        → (inputs.new ≡ inputs.old) × (source.new ≡ source.old) }
+    ensures unreported { OnErr result ((E.state errors.new).taken ≡ (E.state errors.old).taken) }
+    // Other commands than those that can report write nothing to standard error.
+    ensures silent { ¬ (effect_of terminals invocation.entry).Reports → errors.new ≡ errors.old }
+    ensures end { IsEnd (I.has_refused inputs.new) (I.Opened.state source.new) (W.state sink.old) (W.state sink.new)
+        result }
 {
     match invocation {
         Invocation::Ask(question) => ask(question, terminals.errors, sink, errors),
@@ -107,11 +101,17 @@ pub fn execute<M: RunMemory + TraceMemory, I: Inputs, W: Sink, E: Sink>(
             texts,
             file,
         } => {
-            let result = decode_file(input, format, texts, inputs, source, file, sink);
-            if terminals.errors && result.is_ok() {
-                hint_on_file(inputs, invocation, errors);
-            }
-            result
+            decode_file(
+                input,
+                format,
+                texts,
+                terminals.errors,
+                inputs,
+                source,
+                file,
+                sink,
+                errors,
+            )
         }
         Invocation::Annotate { file } => annotate_file(inputs, source, file, sink),
         Invocation::RoundList { base, file } => {

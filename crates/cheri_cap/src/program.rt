@@ -6,21 +6,21 @@ ghost use Rattle.cli.specs.declared.outcome.Ending.TheVariants as ending;
 ghost use Rattle.cli.specs.declared.outcome.Ending.{Ending as EndingSpec};
 ghost use Rattle.cli.specs.declared.invocation.Invocation.{Invocation as InvocationSpec};
 ghost use Rattle.cheri_cap.specs.Ending.{AnswersEveryScript, ExecutesCommand, failures_of};
-ghost use Rattle.cheri_cap.specs.Input.{IsUnasked, ReadsInput, input_of};
+ghost use Rattle.cheri_cap.specs.Execution.{IsUnasked, effect_of};
 ghost use Rattle.cli.specs.Devices.{console_of};
 ghost use Rattle.cli.specs.Invocation.{IsInvocation, IsProgram, faults_of, is_taken};
 ghost use Rattle.cli.specs.Outcome.{EndsOn};
 
 use crate::execution::execute;
+use cc_io::{FromWriter, Sink};
+use clap::Error;
+use clap::error::ErrorKind;
 use cli::{
     Ending, ErrorWriter, Fault, GlobalMemory, Inputs, Invocation, Memory, ProcessInputs, ending_of,
     no_input, tell,
 };
-use cc_io::{FromWriter, Sink};
-use cli_scripts::{RunMemory, Terminals};
 use cli_replay::TraceMemory;
-use clap::Error;
-use clap::error::ErrorKind;
+use cli_scripts::{RunMemory, Terminals};
 use either::{Either, Left, Right};
 use std::alloc::AllocError;
 use std::env::{self, Env};
@@ -65,7 +65,8 @@ fn answer_strings<R: AllocGlobal + Files + Input + Print + Eprint>(
     }
 }
 
-/// Executes the arguments of a command line on the files and the standard streams of the process, and returns the program's end.
+/// Executes the arguments of a command line on the files and the standard streams of the process, and returns the
+/// program's end.
 fn answer_on_process<R: AllocGlobal + Files + Input + Print + Eprint>(
     rt: &R,
     terminals: Terminals,
@@ -93,7 +94,8 @@ fn answer_on_process<R: AllocGlobal + Files + Input + Print + Eprint>(
     }
 }
 
-/// Returns a writer of standard output. It has a buffer if the words name `--svg`, since a drawing is written in many small pieces.
+/// Returns a writer of standard output. It has a buffer if the words name `--svg`, since a drawing is written in many
+/// small pieces.
 fn output_of<'a, R: AllocGlobal + Print>(
     rt: &'a R,
     words: &[&str],
@@ -106,13 +108,14 @@ fn output_of<'a, R: AllocGlobal + Print>(
     Right(io::writer(rt))
 }
 
-/// Executes the arguments of a command line on these devices, and returns the program's end. The first argument is the program's name.
+/// Executes the arguments of a command line on these devices, and returns the program's end. The first argument is the
+/// program's name.
 ///
 /// Nothing but the devices is used.
 ///
 /// Requires: no device has failed.
-/// Errors: clap does not accept the arguments, help or the version is requested, or memory ran out before the command was known.
-/// Nothing is read or written then.
+/// Errors: clap does not accept the arguments, help or the version is requested, or memory ran out before the command
+/// was known. Nothing is read or written then.
 pub fn answer_words<M: RunMemory + TraceMemory, I: Inputs, W: Sink, E: Sink>(
     memory: &mut M,
     terminals: Terminals,
@@ -128,24 +131,35 @@ pub fn answer_words<M: RunMemory + TraceMemory, I: Inputs, W: Sink, E: Sink>(
     requires sink { (W.state sink.old).has_failed ≡ false }
     requires errors { (E.state errors.old).has_failed ≡ false }
     // A command line that is accepted ends as its command does on these devices.
-    ensures executes { IfOk result (λ end. (app : App) × IsProgram app × ExecutesCommand (subcommand_of app (texts words.now)) terminals
-        (console_of (I.bytes_of inputs.old) (I.Opened.state source.new) (W.state sink.old) (W.state sink.new) (E.state errors.old) (E.state errors.new))
-        (failures_of (I.has_refused inputs.new) (I.Opened.state source.new) (W.state sink.new) (M.has_failed memory.new) (I.last_asked inputs.new)) end) }
+    ensures executes { IfOk result (λ end. (app : App) × IsProgram app
+        × ExecutesCommand (subcommand_of app (texts words.now)) terminals
+        (console_of (I.bytes_of inputs.old) (I.Opened.state source.new) (W.state sink.old) (W.state sink.new)
+        (E.state errors.old) (E.state errors.new))
+        (failures_of (I.has_refused inputs.new) (I.Opened.state source.new) (W.state sink.new) (M.has_failed memory.new)
+        (I.last_asked inputs.new)) end) }
     // The main theorem of the program: from the arguments of `run` and `plan` to the bytes written
     // and the end. If a command line that is accepted has no result, memory ran out.
-    ensures runs_script { (app : App) × IsProgram app × MatchResult result (λ end. (invocation : InvocationSpec) × IsInvocation (subcommand_of app (texts words.now)) invocation × AnswersEveryScript invocation
-        (console_of (I.bytes_of inputs.old) (I.Opened.state source.new) (W.state sink.old) (W.state sink.new) (E.state errors.old) (E.state errors.new))
-        (failures_of (I.has_refused inputs.new) (I.Opened.state source.new) (W.state sink.new) (M.has_failed memory.new) (I.last_asked inputs.new)) end) (λ error. is_taken app (texts words.now) ≡ true → M.has_failed memory.new ≡ true) }
-    ensures asked { IfOk result (λ end. (app : App) × IsProgram app × (invocation : InvocationSpec) × IsInvocation (subcommand_of app (texts words.now)) invocation
-        × (IsUnasked (input_of invocation) (I.last_asked inputs.new) → (inputs.new ≡ inputs.old) × (source.new ≡ source.old))
-        × (¬ ReadsInput invocation → (inputs.new ≡ inputs.old) × (source.new ≡ source.old))) }
+    ensures runs_script { (app : App) × IsProgram app × MatchResult result
+        (λ end. (invocation : InvocationSpec) × IsInvocation (subcommand_of app (texts words.now)) invocation
+        × AnswersEveryScript invocation
+        (console_of (I.bytes_of inputs.old) (I.Opened.state source.new) (W.state sink.old) (W.state sink.new)
+        (E.state errors.old) (E.state errors.new))
+        (failures_of (I.has_refused inputs.new) (I.Opened.state source.new) (W.state sink.new) (M.has_failed memory.new)
+        (I.last_asked inputs.new)) end) (λ error. is_taken app (texts words.now) ≡ true
+        → M.has_failed memory.new ≡ true) }
+    ensures asked { IfOk result (λ end. (app : App) × IsProgram app × (invocation : InvocationSpec)
+        × IsInvocation (subcommand_of app (texts words.now)) invocation
+        × (IsUnasked (effect_of terminals invocation).input (I.last_asked inputs.new) → (inputs.new ≡ inputs.old)
+        × (source.new ≡ source.old))) }
     ensures accepted { IfOk result (λ end. end ≢ ending.Refused) }
     ensures kinds { (app : App) × IsProgram app × FailsBy (faults_of app (texts words.now)) result }
-    ensures refused { IfErr result (λ error. (app : App) × IsProgram app × (is_taken app (texts words.now) ≡ true → kind_of error ≡ ErrorKind.OutOfMemory)) }
+    ensures refused { IfErr result (λ error. (app : App) × IsProgram app
+        × (is_taken app (texts words.now) ≡ true → kind_of error ≡ ErrorKind.OutOfMemory)) }
     ensures no_output { OnErr result (sink.new ≡ sink.old) }
     ensures no_report { OnErr result (errors.new ≡ errors.old) }
     ensures no_input { OnErr result (inputs.new ≡ inputs.old) }
-    ensures allocates { IfErr result (λ error. (kind_of error ≡ ErrorKind.OutOfMemory) ↔ (M.has_failed memory.new ≡ true)) }
+    ensures allocates { IfErr result (λ error. (kind_of error ≡ ErrorKind.OutOfMemory)
+        ↔ (M.has_failed memory.new ≡ true)) }
     ensures unread { OnErr result (source.new ≡ source.old) }
 {
     match memory.read_words(words) {
@@ -175,11 +189,14 @@ fn answer_invocation<M: RunMemory + TraceMemory, I: Inputs, W: Sink, E: Sink>(
     requires sink { (W.state sink.old).has_failed ≡ false }
     requires errors { (E.state errors.old).has_failed ≡ false }
     ensures accepted { result ≢ ending.Refused }
-    ensures asked { IsUnasked (input_of invocation.entry) (I.last_asked inputs.new) → (inputs.new ≡ inputs.old) × (source.new ≡ source.old) }
-    ensures unused { ¬ ReadsInput invocation.entry → (inputs.new ≡ inputs.old) × (source.new ≡ source.old) }
-    ensures executes { (found : Option (Text × List Row)) → IsInvocation found invocation.entry → ExecutesCommand found terminals
-        (console_of (I.bytes_of inputs.old) (I.Opened.state source.new) (W.state sink.old) (W.state sink.new) (E.state errors.old) (E.state errors.new))
-        (failures_of (I.has_refused inputs.new) (I.Opened.state source.new) (W.state sink.new) (M.has_failed memory.new) (I.last_asked inputs.new)) result }
+    ensures asked { IsUnasked (effect_of terminals invocation.entry).input (I.last_asked inputs.new)
+        → (inputs.new ≡ inputs.old) × (source.new ≡ source.old) }
+    ensures executes { (found : Option (Text × List Row)) → IsInvocation found invocation.entry
+        → ExecutesCommand found terminals
+        (console_of (I.bytes_of inputs.old) (I.Opened.state source.new) (W.state sink.old) (W.state sink.new)
+        (E.state errors.old) (E.state errors.new))
+        (failures_of (I.has_refused inputs.new) (I.Opened.state source.new) (W.state sink.new) (M.has_failed memory.new)
+        (I.last_asked inputs.new)) result }
 {
     let result = execute(memory, invocation, terminals, inputs, source, sink, errors);
     ending_of(result)

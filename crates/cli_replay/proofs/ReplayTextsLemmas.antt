@@ -8,7 +8,7 @@ use Rattle.cc_word.specs.declared.refusal.Refusal.{Refusal}
 use Rattle.cc_word.specs.declared.refusal.Refusal.TheVariants.{Syntax}
 use Rattle.cc_bounds.specs.declared.align.Align.{Align}
 use Rattle.cc_bounds.specs.declared.span.Span.{Span}
-use Rattle.cc_command.specs.Request.{request_in}
+use Rattle.cc_syntax.specs.Request.{request_in}
 use Rattle.cc_values.specs.Values.{address_in, both}
 use Rattle.cc_heap.specs.declared.policy.Policy.{Policy}
 use Rattle.cc_formats.specs.declared.formats.TraceFormat.{TraceFormat}

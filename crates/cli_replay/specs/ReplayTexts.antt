@@ -9,7 +9,7 @@ use Rattle.cc_word.specs.declared.refusal.Refusal.TheVariants.{OutOfRange, Synta
 use Rattle.cc_bounds.specs.declared.align.Align.{Align}
 use Rattle.cc_bounds.specs.declared.span.Span.{Span}
 use Rattle.cc_values.specs.Values.{address_in, both}
-use Rattle.cc_command.specs.Request.{request_in}
+use Rattle.cc_syntax.specs.Request.{request_in}
 use Rattle.cc_replay.specs.PolicyText.{policy_in}
 use Rattle.cc_formats.specs.declared.formats.TraceFormat.{TraceFormat}
 use Rattle.cc_formats.specs.declared.formats.TraceFormat.TheVariants.{Own, Mtrace, Heaptrack, Ltrace}

@@ -7,11 +7,10 @@ ghost use Rattle.cli_replay.specs.ReplayTexts.{format_in, trace_format_named, in
     realloc_named, replay_in, span_given, span_in, sweep_given};
 
 use cc_bounds::{Align, Span};
-use cc_command::read_request;
-use cli::{ReplayOutput, ReplayTexts};
 use cc_replay::{Policy, Reading, Reallocation, Settings, Share, TraceFormat, read_policy};
-use cc_syntax::{both, read_address};
+use cc_syntax::{both, read_address, read_request};
 use cc_word::Refusal;
+use cli::{ReplayOutput, ReplayTexts};
 
 /// The maximum number of spans that a heap holds.
 const MOST_HELD: u32 = 1 << 24;

@@ -18,15 +18,14 @@ use crate::memory::TraceMemory;
 use crate::replay_texts::replay_of;
 use crate::scripting::script_input;
 use cc_bounds::Align;
-use cc_command::write_refusal;
+use cc_gaps::GapPlacer;
+use cc_io::{IoError, Sink, Source, Summary, write_refusal};
+use cc_placer::Placer;
+use cc_replay::{Format, Progress, Reading, Replay, Settings, write_sizes, write_summary};
 use cli::{
     Content, Discard, Fault, InputName, Inputs, ReplayOutput, ReplayTexts, SummaryFormat,
     file_input,
 };
-use cc_gaps::GapPlacer;
-use cc_io::{IoError, Sink, Source, Summary};
-use cc_placer::Placer;
-use cc_replay::{Format, Progress, Reading, Replay, Settings, write_sizes, write_summary};
 
 /// A table of the numbers of a replay.
 #[derive(Clone, Copy)]

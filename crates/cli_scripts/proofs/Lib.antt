@@ -1,2 +1,3 @@
+mod HintLemmas
 mod ReportLemmas
 mod RunLemmas

@@ -11,15 +11,15 @@ use Rattle.cc_bounds.specs.declared.align.Align.{Align}
 use Rattle.cc_values.specs.declared.op.Op.{Op}
 use Rattle.cc_machine.specs.State.{State, initial_state}
 use Rattle.cc_syntax.specs.Planning.{plan_opening, pool_of}
-use Rattle.cc_session.specs.declared.session.Session.{Session}
+use Rattle.cc_script.specs.declared.session.Session.{Session}
 use Rattle.cli.specs.declared.invocation.PoolTexts.{PoolTexts}
-use Rattle.cli.specs.Devices.{Console, FromInput, OnDevices, Traffic, traffic_of}
+use Rattle.cli.specs.Devices.{Console, FromInput, OnDevices, traffic_of}
 use Rattle.cli.specs.Input.{file_input}
 use Rattle.cc_io.specs.CommandOutput.{WritesRefusal}
 use Rattle.cli.specs.declared.fault.Fault.{Fault}
 use Rattle.cli.specs.declared.input.InputName.{InputName}
 use Rattle.cli.proofs.DeviceLemmas.{from_input, on_devices-map}
-use Rattle.cli_scripts.specs.Runs.{DrawsMap, DrawsPage, DrawsPool, DrawsRun, MapsFile, MeetsFrom, MeetsMain, ReportsRun, StarvesPlan, StarvesRun}
+use Rattle.cli_scripts.specs.Runs.{DrawsMap, DrawsPage, DrawsPool, DrawsRun, MapsFile, ReportsRun, StarvesPlan, StarvesRun}
 use Rattle.cli_scripts.specs.declared.report.Report.{Report}
 
 -- ---- drawings
@@ -84,23 +84,3 @@ runs_input report opening pool start new input console bytes_of source remaining
     (λ io holds. from_input input console (ReportsRun report opening pool new) bytes_of source remaining io same has told
     (subst (λ (state : State). ReportsRun report opening pool state (traffic_of console source) io) is holds))
     result runs
-
--- A run meets the main theorem.
-pub meets : (report : Report) (opening : List Op) (pool : Option ℕ) (start : State) (traffic : Traffic) (result : Result Summary Fault)
-    → OnDevices (ReportsRun report opening pool start traffic) result
-    → OnDevices (MeetsFrom opening start traffic.source.unread traffic.source_now.unread traffic.output.taken traffic.output_now.taken) result
-meets report opening pool start traffic result runs =
-    on_devices-map (ReportsRun report opening pool start traffic) (MeetsFrom opening start traffic.source.unread traffic.source_now.unread traffic.output.taken traffic.output_now.taken)
-    (λ io does. (does.session.machine, does.runs.main)) result runs
-
--- So does a run that read an input.
-pub meets_input : (opening : List Op) (start : State) (limit : ℕ) (bytes unread left output output_now : Option (List ℕ)) (result : Result Summary Fault)
-    → start ≡ initial_state limit → IfSome bytes (λ b. unread ≡ Some b) → OnDevices (MeetsFrom opening start unread left output output_now) result
-    → OnDevices (MeetsMain limit opening bytes left output output_now) result
-meets_input opening start limit bytes unread left output output_now result is told runs =
-    on_devices-map (MeetsFrom opening start unread left output output_now) (MeetsMain limit opening bytes left output output_now)
-    (λ io m. record {
-      unread = unread;
-      known = told;
-      meets = subst (λ (state : State). MeetsFrom opening state unread left output output_now io) is m;
-    }) result runs

@@ -15,10 +15,10 @@ use Rattle.cc_machine.specs.Planned.{plan_of}
 use Rattle.cc_draw.specs.Drawing.{IsDrawing}
 use Rattle.cc_draw.specs.Map.{IsMap}
 use Rattle.cc_syntax.specs.Planning.{plan_opening, pool_of}
-use Rattle.cc_session.specs.Main.{Main}
-use Rattle.cc_session.specs.Session.{RunsSession}
-use Rattle.cc_session.specs.declared.session.Session.{Session}
-use Rattle.cc_command.specs.Statistics.{statistics_text}
+use Rattle.cc_script.specs.Main.{Main}
+use Rattle.cc_script.specs.Session.{RunsSession}
+use Rattle.cc_script.specs.declared.session.Session.{Session}
+use Rattle.cli_scripts.specs.Statistics.{statistics_text}
 use Rattle.cc_syntax.specs.Tally.{Exchange, IsTally}
 use Rattle.cc_values.specs.declared.usage.Usage.{Usage}
 use Rattle.cli.specs.declared.invocation.PoolTexts.{PoolTexts}
@@ -35,9 +35,9 @@ MeetsFrom opening start unread left output output_now result =
     (end : State)
     × Main opening (record { machine = start; unread = unread; taken = output }) result (record { machine = end; unread = left; taken = output_now })
 
--- AnswersAll holds if the main theorem does of a run that came to its end: the whole output of the script was written.
-abbrev pub AnswersAll : (opening : List Op) (start : State) → Traffic → Type 0
-AnswersAll opening start traffic =
+-- CompletesRun holds if the main theorem does of a run that came to its end: the whole output of the script was written.
+abbrev pub CompletesRun : (opening : List Op) (start : State) → Traffic → Type 0
+CompletesRun opening start traffic =
     (summary : Summary) × MeetsFrom opening start traffic.source.unread traffic.source_now.unread traffic.output.taken traffic.output_now.taken (Ok summary)
 
 -- StarvesRun holds if memory ran out in a run before anything was written, or, if a summary is requested, after all was.
@@ -45,7 +45,7 @@ abbrev pub StarvesRun : Report → (opening : List Op) (start : State) → Input
 StarvesRun report opening start input console =
     (console.output_now.taken ≡ console.output.taken)
     ⊎ ((report.stats ≡ true) × (source : InputState) × IfSome (console.input input) (λ bytes. source.unread ≡ Some bytes)
-    × AnswersAll opening start (traffic_of console source))
+    × CompletesRun opening start (traffic_of console source))
 
 -- ReportsRun holds if a machine in the state `start` took the operations of `opening` and then the script, the bytes written are
 -- its replies, up to a failure, and a run that came to its end was reported.
@@ -56,13 +56,6 @@ pub record ReportsRun (report : Report) (opening : List Op) (pool : Option ℕ) 
       (record { machine = session.machine; unread = traffic.source_now.unread; taken = traffic.output_now.taken })
   pub reported : OnOk result (traffic.errors_now.has_failed ≡ false → (first : List Reply) (exchanges : List Exchange)
       → IsTally first exchanges session.tally → WritesReport report session first exchanges pool traffic.errors.taken traffic.errors_now.taken)
-
--- MeetsMain holds if the main theorem does of a run on a new machine that read this input, if its bytes are known, up to the bytes
--- `left`, and wrote to this output.
-pub record MeetsMain (limit : ℕ) (opening : List Op) (input left output output_now : Option (List ℕ)) (result : Result Summary IoError) : Type 0 where
-  pub unread : Option (List ℕ)
-  pub known : IfSome input (λ bytes. unread ≡ Some bytes)
-  pub meets : MeetsFrom opening (initial_state limit) unread left output output_now result
 
 -- DrawsMap holds if the map of the machine's pool was written, and then the summary of the run: what the machine uses, and the
 -- tally of the replies.

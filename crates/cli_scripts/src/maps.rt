@@ -9,22 +9,22 @@ ghost use Rattle.cli.specs.Input.{IsFile, file_input};
 ghost use Rattle.cli_scripts.specs.Runs.{DrawsRun, MapsFile};
 
 use crate::memory::RunMemory;
+use crate::statistics::show_statistics;
 use cc_bounds::Align;
-use cc_command::{show_statistics, write_refusal};
-use cli::{Content, Discard, Fault, InputName, Inputs, PoolTexts, file_input};
 use cc_draw::{show_drawing, show_map};
-use cc_io::{Sink, Source, Summary, Pending};
+use cc_io::{Pending, Sink, Source, Summary, write_refusal};
 use cc_machine::Op;
-use cc_session::{Session, run_session};
+use cc_script::{Session, run_session};
 use cc_syntax::{plan_numbers, plan_opening};
+use cli::{Content, Discard, Fault, InputName, Inputs, PoolTexts, file_input};
 
-/// Runs the script that FILE names on a new machine with a pool, without writing the replies, and draws the pool: as an SVG
-/// document, or as a map with the summary of the run. BASE and LENGTH are read first. If one is refused, the output is that refusal,
-/// and nothing is read.
+/// Runs the script that FILE names on a new machine with a pool, without writing the replies, and draws the pool: as an
+/// SVG document, or as a map with the summary of the run. BASE and LENGTH are read first. If one is refused, the output
+/// is that refusal, and nothing is read.
 ///
 /// Requires: `limit` is from 1 to 65,536, and the sink has not failed.
-/// Errors: `Memory` if an allocation fails; `Open` if the input cannot be opened; `Read` if a read fails; `Write` if and only if the
-/// sink failed. Nothing was written if the error is `Memory` or `Open`.
+/// Errors: `Memory` if an allocation fails; `Open` if the input cannot be opened; `Read` if a read fails; `Write` if
+/// and only if the sink failed. Nothing was written if the error is `Memory` or `Open`.
 pub fn map_file<M: RunMemory, I: Inputs, W: Sink>(
     memory: &mut M,
     limit: u32,
@@ -42,15 +42,19 @@ pub fn map_file<M: RunMemory, I: Inputs, W: Sink>(
     requires source { (I.Opened.state source.old).has_failed ≡ false }
     requires inputs { I.has_refused inputs.old ≡ false }
     requires sink { (W.state sink.old).has_failed ≡ false }
-    ensures executes { OnOutput (I.bytes_of inputs.old) (I.Opened.state source.new) (W.state sink.old) (W.state sink.new)
+    ensures executes { OnOutput (I.bytes_of inputs.old) (I.Opened.state source.new) (W.state sink.old)
+        (W.state sink.new)
         (MapsFile limit pool.entry align svg file.entry) result }
     ensures memory { result ≡ Err Fault.Memory → IsOk (pool_of pool.entry.base.now pool.entry.length.now) }
     ensures open { result ≡ Err Fault.Open → IsFile (file_input file.entry) }
     ensures starved { result ≡ Err Fault.Memory → (W.state sink.new).taken ≡ (W.state sink.old).taken }
-    ensures asked { I.last_asked inputs.new (file_input file.entry) Content.Pool ≡ false → (inputs.new ≡ inputs.old) × (source.new ≡ source.old) }
-    ensures unused { ¬ IsOk (pool_of pool.entry.base.now pool.entry.length.now) → (inputs.new ≡ inputs.old) × (source.new ≡ source.old) }
+    ensures asked { I.last_asked inputs.new (file_input file.entry) Content.Pool ≡ false → (inputs.new ≡ inputs.old)
+        × (source.new ≡ source.old) }
+    ensures unused { ¬ IsOk (pool_of pool.entry.base.now pool.entry.length.now) → (inputs.new ≡ inputs.old)
+        × (source.new ≡ source.old) }
     ensures allocates { (result ≡ Err Fault.Memory) ↔ (M.has_failed memory.new ≡ true) }
-    ensures end { IsEnd (I.has_refused inputs.new) (I.Opened.state source.new) (W.state sink.old) (W.state sink.new) result }
+    ensures end { IsEnd (I.has_refused inputs.new) (I.Opened.state source.new) (W.state sink.old) (W.state sink.new)
+        result }
 {
     match plan_numbers(pool.base.as_bytes(), pool.length.as_bytes()) {
         Ok((base, length)) => {
@@ -93,17 +97,19 @@ fn draw<M: RunMemory, I: Inputs, W: Sink>(
         (λ console. FromInput input.entry console (DrawsRun svg opening.now (initial_state limit))) result }
     ensures open { result ≡ Err Fault.Open → IsFile input.entry }
     ensures starved { result ≡ Err Fault.Memory → (W.state sink.new).taken ≡ (W.state sink.old).taken }
-    ensures asked { I.last_asked inputs.new input.entry Content.Pool ≡ false → (inputs.new ≡ inputs.old) × (source.new ≡ source.old) }
+    ensures asked { I.last_asked inputs.new input.entry Content.Pool ≡ false → (inputs.new ≡ inputs.old)
+        × (source.new ≡ source.old) }
     ensures allocates { (result ≡ Err Fault.Memory) ↔ (M.has_failed memory.new ≡ true) }
-    ensures end { IsEnd (I.has_refused inputs.new) (I.Opened.state source.new) (W.state sink.old) (W.state sink.new) result }
+    ensures end { IsEnd (I.has_refused inputs.new) (I.Opened.state source.new) (W.state sink.old) (W.state sink.new)
+        result }
 {
     let mut session = memory.session(limit)?;
     inputs.open(input, Content::Pool, source)?;
     draw_end(memory, opening, svg, &mut session, source, sink)
 }
 
-/// Runs a script without writing the replies, and draws the pool if the script came to its end: an SVG document, or a map
-/// and the summary of the run.
+/// Runs a script without writing the replies, and draws the pool if the script came to its end: an SVG document, or a
+/// map and the summary of the run.
 fn draw_end<M: RunMemory, S: Source, W: Sink>(
     memory: &mut M,
     opening: &[Op],
@@ -117,7 +123,8 @@ fn draw_end<M: RunMemory, S: Source, W: Sink>(
     requires source { (S.state source.old).has_failed ≡ false }
     requires sink { (W.state sink.old).has_failed ≡ false }
     ensures draws { (errors errors_now : OutputState) → OnDevices (DrawsRun svg opening.now session.old.machine
-        (traffic_on (S.state source.old) (S.state source.new) (W.state sink.old) (W.state sink.new) errors errors_now)) result }
+        (traffic_on (S.state source.old) (S.state source.new) (W.state sink.old) (W.state sink.new) errors errors_now))
+        result }
     ensures open { result ≢ Err Fault.Open }
     ensures starved { result ≡ Err Fault.Memory → (W.state sink.new).taken ≡ (W.state sink.old).taken }
     ensures read { (result ≡ Err Fault.Read) ↔ ((S.state source.new).has_failed ≡ true) }

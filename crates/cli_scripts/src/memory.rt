@@ -6,10 +6,10 @@ ghost use Rattle.cli_scripts.specs.Report.{IsMachineUsage};
 
 use crate::report::machine_usage;
 use crate::session::new_session;
-use cli::{GlobalMemory, Memory};
 use cc_machine::Machine;
-use cc_session::Session;
+use cc_script::Session;
 use cc_values::Usage;
+use cli::{GlobalMemory, Memory};
 use std::alloc::AllocError;
 
 /// The memory for the machine of a script, and for the summary of its run.

@@ -5,12 +5,13 @@ ghost use Rattle.cc_values.specs.declared.reply.Reply.{Reply};
 ghost use Rattle.cc_syntax.specs.Tally.{Exchange, IsTally};
 ghost use Rattle.cli_scripts.specs.Report.{IsMachineUsage, WritesReport, report_of};
 
+use crate::hints::{Hints, show_hints};
 use crate::memory::RunMemory;
-use cc_command::{Hints, show_hints, show_statistics};
+use crate::statistics::show_statistics;
 use cc_draw::usage_of;
 use cc_io::Sink;
 use cc_machine::{Len, Machine};
-use cc_session::Session;
+use cc_script::Session;
 use cc_values::Usage;
 use std::alloc::{AllocError, Global};
 
@@ -57,7 +58,9 @@ pub fn write_report<M: RunMemory, E: Sink>(
 ) -> Result<(), AllocError>
     requires memory { M.has_failed memory.old ≡ false }
     requires errors { (E.state errors.old).has_failed ≡ false }
-    ensures written { OnOk result ((E.state errors.new).has_failed ≡ false → (opening : List Reply) (exchanges : List Exchange) → IsTally opening exchanges session.now.tally → WritesReport report session.now opening exchanges pool (E.state errors.old).taken (E.state errors.new).taken) }
+    ensures written { OnOk result ((E.state errors.new).has_failed ≡ false
+        → (opening : List Reply) (exchanges : List Exchange) → IsTally opening exchanges session.now.tally
+        → WritesReport report session.now opening exchanges pool (E.state errors.old).taken (E.state errors.new).taken) }
     ensures unwritten { OnErr result ((E.state errors.new).taken ≡ (E.state errors.old).taken) }
     ensures allocates { IsErr result ↔ (M.has_failed memory.new ≡ true) }
     ensures wanted { OnErr result (report.stats ≡ true) }

@@ -5,24 +5,23 @@ ghost use Rattle.cc_syntax.specs.Planning.{plan_opening, pool_of};
 ghost use Rattle.cc_syntax.specs.Tally.{IsTally};
 ghost use Rattle.cli.specs.Devices.{FromInput, IsEnd, OnDevices, console_of, traffic_on};
 ghost use Rattle.cli.specs.Input.{IsFile, file_input};
-ghost use Rattle.cli_scripts.specs.Runs.{AnswersAll, MeetsFrom, MeetsMain, PlansFile, ReportsRun, StarvesPlan, StarvesRun};
+ghost use Rattle.cli_scripts.specs.Runs.{CompletesRun, PlansFile, ReportsRun, StarvesPlan, StarvesRun};
 
 use crate::memory::RunMemory;
 use crate::report::{Report, write_report};
 use cc_bounds::Align;
-use cc_command::write_refusal;
-use cli::{Content, Fault, InputName, Inputs, PoolTexts, file_input};
-use cc_io::{Sink, Source, Summary, Pending};
+use cc_io::{Pending, Sink, Source, Summary, write_refusal};
 use cc_machine::{Len, Op};
-use cc_session::{Session, run_session};
+use cc_script::{Session, run_session};
 use cc_syntax::{plan_numbers, plan_opening};
+use cli::{Content, Fault, InputName, Inputs, PoolTexts, file_input};
 
-/// Runs the script that FILE names on a new machine with at most `limit` slots and objects: writes the replies to `sink`, and the
-/// report of a run that came to its end to `errors`.
+/// Runs the script that FILE names on a new machine with at most `limit` slots and objects: writes the replies to
+/// `sink`, and the report of a run that came to its end to `errors`.
 ///
 /// Requires: `limit` is from 1 to 65,536, and no device has failed.
-/// Errors: `Memory` if an allocation fails; `Open` if the input cannot be opened, and nothing was written then; `Read` if a read
-/// fails; `Write` if and only if the sink failed. Nothing is reported then.
+/// Errors: `Memory` if an allocation fails; `Open` if the input cannot be opened, and nothing was written then; `Read`
+/// if a read fails; `Write` if and only if the sink failed. Nothing is reported then.
 pub fn run_file<M: RunMemory, I: Inputs, W: Sink, E: Sink>(
     memory: &mut M,
     limit: u32,
@@ -41,14 +40,17 @@ pub fn run_file<M: RunMemory, I: Inputs, W: Sink, E: Sink>(
     requires sink { (W.state sink.old).has_failed ≡ false }
     requires errors { (E.state errors.old).has_failed ≡ false }
     ensures executes { OnDevices (FromInput (file_input file.entry)
-        (console_of (I.bytes_of inputs.old) (I.Opened.state source.new) (W.state sink.old) (W.state sink.new) (E.state errors.old) (E.state errors.new)) (ReportsRun report [] None (initial_state limit))) result }
+        (console_of (I.bytes_of inputs.old) (I.Opened.state source.new) (W.state sink.old) (W.state sink.new)
+        (E.state errors.old) (E.state errors.new)) (ReportsRun report [] None (initial_state limit))) result }
     ensures open { result ≡ Err Fault.Open → IsFile (file_input file.entry) }
-    ensures asked { I.last_asked inputs.new (file_input file.entry) Content.Script ≡ false → (inputs.new ≡ inputs.old) × (source.new ≡ source.old) }
+    ensures asked { I.last_asked inputs.new (file_input file.entry) Content.Script ≡ false → (inputs.new ≡ inputs.old)
+        × (source.new ≡ source.old) }
     ensures allocates { (result ≡ Err Fault.Memory) ↔ (M.has_failed memory.new ≡ true) }
     ensures starved { result ≡ Err Fault.Memory → StarvesRun report [] (initial_state limit) (file_input file.entry)
-        (console_of (I.bytes_of inputs.old) (I.Opened.state source.new) (W.state sink.old) (W.state sink.new) (E.state errors.old) (E.state errors.new)) }
-    ensures main { OnDevices (MeetsMain limit [] (I.bytes_of inputs.old (file_input file.entry)) (I.Opened.state source.new).unread (W.state sink.old).taken (W.state sink.new).taken) result }
-    ensures end { IsEnd (I.has_refused inputs.new) (I.Opened.state source.new) (W.state sink.old) (W.state sink.new) result }
+        (console_of (I.bytes_of inputs.old) (I.Opened.state source.new) (W.state sink.old) (W.state sink.new)
+        (E.state errors.old) (E.state errors.new)) }
+    ensures end { IsEnd (I.has_refused inputs.new) (I.Opened.state source.new) (W.state sink.old) (W.state sink.new)
+        result }
     ensures unreported { OnErr result ((E.state errors.new).taken ≡ (E.state errors.old).taken) }
 {
     let input = file_input(file);
@@ -66,8 +68,8 @@ pub fn run_file<M: RunMemory, I: Inputs, W: Sink, E: Sink>(
     )
 }
 
-/// Runs the script that FILE names as [`run_file`] does, on a new machine with a pool. BASE and LENGTH are read first. If one is
-/// refused, the output is that refusal, and nothing is read.
+/// Runs the script that FILE names as [`run_file`] does, on a new machine with a pool. BASE and LENGTH are read first.
+/// If one is refused, the output is that refusal, and nothing is read.
 ///
 /// Requires: `limit` is from 1 to 65,536, and no device has failed.
 /// Errors: those of [`run_file`].
@@ -91,16 +93,19 @@ pub fn plan_file<M: RunMemory, I: Inputs, W: Sink, E: Sink>(
     requires sink { (W.state sink.old).has_failed ≡ false }
     requires errors { (E.state errors.old).has_failed ≡ false }
     ensures executes { OnDevices (PlansFile report limit pool.entry align file.entry
-        (console_of (I.bytes_of inputs.old) (I.Opened.state source.new) (W.state sink.old) (W.state sink.new) (E.state errors.old) (E.state errors.new))) result }
-    ensures memory { result ≡ Err Fault.Memory → IsOk (pool_of pool.entry.base.now pool.entry.length.now) }
+        (console_of (I.bytes_of inputs.old) (I.Opened.state source.new) (W.state sink.old) (W.state sink.new)
+        (E.state errors.old) (E.state errors.new))) result }
     ensures open { result ≡ Err Fault.Open → IsFile (file_input file.entry) }
-    ensures asked { I.last_asked inputs.new (file_input file.entry) Content.Script ≡ false → (inputs.new ≡ inputs.old) × (source.new ≡ source.old) }
-    ensures unused { ¬ IsOk (pool_of pool.entry.base.now pool.entry.length.now) → (inputs.new ≡ inputs.old) × (source.new ≡ source.old) }
+    ensures asked { I.last_asked inputs.new (file_input file.entry) Content.Script ≡ false → (inputs.new ≡ inputs.old)
+        × (source.new ≡ source.old) }
+    ensures unused { ¬ IsOk (pool_of pool.entry.base.now pool.entry.length.now) → (inputs.new ≡ inputs.old)
+        × (source.new ≡ source.old) }
     ensures allocates { (result ≡ Err Fault.Memory) ↔ (M.has_failed memory.new ≡ true) }
     ensures starved { result ≡ Err Fault.Memory → StarvesPlan report limit pool.entry align file.entry
-        (console_of (I.bytes_of inputs.old) (I.Opened.state source.new) (W.state sink.old) (W.state sink.new) (E.state errors.old) (E.state errors.new)) }
-    ensures main { IfOk (pool_of pool.entry.base.now pool.entry.length.now) (λ numbers. OnDevices (MeetsMain limit (plan_opening numbers.0 numbers.1 align) (I.bytes_of inputs.old (file_input file.entry)) (I.Opened.state source.new).unread (W.state sink.old).taken (W.state sink.new).taken) result) }
-    ensures end { IsEnd (I.has_refused inputs.new) (I.Opened.state source.new) (W.state sink.old) (W.state sink.new) result }
+        (console_of (I.bytes_of inputs.old) (I.Opened.state source.new) (W.state sink.old) (W.state sink.new)
+        (E.state errors.old) (E.state errors.new)) }
+    ensures end { IsEnd (I.has_refused inputs.new) (I.Opened.state source.new) (W.state sink.old) (W.state sink.new)
+        result }
     ensures unreported { OnErr result ((E.state errors.new).taken ≡ (E.state errors.old).taken) }
     ensures silent { ¬ IsOk (pool_of pool.entry.base.now pool.entry.length.now) → errors.new ≡ errors.old }
 {
@@ -147,14 +152,18 @@ fn run<M: RunMemory, I: Inputs, W: Sink, E: Sink>(
     requires sink { (W.state sink.old).has_failed ≡ false }
     requires errors { (E.state errors.old).has_failed ≡ false }
     ensures runs { OnDevices (FromInput input.entry
-        (console_of (I.bytes_of inputs.old) (I.Opened.state source.new) (W.state sink.old) (W.state sink.new) (E.state errors.old) (E.state errors.new)) (ReportsRun report opening.now pool (initial_state limit))) result }
+        (console_of (I.bytes_of inputs.old) (I.Opened.state source.new) (W.state sink.old) (W.state sink.new)
+        (E.state errors.old) (E.state errors.new)) (ReportsRun report opening.now pool (initial_state limit)))
+        result }
     ensures open { result ≡ Err Fault.Open → IsFile input.entry }
-    ensures asked { I.last_asked inputs.new input.entry Content.Script ≡ false → (inputs.new ≡ inputs.old) × (source.new ≡ source.old) }
+    ensures asked { I.last_asked inputs.new input.entry Content.Script ≡ false → (inputs.new ≡ inputs.old)
+        × (source.new ≡ source.old) }
     ensures allocates { (result ≡ Err Fault.Memory) ↔ (M.has_failed memory.new ≡ true) }
     ensures starved { result ≡ Err Fault.Memory → StarvesRun report opening.now (initial_state limit) input.entry
-        (console_of (I.bytes_of inputs.old) (I.Opened.state source.new) (W.state sink.old) (W.state sink.new) (E.state errors.old) (E.state errors.new)) }
-    ensures main { OnDevices (MeetsMain limit opening.now (I.bytes_of inputs.old input.entry) (I.Opened.state source.new).unread (W.state sink.old).taken (W.state sink.new).taken) result }
-    ensures end { IsEnd (I.has_refused inputs.new) (I.Opened.state source.new) (W.state sink.old) (W.state sink.new) result }
+        (console_of (I.bytes_of inputs.old) (I.Opened.state source.new) (W.state sink.old) (W.state sink.new)
+        (E.state errors.old) (E.state errors.new)) }
+    ensures end { IsEnd (I.has_refused inputs.new) (I.Opened.state source.new) (W.state sink.old) (W.state sink.new)
+        result }
     ensures unreported { OnErr result ((E.state errors.new).taken ≡ (E.state errors.old).taken) }
 {
     let mut session = memory.session(limit)?;
@@ -188,14 +197,15 @@ fn run_and_report<M: RunMemory, S: Source, W: Sink, E: Sink>(
     requires sink { (W.state sink.old).has_failed ≡ false }
     requires errors { (E.state errors.old).has_failed ≡ false }
     ensures runs { OnDevices (ReportsRun report opening.now pool session.old.machine
-        (traffic_on (S.state source.old) (S.state source.new) (W.state sink.old) (W.state sink.new) (E.state errors.old) (E.state errors.new))) result }
+        (traffic_on (S.state source.old) (S.state source.new) (W.state sink.old) (W.state sink.new) (E.state errors.old)
+        (E.state errors.new))) result }
     ensures open { result ≢ Err Fault.Open }
     ensures read { (result ≡ Err Fault.Read) ↔ ((S.state source.new).has_failed ≡ true) }
     ensures allocates { (result ≡ Err Fault.Memory) ↔ (M.has_failed memory.new ≡ true) }
     ensures write { (result ≡ Err Fault.Write) ↔ ((W.state sink.new).has_failed ≡ true) }
-    ensures starved { result ≡ Err Fault.Memory → (report.stats ≡ true) × AnswersAll opening.now session.old.machine
-        (traffic_on (S.state source.old) (S.state source.new) (W.state sink.old) (W.state sink.new) (E.state errors.old) (E.state errors.new)) }
-    ensures main { OnDevices (MeetsFrom opening.now session.old.machine (S.state source.old).unread (S.state source.new).unread (W.state sink.old).taken (W.state sink.new).taken) result }
+    ensures starved { result ≡ Err Fault.Memory → (report.stats ≡ true) × CompletesRun opening.now session.old.machine
+        (traffic_on (S.state source.old) (S.state source.new) (W.state sink.old) (W.state sink.new) (E.state errors.old)
+        (E.state errors.new)) }
     ensures flushed { OnOk result ((W.state sink.new).is_flushed ≡ true) }
     ensures unreported { OnErr result ((E.state errors.new).taken ≡ (E.state errors.old).taken) }
 {

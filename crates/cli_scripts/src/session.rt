@@ -4,7 +4,7 @@ ghost use Rattle.cc_machine.specs.State.{initial_state};
 ghost use Rattle.cc_syntax.specs.Tally.{IsTally};
 
 use cc_machine::Machine;
-use cc_session::Session;
+use cc_script::Session;
 use std::alloc::{AllocError, Global};
 
 /// Creates the session of a new machine with at most `limit` slots and objects.

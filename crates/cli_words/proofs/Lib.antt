@@ -1,2 +1,3 @@
 mod ListingLemmas
 mod TaskLemmas
+mod RoundListLemmas

@@ -1,6 +1,6 @@
 -- The output of `decode`, from that of its listing, and of `round`, from that for its base.
 use Rattle.std.proofs.Common.{◌≡◌, ℕ, Bool, false, ◌&&◌, ◌||◌, [], Option, Result, Ok, Err, MatchResult, subst, sym}
-use Rattle.std.specs.Prelude.{OnOk, is_err, true}
+use Rattle.std.specs.Prelude.{OnErr, OnOk, is_err, true}
 use Rattle.std.proofs.lemmas.Bool.{false≢true}
 use Rattle.std.specs.List.{list_any}
 use Rattle.std.specs.Io.KnownBytes.{Appends}
@@ -18,7 +18,7 @@ use Rattle.cli.specs.Devices.{Console, FromInput, OnDevices}
 use Rattle.cli.specs.Input.{file_input}
 use Rattle.cli_words.specs.Listing.{listing_in, place_in}
 use Rattle.cc_io.specs.CommandOutput.{WritesRefusal}
-use Rattle.cc_command.specs.BareDigits.{is_bare}
+use Rattle.cli_words.specs.BareDigits.{is_bare}
 use Rattle.cli_words.specs.NumberHint.{after_base, hint_if}
 use Rattle.cli_words.specs.Tasks.{ListsWords, RoundsLengths, SeesLengths, WithBase, WithListing}
 use Rattle.cli.specs.declared.fault.Fault.{Fault}
@@ -76,3 +76,12 @@ hinted_too text hints bare place input console (Err fault.Open) hinted f = tt
 pub no_hint : (Hinted : Type 0) (result : Result Summary Fault) → is_err result ≡ true → OnOk result Hinted
 no_hint Hinted (Ok summary) failed = absurd (false≢true failed)
 no_hint Hinted (Err fault) failed = tt
+
+-- A claim that holds in any case holds at `Ok` and at an error.
+pub on_ok : (result : Result Summary IoError) (P : Type 0) → P → OnOk result P
+on_ok (Ok summary) P holds = holds
+on_ok (Err error) P holds = tt
+
+pub on_err : (result : Result Summary IoError) (P : Type 0) → P → OnErr result P
+on_err (Ok summary) P holds = tt
+on_err (Err error) P holds = holds

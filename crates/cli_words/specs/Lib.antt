@@ -1,5 +1,10 @@
 -- In reading order.
 pub mod Listing
+pub mod BareDigits
+pub mod Rounding
+pub mod Rounder
+pub mod RoundList
+pub mod LengthExplanation
 pub mod NumberHint
 pub mod WordHint
 pub mod Questions

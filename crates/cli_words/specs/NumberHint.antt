@@ -3,7 +3,7 @@ use Rattle.std.specs.Prelude.{ℕ, Bool, ◌&&◌, List, [], ◌∷◌, Option, 
 use Rattle.std.specs.Borrow.{Bor}
 use Rattle.std.specs.List.{list_any}
 use Rattle.clap.specs.Words.{Text}
-use Rattle.cc_command.specs.BareDigits.{is_bare}
+use Rattle.cli_words.specs.BareDigits.{is_bare}
 
 -- The numbers of a command: the base, if one is given, and then these.
 abbrev pub after_base : (base : Option (Bor Text)) (numbers : List (List ℕ)) → List (List ℕ)

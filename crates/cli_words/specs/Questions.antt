@@ -7,8 +7,9 @@ use Rattle.cc_explain.specs.LineAnswer.{IsLineAnswer}
 use Rattle.cc_io.specs.CommandOutput.{IsTypedWord}
 use Rattle.cc_explain.specs.Listing.{IsListing}
 use Rattle.cc_explain.specs.WindowDrawing.{IsWindowDrawing}
-use Rattle.cc_command.specs.Request.{IsLengthExplanation, request_in}
-use Rattle.cc_command.specs.Rounding.{IsRounding, IsRoundingAfter, IsUnroundableAfter}
+use Rattle.cc_syntax.specs.Request.{request_in}
+use Rattle.cli_words.specs.LengthExplanation.{IsLengthExplanation}
+use Rattle.cli_words.specs.Rounding.{IsRounding, IsRoundingAfter, IsUnroundableAfter}
 use Rattle.cli.specs.declared.question.Question.{Question}
 use Rattle.cli.specs.declared.question.Question.TheVariants.{DrawWindow, Explain, ExplainLength, Round, Show}
 use Rattle.cli_words.specs.NumberHint.{after_base, is_hinted, number_hint}
@@ -35,18 +36,17 @@ IsUnanswerable (Explain word) = ¬ IsTypedWord word.now
 IsUnanswerable (DrawWindow word) = ¬ IsTypedWord word.now
 IsUnanswerable (ExplainLength base size) = IsErr (request_in base.now size.now)
 
--- The numbers of a question, as they were typed.
-abbrev pub numbers_of : Question → List (List ℕ)
-numbers_of (Round base size) = after_base base (size.now ∷ [])
-numbers_of (ExplainLength base size) = base.now ∷ size.now ∷ []
-numbers_of question = []
-
--- Whether there is a hint on a question: for `show` without `--line` on a word after `0x`, and otherwise on its numbers.
+-- Whether there is a hint on a question: for `show` without `--line` on a word after `0x`, and for `round` and `explain --length` on
+-- the numbers.
 abbrev pub has_hint : (hints : Bool) → Question → Bool
 has_hint hints (Show word as_line) = is_word_hinted (hints && not as_line) word.now
-has_hint hints question = is_hinted hints (numbers_of question)
+has_hint hints (Round base size) = is_hinted hints (after_base base (size.now ∷ []))
+has_hint hints (ExplainLength base size) = is_hinted hints (base.now ∷ size.now ∷ [])
+has_hint hints _ = false
 
 -- This hint, or nothing if there is none.
 abbrev pub question_hint : (hints : Bool) → Question → List ℕ
 question_hint hints (Show word as_line) = word_hint (hints && not as_line) word.now
-question_hint hints question = number_hint hints (numbers_of question)
+question_hint hints (Round base size) = number_hint hints (after_base base (size.now ∷ []))
+question_hint hints (ExplainLength base size) = number_hint hints (base.now ∷ size.now ∷ [])
+question_hint hints _ = []

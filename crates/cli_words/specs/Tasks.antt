@@ -8,8 +8,8 @@ use Rattle.cc_io.specs.Devices.{OutputState}
 use Rattle.cc_io.specs.declared.summary.IoError.{IoError}
 use Rattle.cc_io.specs.declared.summary.Summary.{Summary}
 use Rattle.cc_io.specs.CommandOutput.{WritesAnswer}
-use Rattle.cc_command.specs.BareDigits.{is_bare}
-use Rattle.cc_command.specs.RoundList.{RoundsList}
+use Rattle.cli_words.specs.BareDigits.{is_bare}
+use Rattle.cli_words.specs.RoundList.{RoundsList}
 use Rattle.cc_decode.specs.declared.options.Options.{Options}
 use Rattle.cc_decode.specs.Annotate.{AnnotatesGiven}
 use Rattle.cc_decode.specs.Correct.{Lists}
@@ -21,13 +21,14 @@ use Rattle.cli.specs.Devices.{Console, Traffic}
 use Rattle.cc_io.specs.CommandOutput.{WritesRefusal}
 use Rattle.cli_words.specs.Listing.{listing_in, place_in}
 use Rattle.cli_words.specs.NumberHint.{after_base, hint_if}
-use Rattle.cli_words.specs.Questions.{IsAnswerTo, IsUnanswerable}
+use Rattle.cli_words.specs.Questions.{IsAnswerTo, IsUnanswerable, question_hint}
 
 -- AnswersQuestion holds if the output for the question was written, or a prefix of it if a write failed. The summary says
--- whether it is an error.
-pub record AnswersQuestion (question : Question) (output output_now : OutputState) (result : Result Summary IoError) : Type 0 where
+-- whether it is an error. After an output at `Ok`, the hint on the question was written, if there is one.
+pub record AnswersQuestion (question : Question) (hints : Bool) (output output_now errors errors_now : OutputState) (result : Result Summary IoError) : Type 0 where
   pub written : WritesAnswer (IsAnswerTo question) output output_now result
   pub error_is : IfOk result (λ summary. IsTrue summary.any_error ↔ IsUnanswerable question)
+  pub hinted : OnOk result (errors_now.has_failed ≡ false → Appends errors.taken errors_now.taken (question_hint hints question))
 
 -- ListsWords holds if the rows of the words that the input gave after the skipped bytes were written, up to a failure.
 abbrev pub ListsWords : (skipped : ℕ) (options : Options) → Traffic → Result Summary IoError → Type 0

@@ -3,43 +3,29 @@ ghost use Rattle.std.specs.Prelude.{◌≡◌, IsTrue, false};
 ghost use Rattle.std.specs.Io.KnownBytes.{Appends};
 ghost use Rattle.cli_words.specs.ElfHint.{elf_hint, is_elf, raw_file};
 
-use crate::listing::listing_of;
-use cli::{InputName, Inputs, Invocation, file_input};
 use cc_io::{InputForm, Sink, write_all};
+use cli::{InputName, Inputs};
 
 /// Returns whether a file that begins with these bytes is an ELF file.
-pub fn is_elf(start: &[u8]) -> bool
+fn is_elf(start: &[u8]) -> bool
     ensures { result ≡ is_elf start.now }
 {
     start.starts_with(b"\x7fELF")
 }
 
-/// Returns the file whose first bytes a command decodes as a raw word, or `None`.
-pub fn raw_file<'a>(invocation: Invocation<'a>) -> Option<&'a str>
-    ensures { result ≡ raw_file invocation.entry }
+/// Returns the file whose first bytes are decoded as a raw word, or `None`. `skip` is the number of bytes to skip, as
+/// it was typed.
+fn raw_file<'a>(form: InputForm, skip: Option<&str>, input: InputName<'a>) -> Option<&'a str>
+    ensures { result ≡ raw_file form skip.entry input.entry }
 {
-    match invocation {
-        Invocation::Decode {
-            input: InputForm::Bytes(order),
-            format,
-            texts,
-            file,
-        } => {
-            if texts.skip.is_none() && listing_of(InputForm::Bytes(order), format, texts).is_ok() {
-                match file_input(file) {
-                    InputName::File(path) => Some(path),
-                    InputName::Standard => None,
-                }
-            } else {
-                None
-            }
-        }
+    match (form, skip, input) {
+        (InputForm::Bytes(_), None, InputName::File(path)) => Some(path),
         _ => None,
     }
 }
 
 /// Writes the hint if a file that begins with these bytes is an ELF file. Errors of the sink are ignored.
-pub fn hint_elf<E: Sink>(start: &[u8], errors: &mut E)
+fn hint_elf<E: Sink>(start: &[u8], errors: &mut E)
     requires { (E.state errors.old).has_failed ≡ false }
     ensures hinted { (E.state errors.new).has_failed ≡ false → Appends (E.state errors.old).taken (E.state errors.new).taken (elf_hint start.now) }
     ensures silent { ¬ IsTrue (is_elf start.now) → errors.new ≡ errors.old }
@@ -52,18 +38,26 @@ pub fn hint_elf<E: Sink>(start: &[u8], errors: &mut E)
     }
 }
 
-/// Writes the hint on the file whose first bytes a command decoded as a raw word. Errors of the sink are ignored.
+/// Writes the hint on an input of `decode`, if hints are given and the first bytes of a file were decoded as a raw
+/// word. Errors of the sink are ignored.
 ///
 /// Only `tests/program` shows when it writes: no clause says so.
-///
-/// Requires: standard error has not failed.
-pub fn hint_on_file<I: Inputs, E: Sink>(inputs: &I, invocation: Invocation<'_>, errors: &mut E)
+pub(crate) fn hint_file<I: Inputs, E: Sink>(
+    hints: bool,
+    form: InputForm,
+    skip: Option<&str>,
+    inputs: &I,
+    input: InputName<'_>,
+    errors: &mut E,
+)
     requires { (E.state errors.old).has_failed ≡ false }
+    ensures { ¬ IsTrue hints → errors.new ≡ errors.old }
 {
-    let Some(path) = raw_file(invocation) else {
-        return;
-    };
-    if let Some(start) = inputs.start_of(path) {
-        hint_elf(&start, errors);
+    if hints {
+        if let Some(path) = raw_file(form, skip, input) {
+            if let Some(start) = inputs.start_of(path) {
+                hint_elf(&start, errors);
+            }
+        }
     }
 }

@@ -2,15 +2,15 @@
 ghost use Rattle.std.specs.Prelude.{◌≡◌};
 ghost use Rattle.cli_words.specs.Listing.{listing_in, named_in, place_in, search_in, skipped_in};
 
-use cli::DecodeTexts;
 use cc_decode::{Format, InputForm, Options, Search};
 use cc_syntax::{both, read_address, read_permissions};
 use cc_word::{Perms, Refusal};
+use cli::DecodeTexts;
 
 /// Returns the number of bytes to skip, and the options of the listing.
 ///
-/// Errors, in order: `Syntax` if a text is not a number, or not names of permissions; `OutOfRange` if a number is at least
-/// 2^64.
+/// Errors, in order: `Syntax` if a text is not a number, or not names of permissions; `OutOfRange` if a number is at
+/// least 2^64.
 pub fn listing_of(
     input: InputForm,
     format: Format,

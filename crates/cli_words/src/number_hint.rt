@@ -3,10 +3,10 @@ ghost use Rattle.std.specs.Prelude.{◌≡◌, ◌&&◌, ◌||◌, [], IsTrue, f
 ghost use Rattle.std.specs.Io.KnownBytes.{Appends};
 ghost use Rattle.clap.specs.Walk.{texts};
 ghost use Rattle.std.specs.List.{list_any};
-ghost use Rattle.cc_command.specs.BareDigits.{is_bare};
+ghost use Rattle.cli_words.specs.BareDigits.{is_bare};
 ghost use Rattle.cli_words.specs.NumberHint.{after_base, hint_if, is_hinted, number_hint};
 
-use cc_command::is_bare;
+use crate::bare_digits::is_bare;
 use cc_io::{Sink, write_all};
 
 /// Returns whether the base, if one is given, or one of the texts is such a number.
@@ -26,8 +26,8 @@ fn has_bare(typed: &[&str]) -> bool
     typed.iter().any(|text| is_bare(text.as_bytes()))
 }
 
-/// Writes the hint if hints are given and the base, if one is given, or one of the texts is such a number. Errors of the sink
-/// are ignored.
+/// Writes the hint if hints are given and the base, if one is given, or one of the texts is such a number. Errors of
+/// the sink are ignored.
 pub(crate) fn hint_numbers<E: Sink>(hints: bool, base: Option<&str>, typed: &[&str], errors: &mut E)
     requires { (E.state errors.old).has_failed ≡ false }
     ensures hinted { (E.state errors.new).has_failed ≡ false → Appends (E.state errors.old).taken (E.state errors.new).taken (number_hint hints (after_base base.entry (texts typed.now))) }
@@ -36,8 +36,8 @@ pub(crate) fn hint_numbers<E: Sink>(hints: bool, base: Option<&str>, typed: &[&s
     write_hint_if(hints && has_bare_after(base, typed), errors);
 }
 
-/// Writes the hint if hints are given, and the base, if one is given, or a line of the list is such a number. Errors of the
-/// sink are ignored.
+/// Writes the hint if hints are given, and the base, if one is given, or a line of the list is such a number. Errors of
+/// the sink are ignored.
 pub(crate) fn hint_list<E: Sink>(hints: bool, base: Option<&str>, bare: bool, errors: &mut E)
     requires { (E.state errors.old).has_failed ≡ false }
     ensures hinted { (E.state errors.new).has_failed ≡ false → Appends (E.state errors.old).taken (E.state errors.new).taken (hint_if (hints && (list_any is_bare (after_base base.entry []) || bare))) }

@@ -1,4 +1,4 @@
-//! `show`, `round` and `explain`: the call for each question.
+//! `show`, `round` and `explain`: the call for each question, and its hint.
 ghost use Rattle.std.specs.Io.KnownBytes.{Appends};
 ghost use Rattle.std.specs.Prelude.{◌≡◌, ◌≢◌, ◌↔◌, [], Err, false, true, IfOk, IsTrue, OnErr, OnOk};
 ghost use Rattle.cc_io.specs.CommandOutput.{WritesAnswer};
@@ -7,17 +7,16 @@ ghost use Rattle.cli.specs.declared.question.Question.TheVariants as question;
 ghost use Rattle.cli_words.specs.Questions.{IsAnswerTo, IsUnanswerable, has_hint, question_hint};
 ghost use Rattle.cli_words.specs.Tasks.{AnswersQuestion};
 
+use crate::explaining_bounds::explain_length;
 use crate::number_hint::hint_numbers;
+use crate::rounding::{show_round, show_round_from};
 use crate::word_hint::hint_word;
-use cc_command::{
-    draw_window, explain_length, explain_word, show_line, show_round, show_round_from, show_word,
-};
-use cli::{Fault, Question};
+use cc_explain::{draw_window, explain_word, show_line, show_word};
 use cc_io::{IoError, Sink, Summary};
+use cli::{Fault, Question};
 
-/// Writes the listing, line, rounding, explanation or drawing that a question requests. Then writes the hint on the question to
-/// `errors`, if hints are given: for `show` that a word has no `0x` before it, and otherwise that a number may be meant as
-/// hexadecimal digits.
+/// Writes the listing, line, rounding, explanation or drawing that a question requests. Then writes the hint on it to
+/// `errors`, if hints are given: on the word of `show`, and on the numbers of `round` and `explain --length`.
 ///
 /// The output is an error, and the summary says so, if a text is not a word or a number, if a number is too large, or
 /// if the requested bytes end past 2^64.
@@ -32,8 +31,8 @@ pub fn ask<W: Sink, E: Sink>(
 ) -> Result<Summary, Fault>
     requires sink { (W.state sink.old).has_failed ≡ false }
     requires errors { (E.state errors.old).has_failed ≡ false }
-    ensures answers { OnDevices (AnswersQuestion question.entry (W.state sink.old) (W.state sink.new)) result }
-    ensures hinted { OnOk result ((E.state errors.new).has_failed ≡ false → Appends (E.state errors.old).taken (E.state errors.new).taken (question_hint hints question.entry)) }
+    ensures answers { OnDevices (AnswersQuestion question.entry hints
+        (W.state sink.old) (W.state sink.new) (E.state errors.old) (E.state errors.new)) result }
     ensures silent { ¬ IsTrue (has_hint hints question.entry) → errors.new ≡ errors.old }
     ensures unreported { OnErr result (errors.new ≡ errors.old) }
     ensures open { result ≢ Err Fault.Open }
@@ -42,63 +41,65 @@ pub fn ask<W: Sink, E: Sink>(
     ensures write { (result ≡ Err Fault.Write) ↔ ((W.state sink.new).has_failed ≡ true) }
     ensures flushed { OnOk result ((W.state sink.new).is_flushed ≡ true) }
 {
-    let result = answer(question, sink);
-    if result.is_err() {
-        return result;
-    }
-    hint_question(hints, question, errors);
-    result
+    Ok(answer(question, hints, sink, errors)?)
 }
 
-/// Writes the listing, line, rounding, explanation or drawing that a question requests.
-fn answer<W: Sink>(question: Question<'_>, sink: &mut W) -> Result<Summary, Fault>
-    requires { (W.state sink.old).has_failed ≡ false }
-    ensures answers { OnDevices (AnswersQuestion question.entry (W.state sink.old) (W.state sink.new)) result }
-    ensures open { result ≢ Err Fault.Open }
-    ensures memory { result ≢ Err Fault.Memory }
-    ensures read { result ≢ Err Fault.Read }
-    ensures write { (result ≡ Err Fault.Write) ↔ ((W.state sink.new).has_failed ≡ true) }
-    ensures flushed { OnOk result ((W.state sink.new).is_flushed ≡ true) }
-{
-    Ok(answer_question(question, sink)?)
-}
-
-/// Writes the hint on a question, if hints are given.
-fn hint_question<E: Sink>(hints: bool, question: Question<'_>, errors: &mut E)
-    requires { (E.state errors.old).has_failed ≡ false }
-    ensures hinted { (E.state errors.new).has_failed ≡ false → Appends (E.state errors.old).taken (E.state errors.new).taken (question_hint hints question.entry) }
-    ensures silent { ¬ IsTrue (has_hint hints question.entry) → errors.new ≡ errors.old }
-{
-    match question {
-        Question::Show { word, as_line } => hint_word(hints && !as_line, word.as_bytes(), errors),
-        Question::Round { base, length } => hint_numbers(hints, base, &[length], errors),
-        Question::ExplainLength { base, length } => hint_numbers(
-            hints,
-            Some(base),
-            &[length],
-            errors,
-        ),
-        _ => hint_numbers(hints, None, &[], errors),
-    }
-}
-
-/// Writes the listing, line, rounding, explanation or drawing that a question requests.
-fn answer_question<W: Sink>(question: Question<'_>, sink: &mut W) -> Result<Summary, IoError>
-    requires { (W.state sink.old).has_failed ≡ false }
+/// Writes the output that a question requests, and then its hint.
+fn answer<W: Sink, E: Sink>(
+    question: Question<'_>,
+    hints: bool,
+    sink: &mut W,
+    errors: &mut E,
+) -> Result<Summary, IoError>
+    requires sink { (W.state sink.old).has_failed ≡ false }
+    requires errors { (E.state errors.old).has_failed ≡ false }
     ensures answered { WritesAnswer (IsAnswerTo question.entry) (W.state sink.old) (W.state sink.new) result }
     ensures any_error { IfOk result (λ summary. IsTrue summary.any_error ↔ IsUnanswerable question.entry) }
+    ensures hinted { OnOk result ((E.state errors.new).has_failed ≡ false
+        → Appends (E.state errors.old).taken (E.state errors.new).taken (question_hint hints question.entry)) }
+    ensures silent { ¬ IsTrue (has_hint hints question.entry) → errors.new ≡ errors.old }
+    ensures unreported { OnErr result (errors.new ≡ errors.old) }
 {
     match question {
-        Question::Show { word, as_line } => show(word, as_line, sink),
-        Question::Round { base, length } => round(base, length, sink),
+        Question::Show { word, as_line } => show(word, as_line, hints, sink, errors),
+        Question::Round { base, length } => round(base, length, hints, sink, errors),
         Question::Explain { word } => explain_word(word.as_bytes(), sink),
         Question::DrawWindow { word } => draw_window(word.as_bytes(), sink),
-        Question::ExplainLength { base, length } => explain_length(base, length, sink),
+        Question::ExplainLength { base, length } => explain_request(
+            base, length, hints, sink, errors,
+        ),
+    }
+}
+
+/// Writes the listing of a word, or its one-line form. Then writes the hint that the listing's word has no `0x` before
+/// it.
+fn show<W: Sink, E: Sink>(
+    word: &str,
+    as_line: bool,
+    hints: bool,
+    sink: &mut W,
+    errors: &mut E,
+) -> Result<Summary, IoError>
+    requires sink { (W.state sink.old).has_failed ≡ false }
+    requires errors { (E.state errors.old).has_failed ≡ false }
+    ensures answered { WritesAnswer (IsAnswerTo (question.Show word.entry as_line)) (W.state sink.old) (W.state sink.new) result }
+    ensures any_error { IfOk result (λ summary. IsTrue summary.any_error ↔ IsUnanswerable (question.Show word.entry as_line)) }
+    ensures hinted { OnOk result ((E.state errors.new).has_failed ≡ false
+        → Appends (E.state errors.old).taken (E.state errors.new).taken (question_hint hints (question.Show word.entry as_line))) }
+    ensures silent { ¬ IsTrue (has_hint hints (question.Show word.entry as_line)) → errors.new ≡ errors.old }
+    ensures unreported { OnErr result (errors.new ≡ errors.old) }
+{
+    match show_typed(word, as_line, sink) {
+        Ok(summary) => {
+            hint_word(hints && !as_line, word.as_bytes(), errors);
+            Ok(summary)
+        }
+        Err(error) => Err(error),
     }
 }
 
 /// Writes the listing of a word, or its one-line form.
-fn show<W: Sink>(word: &str, as_line: bool, sink: &mut W) -> Result<Summary, IoError>
+fn show_typed<W: Sink>(word: &str, as_line: bool, sink: &mut W) -> Result<Summary, IoError>
     requires { (W.state sink.old).has_failed ≡ false }
     ensures answered { WritesAnswer (IsAnswerTo (question.Show word.entry as_line)) (W.state sink.old) (W.state sink.new) result }
     ensures any_error { IfOk result (λ summary. IsTrue summary.any_error ↔ IsUnanswerable (question.Show word.entry as_line)) }
@@ -110,8 +111,35 @@ fn show<W: Sink>(word: &str, as_line: bool, sink: &mut W) -> Result<Summary, IoE
     }
 }
 
+/// Writes how setting bounds rounds a length, with the bounds granted from a base on if one is given. Then writes the
+/// hint on the numbers.
+fn round<W: Sink, E: Sink>(
+    base: Option<&str>,
+    length: &str,
+    hints: bool,
+    sink: &mut W,
+    errors: &mut E,
+) -> Result<Summary, IoError>
+    requires sink { (W.state sink.old).has_failed ≡ false }
+    requires errors { (E.state errors.old).has_failed ≡ false }
+    ensures answered { WritesAnswer (IsAnswerTo (question.Round base.entry length.entry)) (W.state sink.old) (W.state sink.new) result }
+    ensures any_error { IfOk result (λ summary. IsTrue summary.any_error ↔ IsUnanswerable (question.Round base.entry length.entry)) }
+    ensures hinted { OnOk result ((E.state errors.new).has_failed ≡ false
+        → Appends (E.state errors.old).taken (E.state errors.new).taken (question_hint hints (question.Round base.entry length.entry))) }
+    ensures silent { ¬ IsTrue (has_hint hints (question.Round base.entry length.entry)) → errors.new ≡ errors.old }
+    ensures unreported { OnErr result (errors.new ≡ errors.old) }
+{
+    match round_typed(base, length, sink) {
+        Ok(summary) => {
+            hint_numbers(hints, base, &[length], errors);
+            Ok(summary)
+        }
+        Err(error) => Err(error),
+    }
+}
+
 /// Writes how setting bounds rounds a length, with the bounds granted from a base on if one is given.
-fn round<W: Sink>(base: Option<&str>, length: &str, sink: &mut W) -> Result<Summary, IoError>
+fn round_typed<W: Sink>(base: Option<&str>, length: &str, sink: &mut W) -> Result<Summary, IoError>
     requires { (W.state sink.old).has_failed ≡ false }
     ensures answered { WritesAnswer (IsAnswerTo (question.Round base.entry length.entry)) (W.state sink.old) (W.state sink.new) result }
     ensures any_error { IfOk result (λ summary. IsTrue summary.any_error ↔ IsUnanswerable (question.Round base.entry length.entry)) }
@@ -119,5 +147,31 @@ fn round<W: Sink>(base: Option<&str>, length: &str, sink: &mut W) -> Result<Summ
     match base {
         None => show_round(length.as_bytes(), sink),
         Some(base) => show_round_from(base.as_bytes(), length.as_bytes(), sink),
+    }
+}
+
+/// Writes how bounds are granted to a request. Then writes the hint on its numbers.
+fn explain_request<W: Sink, E: Sink>(
+    base: &str,
+    length: &str,
+    hints: bool,
+    sink: &mut W,
+    errors: &mut E,
+) -> Result<Summary, IoError>
+    requires sink { (W.state sink.old).has_failed ≡ false }
+    requires errors { (E.state errors.old).has_failed ≡ false }
+    ensures answered { WritesAnswer (IsAnswerTo (question.ExplainLength base.entry length.entry)) (W.state sink.old) (W.state sink.new) result }
+    ensures any_error { IfOk result (λ summary. IsTrue summary.any_error ↔ IsUnanswerable (question.ExplainLength base.entry length.entry)) }
+    ensures hinted { OnOk result ((E.state errors.new).has_failed ≡ false
+        → Appends (E.state errors.old).taken (E.state errors.new).taken (question_hint hints (question.ExplainLength base.entry length.entry))) }
+    ensures silent { ¬ IsTrue (has_hint hints (question.ExplainLength base.entry length.entry)) → errors.new ≡ errors.old }
+    ensures unreported { OnErr result (errors.new ≡ errors.old) }
+{
+    match explain_length(base, length, sink) {
+        Ok(summary) => {
+            hint_numbers(hints, Some(base), &[length], errors);
+            Ok(summary)
+        }
+        Err(error) => Err(error),
     }
 }

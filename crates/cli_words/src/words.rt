@@ -5,33 +5,40 @@ ghost use Rattle.cli.specs.Input.{IsFile, file_input};
 ghost use Rattle.cli_words.specs.Listing.{listing_in, place_in};
 ghost use Rattle.cli_words.specs.Tasks.{AnnotatesWords, ListsWords, RoundsLengths, SeesLengths, WithBase, WithListing};
 
+use crate::elf_hint::hint_file;
+use crate::length_list::round_list;
 use crate::listing::{listing_of, place_of};
 use crate::number_hint::hint_list;
-use cc_command::{round_list, write_refusal};
-use cli::{Content, DecodeTexts, Fault, InputName, Inputs, file_input};
 use cc_decode::{Format, InputForm, Options, annotate, decode_words};
-use cc_io::{Sink, Summary};
+use cc_io::{Sink, Summary, write_refusal};
+use cli::{Content, DecodeTexts, Fault, InputName, Inputs, file_input};
 
-/// Writes a row for each listed word of the input that FILE names. The numbers and names of `texts` are read first. If one
-/// is refused, the output is that refusal, and nothing is read.
+/// Writes a row for each listed word of the input that FILE names. The numbers and names of `texts` are read first. If
+/// one is refused, the output is that refusal, and nothing is read. Then writes the hint on an ELF file to `errors`, if
+/// hints are given and a file was decoded as raw words from its first byte on.
 ///
-/// Requires: the sink has not failed.
-/// Errors: `Open` if the input cannot be opened, and nothing was written then; `Read` if a read fails; `Write` if and only if
-/// the sink failed.
-pub fn decode_file<I: Inputs, W: Sink>(
+/// Requires: neither sink has failed.
+/// Errors: `Open` if the input cannot be opened, and nothing was written then; `Read` if a read fails; `Write` if and
+/// only if the sink failed. No hint is written then, and none if a text is refused.
+pub fn decode_file<I: Inputs, W: Sink, E: Sink>(
     input: InputForm,
     format: Format,
     texts: DecodeTexts<'_>,
+    hints: bool,
     inputs: &mut I,
     source: &mut I::Opened,
     file: Option<&str>,
     sink: &mut W,
+    errors: &mut E,
 ) -> Result<Summary, Fault>
     requires source { (I.Opened.state source.old).has_failed ≡ false }
     requires inputs { I.has_refused inputs.old ≡ false }
     requires sink { (W.state sink.old).has_failed ≡ false }
+    requires errors { (E.state errors.old).has_failed ≡ false }
     ensures decodes { OnOutput (I.bytes_of inputs.old) (I.Opened.state source.new) (W.state sink.old) (W.state sink.new)
         (λ console. WithListing input format texts.entry console (λ skipped options. FromInput (file_input file.entry) console (ListsWords skipped options))) result }
+    ensures silent { ¬ (IsTrue hints × IsOk (listing_in input format texts.entry)) → errors.new ≡ errors.old }
+    ensures unreported { OnErr result (errors.new ≡ errors.old) }
     ensures open { result ≡ Err Fault.Open → IsFile (file_input file.entry) }
     ensures memory { result ≢ Err Fault.Memory }
     ensures asked { I.last_asked inputs.new (file_input file.entry) Content.Words ≡ false → (inputs.new ≡ inputs.old) × (source.new ≡ source.old) }
@@ -39,14 +46,14 @@ pub fn decode_file<I: Inputs, W: Sink>(
     ensures end { IsEnd (I.has_refused inputs.new) (I.Opened.state source.new) (W.state sink.old) (W.state sink.new) result }
 {
     match listing_of(input, format, texts) {
-        Ok((skipped, options)) => list_words(
-            skipped,
-            options,
-            inputs,
-            source,
-            file_input(file),
-            sink,
-        ),
+        Ok((skipped, options)) => {
+            let result = list_words(skipped, options, inputs, source, file_input(file), sink);
+            if result.is_err() {
+                return result;
+            }
+            hint_file(hints, input, texts.skip, inputs, file_input(file), errors);
+            result
+        }
         Err(refusal) => Ok(write_refusal(refusal, sink)?),
     }
 }
@@ -79,8 +86,8 @@ fn list_words<I: Inputs, W: Sink>(
 /// Copies the input that FILE names, with the line of each word after the word.
 ///
 /// Requires: the sink has not failed.
-/// Errors: `Open` if the input cannot be opened, and nothing was written then; `Read` if a read fails; `Write` if and only if
-/// the sink failed.
+/// Errors: `Open` if the input cannot be opened, and nothing was written then; `Read` if a read fails; `Write` if and
+/// only if the sink failed.
 pub fn annotate_file<I: Inputs, W: Sink>(
     inputs: &mut I,
     source: &mut I::Opened,
@@ -101,13 +108,14 @@ pub fn annotate_file<I: Inputs, W: Sink>(
     Ok(annotate(source, sink)?)
 }
 
-/// Writes the output of `round` for each length of the list that FILE names, with the bounds granted from a base, if one is
-/// given. The base is read first. If it is refused, the output is that refusal, and nothing is read. Then writes the hint on
-/// numbers to `errors`, if hints are given and the base or a line of the list may be meant as hexadecimal digits.
+/// Writes the output of `round` for each length of the list that FILE names, with the bounds granted from a base, if
+/// one is given. The base is read first. If it is refused, the output is that refusal, and nothing is read. Then writes
+/// the hint on numbers to `errors`, if hints are given and the base or a line of the list may be meant as hexadecimal
+/// digits.
 ///
 /// Requires: neither sink has failed.
-/// Errors: `Open` if the input cannot be opened, and nothing was written then; `Read` if a read fails; `Write` if and only if
-/// the sink failed. No hint is written then, and none if the base is refused.
+/// Errors: `Open` if the input cannot be opened, and nothing was written then; `Read` if a read fails; `Write` if and
+/// only if the sink failed. No hint is written then, and none if the base is refused.
 pub fn round_file<I: Inputs, W: Sink, E: Sink>(
     base: Option<&str>,
     hints: bool,
@@ -179,8 +187,8 @@ fn round_hinted<I: Inputs, W: Sink, E: Sink>(
     result
 }
 
-/// Writes the output of `round` for each length of the list of an input. At `Ok`, `bare` is whether a line may be meant as
-/// hexadecimal digits.
+/// Writes the output of `round` for each length of the list of an input. At `Ok`, `bare` is whether a line may be meant
+/// as hexadecimal digits.
 fn round_input<I: Inputs, W: Sink>(
     base: Option<u64>,
     inputs: &mut I,

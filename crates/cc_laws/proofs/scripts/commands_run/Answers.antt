@@ -1,4 +1,4 @@
-use Rattle.cc_session.proofs.RunLemmas.{commands_run, commands_reach}
+use Rattle.cc_script.proofs.RunLemmas.{commands_run, commands_reach}
 use Rattle.cc_laws.proofs.scripts.commands_run.Goals as goal
 
 pub returns-clause-run : goal.returns-clause-run

@@ -1,4 +1,4 @@
-use Rattle.cc_session.proofs.OutputLemmas.{one_output}
+use Rattle.cc_script.proofs.OutputLemmas.{one_output}
 use Rattle.cc_laws.proofs.scripts.one_output.Goals as goal
 
 pub returns : goal.returns

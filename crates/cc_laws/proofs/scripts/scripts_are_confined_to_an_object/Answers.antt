@@ -1,4 +1,4 @@
-use Rattle.cc_session.proofs.RunLemmas.{commands_confined_to_object}
+use Rattle.cc_script.proofs.RunLemmas.{commands_confined_to_object}
 use Rattle.cc_laws.proofs.scripts.scripts_are_confined_to_an_object.Goals as goal
 
 pub returns : goal.returns

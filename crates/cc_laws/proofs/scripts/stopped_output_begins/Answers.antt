@@ -1,4 +1,4 @@
-use Rattle.cc_session.proofs.OutputLemmas.{stopped_begins}
+use Rattle.cc_script.proofs.OutputLemmas.{stopped_begins}
 use Rattle.cc_laws.proofs.scripts.stopped_output_begins.Goals as goal
 
 pub returns : goal.returns

@@ -1,77 +1,248 @@
-use Rattle.std.proofs.Common.{subst, sym}
-use Rattle.std.specs.Prelude.{IfSome}
-use Rattle.cli.specs.Devices.{OnDevices}
-use Rattle.cli.specs.Input.{file_input}
-use Rattle.cli.specs.declared.invocation.Invocation.{Invocation}
-use Rattle.cli_scripts.specs.Runs.{MeetsMain}
-use Rattle.cc_syntax.specs.Planning.{pool_of}
-use Rattle.cheri_cap.specs.Input.{IsReported, IsStreamed, ReadsInput, Script, script_of}
-use Rattle.cheri_cap.proofs.ExecutionLemmas.{by_invocation, on_pool}
+use Rattle.std.proofs.Common.{◌≡◌, [], Err, None, Option, Some, subst}
+use Rattle.std.specs.Prelude.{IfSome, IsTrue}
+use Rattle.cc_machine.specs.State.{initial_state}
+use Rattle.cc_syntax.specs.Planning.{plan_opening, pool_of}
+use Rattle.cli.specs.declared.fault.Fault.TheVariants as fault
+use Rattle.cli.specs.declared.input.Content.TheVariants as content
+use Rattle.cli.specs.Devices.{Console, FromInput, OnDevices, console_of}
+use Rattle.cli.specs.Input.{IsFile, file_input, trace_content}
+use Rattle.cli_replay.specs.ReplayTexts.{replay_in}
+use Rattle.cli_replay.specs.Replaying.{IsStreaming, ReplaysTrace}
+use Rattle.cli_words.specs.Listing.{listing_in, place_in}
+use Rattle.cli_words.specs.Tasks.{ListsWords, RoundsLengths}
+use Rattle.cli_scripts.specs.Report.{report_of}
+use Rattle.cli_scripts.specs.Runs.{DrawsRun, PlansFile, ReportsRun, StarvesPlan}
+use Rattle.cli_scripts.specs.declared.report.Report.{Report}
+use Rattle.cheri_cap.specs.Execution.{Effect, IsUnasked, WritesNothing, pool_script, reads, script_run}
+use Rattle.cheri_cap.proofs.ExecutionLemmas.{asks, does, of_equal, opens, silent, starves, starves_if}
 use Rattle.cheri_cap.proofs.execution.execute.Goals as goal
 
+pub returns-in-Run-clause-executes : goal.returns-in-Run-clause-executes
+returns-in-Run-clause-executes g c =
+    of_equal (λ (effect : Effect). OnDevices (effect.Does (console_of (g.I.Inputs.bytes_of c.args.inputs.now) (g.I.Opened.Source.state c.run_file.new.source) (g.W.Sink.state c.args.sink.now)
+    (g.W.Sink.state c.run_file.new.sink) (g.E.Sink.state c.args.errors.now) (g.E.Sink.state c.run_file.new.errors))) c.run_file.result)
+    c.args.terminals _ _ c.in-Run.is
+    (subst (λ (report : Report). OnDevices (FromInput (file_input c.in-Run.file) (console_of (g.I.Inputs.bytes_of c.args.inputs.now) (g.I.Opened.Source.state c.run_file.new.source)
+    (g.W.Sink.state c.args.sink.now)
+    (g.W.Sink.state c.run_file.new.sink) (g.E.Sink.state c.args.errors.now) (g.E.Sink.state c.run_file.new.errors)) (ReportsRun report [] None (initial_state c.in-Run.limit))) c.run_file.result)
+    c.new-report.ensures c.run_file.ensures.executes)
+
+pub returns-in-Plan-clause-executes : goal.returns-in-Plan-clause-executes
+returns-in-Plan-clause-executes g c =
+    of_equal (λ (effect : Effect). OnDevices (effect.Does (console_of (g.I.Inputs.bytes_of c.args.inputs.now) (g.I.Opened.Source.state c.plan_file.new.source) (g.W.Sink.state c.args.sink.now)
+    (g.W.Sink.state c.plan_file.new.sink) (g.E.Sink.state c.args.errors.now) (g.E.Sink.state c.plan_file.new.errors))) c.plan_file.result)
+    c.args.terminals _ _ c.in-Plan.is
+    (does (pool_of c.in-Plan.pool.base.now c.in-Plan.pool.length.now) (λ numbers. script_run (report_of c.in-Plan.stats c.args.terminals) (Some numbers.1)
+    (pool_script c.in-Plan.limit c.in-Plan.align (file_input c.in-Plan.file) numbers))
+    (console_of (g.I.Inputs.bytes_of c.args.inputs.now) (g.I.Opened.Source.state c.plan_file.new.source) (g.W.Sink.state c.args.sink.now)
+    (g.W.Sink.state c.plan_file.new.sink) (g.E.Sink.state c.args.errors.now) (g.E.Sink.state c.plan_file.new.errors)) c.plan_file.result
+    (subst (λ (report : Report). OnDevices (PlansFile report c.in-Plan.limit c.in-Plan.pool c.in-Plan.align c.in-Plan.file
+    (console_of (g.I.Inputs.bytes_of c.args.inputs.now) (g.I.Opened.Source.state c.plan_file.new.source) (g.W.Sink.state c.args.sink.now)
+    (g.W.Sink.state c.plan_file.new.sink) (g.E.Sink.state c.args.errors.now) (g.E.Sink.state c.plan_file.new.errors))) c.plan_file.result)
+    c.new-report-in-Plan.ensures c.plan_file.ensures.executes))
+
+pub returns-in-Plan-clause-starved : goal.returns-in-Plan-clause-starved
+returns-in-Plan-clause-starved g c =
+    of_equal (λ (effect : Effect). c.plan_file.result ≡ Err fault.Memory → effect.Starves (console_of (g.I.Inputs.bytes_of c.args.inputs.now) (g.I.Opened.Source.state c.plan_file.new.source)
+    (g.W.Sink.state c.args.sink.now)
+    (g.W.Sink.state c.plan_file.new.sink) (g.E.Sink.state c.args.errors.now) (g.E.Sink.state c.plan_file.new.errors)))
+    c.args.terminals _ _ c.in-Plan.is
+    (λ ran_out. starves (pool_of c.in-Plan.pool.base.now c.in-Plan.pool.length.now) (λ numbers. script_run (report_of c.in-Plan.stats c.args.terminals) (Some numbers.1)
+    (pool_script c.in-Plan.limit c.in-Plan.align (file_input c.in-Plan.file) numbers))
+    (console_of (g.I.Inputs.bytes_of c.args.inputs.now) (g.I.Opened.Source.state c.plan_file.new.source) (g.W.Sink.state c.args.sink.now)
+    (g.W.Sink.state c.plan_file.new.sink) (g.E.Sink.state c.args.errors.now) (g.E.Sink.state c.plan_file.new.errors))
+    (subst (λ (report : Report). StarvesPlan report c.in-Plan.limit c.in-Plan.pool c.in-Plan.align c.in-Plan.file
+    (console_of (g.I.Inputs.bytes_of c.args.inputs.now) (g.I.Opened.Source.state c.plan_file.new.source) (g.W.Sink.state c.args.sink.now)
+    (g.W.Sink.state c.plan_file.new.sink) (g.E.Sink.state c.args.errors.now) (g.E.Sink.state c.plan_file.new.errors)))
+    c.new-report-in-Plan.ensures (c.plan_file.ensures.starved ran_out)))
+
+pub returns-in-Plan-clause-open : goal.returns-in-Plan-clause-open
+returns-in-Plan-clause-open g c =
+    of_equal (λ (effect : Effect). c.plan_file.result ≡ Err fault.Open → IfSome effect.input (λ asked. IsFile asked.input))
+    c.args.terminals _ _ c.in-Plan.is
+    (λ refused. opens (pool_of c.in-Plan.pool.base.now c.in-Plan.pool.length.now) (λ numbers. script_run (report_of c.in-Plan.stats c.args.terminals) (Some numbers.1)
+    (pool_script c.in-Plan.limit c.in-Plan.align (file_input c.in-Plan.file) numbers)) (λ values. c.plan_file.ensures.open refused))
+
+pub returns-in-Plan-clause-asked : goal.returns-in-Plan-clause-asked
+returns-in-Plan-clause-asked g c =
+    of_equal (λ (effect : Effect). IsUnasked effect.input (g.I.Inputs.last_asked c.plan_file.new.inputs)
+    → ((c.plan_file.new.inputs ≡ c.args.inputs.now) × (c.plan_file.new.source ≡ c.args.source.now)))
+    c.args.terminals _ _ c.in-Plan.is
+    (asks (pool_of c.in-Plan.pool.base.now c.in-Plan.pool.length.now) (λ numbers. script_run (report_of c.in-Plan.stats c.args.terminals) (Some numbers.1)
+    (pool_script c.in-Plan.limit c.in-Plan.align (file_input c.in-Plan.file) numbers))
+    (g.I.Inputs.last_asked c.plan_file.new.inputs) ((c.plan_file.new.inputs ≡ c.args.inputs.now) × (c.plan_file.new.source ≡ c.args.source.now)) c.plan_file.ensures.unused
+    (λ values. c.plan_file.ensures.asked))
+
 pub returns-in-Plan-clause-silent : goal.returns-in-Plan-clause-silent
-returns-in-Plan-clause-silent g c = λ unreported. c.plan_file.ensures.silent (λ is. unreported (subst (IsReported c.args.terminals) (sym c.in-Plan.is) is))
+returns-in-Plan-clause-silent g c =
+    of_equal (λ (effect : Effect). ¬ effect.Reports → c.plan_file.new.errors ≡ c.args.errors.now)
+    c.args.terminals _ _ c.in-Plan.is
+    (silent (pool_of c.in-Plan.pool.base.now c.in-Plan.pool.length.now) (λ numbers. script_run (report_of c.in-Plan.stats c.args.terminals) (Some numbers.1)
+    (pool_script c.in-Plan.limit c.in-Plan.align (file_input c.in-Plan.file) numbers))
+    (c.plan_file.new.errors ≡ c.args.errors.now) (λ refused. c.plan_file.ensures.silent refused) (λ values unreported. absurd (unreported tt)))
 
 pub returns-in-Map-clause-executes : goal.returns-in-Map-clause-executes
 returns-in-Map-clause-executes g c =
-    by_invocation _ _ c.in-Map.is c.args.terminals _ c.map_file.result
-    (c.map_file.ensures.executes (g.E.Sink.state c.args.errors.now) (g.E.Sink.state c.args.errors.now))
+    of_equal (λ (effect : Effect). OnDevices (effect.Does (console_of (g.I.Inputs.bytes_of c.args.inputs.now) (g.I.Opened.Source.state c.map_file.new.source) (g.W.Sink.state c.args.sink.now)
+    (g.W.Sink.state c.map_file.new.sink) (g.E.Sink.state c.args.errors.now) (g.E.Sink.state c.args.errors.now))) c.map_file.result)
+    c.args.terminals _ _ c.in-Map.is
+    (does (pool_of c.in-Map.pool.base.now c.in-Map.pool.length.now) (λ numbers. reads (file_input c.in-Map.file) content.Pool
+    (DrawsRun c.in-Map.svg (plan_opening numbers.0 numbers.1 c.in-Map.align) (initial_state c.in-Map.limit)) WritesNothing ⊥)
+    (console_of (g.I.Inputs.bytes_of c.args.inputs.now) (g.I.Opened.Source.state c.map_file.new.source) (g.W.Sink.state c.args.sink.now)
+    (g.W.Sink.state c.map_file.new.sink) (g.E.Sink.state c.args.errors.now) (g.E.Sink.state c.args.errors.now)) c.map_file.result
+    (c.map_file.ensures.executes (g.E.Sink.state c.args.errors.now) (g.E.Sink.state c.args.errors.now)))
+
+pub returns-in-Map-clause-starved : goal.returns-in-Map-clause-starved
+returns-in-Map-clause-starved g c =
+    of_equal (λ (effect : Effect). c.map_file.result ≡ Err fault.Memory → effect.Starves (console_of (g.I.Inputs.bytes_of c.args.inputs.now) (g.I.Opened.Source.state c.map_file.new.source)
+    (g.W.Sink.state c.args.sink.now)
+    (g.W.Sink.state c.map_file.new.sink) (g.E.Sink.state c.args.errors.now) (g.E.Sink.state c.args.errors.now)))
+    c.args.terminals _ _ c.in-Map.is
+    (λ ran_out. starves_if (pool_of c.in-Map.pool.base.now c.in-Map.pool.length.now) (λ numbers. reads (file_input c.in-Map.file) content.Pool
+    (DrawsRun c.in-Map.svg (plan_opening numbers.0 numbers.1 c.in-Map.align) (initial_state c.in-Map.limit)) WritesNothing ⊥)
+    (console_of (g.I.Inputs.bytes_of c.args.inputs.now) (g.I.Opened.Source.state c.map_file.new.source) (g.W.Sink.state c.args.sink.now)
+    (g.W.Sink.state c.map_file.new.sink) (g.E.Sink.state c.args.errors.now) (g.E.Sink.state c.args.errors.now)) (c.map_file.ensures.memory ran_out) (λ values. c.map_file.ensures.starved ran_out))
+
+pub returns-in-Map-clause-open : goal.returns-in-Map-clause-open
+returns-in-Map-clause-open g c =
+    of_equal (λ (effect : Effect). c.map_file.result ≡ Err fault.Open → IfSome effect.input (λ asked. IsFile asked.input))
+    c.args.terminals _ _ c.in-Map.is
+    (λ refused. opens (pool_of c.in-Map.pool.base.now c.in-Map.pool.length.now) (λ numbers. reads (file_input c.in-Map.file) content.Pool
+    (DrawsRun c.in-Map.svg (plan_opening numbers.0 numbers.1 c.in-Map.align) (initial_state c.in-Map.limit)) WritesNothing ⊥) (λ values. c.map_file.ensures.open refused))
+
+pub returns-in-Map-clause-asked : goal.returns-in-Map-clause-asked
+returns-in-Map-clause-asked g c =
+    of_equal (λ (effect : Effect). IsUnasked effect.input (g.I.Inputs.last_asked c.map_file.new.inputs) → ((c.map_file.new.inputs ≡ c.args.inputs.now) × (c.map_file.new.source ≡ c.args.source.now)))
+    c.args.terminals _ _ c.in-Map.is
+    (asks (pool_of c.in-Map.pool.base.now c.in-Map.pool.length.now) (λ numbers. reads (file_input c.in-Map.file) content.Pool
+    (DrawsRun c.in-Map.svg (plan_opening numbers.0 numbers.1 c.in-Map.align) (initial_state c.in-Map.limit)) WritesNothing ⊥)
+    (g.I.Inputs.last_asked c.map_file.new.inputs) ((c.map_file.new.inputs ≡ c.args.inputs.now) × (c.map_file.new.source ≡ c.args.source.now)) c.map_file.ensures.unused
+    (λ values. c.map_file.ensures.asked))
 
 pub returns-in-Replay-clause-executes : goal.returns-in-Replay-clause-executes
 returns-in-Replay-clause-executes g c =
-    by_invocation _ _ c.in-Replay.is c.args.terminals _ c.replay_file.result
-    (c.replay_file.ensures.replays (g.E.Sink.state c.args.errors.now) (g.E.Sink.state c.args.errors.now))
+    of_equal (λ (effect : Effect). OnDevices (effect.Does (console_of (g.I.Inputs.bytes_of c.args.inputs.now) (g.I.Opened.Source.state c.replay_file.new.source) (g.W.Sink.state c.args.sink.now)
+    (g.W.Sink.state c.replay_file.new.sink) (g.E.Sink.state c.args.errors.now) (g.E.Sink.state c.args.errors.now))) c.replay_file.result)
+    c.args.terminals _ _ c.in-Replay.is
+    (does (replay_in c.in-Replay.align c.in-Replay.strict c.in-Replay.texts) (λ found. reads (file_input c.in-Replay.file) (trace_content c.in-Replay.texts.output)
+    (ReplaysTrace found.0 found.1.0 found.1.1)
+    (λ console. ¬ IsStreaming c.in-Replay.texts.output → WritesNothing console) ⊥)
+    (console_of (g.I.Inputs.bytes_of c.args.inputs.now) (g.I.Opened.Source.state c.replay_file.new.source) (g.W.Sink.state c.args.sink.now)
+    (g.W.Sink.state c.replay_file.new.sink) (g.E.Sink.state c.args.errors.now) (g.E.Sink.state c.args.errors.now)) c.replay_file.result
+    (c.replay_file.ensures.replays (g.E.Sink.state c.args.errors.now) (g.E.Sink.state c.args.errors.now)))
 
 pub returns-in-Replay-clause-starved : goal.returns-in-Replay-clause-starved
-returns-in-Replay-clause-starved g c = λ unreported unstreamed.
-    c.replay_file.ensures.starved (λ streams. unstreamed (subst IsStreamed (sym c.in-Replay.is) streams))
+returns-in-Replay-clause-starved g c =
+    of_equal (λ (effect : Effect). c.replay_file.result ≡ Err fault.Memory → effect.Starves
+    (console_of (g.I.Inputs.bytes_of c.args.inputs.now) (g.I.Opened.Source.state c.replay_file.new.source) (g.W.Sink.state c.args.sink.now)
+    (g.W.Sink.state c.replay_file.new.sink) (g.E.Sink.state c.args.errors.now) (g.E.Sink.state c.args.errors.now)))
+    c.args.terminals _ _ c.in-Replay.is
+    (λ ran_out. starves_if (replay_in c.in-Replay.align c.in-Replay.strict c.in-Replay.texts)
+    (λ found. reads (file_input c.in-Replay.file) (trace_content c.in-Replay.texts.output) (ReplaysTrace found.0 found.1.0 found.1.1)
+    (λ console. ¬ IsStreaming c.in-Replay.texts.output → WritesNothing console) ⊥)
+    (console_of (g.I.Inputs.bytes_of c.args.inputs.now) (g.I.Opened.Source.state c.replay_file.new.source) (g.W.Sink.state c.args.sink.now)
+    (g.W.Sink.state c.replay_file.new.sink) (g.E.Sink.state c.args.errors.now) (g.E.Sink.state c.args.errors.now)) (c.replay_file.ensures.memory ran_out)
+    (λ values unstreamed. c.replay_file.ensures.starved unstreamed ran_out))
+
+pub returns-in-Replay-clause-open : goal.returns-in-Replay-clause-open
+returns-in-Replay-clause-open g c =
+    of_equal (λ (effect : Effect). c.replay_file.result ≡ Err fault.Open → IfSome effect.input (λ asked. IsFile asked.input))
+    c.args.terminals _ _ c.in-Replay.is
+    (λ refused. opens (replay_in c.in-Replay.align c.in-Replay.strict c.in-Replay.texts) (λ found.
+    reads (file_input c.in-Replay.file) (trace_content c.in-Replay.texts.output) (ReplaysTrace found.0 found.1.0 found.1.1)
+    (λ console. ¬ IsStreaming c.in-Replay.texts.output → WritesNothing console) ⊥) (λ values. c.replay_file.ensures.open refused))
+
+pub returns-in-Replay-clause-asked : goal.returns-in-Replay-clause-asked
+returns-in-Replay-clause-asked g c =
+    of_equal (λ (effect : Effect). IsUnasked effect.input (g.I.Inputs.last_asked c.replay_file.new.inputs)
+    → ((c.replay_file.new.inputs ≡ c.args.inputs.now) × (c.replay_file.new.source ≡ c.args.source.now)))
+    c.args.terminals _ _ c.in-Replay.is
+    (asks (replay_in c.in-Replay.align c.in-Replay.strict c.in-Replay.texts) (λ found. reads (file_input c.in-Replay.file) (trace_content c.in-Replay.texts.output)
+    (ReplaysTrace found.0 found.1.0 found.1.1)
+    (λ console. ¬ IsStreaming c.in-Replay.texts.output → WritesNothing console) ⊥)
+    (g.I.Inputs.last_asked c.replay_file.new.inputs) ((c.replay_file.new.inputs ≡ c.args.inputs.now) × (c.replay_file.new.source ≡ c.args.source.now)) c.replay_file.ensures.unused
+    (λ values. c.replay_file.ensures.asked))
+
+pub returns-in-Decode-clause-executes : goal.returns-in-Decode-clause-executes
+returns-in-Decode-clause-executes g c =
+    of_equal (λ (effect : Effect). OnDevices (effect.Does (console_of (g.I.Inputs.bytes_of c.args.inputs.now) (g.I.Opened.Source.state c.decode_file.new.source) (g.W.Sink.state c.args.sink.now)
+    (g.W.Sink.state c.decode_file.new.sink) (g.E.Sink.state c.args.errors.now) (g.E.Sink.state c.decode_file.new.errors))) c.decode_file.result)
+    c.args.terminals _ _ c.in-Decode.is
+    (does (listing_in c.in-Decode.input c.in-Decode.format c.in-Decode.texts) (λ listing. reads (file_input c.in-Decode.file) content.Words (ListsWords listing.0 listing.1) (λ console. ⊥)
+    (IsTrue c.args.terminals.errors))
+    (console_of (g.I.Inputs.bytes_of c.args.inputs.now) (g.I.Opened.Source.state c.decode_file.new.source) (g.W.Sink.state c.args.sink.now)
+    (g.W.Sink.state c.decode_file.new.sink) (g.E.Sink.state c.args.errors.now) (g.E.Sink.state c.decode_file.new.errors)) c.decode_file.result
+    (c.decode_file.ensures.decodes (g.E.Sink.state c.args.errors.now) (g.E.Sink.state c.decode_file.new.errors)))
+
+pub returns-in-Decode-clause-open : goal.returns-in-Decode-clause-open
+returns-in-Decode-clause-open g c =
+    of_equal (λ (effect : Effect). c.decode_file.result ≡ Err fault.Open → IfSome effect.input (λ asked. IsFile asked.input))
+    c.args.terminals _ _ c.in-Decode.is
+    (λ refused. opens (listing_in c.in-Decode.input c.in-Decode.format c.in-Decode.texts) (λ listing.
+    reads (file_input c.in-Decode.file) content.Words (ListsWords listing.0 listing.1) (λ console. ⊥) (IsTrue c.args.terminals.errors)) (λ values. c.decode_file.ensures.open refused))
+
+pub returns-in-Decode-clause-asked : goal.returns-in-Decode-clause-asked
+returns-in-Decode-clause-asked g c =
+    of_equal (λ (effect : Effect). IsUnasked effect.input (g.I.Inputs.last_asked c.decode_file.new.inputs)
+    → ((c.decode_file.new.inputs ≡ c.args.inputs.now) × (c.decode_file.new.source ≡ c.args.source.now)))
+    c.args.terminals _ _ c.in-Decode.is
+    (asks (listing_in c.in-Decode.input c.in-Decode.format c.in-Decode.texts) (λ listing. reads (file_input c.in-Decode.file) content.Words (ListsWords listing.0 listing.1) (λ console. ⊥)
+    (IsTrue c.args.terminals.errors))
+    (g.I.Inputs.last_asked c.decode_file.new.inputs) ((c.decode_file.new.inputs ≡ c.args.inputs.now) × (c.decode_file.new.source ≡ c.args.source.now)) c.decode_file.ensures.unused
+    (λ values. c.decode_file.ensures.asked))
+
+pub returns-in-Decode-clause-silent : goal.returns-in-Decode-clause-silent
+returns-in-Decode-clause-silent g c =
+    of_equal (λ (effect : Effect). ¬ effect.Reports → c.decode_file.new.errors ≡ c.args.errors.now)
+    c.args.terminals _ _ c.in-Decode.is
+    (silent (listing_in c.in-Decode.input c.in-Decode.format c.in-Decode.texts) (λ listing.
+    reads (file_input c.in-Decode.file) content.Words (ListsWords listing.0 listing.1) (λ console. ⊥) (IsTrue c.args.terminals.errors))
+    (c.decode_file.new.errors ≡ c.args.errors.now) (λ refused. c.decode_file.ensures.silent (λ both. refused both.1)) (λ values unreported. c.decode_file.ensures.silent (λ both. unreported both.0)))
 
 pub returns-in-Annotate-clause-executes : goal.returns-in-Annotate-clause-executes
 returns-in-Annotate-clause-executes g c =
-    by_invocation _ _ c.in-Annotate.is c.args.terminals _ c.annotate_file.result
-    (c.annotate_file.ensures.annotates (g.E.Sink.state c.args.errors.now) (g.E.Sink.state c.args.errors.now))
-
-pub returns-in-RoundList-clause-silent : goal.returns-in-RoundList-clause-silent
-returns-in-RoundList-clause-silent g c = λ unreported. c.round_file.ensures.silent (λ is. unreported (subst (IsReported c.args.terminals) (sym c.in-RoundList.is) is))
-
-pub returns-in-Ask-clause-silent : goal.returns-in-Ask-clause-silent
-returns-in-Ask-clause-silent g c = λ unreported. c.ask.ensures.silent (λ is. unreported (subst (IsReported c.args.terminals) (sym c.in-Ask.is) is))
+    of_equal (λ (effect : Effect). OnDevices (effect.Does (console_of (g.I.Inputs.bytes_of c.args.inputs.now) (g.I.Opened.Source.state c.annotate_file.new.source) (g.W.Sink.state c.args.sink.now)
+    (g.W.Sink.state c.annotate_file.new.sink) (g.E.Sink.state c.args.errors.now) (g.E.Sink.state c.args.errors.now))) c.annotate_file.result)
+    c.args.terminals _ _ c.in-Annotate.is
+    ((c.annotate_file.ensures.annotates (g.E.Sink.state c.args.errors.now) (g.E.Sink.state c.args.errors.now)))
 
 pub returns-in-RoundList-clause-executes : goal.returns-in-RoundList-clause-executes
 returns-in-RoundList-clause-executes g c =
-    by_invocation _ _ c.in-RoundList.is c.args.terminals _ c.round_file.result c.round_file.ensures.rounds
+    of_equal (λ (effect : Effect). OnDevices (effect.Does (console_of (g.I.Inputs.bytes_of c.args.inputs.now) (g.I.Opened.Source.state c.round_file.new.source) (g.W.Sink.state c.args.sink.now)
+    (g.W.Sink.state c.round_file.new.sink) (g.E.Sink.state c.args.errors.now) (g.E.Sink.state c.round_file.new.errors))) c.round_file.result)
+    c.args.terminals _ _ c.in-RoundList.is
+    (does (place_in c.in-RoundList.base) (λ base. reads (file_input (Some c.in-RoundList.file)) content.Words (RoundsLengths c.in-RoundList.base c.args.terminals.errors base)
+    (λ console. ⊥) (IsTrue c.args.terminals.errors))
+    (console_of (g.I.Inputs.bytes_of c.args.inputs.now) (g.I.Opened.Source.state c.round_file.new.source) (g.W.Sink.state c.args.sink.now)
+    (g.W.Sink.state c.round_file.new.sink) (g.E.Sink.state c.args.errors.now) (g.E.Sink.state c.round_file.new.errors)) c.round_file.result c.round_file.ensures.rounds)
 
-pub returns-then-is_ok-clause-executes : goal.returns-then-is_ok-clause-executes
-returns-then-is_ok-clause-executes g c =
-    by_invocation _ _ c.in-Decode.is c.args.terminals _ c.decode_file-result.result
-    (c.decode_file-result.ensures.decodes (g.E.Sink.state c.args.errors.now) (g.E.Sink.state c.hint_on_file.new.errors))
+pub returns-in-RoundList-clause-open : goal.returns-in-RoundList-clause-open
+returns-in-RoundList-clause-open g c =
+    of_equal (λ (effect : Effect). c.round_file.result ≡ Err fault.Open → IfSome effect.input (λ asked. IsFile asked.input))
+    c.args.terminals _ _ c.in-RoundList.is
+    (λ refused. opens (place_in c.in-RoundList.base) (λ base. reads (file_input (Some c.in-RoundList.file)) content.Words (RoundsLengths c.in-RoundList.base c.args.terminals.errors base)
+    (λ console. ⊥) (IsTrue c.args.terminals.errors)) (λ values. c.round_file.ensures.open refused))
 
-pub returns-else-terminals-clause-executes : goal.returns-else-terminals-clause-executes
-returns-else-terminals-clause-executes g c =
-    by_invocation _ _ c.in-Decode.is c.args.terminals _ c.decode_file-result.result
-    (c.decode_file-result.ensures.decodes (g.E.Sink.state c.args.errors.now) (g.E.Sink.state c.args.errors.now))
+pub returns-in-RoundList-clause-asked : goal.returns-in-RoundList-clause-asked
+returns-in-RoundList-clause-asked g c =
+    of_equal (λ (effect : Effect). IsUnasked effect.input (g.I.Inputs.last_asked c.round_file.new.inputs)
+    → ((c.round_file.new.inputs ≡ c.args.inputs.now) × (c.round_file.new.source ≡ c.args.source.now)))
+    c.args.terminals _ _ c.in-RoundList.is
+    (asks (place_in c.in-RoundList.base) (λ base. reads (file_input (Some c.in-RoundList.file)) content.Words (RoundsLengths c.in-RoundList.base c.args.terminals.errors base)
+    (λ console. ⊥) (IsTrue c.args.terminals.errors))
+    (g.I.Inputs.last_asked c.round_file.new.inputs) ((c.round_file.new.inputs ≡ c.args.inputs.now) × (c.round_file.new.source ≡ c.args.source.now)) c.round_file.ensures.unused
+    (λ values. c.round_file.ensures.asked))
 
-pub returns-in-Plan-clause-main : goal.returns-in-Plan-clause-main
-returns-in-Plan-clause-main g c =
-    let meets : Script → Type 0 = λ script. OnDevices (MeetsMain script.limit script.opening (g.I.Inputs.bytes_of c.args.inputs.now script.input)
-    (g.I.Opened.Source.state c.plan_file.new.source).unread (g.W.Sink.state c.args.sink.now).taken (g.W.Sink.state c.plan_file.new.sink).taken) c.plan_file.result in
-    subst (λ (invocation : Invocation). IfSome (script_of invocation) meets) (sym c.in-Plan.is)
-    (on_pool (pool_of c.in-Plan.pool.base.now c.in-Plan.pool.length.now) c.in-Plan.limit c.in-Plan.align (file_input c.in-Plan.file) meets c.plan_file.ensures.main)
+pub returns-in-RoundList-clause-silent : goal.returns-in-RoundList-clause-silent
+returns-in-RoundList-clause-silent g c =
+    of_equal (λ (effect : Effect). ¬ effect.Reports → c.round_file.new.errors ≡ c.args.errors.now)
+    c.args.terminals _ _ c.in-RoundList.is
+    (silent (place_in c.in-RoundList.base) (λ base. reads (file_input (Some c.in-RoundList.file)) content.Words (RoundsLengths c.in-RoundList.base c.args.terminals.errors base)
+    (λ console. ⊥) (IsTrue c.args.terminals.errors))
+    (c.round_file.new.errors ≡ c.args.errors.now) (λ refused. c.round_file.ensures.silent (λ both. refused both.1)) (λ values unreported. c.round_file.ensures.silent (λ both. unreported both.0)))
 
-pub returns-in-Plan-clause-unused : goal.returns-in-Plan-clause-unused
-returns-in-Plan-clause-unused g c = λ refused. c.plan_file.ensures.unused (λ ok. refused (subst ReadsInput (sym c.in-Plan.is) ok))
-
-pub returns-in-Map-clause-unused : goal.returns-in-Map-clause-unused
-returns-in-Map-clause-unused g c = λ refused. c.map_file.ensures.unused (λ ok. refused (subst ReadsInput (sym c.in-Map.is) ok))
-
-pub returns-in-Replay-clause-unused : goal.returns-in-Replay-clause-unused
-returns-in-Replay-clause-unused g c = λ refused. c.replay_file.ensures.unused (λ ok. refused (subst ReadsInput (sym c.in-Replay.is) ok))
-
-pub returns-in-RoundList-clause-unused : goal.returns-in-RoundList-clause-unused
-returns-in-RoundList-clause-unused g c = λ refused. c.round_file.ensures.unused (λ ok. refused (subst ReadsInput (sym c.in-RoundList.is) ok))
-
-pub returns-then-is_ok-clause-unused : goal.returns-then-is_ok-clause-unused
-returns-then-is_ok-clause-unused g c = λ refused. c.decode_file-result.ensures.unused (λ ok. refused (subst ReadsInput (sym c.in-Decode.is) ok))
-
-pub returns-else-terminals-clause-unused : goal.returns-else-terminals-clause-unused
-returns-else-terminals-clause-unused g c = λ refused. c.decode_file-result.ensures.unused (λ ok. refused (subst ReadsInput (sym c.in-Decode.is) ok))
+pub returns-in-Ask-clause-silent : goal.returns-in-Ask-clause-silent
+returns-in-Ask-clause-silent g c =
+    of_equal (λ (effect : Effect). ¬ effect.Reports → c.ask.new.errors ≡ c.args.errors.now)
+    c.args.terminals _ _ c.in-Ask.is
+    (c.ask.ensures.silent)

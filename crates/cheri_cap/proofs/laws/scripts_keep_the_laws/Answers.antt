@@ -1,6 +1,6 @@
 use Rattle.std.proofs.Common.{[], refl}
 use Rattle.cc_machine.specs.State.{initial_state}
-use Rattle.cc_session.proofs.RunLemmas.{laws_after}
+use Rattle.cc_script.proofs.RunLemmas.{laws_after}
 use Rattle.cheri_cap.proofs.laws.scripts_keep_the_laws.Goals as goal
 
 pub returns : goal.returns

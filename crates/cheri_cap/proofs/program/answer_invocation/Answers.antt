@@ -26,13 +26,10 @@ returns-clause-executes g c = λ found is_invocation. record {
     asks = λ unasked.
         let same = c.execute-result.ensures.asked unasked in
         (ap g.I.Inputs.has_refused same.0 ∙ c.requires.inputs, ap (λ source. (g.I.Opened.Source.state source).has_failed) same.1 ∙ c.requires.source);
-    main = c.execute-result.ensures.main;
-    starves = λ is. (c.execute-result.ensures.memory is, c.execute-result.ensures.stopped is);
-    starved = c.execute-result.ensures.starved;
+    starves = c.execute-result.ensures.starved;
     flushed = c.execute-result.ensures.end.flushed;
     unreported = c.execute-result.ensures.unreported;
     silent = λ unreported. ap (λ errors. (g.E.Sink.state errors).taken) (c.execute-result.ensures.silent unreported);
-    hinted = c.execute-result.ensures.hinted;
     ends = c.ending_of.ensures;
   };
 }

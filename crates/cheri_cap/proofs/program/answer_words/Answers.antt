@@ -36,4 +36,4 @@ returns-in-Err-clause-runs_script g c =
 pub returns-in-Ok-clause-asked : goal.returns-in-Ok-clause-asked
 returns-in-Ok-clause-asked g c =
     let told = c.in-Ok.ensures.read in
-    (told.0, told.1, c.in-Ok.invocation, told.2, c.answer_invocation.ensures.asked, c.answer_invocation.ensures.unused)
+    (told.0, told.1, c.in-Ok.invocation, told.2, c.answer_invocation.ensures.asked)

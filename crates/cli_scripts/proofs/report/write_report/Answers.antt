@@ -1,8 +1,8 @@
 use Rattle.std.proofs.Common.{[], ◌∙◌, ap, subst, sym}
 use Rattle.std.proofs.KnownBytes.{Appends-nil}
 use Rattle.std.specs.Io.KnownBytes.{Appends}
-use Rattle.cc_command.specs.Hints.{hints_text}
-use Rattle.cc_command.specs.Statistics.{statistics_text}
+use Rattle.cli_scripts.specs.Hints.{hints_text}
+use Rattle.cli_scripts.specs.Statistics.{statistics_text}
 use Rattle.cli_scripts.proofs.ReportLemmas.{asked_summary, given_hints, no_hints, no_summary, of_answer, of_answered, tells}
 use Rattle.cli_scripts.proofs.report.write_report.Goals as goal
 use Rattle.cli_scripts.proofs.report.write_report.Goals.{then-report+in_ok-usage+else-is_err, else-report}

@@ -1,8 +1,8 @@
 use Rattle.std.proofs.Common.{inr, refl, subst}
 use Rattle.cc_machine.specs.State.{State, initial_state}
 use Rattle.cli.specs.Devices.{Console, console_of, traffic_of}
-use Rattle.cli_scripts.specs.Runs.{AnswersAll}
-use Rattle.cli_scripts.proofs.RunLemmas.{meets_input, runs_input}
+use Rattle.cli_scripts.specs.Runs.{CompletesRun}
+use Rattle.cli_scripts.proofs.RunLemmas.{runs_input}
 use Rattle.cli_scripts.proofs.runs.run.Goals as goal
 
 pub returns-clause-runs : goal.returns-clause-runs
@@ -21,12 +21,5 @@ returns-clause-starved g c = λ is.
       told.0,
       source,
       c.in_ok-open.ensures.opened,
-      subst (λ (start : State). AnswersAll c.args.opening.now start (traffic_of console source)) c.in_ok-session.ensures.machine told.1,
+      subst (λ (start : State). CompletesRun c.args.opening.now start (traffic_of console source)) c.in_ok-session.ensures.machine told.1,
     )
-
-pub returns-clause-main : goal.returns-clause-main
-returns-clause-main g c =
-    meets_input c.args.opening.now c.in_ok-session.session.machine c.args.limit (g.I.Inputs.bytes_of c.args.inputs.now c.args.input)
-    (g.I.Opened.Source.state c.open.new.source).unread (g.I.Opened.Source.state c.run_and_report.new.source).unread
-    (g.W.Sink.state c.args.sink.now).taken (g.W.Sink.state c.run_and_report.new.sink).taken
-    c.run_and_report.result c.in_ok-session.ensures.machine c.in_ok-open.ensures.opened c.run_and_report.ensures.main

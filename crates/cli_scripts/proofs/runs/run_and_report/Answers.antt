@@ -3,7 +3,6 @@ use Rattle.std.proofs.lemmas.Result.{err_from_is_err_and}
 use Rattle.cli.specs.Devices.{traffic_on}
 use Rattle.cli_scripts.specs.Runs.{ReportsRun}
 use Rattle.cli.proofs.DeviceLemmas.{on_devices}
-use Rattle.cli_scripts.proofs.RunLemmas.{meets}
 use Rattle.cli_scripts.proofs.runs.run_and_report.Goals as goal
 
 pub returns-in_err-summary-clause-runs : goal.returns-in_err-summary-clause-runs
@@ -30,12 +29,3 @@ returns-in_err-write_report-clause-starved g c = λ is. (
   c.in_err-write_report.ensures.wanted,
   (c.in_ok-summary.summary, (c.run_session.new.machine, c.in_ok-summary.ensures.runs.main)),
 )
-
-pub returns-in_err-summary-clause-main : goal.returns-in_err-summary-clause-main
-returns-in_err-summary-clause-main g c =
-    meets c.args.report c.args.opening.now c.args.pool c.args.session.now.machine
-    (traffic_on (g.S.Source.state c.args.source.now) (g.S.Source.state c.run_session.new.source) (g.W.Sink.state c.args.sink.now) (g.W.Sink.state c.run_session.new.sink) (g.E.Sink.state c.args.errors.now) (g.E.Sink.state c.args.errors.now))
-    c.from_residual.result (returns-in_err-summary-clause-runs g c)
-
-pub returns-clause-main : goal.returns-clause-main
-returns-clause-main g c = (c.run_session.new.machine, c.in_ok-summary.ensures.runs.main)

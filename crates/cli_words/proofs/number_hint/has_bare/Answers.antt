@@ -3,7 +3,7 @@ use Rattle.std.specs.Borrow.{Bor}
 use Rattle.std.proofs.lemmas.Iterator.{YieldsList-from_slice}
 use Rattle.std.proofs.lemmas.Iterator.Search.{any_from_yields_List}
 use Rattle.clap.proofs.WalkLemmas.{list_any-map}
-use Rattle.cc_command.specs.BareDigits.{is_bare}
+use Rattle.cli_words.specs.BareDigits.{is_bare}
 use Rattle.cli_words.proofs.number_hint.has_bare.Goals as goal
 
 pub returns : goal.returns

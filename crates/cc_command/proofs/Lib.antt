@@ -1,2 +1,0 @@
-mod HintLemmas
-mod RoundListLemmas

@@ -1,0 +1,240 @@
+-- The output and the counts of a session, from the output of the engine of cc_io.
+use Rattle.std.proofs.Common.{◌≡◌, ℕ, ◌<◌, ◌≤◌, ◌+◌, List, [], ◌∷◌, ◌++◌, length, take, drop, map, refl, sym, ◌∙◌, ap, subst, append_assoc, append-nil, arith, Bool, true, false, ◌||◌, Option, OnOk, Result, Ok, Err, slice_index_or, inl, inr}
+use Rattle.std.proofs.lemmas.List.{map-append, take_all, take_more, take-append-drop}
+use Rattle.std.proofs.lemmas.List.Folds.{list_any-append}
+use Rattle.std.specs.Io.KnownBytes.{Appends}
+use Rattle.std.specs.List.{list_any}
+use Rattle.cc_word.specs.declared.refusal.Refusal.{Refusal}
+use Rattle.cc_values.specs.declared.op.Op.{Op}
+use Rattle.cc_values.specs.declared.reply.Reply.{Reply}
+use Rattle.cc_machine.specs.State.{State}
+use Rattle.cc_io.proofs.ServingLemmas.{runs_through}
+use Rattle.cc_io.specs.Answers.{Answer, AnswersAll, EndsWith, seen}
+use Rattle.cc_io.specs.Correct.{Pumps, PumpsText}
+use Rattle.cc_io.specs.Frames.{lines}
+use Rattle.cc_io.specs.Lines.{lines_of, rest_of}
+use Rattle.cc_io.specs.declared.summary.IoError.{IoError}
+use Rattle.cc_io.specs.declared.summary.IoError.TheVariants.{Read, Write}
+use Rattle.cc_io.specs.declared.summary.Summary.{Summary}
+use Rattle.cc_io.proofs.DeviceLemmas.{appends_none, appends_twice}
+use Rattle.cc_syntax.specs.Commands.{operation_of}
+use Rattle.cc_script.specs.Output.{Takes, TakesAll, with_line_feed, replies_text}
+use Rattle.cc_syntax.specs.Replies.{reply_text, is_error}
+use Rattle.cc_script.proofs.ReplyLemmas.{takes_further, replies_text-append}
+use Rattle.cc_script.proofs.RunningLemmas.{all_opened, io, joined, pumps_script, runs_script, start_enough, stops_waiting}
+use Rattle.cc_script.specs.Failures.{StopsInReplies}
+use Rattle.cc_script.specs.Session.{CountsRun, Opens, RunsSession, TakesOperation, exchanges_of, rest_exchange}
+use Rattle.cc_machine.specs.Run.{IsReached}
+use Rattle.cc_script.specs.Lending.{AnswersLine, RefusesScriptRest, StaysLent}
+use Rattle.cc_script.specs.declared.lent.Lent.{Lent}
+use Rattle.cc_syntax.specs.declared.tally.Tally.{Tally}
+use Rattle.cc_io.specs.Devices.{TakesPrefix}
+use Rattle.cc_io.specs.Engine.{PassesPage}
+use Rattle.cc_syntax.specs.Tally.{Exchange, IsTally}
+
+-- ---- the setup operations
+
+or_false : (b : Bool) → b ≡ (b || false)
+or_false true = refl
+or_false false = refl
+
+no_bytes : {A : Type 0} (l : List ℕ) → l ≡ [] → 0 < length l → A
+no_bytes {A} l none some = absurd (omega (arith, some, ap (λ (x : List ℕ). length x) none))
+
+pub opens_none : (room : ℕ) (old : State) (tally : Tally) (page : List ℕ) (t : Option (List ℕ)) → page ≡ [] → Opens room old tally [] page t t false old tally
+opens_none room old tally page t none = record {
+  earlier = [];
+  on_page = [];
+  ops_are = refl;
+  replies = [];
+  mid = old;
+  before = refl;
+  written = appends_none t;
+  waiting = [];
+  takes = refl;
+  page_is = none;
+  fits = omega (arith, ap (λ (x : List ℕ). length x) none);
+  last = λ some. no_bytes page none some;
+  error_is = refl;
+  counted = λ is. is;
+}
+
+-- The page is written, if it was, before the next operation.
+pub opens_passed : (room : ℕ) (old a : State) (tally counts : Tally) (ops : List Op) (page page_now : List ℕ) (t u v : Option (List ℕ)) (e : Bool)
+    → Opens room old tally ops page t u e a counts → PassesPage u v page page_now → Opens room old tally ops page_now t v e a counts
+unfolding all_opened
+opens_passed room old a tally counts ops page page_now t u v e o (inl same) =
+    subst (λ (b : Option (List ℕ)). Opens room old tally ops page_now t b e a counts) (sym same.0)
+    (subst (λ (l : List ℕ). Opens room old tally ops l t u e a counts) (sym same.1) o)
+opens_passed room old a tally counts ops page page_now t u v e o (inr passed) =
+    let all : List Reply = o.replies ++ o.waiting in
+    let opened = all_opened room old tally ops page t u e a counts o in
+    record {
+      earlier = ops;
+      on_page = [];
+      ops_are = sym (append-nil ops);
+      replies = all;
+      mid = a;
+      before = opened.takes;
+      written = subst (λ (l : List ℕ). Appends t v l) (sym opened.text_is) (appends_twice t u v (replies_text o.replies) page o.written passed.0);
+      waiting = [];
+      takes = refl;
+      page_is = passed.1;
+      fits = omega (arith, ap (λ (x : List ℕ). length x) passed.1);
+      last = λ some. no_bytes page_now passed.1 some;
+      error_is = o.error_is ∙ ap (list_any is_error) (sym (append-nil all));
+      counted = λ fresh. subst (λ (l : List Reply). IsTally l [] counts) (sym (append-nil all)) (o.counted fresh);
+    }
+
+next_taken : (ops : List Op) (i : ℕ) (op : Op) → i < length ops → op ≡ slice_index_or ops i op → take (i + 1) ops ≡ take i ops ++ op ∷ []
+next_taken ops i op within is = take_more ops i op within ∙ ap (λ (o : Op). take i ops ++ o ∷ []) (sym is)
+
+pub opens_more : (room : ℕ) (old a b : State) (tally counts counts_now : Tally) (ops : List Op) (i : ℕ) (op : Op) (page page_now : List ℕ) (t u : Option (List ℕ)) (e f : Bool)
+    → Opens room old tally (take i ops) page t u e a counts → i < length ops → op ≡ slice_index_or ops i op → length page + 193 ≤ room
+    → TakesOperation a counts op page page_now f b counts_now → length page_now ≤ length page + 193
+    → Opens room old tally (take (i + 1) ops) page_now t u (e || f) b counts_now
+opens_more room old a b tally counts counts_now ops i op page page_now t u e f o within is space p fits = record {
+  earlier = o.earlier;
+  on_page = o.on_page ++ op ∷ [];
+  ops_are = next_taken ops i op within is ∙ ap (λ (l : List Op). l ++ op ∷ []) o.ops_are ∙ append_assoc o.earlier o.on_page (op ∷ []);
+  replies = o.replies;
+  mid = o.mid;
+  before = o.before;
+  written = o.written;
+  waiting = o.waiting ++ p.reply ∷ [];
+  takes = rw (map-append {B = Result Op Refusal} Ok o.on_page (op ∷ []))
+      (takes_further o.mid a b (map Ok o.on_page) (Ok op ∷ []) o.waiting (p.reply ∷ []) o.takes (b, p.step, refl));
+  page_is =
+      p.page_is ∙ ap (λ (l : List ℕ). l ++ with_line_feed (reply_text p.reply)) o.page_is
+      ∙ ap (λ (l : List ℕ). replies_text o.waiting ++ l) (sym (append-nil (with_line_feed (reply_text p.reply))))
+      ∙ sym (replies_text-append o.waiting (p.reply ∷ []));
+  fits = omega (arith, space, fits);
+  last = λ some. record {
+    first = o.waiting;
+    last = p.reply;
+    replies_are = refl;
+    fits = subst (λ (l : List ℕ). length l + 193 ≤ room) o.page_is space;
+  };
+  error_is = rw (← append_assoc o.replies o.waiting (p.reply ∷ []), list_any-append is_error (o.replies ++ o.waiting) (p.reply ∷ []), ← o.error_is, ← or_false (is_error p.reply), ← p.error_is) refl;
+  counted = λ fresh. subst (λ (l : List Reply). IsTally l [] counts_now) (append_assoc o.replies o.waiting (p.reply ∷ [])) (p.counted (o.replies ++ o.waiting) (o.counted fresh));
+}
+
+-- The sink failed in the replies on the page.
+pub opens_stops : (room : ℕ) (old a : State) (tally counts : Tally) (ops : List Op) (i : ℕ) (page : List ℕ) (t u v : Option (List ℕ)) (e : Bool)
+    → Opens room old tally (take i ops) page t u e a counts → 0 < length page → TakesPrefix u v page
+    → StopsInReplies room old (map Ok ops) (Appends t v) a
+opens_stops room old a tally counts ops i page t u v e o some q =
+    subst (λ (l : List (Result Op Refusal)). StopsInReplies room old l (Appends t v) a)
+    (sym (map-append {B = Result Op Refusal} Ok (take i ops) (drop i ops)) ∙ ap (λ (l : List Op). map {B = Result Op Refusal} Ok l) (take-append-drop i ops))
+    (stops_waiting room old tally (take i ops) page t u v e a counts (map Ok (drop i ops)) o some q)
+
+pub opens_whole : (room : ℕ) (old a : State) (tally counts : Tally) (ops : List Op) (i : ℕ) (page : List ℕ) (t u : Option (List ℕ)) (e : Bool)
+    → Opens room old tally (take i ops) page t u e a counts → length ops ≤ i → Opens room old tally ops page t u e a counts
+opens_whole room old a tally counts ops i page t u e o past = subst (λ (l : List Op). Opens room old tally l page t u e a counts) (take_all i ops past) o
+
+-- ---- the lines and the trailing bytes
+
+record Counted (a b : Lent) (opening : List Reply) (before : List Exchange) (entries : List (List ℕ)) : Type 0 where
+  pub replies : List Reply
+  pub takes : TakesAll a.machine.now (map operation_of entries) replies b.machine.now
+  pub is_tally : IsTally opening (before ++ exchanges_of entries replies) b.tally.now
+
+counted_all : (a b : Lent) (opening : List Reply) (before : List Exchange) (entries : List (List ℕ)) (answers : List Answer)
+    → AnswersAll AnswersLine a (seen entries) answers b → IsTally opening before a.tally.now → Counted a b opening before entries
+counted_all a b opening before [] [] t is = record {
+  replies = [];
+  takes = ap (λ (lent : Lent). lent.machine.now) t;
+  is_tally = subst (λ (l : List Exchange). IsTally opening l b.tally.now) (sym (append-nil before))
+      (subst (λ (lent : Lent). IsTally opening before lent.tally.now) (sym t) is);
+}
+counted_all a b opening before [] (answer ∷ answers) t is = absurd t
+counted_all a b opening before (line ∷ entries) [] t is = absurd t
+counted_all a b opening before (line ∷ entries) (answer ∷ answers) t is =
+    let one = t.1 in
+    let exchange : Exchange = record { line = line; reply = one.reply } in
+    let p = counted_all t.0 b opening (before ++ exchange ∷ []) entries answers t.2 (t.1.counted opening before line refl is) in
+    record {
+      replies = one.reply ∷ p.replies;
+      takes = (t.0.machine.now, subst (λ (command : Result Op Refusal). Takes a.machine.now command one.reply t.0.machine.now) (start_enough line) one.takes, p.takes);
+      is_tally = subst (λ (l : List Exchange). IsTally opening l b.tally.now) (append_assoc before (exchange ∷ []) (exchanges_of entries p.replies)) p.is_tally;
+    }
+
+counted_rest : (mid b : Lent) (opening : List Reply) (before : List Exchange) (rest : List ℕ) (ending : Answer)
+    → EndsWith RefusesScriptRest mid (take 129 rest) ending b → IsTally opening before mid.tally.now
+    → (b.machine.now ≡ mid.machine.now) × IsTally opening (before ++ rest_exchange rest) b.tally.now
+counted_rest mid b opening before [] ending e is = (
+  ap (λ (lent : Lent). lent.machine.now) e.2,
+  subst (λ (l : List Exchange). IsTally opening l b.tally.now) (sym (append-nil before))
+      (subst (λ (lent : Lent). IsTally opening before lent.tally.now) (sym e.2) is),
+)
+counted_rest mid b opening before (byte ∷ rest) ending e is = (e.stays, e.counted opening before is)
+
+-- ---- the same machine and tally are borrowed at the end
+
+module _ {X : Type 0} (name : Lent → X)
+    (answers : (old : Lent) (line text : List ℕ) (error : Bool) (new : Lent) → AnswersLine old line text error new → name new ≡ name old)
+    (refuses : (old : Lent) (rest text : List ℕ) (error : Bool) (new : Lent) → RefusesScriptRest old rest text error new → name new ≡ name old) where
+  lent_all : (a b : Lent) (entries : List (List ℕ)) (all : List Answer) → AnswersAll AnswersLine a entries all b → name b ≡ name a
+  lent_all a b [] [] t = ap name t
+  lent_all a b (entry ∷ entries) (answer ∷ all) t = lent_all t.0 b entries all t.2 ∙ answers a entry answer.text answer.is_error t.0 t.1
+  lent_all a b [] (answer ∷ all) t = absurd t
+  lent_all a b (entry ∷ entries) [] t = absurd t
+
+  lent_end : (a b : Lent) (rest : List ℕ) (ending : Answer) → EndsWith RefusesScriptRest a rest ending b → name b ≡ name a
+  lent_end a b [] ending e = ap name e.2
+  lent_end a b (byte ∷ rest) ending e = refuses a (byte ∷ rest) ending.text ending.is_error b e
+
+  lent_text : (room : ℕ) (a b : Lent) (pending text : List ℕ) (left t u : Option (List ℕ)) (result : Result Summary IoError)
+      → PumpsText AnswersLine RefusesScriptRest lines room 193 a pending text left t u result b → name b ≡ name a
+  lent_text room a b pending text left t u (Ok summary) p =
+      let out = p.1.of_text in lent_end out.mid b (take 129 (rest_of text)) out.ending out.ends ∙ lent_all a out.mid (seen (lines_of text)) out.answers out.takes
+  lent_text room a b pending text left t u (Err Read) p = lent_all a b (seen (lines_of text)) p.answers p.takes
+  lent_text room a b pending text left t u (Err Write) (inl p) = ap name p.1.stays
+  lent_text room a b pending text left t u (Err Write) (inr (inl p)) = lent_all p.mid b p.on_page p.page p.takes ∙ lent_all a p.mid p.earlier p.before p.first
+  lent_text room a b pending text left t u (Err Write) (inr (inr p)) =
+      lent_end p.1.mid b (take 129 (rest_of text)) p.1.ending p.1.ends ∙ lent_all a p.1.mid (seen (lines_of text)) p.1.answers p.1.takes
+
+pub same_lent : (room : ℕ) (a b : Lent) (pending : List ℕ) (unread left t u : Option (List ℕ)) (result : Result Summary IoError)
+    → Pumps (λ (state : Lent). false) AnswersLine RefusesScriptRest lines room 193 a pending unread left t u result b → StaysLent a b
+same_lent room a b pending unread left t u result p = record {
+  machine = lent_text (λ (lent : Lent). lent.machine.ghost_name) (λ old line text error new r. r.same.machine) (λ old rest text error new r. r.same.machine)
+      room a b pending p.text left t u result (runs_through (λ (state : Lent). false) _ _ _ _ _ _ _ _ _ _ _ _ _ refl p);
+  tally = lent_text (λ (lent : Lent). lent.tally.ghost_name) (λ old line text error new r. r.same.tally) (λ old rest text error new r. r.same.tally)
+      room a b pending p.text left t u result (runs_through (λ (state : Lent). false) _ _ _ _ _ _ _ _ _ _ _ _ _ refl p);
+}
+
+-- ---- the run
+
+counts_run : (room : ℕ) (old : State) (tally : Tally) (a b : Lent) (opening : List Op) (pending text : List ℕ) (left s t u : Option (List ℕ)) (e : Bool) (result : Result Summary IoError)
+    → IsTally [] [] tally → Opens room old tally opening pending s t e a.machine.now a.tally.now
+    → PumpsText AnswersLine RefusesScriptRest lines room 193 a pending text left t u result b → OnOk (joined e result) (CountsRun old opening text b.tally.now b.machine.now)
+unfolding all_opened
+counts_run room old tally a b opening pending text left s t u e (Ok summary) fresh o p =
+    let out = p.1.of_text in
+    let opened = all_opened room old tally opening pending s t e a.machine.now a.tally.now o in
+    let all = counted_all a out.mid opened.replies [] (lines_of text) out.answers out.takes (o.counted fresh) in
+    let rest = counted_rest out.mid b opened.replies (exchanges_of (lines_of text) all.replies) (rest_of text) out.ending out.ends all.is_tally in
+    record {
+      first = opened.replies;
+      mid = a.machine.now;
+      opens = opened.takes;
+      replies = all.replies;
+      takes = subst (λ (m : State). TakesAll a.machine.now (map operation_of (lines_of text)) all.replies m) (sym rest.0) all.takes;
+      exchanges = exchanges_of (lines_of text) all.replies ++ rest_exchange (rest_of text);
+      exchanges_are = refl;
+      is_tally = rest.1;
+    }
+counts_run room old tally a b opening pending text left s t u e (Err error) fresh o p = tt
+
+pub runs_session : (room : ℕ) (old : State) (tally : Tally) (a b : Lent) (opening : List Op) (pending : List ℕ) (c left s t u : Option (List ℕ)) (e : Bool) (result : Result Summary IoError)
+    → IsReached old → IsTally [] [] tally → Opens room old tally opening pending s t e a.machine.now a.tally.now
+    → Pumps (λ (state : Lent). false) AnswersLine RefusesScriptRest lines room 193 a pending c left t u result b
+    → RunsSession room opening (io old c s) (joined e result) b.tally.now (io b.machine.now left u)
+unfolding pumps_script runs_script
+runs_session room old tally a b opening pending c left s t u e result reached fresh o p =
+    let runs = pumps_script room old tally a.tally.now opening a b pending c left s t u e result reached o p in
+    record {
+      main = runs.main;
+      fails = runs.fails;
+      counts = counts_run room old tally a b opening pending p.text left s t u e result fresh o (runs_through (λ (state : Lent). false) _ _ _ _ _ _ _ _ _ _ _ _ _ refl p);
+    }

@@ -1,0 +1,38 @@
+use Rattle.std.proofs.Common.{◌∙◌, ap, arith, ◌++◌, ℕ, List, length, length-append, refl, sym}
+use Rattle.cc_values.specs.declared.reply.Reply.TheVariants.{Refused}
+use Rattle.cc_script.specs.Output.{with_line_feed}
+use Rattle.cc_syntax.specs.Replies.{reply_text}
+use Rattle.cc_script.proofs.running.LentAnswerer.answer.Goals as goal
+
+pub returns-in-Ok : goal.returns-in-Ok
+returns-in-Ok g c =
+    let r = c.in-Ok.ensures.answers in
+    record {
+      text = with_line_feed (reply_text r.reply);
+      out_is = r.text_is;
+      answered = record {
+        reply = r.reply;
+        takes = r.takes;
+        text_is = refl;
+        error_is = sym r.error_is;
+        fits = omega (arith, c.answer_line.ensures.fits, ap (λ (l : List ℕ). length l) r.text_is, length-append c.args.out.now (with_line_feed (reply_text r.reply)));
+        counted = λ opening exchanges whole is counts. c.take_line.ensures opening exchanges whole r.reply r.error_is counts;
+        same = record { machine = refl; tally = refl };
+      };
+    }
+
+pub returns-in-Err : goal.returns-in-Err
+unfolding reply_text
+returns-in-Err g c = record {
+  text = c.refusal_bytes.result.now;
+  out_is = c.push.ensures ∙ ap (λ (l : List ℕ). l ++ c.refusal_bytes.result.now) c.in-Err.ensures.answers.1;
+  answered = record {
+    reply = Refused c.in-Err.refusal;
+    takes = c.in-Err.ensures.answers.0;
+    text_is = c.refusal_bytes.ensures.value;
+    error_is = refl;
+    fits = omega (arith, c.refusal_bytes.ensures.fits);
+    counted = λ opening exchanges whole is counts. c.take_refused.ensures opening exchanges whole is counts;
+    same = record { machine = refl; tally = refl };
+  };
+}

@@ -1,9 +1,0 @@
--- In reading order.
-pub mod Output
-pub mod Main
-pub mod Failures
-pub mod Laws
-pub mod Answering
-pub mod Lent
-pub mod Session
-pub mod Lending

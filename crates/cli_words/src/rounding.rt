@@ -1,0 +1,136 @@
+//! The output of `round` for a length: how setting bounds rounds it, and with a base the bounds that the request is
+//! granted.
+ghost use Rattle.std.specs.Prelude.{◌≡◌, ◌↔◌, ◌≤◌, ◌+◌, ◌++◌, ℕ, IfOk, IsErr, IsTrue, List, None, Ok, codes, false, length, true};
+ghost use Rattle.cc_bounds.specs.Granule.{IsGranted};
+ghost use Rattle.cc_bounds.specs.Span.{IsSpan};
+ghost use Rattle.cc_bounds.specs.declared.span.Span.{Span as SpanSpec};
+ghost use Rattle.cc_syntax.specs.Replies.{bounds_text};
+ghost use Rattle.cc_values.specs.Values.{length_in};
+ghost use Rattle.cc_io.specs.CommandOutput.{WritesAnswer};
+ghost use Rattle.cli_words.specs.Rounding.{IsRounding, IsRoundingAfter, IsRoundingFrom, IsUnroundable, IsUnroundableAfter};
+
+use cc_bounds::{Len, Span, set_bounds};
+use cc_io::{IoError, Page, Sink, Summary, Text, refusal_bytes, write_and_flush, write_refusal};
+use cc_syntax::{read_address, read_length, reply_line, request_from};
+use cc_values::Reply;
+
+/// The maximum length of the output for a length in bytes, including its line feed.
+const MOST: usize = 264;
+
+/// Writes the line `round LENGTH GRANULE MASK` for a length, and flushes the sink once after it.
+///
+/// LENGTH is the number of bytes that bounds of this length take. Their base must be a multiple of
+/// GRANULE. MASK rounds an address down to such a multiple. The number has any number of digits. For any
+/// other string, the output is the first of these refusals that applies:
+///
+/// - `error 1 syntax`: the string is not a number
+/// - `error 4 range`: the number is above 2^64
+///
+/// Requires: the sink has not failed.
+/// Errors: `Write` if and only if the sink fails. A prefix of the output is then written.
+/// Instruction: CRRL, CRAM.
+pub fn show_round<W: Sink>(text: &[u8], sink: &mut W) -> Result<Summary, IoError>
+    requires { (W.state sink.old).has_failed ≡ false }
+    ensures shown { WritesAnswer (IsRounding None text.now) (W.state sink.old) (W.state sink.new) result }
+    ensures any_error { IfOk result (λ summary. IsTrue summary.any_error ↔ IsErr (length_in text.now)) }
+{
+    write_round(None, text, sink)
+}
+
+/// Writes the line `round LENGTH GRANULE MASK BASE TOP` for a length from a base, and flushes the
+/// sink once after it.
+///
+/// BASE and TOP are the bounds that the request of this length from this base is granted. If the base is
+/// not an address, the output is its refusal. Otherwise it is the output of [`show_round`] with BASE and
+/// TOP, or `error 9 bounds` if the request ends past 2^64.
+///
+/// Requires: the sink has not failed.
+/// Errors: `Write` if and only if the sink fails. A prefix of the output is then written.
+pub fn show_round_from<W: Sink>(base: &[u8], text: &[u8], sink: &mut W) -> Result<Summary, IoError>
+    requires { (W.state sink.old).has_failed ≡ false }
+    ensures shown { WritesAnswer (IsRoundingAfter base.now text.now) (W.state sink.old) (W.state sink.new) result }
+    ensures any_error { IfOk result (λ summary. IsTrue summary.any_error ↔ IsUnroundableAfter base.now text.now) }
+{
+    match read_address(base) {
+        Ok(base) => write_round(Some(base), text, sink),
+        Err(refusal) => write_refusal(refusal, sink),
+    }
+}
+
+/// Writes the output for a length, and flushes the sink once after it.
+fn write_round<W: Sink>(base: Option<u64>, text: &[u8], sink: &mut W) -> Result<Summary, IoError>
+    requires { (W.state sink.old).has_failed ≡ false }
+    ensures shown { WritesAnswer (IsRounding base text.now) (W.state sink.old) (W.state sink.new) result }
+    ensures any_error { IfOk result (λ summary. IsTrue summary.any_error ↔ IsUnroundable base (length_in text.now)) }
+{
+    let mut line = Page::<MOST>::new();
+    let any_error = push_round(base, text, &mut line);
+    let mut answer = Text::new();
+    answer.push(line.bytes());
+    match write_and_flush(&answer, sink) {
+        Ok(()) => Ok(Summary { any_error }),
+        Err(error) => Err(error),
+    }
+}
+
+/// Appends the output for a length, and returns whether it is an error.
+pub(crate) fn push_round<const N: usize>(base: Option<u64>, text: &[u8], out: &mut Page<N>) -> bool
+    requires { length out.old + 264 ≤ N }
+    ensures { (answer : List ℕ) × (out.new ≡ out.old ++ answer) × IsRounding base text.now answer × (IsTrue result ↔ IsUnroundable base (length_in text.now)) }
+{
+    match read_length(text) {
+        Ok(length) => push_rounding(base, length, out),
+        Err(refusal) => {
+            out.push(refusal_bytes(refusal));
+            true
+        }
+    }
+}
+
+/// Appends the reply to a length, and returns whether it is an error.
+fn push_rounding<const N: usize>(base: Option<u64>, size: Len, out: &mut Page<N>) -> bool
+    requires { length out.old + 264 ≤ N }
+    ensures { (text : List ℕ) × (out.new ≡ out.old ++ text) × IsRoundingFrom base size text × (IsTrue result ↔ IsUnroundable base (Ok size)) }
+{
+    match base {
+        None => {
+            out.push(reply_line(&Reply::rounded(size)).bytes());
+            out.push(b"\n");
+            false
+        }
+        Some(base) => match request_from(base, size.get()) {
+            Ok(request) => {
+                out.push(reply_line(&Reply::rounded(size)).bytes());
+                push_granted(&request, out);
+                out.push(b"\n");
+                false
+            }
+            Err(refusal) => {
+                out.push(refusal_bytes(refusal));
+                true
+            }
+        },
+    }
+}
+
+/// Appends the base and the top that a request is granted.
+fn push_granted<const N: usize>(request: &Span, out: &mut Page<N>)
+    requires is_span { IsSpan request.now }
+    requires room { length out.old + 70 ≤ N }
+    ensures value { (granted : SpanSpec) × IsGranted request.now granted × (out.new ≡ out.old ++ codes " " ++ bounds_text granted) }
+    ensures fits { length out.new ≤ length out.old + 70 }
+{
+    let granted = granted_to(request);
+    out.push(b" ");
+    out.push_hexadecimal(u128::from(granted.base));
+    out.push(b" ");
+    out.push_hexadecimal(granted.top);
+}
+
+/// Returns the span that a request is granted.
+fn granted_to(request: &Span) -> Span
+    requires { IsSpan request.now }
+    ensures { IsGranted request.now result }
+{
+    set_bounds(request.base, request.top - u128::from(request.base)).granted()
+}
