@@ -12,7 +12,7 @@ mod halves;
 mod lengths;
 mod many;
 mod measures;
-mod memory;
+mod c_memory;
 mod rules;
 mod search;
 mod structs;

@@ -11,7 +11,7 @@ ghost use Rattle.cc_ffi.specs.Numbers.{number_in};
 ghost use Rattle.cc_ffi.specs.Search.{AreUnsealed, EndsSearch, HasTag, IsListed, IsTaggable, IsWanted, IsWantedAt, searchable};
 
 use crate::halves::number;
-use crate::memory::word_of;
+use crate::c_memory::word_of;
 use crate::structs::{Halves, Query};
 use cc_bounds::decode;
 use cc_cap::is_canonical;

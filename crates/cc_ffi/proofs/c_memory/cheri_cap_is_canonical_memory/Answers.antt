@@ -3,7 +3,7 @@ use Rattle.cc_cap.specs.Canonical.{IsCanonical}
 use Rattle.cc_ffi.specs.Many.{IsOneIf}
 use Rattle.cc_ffi.specs.Memory.{word_in_memory}
 use Rattle.cc_cap.proofs.ManyLemmas.{answers_more}
-use Rattle.cc_ffi.proofs.memory.cheri_cap_is_canonical_memory.Goals as goal
+use Rattle.cc_ffi.proofs.c_memory.cheri_cap_is_canonical_memory.Goals as goal
 
 pub loop-i-preserved : goal.loop-i-preserved
 loop-i-preserved c = (

@@ -3,7 +3,7 @@ use Rattle.std.specs.List.{SameFrom}
 use Rattle.cc_cap.specs.Many.{AnswersEach}
 use Rattle.cc_ffi.specs.Many.{IsOneIfRepresentable}
 use Rattle.cc_ffi.specs.Memory.{word_in_memory}
-use Rattle.cc_ffi.proofs.memory.cheri_cap_represents_memory.Given as goal
+use Rattle.cc_ffi.proofs.c_memory.cheri_cap_represents_memory.Given as goal
 
 abbrev pub invariant-loop-i : goal.invariant-loop-i
 invariant-loop-i l =

@@ -1,7 +1,7 @@
 use Rattle.std.proofs.Common.{◌∙◌, ap, arith}
 use Rattle.std.specs.Int.{from_be_bytes, from_le_bytes, w128}
 use Rattle.cc_ffi.proofs.BytesLemmas.{from_be_bytes-to_be_bytes, from_le_bytes-to_le_bytes}
-use Rattle.cc_ffi.proofs.memory.bytes_of.Goals as goal
+use Rattle.cc_ffi.proofs.c_memory.bytes_of.Goals as goal
 
 pub returns-then-big_endian : goal.returns-then-big_endian
 returns-then-big_endian c =

@@ -2,7 +2,7 @@ use Rattle.std.proofs.Common.{ℕ, ◌≢◌, arith, get_or-set_other, slice_ind
 use Rattle.cc_ffi.specs.Many.{IsOneIfRepresentable}
 use Rattle.cc_ffi.specs.Memory.{word_in_memory}
 use Rattle.cc_cap.proofs.ManyLemmas.{answers_more}
-use Rattle.cc_ffi.proofs.memory.cheri_cap_represents_memory.Goals as goal
+use Rattle.cc_ffi.proofs.c_memory.cheri_cap_represents_memory.Goals as goal
 
 pub loop-i-preserved : goal.loop-i-preserved
 loop-i-preserved c = (

@@ -1,4 +1,4 @@
-use Rattle.cc_ffi.proofs.memory.cheri_cap_set_bounds_memory.Goals as goal
+use Rattle.cc_ffi.proofs.c_memory.cheri_cap_set_bounds_memory.Goals as goal
 
 pub returns-then-big_endian-clause-made : goal.returns-then-big_endian-clause-made
 returns-then-big_endian-clause-made c = rw c.if-big_endian.true c.set_bounds_in.ensures.made

@@ -4,7 +4,7 @@ use Rattle.cc_ffi.specs.Many.{word_at}
 use Rattle.cc_ffi.specs.Memory.{SetsBoundsBy, word_in_memory}
 use Rattle.cc_ffi.specs.Rules.{GivesResult}
 use Rattle.cc_ffi.proofs.MadeLemmas.{made_more}
-use Rattle.cc_ffi.proofs.memory.set_bounds_in.Goals as goal
+use Rattle.cc_ffi.proofs.c_memory.set_bounds_in.Goals as goal
 
 pub loop-i-preserved : goal.loop-i-preserved
 loop-i-preserved c = record {
