@@ -17,7 +17,7 @@ ghost use Rattle.cc_ffi.specs.Rules.{GivesResult};
 
 use crate::halves::{halves, number};
 use crate::many::{canonical, decoded, represented};
-use crate::rules::{cheri_cap_set_bounds_exact_on, cheri_cap_set_bounds_on};
+use crate::c_rules::{cheri_cap_set_bounds_exact_on, cheri_cap_set_bounds_on};
 use crate::structs::{Bounds, Halves, MadeWord};
 
 /// Writes the base, the top and the exponent of each word of memory, and returns the number of

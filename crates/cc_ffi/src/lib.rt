@@ -13,7 +13,7 @@ mod lengths;
 mod many;
 mod measures;
 mod c_memory;
-mod rules;
+mod c_rules;
 mod search;
 mod structs;
 mod text;

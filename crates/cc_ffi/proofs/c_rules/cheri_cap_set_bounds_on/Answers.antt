@@ -4,7 +4,7 @@ use Rattle.cc_cap.specs.WordRules.{OnWord}
 use Rattle.cc_cap.proofs.SubsetLemmas.{SetsBounds-grants}
 use Rattle.cc_ffi.specs.Numbers.{number_of_halves}
 use Rattle.cc_ffi.proofs.RuleLemmas.{told_subset, told_stores}
-use Rattle.cc_ffi.proofs.rules.cheri_cap_set_bounds_on.Goals as goal
+use Rattle.cc_ffi.proofs.c_rules.cheri_cap_set_bounds_on.Goals as goal
 
 pub returns-clause-made : goal.returns-clause-made
 returns-clause-made c = record {
