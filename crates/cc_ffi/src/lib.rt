@@ -16,7 +16,7 @@ mod c_memory;
 mod c_rules;
 mod search;
 mod structs;
-mod text;
+mod c_text;
 mod version;
 mod window;
 mod words;
