@@ -18,5 +18,5 @@ mod search;
 mod structs;
 mod c_text;
 mod version;
-mod window;
+mod c_window;
 mod words;

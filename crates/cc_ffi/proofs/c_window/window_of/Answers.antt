@@ -1,6 +1,6 @@
 use Rattle.std.proofs.Common.{rules, refl, ◌<◌, ◌≤◌, ◌^◌, arith}
 use Rattle.cc_ffi.proofs.WindowLemmas.{large_window, small_window, some_sections}
-use Rattle.cc_ffi.proofs.window.window_of.Goals as goal
+use Rattle.cc_ffi.proofs.c_window.window_of.Goals as goal
 
 pub returns-then-exponent-ge-FIRST_WITHOUT_END-clause-window : goal.returns-then-exponent-ge-FIRST_WITHOUT_END-clause-window
 returns-then-exponent-ge-FIRST_WITHOUT_END-clause-window c address fits =

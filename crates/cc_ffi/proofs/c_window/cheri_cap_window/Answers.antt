@@ -3,7 +3,7 @@ use Rattle.cc_word.specs.declared.fields.Fields.{Fields}
 use Rattle.cc_bounds.specs.Decoding.{DecodesTo}
 use Rattle.cc_ffi.specs.Windows.{IsFromTo}
 use Rattle.cc_ffi.proofs.WindowLemmas.{own_window}
-use Rattle.cc_ffi.proofs.window.cheri_cap_window.Goals as goal
+use Rattle.cc_ffi.proofs.c_window.cheri_cap_window.Goals as goal
 
 pub returns-clause-window : goal.returns-clause-window
 returns-clause-window c fields has span address decodes fits =
