@@ -19,4 +19,4 @@ mod structs;
 mod c_text;
 mod version;
 mod c_window;
-mod words;
+mod c_words;

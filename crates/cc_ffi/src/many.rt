@@ -14,7 +14,7 @@ ghost use Rattle.cc_ffi.specs.Many.{IsAlignmentMask, IsGrantedIfInRange, IsOneIf
 use crate::bounds::{cheri_cap_decode, cheri_cap_represents, cheri_cap_set_bounds};
 use crate::lengths::{cheri_cap_alignment_mask, cheri_cap_round_length};
 use crate::structs::{Bounds, GrantedBounds, Halves};
-use crate::words::cheri_cap_is_canonical;
+use crate::c_words::cheri_cap_is_canonical;
 
 /// Writes the base, the top and the exponent of each word, and returns the number of results.
 #[unsafe(no_mangle)]

@@ -1,6 +1,6 @@
 use Rattle.std.proofs.Common.{◌∙◌}
 use Rattle.cc_ffi.proofs.FieldsLemmas.{packed_again}
-use Rattle.cc_ffi.proofs.words.cheri_cap_pack.Goals as goal
+use Rattle.cc_ffi.proofs.c_words.cheri_cap_pack.Goals as goal
 
 pub returns-clause-unpacked : goal.returns-clause-unpacked
 returns-clause-unpacked c high low high_fits low_fits is =
