@@ -7,7 +7,7 @@ ghost use Rattle.cc_gaps.specs.Fit.{AreShort, IsFit};
 ghost use Rattle.cc_gaps.specs.Gaps.{AreGaps, IsFirstFit};
 ghost use Rattle.cc_gaps.specs.GapRow.{IsAtMost};
 
-use crate::rounding::padding;
+use crate::aligned::padding;
 use crate::searching::step_if_below;
 use arrayvec::ArrayVec;
 use cc_bounds::Span;

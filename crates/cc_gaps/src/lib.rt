@@ -7,7 +7,7 @@ mod gap_heads;
 mod gap_place;
 mod gap_row;
 mod gaps;
-mod rounding;
+mod aligned;
 mod searching;
 
 pub use gaps::GapPlacer;

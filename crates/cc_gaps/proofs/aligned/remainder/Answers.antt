@@ -2,7 +2,7 @@ use Rattle.std.proofs.Common.{arith, w64}
 use Rattle.std.specs.Int.{trailing_zeros}
 use Rattle.std.proofs.lemmas.Nat.Bits.{bit_at-trailing_zeros}
 use Rattle.cc_placer.proofs.PlacementLemmas.{masked}
-use Rattle.cc_gaps.proofs.rounding.remainder.Goals as goal
+use Rattle.cc_gaps.proofs.aligned.remainder.Goals as goal
 
 pub returns-then-align-lowest_bit : goal.returns-then-align-lowest_bit
 returns-then-align-lowest_bit c =
