@@ -5,9 +5,9 @@
 mod event;
 mod hint;
 mod placer;
-mod rounding;
+mod units;
 
 pub use event::Event;
 pub use hint::Hint;
 pub use placer::Placer;
-pub use rounding::{padded_size, round_up, unit};
+pub use units::{padded_size, round_up, unit};

@@ -1,5 +1,5 @@
 use Rattle.cc_placer.proofs.PlacementLemmas.{least_multiple, multiple-div_ceil, without_remainder}
-use Rattle.cc_placer.proofs.rounding.round_up.Goals as goal
+use Rattle.cc_placer.proofs.units.round_up.Goals as goal
 
 pub returns-clause-aligned : goal.returns-clause-aligned
 returns-clause-aligned c = (without_remainder c.args.n c.args.align c.from-align.result c.requires.some c.from-align.ensures).aligned
