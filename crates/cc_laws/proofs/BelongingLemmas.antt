@@ -5,8 +5,8 @@ use Rattle.std.proofs.Common.{ℕ, zero, suc, Bool, true, false, ◌≡◌, ◌�
 use Rattle.std.proofs.Math.Decide.{map_dec, ℕ_discrete}
 use Rattle.std.proofs.lemmas.List.Sums.{sum_by-cons}
 use Rattle.cc_word.specs.declared.refusal.Refusal.TheVariants.{NoObject}
-use Rattle.cc_plan.specs.declared.object.ObjectState.{ObjectState}
-use Rattle.cc_plan.specs.declared.object.ObjectState.TheVariants.{Live, Freed, Swept}
+use Rattle.cc_plan.specs.declared.planned_object.ObjectState.{ObjectState}
+use Rattle.cc_plan.specs.declared.planned_object.ObjectState.TheVariants.{Live, Freed, Swept}
 use Rattle.cc_machine.specs.declared.object.Object.{Object}
 use Rattle.cc_machine.specs.State.{State, SlotState, IsSlot, IsParent, IsAncestor}
 use Rattle.cc_machine.specs.State.IsAncestor.{parent_of, above_parent}

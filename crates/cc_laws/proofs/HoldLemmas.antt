@@ -7,9 +7,9 @@ use Rattle.std.proofs.lemmas.List.Sums.{sum_by-cons, sum_by_push, sum_by-append}
 use Rattle.cc_bounds.specs.declared.span.Span.{Span}
 use Rattle.cc_placer.specs.Placement.{HaveSameSpans}
 use Rattle.cc_placer.proofs.SameSpansLemmas.{permutation_from_sums}
-use Rattle.cc_plan.specs.declared.object.ObjectState.{ObjectState}
-use Rattle.cc_plan.specs.declared.object.ObjectState.TheVariants.{Live, Freed, Swept}
-use Rattle.cc_plan.specs.declared.object.PlannedObject.{PlannedObject}
+use Rattle.cc_plan.specs.declared.planned_object.ObjectState.{ObjectState}
+use Rattle.cc_plan.specs.declared.planned_object.ObjectState.TheVariants.{Live, Freed, Swept}
+use Rattle.cc_plan.specs.declared.planned_object.PlannedObject.{PlannedObject}
 use Rattle.cc_plan.specs.Plan.{held_spans as planned_spans, is_freed, swept as planned_swept}
 use Rattle.cc_plan.proofs.HeldSpanLemmas.{as_freed, held_weight, sum_held}
 use Rattle.cc_heap.specs.declared.object.Object.{Object}

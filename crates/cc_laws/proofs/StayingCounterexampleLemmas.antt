@@ -1,7 +1,7 @@
 -- States of which the second does not have what the first had, or has a slot that grants more.
 use Rattle.std.proofs.Common.{ℕ, true, false, ◌≡◌, Some, None, refl, sym, ap, ◌∙◌, IsTrue, subst, arith}
 use Rattle.std.proofs.lemmas.Bool.Decides.{nat_tests}
-use Rattle.cc_plan.specs.declared.object.ObjectState.TheVariants.{Live, Swept}
+use Rattle.cc_plan.specs.declared.planned_object.ObjectState.TheVariants.{Live, Swept}
 use Rattle.cc_cap.specs.Capability.{Capability, GrantsNoMore, root_capability}
 use Rattle.cc_machine.specs.declared.object.Object.{Object}
 use Rattle.cc_machine.specs.State.{State, SlotState, IsSlot}

@@ -18,7 +18,7 @@ use Rattle.cc_cap.proofs.BoundsLemmas.{root-IsCapability}
 use Rattle.cc_placer.specs.Align.{unit_of}
 use Rattle.cc_placer.proofs.UnitLemmas.{IsUnit-one}
 use Rattle.cc_bounds.specs.declared.align.Align.TheVariants.{Sixteen}
-use Rattle.cc_plan.specs.declared.object.ObjectState.TheVariants.{Live, Swept}
+use Rattle.cc_plan.specs.declared.planned_object.ObjectState.TheVariants.{Live, Swept}
 use Rattle.cc_machine.specs.declared.object.Object.{Object}
 use Rattle.cc_machine.specs.State.{State, SlotState, tagged_slot, initial_state, IsSlot, IsParent, IsAncestor}
 use Rattle.cc_values.specs.declared.op.Op.TheVariants.{Addr}

@@ -15,8 +15,8 @@ use Rattle.cc_cap.specs.Capability.{Capability, IsCapability, IsUnsealed}
 use Rattle.cc_cap.specs.Derivation.{SetsAddress, Increments, SetsBounds, SetsExactBounds, MasksPermissions, SetsFlag, Seals, Unseals, Rebuilds}
 use Rattle.cc_laws.proofs.ResultLemmas.{HasResult, has_word, SetsAddress-result, Increments-result, SetsBounds-result, SetsExactBounds-result, MasksPermissions-result, SetsFlag-result, Seals-result, Unseals-result, Rebuilds-result}
 use Rattle.cc_bounds.specs.declared.align.Align.{Align}
-use Rattle.cc_plan.specs.declared.object.ObjectState.{ObjectState}
-use Rattle.cc_plan.specs.declared.object.ObjectState.TheVariants.{Live, Freed, Swept}
+use Rattle.cc_plan.specs.declared.planned_object.ObjectState.{ObjectState}
+use Rattle.cc_plan.specs.declared.planned_object.ObjectState.TheVariants.{Live, Freed, Swept}
 use Rattle.cc_placer.specs.Align.{IsUnit, rounded_up}
 use Rattle.cc_placer.proofs.UnitLemmas.{size-HasUnit}
 use Rattle.cc_placer.specs.Placement.{HasNoPlace}

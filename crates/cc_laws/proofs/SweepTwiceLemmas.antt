@@ -2,8 +2,8 @@
 use Rattle.std.proofs.Common.{ℕ, Bool, true, false, ◌≡◌, ◌∙◌, List, [], ◌∷◌, map, refl, sym, ap, inr, arith}
 use Rattle.std.specs.Prelude.{cond, if◌then◌else◌}
 use Rattle.std.proofs.lemmas.List.Sums.{sum_by-cons}
-use Rattle.cc_plan.specs.declared.object.ObjectState.{ObjectState}
-use Rattle.cc_plan.specs.declared.object.ObjectState.TheVariants.{Live, Freed, Swept}
+use Rattle.cc_plan.specs.declared.planned_object.ObjectState.{ObjectState}
+use Rattle.cc_plan.specs.declared.planned_object.ObjectState.TheVariants.{Live, Freed, Swept}
 use Rattle.cc_plan.specs.Plan.{is_freed}
 use Rattle.cc_values.specs.declared.op.Op.TheVariants.{Sweep}
 use Rattle.cc_machine.specs.declared.object.Object.{Object}

@@ -16,7 +16,7 @@ use Rattle.cc_cap.proofs.BoundsLemmas.{root-IsCapability}
 use Rattle.cc_cap.proofs.CanonicalLemmas.{IsWordOf-word_of_capability}
 use Rattle.cc_placer.specs.Align.{IsUnit}
 use Rattle.cc_placer.specs.Placement.{IsPlace, IsPlacement}
-use Rattle.cc_plan.specs.declared.object.ObjectState.TheVariants.{Live, Freed, Swept}
+use Rattle.cc_plan.specs.declared.planned_object.ObjectState.TheVariants.{Live, Freed, Swept}
 use Rattle.cc_plan.specs.Plan.{capability_over, span_at}
 use Rattle.cc_syntax.specs.Commands.{operation_of}
 use Rattle.cc_syntax.specs.Planning.{plan_opening}

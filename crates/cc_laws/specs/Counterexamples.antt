@@ -5,8 +5,8 @@ use Rattle.cc_word.specs.declared.refusal.Refusal.TheVariants.{Full}
 use Rattle.cc_bounds.specs.Span.{span_from}
 use Rattle.cc_cap.specs.Capability.{Capability, root_capability, at_address, with_span, with_permissions, sealed_with}
 use Rattle.cc_bounds.specs.declared.align.Align.TheVariants.{One, Sixteen}
-use Rattle.cc_plan.specs.declared.object.ObjectState.{ObjectState}
-use Rattle.cc_plan.specs.declared.object.ObjectState.TheVariants.{Live, Freed, Swept}
+use Rattle.cc_plan.specs.declared.planned_object.ObjectState.{ObjectState}
+use Rattle.cc_plan.specs.declared.planned_object.ObjectState.TheVariants.{Live, Freed, Swept}
 use Rattle.cc_machine.specs.declared.object.Object.{Object}
 use Rattle.cc_values.specs.declared.reply.Reply.{Reply}
 use Rattle.cc_values.specs.declared.reply.Reply.TheVariants.{Refused}

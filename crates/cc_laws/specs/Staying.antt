@@ -1,7 +1,7 @@
 -- What every run leaves as it is: slots, objects and the pool.
 use Rattle.std.specs.Prelude.{ℕ, true, ◌≡◌, ◌≤◌, Some}
-use Rattle.cc_plan.specs.declared.object.ObjectState.{ObjectState}
-use Rattle.cc_plan.specs.declared.object.ObjectState.TheVariants.{Live, Freed, Swept}
+use Rattle.cc_plan.specs.declared.planned_object.ObjectState.{ObjectState}
+use Rattle.cc_plan.specs.declared.planned_object.ObjectState.TheVariants.{Live, Freed, Swept}
 use Rattle.cc_machine.specs.declared.object.Object.{Object}
 use Rattle.cc_machine.specs.State.{State, SlotState, IsSlot}
 use Rattle.cc_machine.specs.Objects.{IsObject}

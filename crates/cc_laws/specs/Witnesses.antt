@@ -2,7 +2,7 @@
 use Rattle.std.specs.Prelude.{ℕ, Bool, true, false, ◌≡◌, ◌+◌, ◌==◌, List, [], ◌∷◌, Some}
 use Rattle.cc_bounds.specs.Span.{span_from}
 use Rattle.cc_cap.specs.Capability.{Capability, root_capability, with_flag, with_span}
-use Rattle.cc_plan.specs.declared.object.ObjectState.TheVariants.{Live}
+use Rattle.cc_plan.specs.declared.planned_object.ObjectState.TheVariants.{Live}
 use Rattle.cc_machine.specs.declared.object.Object.{Object}
 use Rattle.cc_machine.specs.State.{State, initial_state, with_slot}
 use Rattle.cc_machine.specs.Objects.{with_object}

@@ -10,7 +10,7 @@ ghost use Rattle.cc_machine.specs.Laws.{HoldsCapabilities, IsMonotonicTree, HasS
 ghost use Rattle.cc_machine.specs.ObjectLaws.{HangsFromPool, HasExactObjects, HasDisjointObjects, IsRevokedExactly};
 ghost use Rattle.cc_machine.specs.Confinement.{IsConfined};
 ghost use Rattle.cc_bounds.specs.Span.{IsWithin, length_of};
-ghost use Rattle.cc_plan.specs.declared.object.ObjectState.TheVariants.{Live};
+ghost use Rattle.cc_plan.specs.declared.planned_object.ObjectState.TheVariants.{Live};
 ghost use Rattle.cc_machine.specs.Objects.{IsPool, held_bytes_of};
 ghost use Rattle.cc_machine.specs.ObjectConfinement.{ReusesAfterRevocation, IsConfinedToObject};
 ghost use Rattle.cc_laws.specs.Counterexamples.{reused_before_revocation, objects_past_the_pool, object_in};

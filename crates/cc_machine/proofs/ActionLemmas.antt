@@ -8,9 +8,9 @@ use Rattle.cc_bounds.specs.declared.span.Span.{Span}
 use Rattle.cc_bounds.specs.Span.{length_of}
 use Rattle.cc_cap.specs.Capability.{Capability, IsUnsealed}
 use Rattle.cc_cap.specs.Canonical.{IsWordOf}
-use Rattle.cc_plan.specs.declared.object.ObjectId.{ObjectId}
-use Rattle.cc_plan.specs.declared.object.ObjectState.TheVariants.{Live}
-use Rattle.cc_plan.specs.declared.object.PlannedObject.{PlannedObject}
+use Rattle.cc_plan.specs.declared.planned_object.ObjectId.{ObjectId}
+use Rattle.cc_plan.specs.declared.planned_object.ObjectState.TheVariants.{Live}
+use Rattle.cc_plan.specs.declared.planned_object.PlannedObject.{PlannedObject}
 use Rattle.cc_bounds.specs.declared.align.Align.{Align}
 use Rattle.cc_placer.specs.Align.{rounded_up}
 use Rattle.cc_placer.specs.Placement.{IsPlacement, HasNoPlace}

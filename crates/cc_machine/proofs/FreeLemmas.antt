@@ -8,8 +8,8 @@ use Rattle.cc_word.specs.declared.refusal.Refusal.{Refusal}
 use Rattle.cc_word.specs.declared.refusal.Refusal.TheVariants.{NoObject}
 use Rattle.cc_bounds.specs.declared.span.Span.{Span}
 use Rattle.cc_bounds.specs.Span.{length_of}
-use Rattle.cc_plan.specs.declared.object.ObjectState.TheVariants.{Live, Freed}
-use Rattle.cc_plan.specs.declared.object.PlannedObject.{PlannedObject}
+use Rattle.cc_plan.specs.declared.planned_object.ObjectState.TheVariants.{Live, Freed}
+use Rattle.cc_plan.specs.declared.planned_object.PlannedObject.{PlannedObject}
 use Rattle.cc_plan.specs.Plan.{Plan, PlanFrees, held_bytes_of as planned_bytes, IsLive, object_numbered}
 use Rattle.cc_machine.specs.declared.object.Object.{Object}
 use Rattle.cc_values.specs.declared.reply.Reply.TheVariants.{Freed as ToldFreed}

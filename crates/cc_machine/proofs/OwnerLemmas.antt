@@ -5,7 +5,7 @@ use Rattle.std.proofs.lemmas.List.{get_or_append_left, get_or_push, length_push}
 use Rattle.std.proofs.lemmas.Option.{slice_get_within}
 use Rattle.cc_cap.specs.Capability.{Capability}
 use Rattle.cc_bounds.specs.declared.align.Align.{Align}
-use Rattle.cc_plan.specs.declared.object.ObjectState.TheVariants.{Live}
+use Rattle.cc_plan.specs.declared.planned_object.ObjectState.TheVariants.{Live}
 use Rattle.cc_machine.specs.declared.object.Object.{Object}
 use Rattle.cc_machine.specs.State.{State, initial_state, with_slot, IsParent, IsAncestor}
 use Rattle.cc_machine.specs.State.IsAncestor.{parent_of, above_parent}

@@ -4,8 +4,8 @@ use Rattle.std.specs.List.{slice_get}
 use Rattle.std.proofs.lemmas.List.{length-map}
 use Rattle.cc_bounds.specs.declared.span.Span.{Span}
 use Rattle.cc_bounds.specs.Span.{length_of}
-use Rattle.cc_plan.specs.declared.object.ObjectState.TheVariants.{Freed}
-use Rattle.cc_plan.specs.declared.object.PlannedObject.{PlannedObject}
+use Rattle.cc_plan.specs.declared.planned_object.ObjectState.TheVariants.{Freed}
+use Rattle.cc_plan.specs.declared.planned_object.PlannedObject.{PlannedObject}
 use Rattle.cc_plan.specs.Plan.{Plan, is_freed, held_bytes_of as planned_bytes, freed_count as planned_freed_count, swept as planned_swept}
 use Rattle.cc_machine.specs.declared.object.Object.{Object}
 use Rattle.cc_machine.specs.declared.slot.Slot.{Slot}

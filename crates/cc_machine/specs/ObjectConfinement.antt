@@ -1,7 +1,7 @@
 -- The reuse of an object's bytes, and the slots that a run makes if it uses only an object's slots.
 use Rattle.std.specs.Prelude.{ℕ, Bool, false, true, ◌≡◌, ◌≢◌, ◌<◌, ◌≤◌, IsTrue, length}
 use Rattle.cc_bounds.specs.Span.{SharesByte}
-use Rattle.cc_plan.specs.declared.object.ObjectState.TheVariants.{Swept}
+use Rattle.cc_plan.specs.declared.planned_object.ObjectState.TheVariants.{Swept}
 use Rattle.cc_machine.specs.declared.object.Object.{Object}
 use Rattle.cc_machine.specs.State.{State, SlotState, IsSlot}
 use Rattle.cc_machine.specs.Objects.{IsObject, IsHeldObject, BelongsTo}

@@ -13,9 +13,9 @@ use Rattle.std.specs.Option.{option_to_list}
 use Rattle.cc_bounds.specs.declared.span.Span.{Span}
 use Rattle.cc_cap.specs.Capability.{Capability}
 use Rattle.cc_bounds.specs.declared.align.Align.{Align}
-use Rattle.cc_plan.specs.declared.object.ObjectState.{ObjectState}
-use Rattle.cc_plan.specs.declared.object.ObjectState.TheVariants.{Live, Freed, Swept}
-use Rattle.cc_plan.specs.declared.object.PlannedObject.{PlannedObject}
+use Rattle.cc_plan.specs.declared.planned_object.ObjectState.{ObjectState}
+use Rattle.cc_plan.specs.declared.planned_object.ObjectState.TheVariants.{Live, Freed, Swept}
+use Rattle.cc_plan.specs.declared.planned_object.PlannedObject.{PlannedObject}
 use Rattle.cc_plan.specs.Plan.{Plan, PlanSweeps, freed_count, is_freed, is_held, swept}
 use Rattle.cc_plan.specs.PlannerState.{IsFreedAt, ListsFreed, SweepsOne}
 use Rattle.cc_plan.proofs.HeldSpanLemmas.{made, as_swept, as_freed}

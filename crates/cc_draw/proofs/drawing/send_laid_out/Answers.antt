@@ -1,6 +1,6 @@
 use Rattle.std.proofs.Common.{◌≡◌, ◌++◌, ◌∙◌, ℕ, List, ap, refl}
 use Rattle.cc_io.specs.declared.summary.IoError.TheVariants.{Write}
-use Rattle.cc_plan.specs.declared.object.ObjectState.TheVariants.{Live, Freed}
+use Rattle.cc_plan.specs.declared.planned_object.ObjectState.TheVariants.{Live, Freed}
 use Rattle.cc_draw.specs.Drawing.{closing_text, after_live_text, layer_text, quarantined_text, start_text}
 use Rattle.cc_draw.proofs.WritingLemmas.{fails_in, sends_after, sends_same}
 use Rattle.cc_draw.proofs.drawing.send_laid_out.Goals as goal

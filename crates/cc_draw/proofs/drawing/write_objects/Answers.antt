@@ -1,7 +1,7 @@
 use Rattle.std.proofs.Common.{rules, ◌≡◌, ◌∙◌, ◌∷◌, ℕ, List, ap, arith, false, length, subst, true}
 use Rattle.std.specs.Io.KnownBytes.{Appends}
 use Rattle.cc_io.specs.Devices.{TakesPrefix}
-use Rattle.cc_plan.specs.declared.object.PlannedObject.{PlannedObject}
+use Rattle.cc_plan.specs.declared.planned_object.PlannedObject.{PlannedObject}
 use Rattle.cc_draw.specs.Drawing.{is_in}
 use Rattle.cc_draw.proofs.DrawingLemmas.{layer_drawn, layer_left_out}
 use Rattle.cc_draw.proofs.WritingLemmas.{writing_more, writing_same, writing_stops}
