@@ -6,7 +6,7 @@ mod numbers;
 mod op;
 mod reply;
 mod usage;
-mod values;
+mod permissions;
 mod words;
 
 pub use digits::{Spelled, value_of_decimal};
@@ -14,5 +14,5 @@ pub use numbers::{read_address, read_index, read_number};
 pub use op::Op;
 pub use reply::Reply;
 pub use usage::Usage;
-pub use values::{both, read_permissions};
+pub use permissions::{both, read_permissions};
 pub use words::{position_of, split_at_first};

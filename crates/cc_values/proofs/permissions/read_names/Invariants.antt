@@ -1,7 +1,7 @@
 use Rattle.std.proofs.Common.{◌≡◌, ◌==◌, length}
 use Rattle.std.specs.List.{slice_split}
 use Rattle.cc_values.specs.Values.{with_names}
-use Rattle.cc_values.proofs.values.read_names.Given as goal
+use Rattle.cc_values.proofs.permissions.read_names.Given as goal
 
 abbrev pub invariant-names : goal.invariant-names
 invariant-names l =
