@@ -7,7 +7,7 @@ mod op;
 mod reply;
 mod usage;
 mod permissions;
-mod words;
+mod split;
 
 pub use digits::{Spelled, value_of_decimal};
 pub use numbers::{read_address, read_index, read_number};
@@ -15,4 +15,4 @@ pub use op::Op;
 pub use reply::Reply;
 pub use usage::Usage;
 pub use permissions::{both, read_permissions};
-pub use words::{position_of, split_at_first};
+pub use split::{position_of, split_at_first};

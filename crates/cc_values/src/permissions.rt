@@ -5,7 +5,7 @@ ghost use Rattle.bitflags.specs.Sets.{find_name};
 ghost use Rattle.cc_word.specs.Permissions.{permission_table};
 ghost use Rattle.cc_values.specs.Values.{both, permissions_in, with_names};
 
-use crate::words::split_at_first;
+use crate::split::split_at_first;
 use cc_word::{Perms, Refusal};
 use std::str;
 

@@ -1,6 +1,6 @@
 use Rattle.std.proofs.Common.{sym, ◌==◌}
 use Rattle.cc_values.proofs.PieceLemmas.{split_found, split_whole}
-use Rattle.cc_values.proofs.words.split_at_first.Goals as goal
+use Rattle.cc_values.proofs.split.split_at_first.Goals as goal
 
 pub returns-in-Some-clause-parts : goal.returns-in-Some-clause-parts
 returns-in-Some-clause-parts c =
