@@ -8,7 +8,7 @@ mod layout;
 mod obj_type;
 mod perms;
 mod refusal;
-mod text;
+mod word_text;
 
 pub use bitflags::Flags;
 pub use fields::Fields;
@@ -17,4 +17,4 @@ pub use layout::{pack, unpack};
 pub use obj_type::{ObjType, SENTRY_TYPE, UNSEALED_TYPE};
 pub use perms::Perms;
 pub use refusal::Refusal;
-pub use text::{read_word, write_word};
+pub use word_text::{read_word, write_word};

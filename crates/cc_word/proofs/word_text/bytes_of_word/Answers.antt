@@ -1,7 +1,7 @@
 use Rattle.std.proofs.Common.{◌∙◌, ap, List, ℕ}
 use Rattle.hex.specs.Hex.{encode_with, lower_digits}
 use Rattle.cc_word.proofs.TextLemmas.{word_written}
-use Rattle.cc_word.proofs.text.bytes_of_word.Goals as goal
+use Rattle.cc_word.proofs.word_text.bytes_of_word.Goals as goal
 
 pub returns : goal.returns
 returns c =

@@ -2,7 +2,7 @@ use Rattle.std.proofs.Common.{refl}
 use Rattle.hex.specs.Hex.{decode_sized}
 use Rattle.hex.proofs.HexLemmas.{IsOk-decode_sized}
 use Rattle.cc_word.proofs.PairLemmas.{decode_sized-word, decoded_ok, decoded_err}
-use Rattle.cc_word.proofs.text.bytes_of_digits.Goals as goal
+use Rattle.cc_word.proofs.word_text.bytes_of_digits.Goals as goal
 
 pub returns-in-Ok-clause-found : goal.returns-in-Ok-clause-found
 returns-in-Ok-clause-found c =

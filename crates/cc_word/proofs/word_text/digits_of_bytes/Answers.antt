@@ -1,6 +1,6 @@
 use Rattle.std.proofs.Common.{Result, Ok, Err, arith}
 use Rattle.std.specs.Prelude.{OnOk, IsOk}
-use Rattle.cc_word.proofs.text.digits_of_bytes.Goals as goal
+use Rattle.cc_word.proofs.word_text.digits_of_bytes.Goals as goal
 
 on_ok : {A B P : Type 0} (r : Result A B) → IsOk r → OnOk r P → P
 on_ok (Ok x) i h = h
