@@ -7,7 +7,7 @@ use Rattle.std.proofs.lemmas.List.Sums.{count_by-le-length, length-filter, sum_b
 use Rattle.cc_bounds.specs.declared.span.Span.{Span}
 use Rattle.cc_bounds.specs.Span.{length_of}
 use Rattle.cc_plan.specs.declared.planned_object.PlannedObject.{PlannedObject}
-use Rattle.cc_plan.specs.Plan.{HasExactBounds, HaveExactBounds, Plan, held_bytes_of, held_spans, is_held}
+use Rattle.cc_plan.specs.Plan.{HasExactBounds, HaveExactBounds, Plan, held_bytes_of, plan_spans, is_held}
 use Rattle.cc_draw.specs.Usage.{asked_bytes_of}
 
 module _ (plan : Plan) (exact : HaveExactBounds plan) (few : length plan.objects ≤ 65536) where
@@ -34,12 +34,12 @@ module _ (plan : Plan) (exact : HaveExactBounds plan) (few : length plan.objects
       let each = All-weaker (HasExactBounds plan.align) (λ object. length_of object.span ≤ 2 ^ 64) (λ object is. (short object is).1) plan.objects exact.each in
       let kept = All-filter (λ (object : PlannedObject). is_held object.state) (λ object. length_of object.span ≤ 2 ^ 64) plan.objects each in
       let spans = All-map (λ (span : Span). length_of span ≤ 2 ^ 64) (λ (object : PlannedObject). object.span) (filter (λ (object : PlannedObject). is_held object.state) plan.objects) kept in
-      let sum = sum_by-le (λ (span : Span). length_of span) (2 ^ 64) (held_spans plan.objects) spans in
+      let sum = sum_by-le (λ (span : Span). length_of span) (2 ^ 64) (plan_spans plan.objects) spans in
       let count = length-map (filter (λ (object : PlannedObject). is_held object.state) plan.objects) (λ (object : PlannedObject). object.span) in
       omega (arith, few_held, sum, count)
 
   -- A plan has at most 65,536 held spans.
-  pub few_spans : length (held_spans plan.objects) ≤ 65536
+  pub few_spans : length (plan_spans plan.objects) ≤ 65536
   few_spans =
       let count = length-map (filter (λ (object : PlannedObject). is_held object.state) plan.objects) (λ (object : PlannedObject). object.span) in
       omega (arith, few_held, count)

@@ -2,7 +2,7 @@
 ghost use Rattle.std.specs.Prelude.{◌≡◌, ◌≤◌, ◌<◌, ◌+◌, ◌^◌, IfOk, count_by, length, max, option_map, unwrap_or};
 ghost use Rattle.std.specs.List.Sorted.{IsNonDecreasingBy, IsPermutation};
 ghost use Rattle.cc_bounds.specs.Span.{from_zero};
-ghost use Rattle.cc_plan.specs.Plan.{held_spans, is_freed, is_held};
+ghost use Rattle.cc_plan.specs.Plan.{plan_spans, is_freed, is_held};
 ghost use Rattle.cc_draw.specs.Usage.{IsUsage, asked_bytes_of, largest_of, highest_top, hole, holes, is_live, is_swept};
 
 use cc_bounds::Span;
@@ -145,7 +145,7 @@ fn highest_top(objects: &[PlannedObject]) -> u128
 
 /// Returns the spans of the held objects, in the order of the objects.
 fn held_spans(alloc: Global, objects: &[PlannedObject]) -> Result<Vec<Span>, AllocError>
-    ensures { IfOk result (λ spans. spans.items ≡ held_spans objects.now) }
+    ensures { IfOk result (λ spans. spans.items ≡ plan_spans objects.now) }
 {
     objects
         .iter()
@@ -156,7 +156,7 @@ fn held_spans(alloc: Global, objects: &[PlannedObject]) -> Result<Vec<Span>, All
 
 /// Returns the spans of the held objects, in the order of their addresses.
 fn spans_in_order(alloc: Global, objects: &[PlannedObject]) -> Result<Vec<Span>, AllocError>
-    ensures same { IfOk result (λ spans. IsPermutation (held_spans objects.now) spans.items) }
+    ensures same { IfOk result (λ spans. IsPermutation (plan_spans objects.now) spans.items) }
     ensures sorted { IfOk result (λ spans. IsNonDecreasingBy (λ span. span.base) spans.items) }
 {
     let mut spans = held_spans(alloc, objects)?;

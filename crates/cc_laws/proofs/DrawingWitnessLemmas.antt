@@ -8,7 +8,7 @@ use Rattle.std.specs.List.Sorted.{IsNonDecreasingBy}
 use Rattle.std.proofs.lemmas.List.Sorted.{IsPermutation-refl}
 use Rattle.cc_bounds.specs.declared.span.Span.{Span}
 use Rattle.cc_bounds.specs.Span.{length_of}
-use Rattle.cc_plan.specs.Plan.{Plan, held_bytes_of, held_spans, is_freed}
+use Rattle.cc_plan.specs.Plan.{Plan, held_bytes_of, plan_spans, is_freed}
 use Rattle.cc_draw.specs.Usage.{IsUsage, asked_bytes_of, largest_of, highest_top, holes, is_live, is_swept, pool_span}
 use Rattle.cc_decode.specs.declared.options.Search.{Search}
 use Rattle.cc_decode.specs.Correct.{WritesListing}
@@ -37,13 +37,13 @@ own = record {
   asked = asked_bytes_of plan.objects;
   held = held_bytes_of plan.objects;
   pool = length_of (pool_span plan);
-  holes = length (holes (pool_span plan).base (pool_span plan).top (held_spans plan.objects));
-  largest = largest_of (holes (pool_span plan).base (pool_span plan).top (held_spans plan.objects));
+  holes = length (holes (pool_span plan).base (pool_span plan).top (plan_spans plan.objects));
+  largest = largest_of (holes (pool_span plan).base (pool_span plan).top (plan_spans plan.objects));
   end = highest_top plan.objects;
 }
 
 -- one span is in order
-one-in-order : IsNonDecreasingBy (λ (span : Span). span.base) (held_spans plan.objects)
+one-in-order : IsNonDecreasingBy (λ (span : Span). span.base) (plan_spans plan.objects)
 one-in-order zero zero d le within = omega arith
 one-in-order (suc i) zero d le within = absurd (omega (arith, le))
 one-in-order i (suc j) d le within = absurd (omega (arith, within))
@@ -63,8 +63,8 @@ usage = (
       held = refl;
       pool = refl;
       holes = record {
-        order = held_spans plan.objects;
-        same = IsPermutation-refl (held_spans plan.objects);
+        order = plan_spans plan.objects;
+        same = IsPermutation-refl (plan_spans plan.objects);
         in_order = one-in-order;
         count = refl;
         largest = refl;

@@ -7,7 +7,7 @@ use Rattle.cc_bounds.specs.declared.span.Span.{Span}
 use Rattle.cc_bounds.specs.Span.{IsWithin, length_of}
 use Rattle.cc_bounds.proofs.GranuleLemmas.{div_ceil-le, le-div_ceil}
 use Rattle.cc_draw.specs.Cells.{cell_bytes, cell_count}
-use Rattle.cc_plan.specs.Plan.{Plan, held_spans}
+use Rattle.cc_plan.specs.Plan.{Plan, plan_spans}
 use Rattle.cc_values.specs.declared.usage.Usage.{Usage}
 use Rattle.cc_draw.specs.Usage.{IsUsage, pool_span}
 use Rattle.cc_draw.specs.Drawing.{end_cell, first_cell, layout_for}
@@ -16,7 +16,7 @@ use Rattle.cc_draw.proofs.DrawingLemmas.{cells-are}
 use Rattle.cc_laws.proofs.HoleLemmas.{counts_free}
 
 pub free_counted : (slots : ℕ) (plan : Plan) (usage : Usage) → ArePlaced (pool_span plan) plan.objects → IsUsage slots plan usage
-    → CountsFreeBytes (pool_span plan) (held_spans plan.objects) usage
+    → CountsFreeBytes (pool_span plan) (plan_spans plan.objects) usage
 free_counted slots plan usage placed is =
     counts_free (pool_span plan) plan.objects placed usage is.uses.holes is.uses.held is.uses.pool
 

@@ -12,7 +12,7 @@ use Rattle.cc_bounds.specs.declared.span.Span.{Span}
 use Rattle.cc_bounds.specs.Span.{HasByte, IsWithin, length_of}
 use Rattle.cc_bounds.specs.Decoding.{ExactlyOne}
 use Rattle.cc_plan.specs.declared.planned_object.PlannedObject.{PlannedObject}
-use Rattle.cc_plan.specs.Plan.{held_bytes_of, held_spans, is_held}
+use Rattle.cc_plan.specs.Plan.{held_bytes_of, plan_spans, is_held}
 use Rattle.cc_plan.proofs.HeldSpanLemmas.{sum_held}
 use Rattle.cc_laws.proofs.PackingLemmas.{below, covered-next}
 use Rattle.cc_values.specs.declared.usage.Usage.{Usage}
@@ -373,26 +373,26 @@ in_row from to (span ∷ spans) in_order some high low sorted one = (
 -- ---- the holes of placed objects
 
 module _ (pool : Span) (objects : List PlannedObject) (placed : ArePlaced pool objects) where
-  held_all : (P : Span → Type 0) → All (λ (o : PlannedObject). P o.span) objects → All P (held_spans objects)
+  held_all : (P : Span → Type 0) → All (λ (o : PlannedObject). P o.span) objects → All P (plan_spans objects)
   held_all P each =
       All-map P (λ (o : PlannedObject). o.span) (filter (λ (o : PlannedObject). is_held o.state) objects)
       (All-filter (λ (o : PlannedObject). is_held o.state) (λ o. P o.span) objects each)
 
-  held-one : HaveOne (held_spans objects)
+  held-one : HaveOne (plan_spans objects)
   held-one end =
       let next = covered-next end objects placed.disjoint.apart in
       omega (arith, next, sum_held (below end) objects, sum_held (below (suc end)) objects)
 
-  module _ (order : List Span) (same : IsPermutation (held_spans objects) order)
+  module _ (order : List Span) (same : IsPermutation (plan_spans objects) order)
       (sorted : IsNonDecreasingBy (λ (s : Span). s.base) order) where
     ordered : (P : Span → Type 0) → All (λ (o : PlannedObject). P o.span) objects → All P order
-    ordered P each = All-permutation P (held_spans objects) order same (held_all P each)
+    ordered P each = All-permutation P (plan_spans objects) order same (held_all P each)
 
     order-one : HaveOne order
     order-one end =
         let all = held-one end in
-        let now = sum_by-IsPermutation (below end) (held_spans objects) order same in
-        let next = sum_by-IsPermutation (below (suc end)) (held_spans objects) order same in
+        let now = sum_by-IsPermutation (below end) (plan_spans objects) order same in
+        let next = sum_by-IsPermutation (below (suc end)) (plan_spans objects) order same in
         omega (arith, all, now, next)
 
     row : AreInRow pool.base pool.top order
@@ -405,28 +405,28 @@ module _ (pool : Span) (objects : List PlannedObject) (placed : ArePlaced pool o
     found : List Span
     found = gaps pool.base pool.top order
 
-    to_hole : (byte : ℕ) → IsFree pool (held_spans objects) byte → ExactlyOne (λ (g : Span). Contains found g × HasByte g byte)
+    to_hole : (byte : ℕ) → IsFree pool (plan_spans objects) byte → ExactlyOne (λ (g : Span). Contains found g × HasByte g byte)
     unfolding found
     to_hole byte free =
         let it =
         gaps-cover pool.base pool.top order byte row free.in_pool.from_base free.in_pool.below_top
-        (λ span has. free.apart span (Contains-permutation order (held_spans objects) span (IsPermutation-sym (held_spans objects) order same) has)) in
+        (λ span has. free.apart span (Contains-permutation order (plan_spans objects) span (IsPermutation-sym (plan_spans objects) order same) has)) in
         record {
           value = it.gap_of;
           has = (it.is, it.has);
           only = λ other (is, has). gaps-one found (gaps-apart pool.base pool.top order row) it.gap_of other byte it.is is it.has has;
         }
 
-    of_hole : (byte : ℕ) → ExactlyOne (λ (g : Span). Contains found g × HasByte g byte) → IsFree pool (held_spans objects) byte
+    of_hole : (byte : ℕ) → ExactlyOne (λ (g : Span). Contains found g × HasByte g byte) → IsFree pool (plan_spans objects) byte
     unfolding found
     of_hole byte one =
         let left = gaps-left pool.base pool.top order byte one.value row one.has.0 one.has.1 in
         record {
           in_pool = record { from_base = left.at; below_top = left.below_to };
-          apart = λ span has. left.apart span (Contains-permutation (held_spans objects) order span same has);
+          apart = λ span has. left.apart span (Contains-permutation (plan_spans objects) order span same has);
         }
 
-    holes-found : AreHoles pool (held_spans objects) found
+    holes-found : AreHoles pool (plan_spans objects) found
     unfolding found
     holes-found = record {
       some = gaps-some pool.base pool.top order;
@@ -434,15 +434,15 @@ module _ (pool : Span) (objects : List PlannedObject) (placed : ArePlaced pool o
       free = λ byte. (to_hole byte, of_hole byte);
     }
 
-  pub counts_free : (usage : Usage) → HasHoles pool (held_spans objects) usage → usage.held ≡ held_bytes_of objects
-      → usage.pool ≡ length_of pool → CountsFreeBytes pool (held_spans objects) usage
+  pub counts_free : (usage : Usage) → HasHoles pool (plan_spans objects) usage → usage.held ≡ held_bytes_of objects
+      → usage.pool ≡ length_of pool → CountsFreeBytes pool (plan_spans objects) usage
   unfolding found
   counts_free usage has held_is pool_is =
       let list : List Span = gaps pool.base pool.top has.order in
       let lengths : holes pool.base pool.top has.order ≡ map length_of list = gaps-lengths pool.base pool.top has.order in
       let many : length (map length_of list) ≡ length list = length-map list length_of in
       let sum = gaps-sum pool.base pool.top has.order (row has.order has.same has.in_order) in
-      let all = sum_by-IsPermutation length_of (held_spans objects) has.order has.same in
+      let all = sum_by-IsPermutation length_of (plan_spans objects) has.order has.same in
       record {
         gaps = list;
         are_holes = holes-found has.order has.same has.in_order;

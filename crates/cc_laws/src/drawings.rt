@@ -6,7 +6,7 @@
 //! state that a run leads to: the laws of the same names of the program say so.
 ghost use Rattle.std.specs.Prelude.{ℕ, All};
 ghost use Rattle.cc_values.specs.declared.usage.Usage.{Usage};
-ghost use Rattle.cc_plan.specs.Plan.{Plan, held_spans};
+ghost use Rattle.cc_plan.specs.Plan.{Plan, plan_spans};
 ghost use Rattle.cc_draw.specs.Usage.{IsUsage, pool_span};
 ghost use Rattle.cc_draw.specs.Drawing.{layout_for};
 ghost use Rattle.cc_laws.specs.DrawnObjects.{ArePlaced, CountsFreeBytes, IsDrawnExactly};
@@ -18,7 +18,7 @@ ghost use Rattle.cc_laws.specs.DrawnObjects.{ArePlaced, CountsFreeBytes, IsDrawn
 /// The holes are as long as possible: between each and the next lies at least one held byte.
 pub fn holes_are_the_free_bytes()
     ensures { (slots : ℕ) (plan : Plan) (usage : Usage) → ArePlaced (pool_span plan) plan.objects → IsUsage slots plan usage
-        → CountsFreeBytes (pool_span plan) (held_spans plan.objects) usage }
+        → CountsFreeBytes (pool_span plan) (plan_spans plan.objects) usage }
 {}
 
 /// Proves that, in every plan whose objects are placed, the cells from `first_cell` to `end_cell` of

@@ -5,7 +5,7 @@
 //! such a state, by the clause `reached` of `Machine::slots`.
 ghost use Rattle.std.specs.Prelude.{All};
 ghost use Rattle.cc_values.specs.declared.usage.Usage.{Usage};
-ghost use Rattle.cc_plan.specs.Plan.{held_spans};
+ghost use Rattle.cc_plan.specs.Plan.{plan_spans};
 ghost use Rattle.cc_machine.specs.State.{State};
 ghost use Rattle.cc_machine.specs.Planned.{plan_of};
 ghost use Rattle.cc_machine.specs.Run.{IsReached};
@@ -21,7 +21,7 @@ ghost use Rattle.cli_scripts.specs.Report.{IsMachineUsage};
 /// The holes are as long as possible: between each and the next lies at least one held byte.
 pub fn holes_are_the_free_bytes()
     ensures { (state : State) (usage : Usage) → IsReached state → IsMachineUsage state usage
-        → CountsFreeBytes (pool_span (plan_of state)) (held_spans (plan_of state).objects) usage }
+        → CountsFreeBytes (pool_span (plan_of state)) (plan_spans (plan_of state).objects) usage }
 {}
 
 /// Proves that, in every state that a run leads to, the cells from `first_cell` to `end_cell` of

@@ -55,7 +55,7 @@ impl Model for Machine {
 impl Machine {
     ghost use Rattle.std.specs.Prelude.{ℕ, Bool, ◌≡◌, ◌≤◌, IfOk, length};
     ghost use Rattle.cc_placer.specs.Placement.{HaveSameSpans};
-    ghost use Rattle.cc_plan.specs.Plan.{held_spans as planned_spans};
+    ghost use Rattle.cc_plan.specs.Plan.{plan_spans as planned_spans};
     ghost use Rattle.std.specs.Result.{result_map_both};
     ghost use Rattle.cc_values.specs.declared.op.Op.{Op};
     ghost use Rattle.cc_values.specs.declared.op.Op.TheVariants.{Pool, Alloc, Free, Sweep};
