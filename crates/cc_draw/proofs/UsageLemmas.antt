@@ -7,7 +7,7 @@ use Rattle.std.proofs.lemmas.List.Sums.{count_by-le-length, length-filter, sum_b
 use Rattle.cc_bounds.specs.declared.span.Span.{Span}
 use Rattle.cc_bounds.specs.Span.{length_of}
 use Rattle.cc_plan.specs.declared.planned_object.PlannedObject.{PlannedObject}
-use Rattle.cc_plan.specs.Plan.{HasExactBounds, HaveExactBounds, Plan, held_bytes_of, plan_spans, is_held}
+use Rattle.cc_plan.specs.Plan.{HasExactBounds, HaveExactBounds, Plan, plan_bytes, plan_spans, is_held}
 use Rattle.cc_draw.specs.Usage.{asked_bytes_of}
 
 module _ (plan : Plan) (exact : HaveExactBounds plan) (few : length plan.objects ≤ 65536) where
@@ -29,7 +29,7 @@ module _ (plan : Plan) (exact : HaveExactBounds plan) (few : length plan.objects
       omega (arith, few_held, sum)
 
   -- The number of held bytes.
-  pub held_fit : held_bytes_of plan.objects ≤ 2 ^ 80
+  pub held_fit : plan_bytes plan.objects ≤ 2 ^ 80
   held_fit =
       let each = All-weaker (HasExactBounds plan.align) (λ object. length_of object.span ≤ 2 ^ 64) (λ object is. (short object is).1) plan.objects exact.each in
       let kept = All-filter (λ (object : PlannedObject). is_held object.state) (λ object. length_of object.span ≤ 2 ^ 64) plan.objects each in

@@ -6,7 +6,7 @@ use Rattle.cc_bounds.specs.Span.{from_zero, length_of}
 use Rattle.cc_plan.specs.declared.planned_object.ObjectState.{ObjectState}
 use Rattle.cc_plan.specs.declared.planned_object.ObjectState.TheVariants.{Live, Freed, Swept}
 use Rattle.cc_plan.specs.declared.planned_object.PlannedObject.{PlannedObject}
-use Rattle.cc_plan.specs.Plan.{Plan, held_bytes_of, plan_spans, is_freed, is_held}
+use Rattle.cc_plan.specs.Plan.{Plan, plan_bytes, plan_spans, is_freed, is_held}
 use Rattle.cc_values.specs.declared.usage.Usage.{Usage}
 
 -- `is_live` holds if the object is live: it was not freed.
@@ -66,7 +66,7 @@ pub record UsesOf (plan : Plan) (usage : Usage) : Type 0 where
   pub quarantined : usage.quarantined ≡ count_by (λ object. is_freed object.state) plan.objects
   pub swept : usage.swept ≡ count_by (λ object. is_swept object.state) plan.objects
   pub asked : usage.asked ≡ asked_bytes_of plan.objects
-  pub held : usage.held ≡ held_bytes_of plan.objects
+  pub held : usage.held ≡ plan_bytes plan.objects
   pub pool : usage.pool ≡ length_of (pool_span plan)
   pub holes : HasHoles (pool_span plan) (plan_spans plan.objects) usage
   pub end : usage.end ≡ highest_top plan.objects

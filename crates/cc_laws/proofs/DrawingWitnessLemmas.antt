@@ -8,7 +8,7 @@ use Rattle.std.specs.List.Sorted.{IsNonDecreasingBy}
 use Rattle.std.proofs.lemmas.List.Sorted.{IsPermutation-refl}
 use Rattle.cc_bounds.specs.declared.span.Span.{Span}
 use Rattle.cc_bounds.specs.Span.{length_of}
-use Rattle.cc_plan.specs.Plan.{Plan, held_bytes_of, plan_spans, is_freed}
+use Rattle.cc_plan.specs.Plan.{Plan, plan_bytes, plan_spans, is_freed}
 use Rattle.cc_draw.specs.Usage.{IsUsage, asked_bytes_of, largest_of, highest_top, holes, is_live, is_swept, pool_span}
 use Rattle.cc_decode.specs.declared.options.Search.{Search}
 use Rattle.cc_decode.specs.Correct.{WritesListing}
@@ -35,7 +35,7 @@ own = record {
   quarantined = count_by (λ object. is_freed object.state) plan.objects;
   swept = count_by (λ object. is_swept object.state) plan.objects;
   asked = asked_bytes_of plan.objects;
-  held = held_bytes_of plan.objects;
+  held = plan_bytes plan.objects;
   pool = length_of (pool_span plan);
   holes = length (holes (pool_span plan).base (pool_span plan).top (plan_spans plan.objects));
   largest = largest_of (holes (pool_span plan).base (pool_span plan).top (plan_spans plan.objects));

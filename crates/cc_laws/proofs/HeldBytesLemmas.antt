@@ -10,7 +10,7 @@ use Rattle.cc_bounds.specs.Span.{IsWithin, SharesByte, from_zero, length_of}
 use Rattle.cc_cap.specs.Capability.{Capability}
 use Rattle.cc_plan.specs.declared.planned_object.ObjectState.TheVariants.{Live}
 use Rattle.cc_plan.specs.declared.planned_object.PlannedObject.{PlannedObject}
-use Rattle.cc_plan.specs.Plan.{is_held, held_bytes_of as planned_bytes}
+use Rattle.cc_plan.specs.Plan.{is_held, plan_bytes as planned_bytes}
 use Rattle.cc_plan.proofs.PlannerLemmas.{AreApart}
 use Rattle.cc_laws.proofs.PackingLemmas.{held_bytes-pool}
 use Rattle.cc_machine.specs.declared.object.Object.{Object}

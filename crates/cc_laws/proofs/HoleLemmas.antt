@@ -12,7 +12,7 @@ use Rattle.cc_bounds.specs.declared.span.Span.{Span}
 use Rattle.cc_bounds.specs.Span.{HasByte, IsWithin, length_of}
 use Rattle.cc_bounds.specs.Decoding.{ExactlyOne}
 use Rattle.cc_plan.specs.declared.planned_object.PlannedObject.{PlannedObject}
-use Rattle.cc_plan.specs.Plan.{held_bytes_of, plan_spans, is_held}
+use Rattle.cc_plan.specs.Plan.{plan_bytes, plan_spans, is_held}
 use Rattle.cc_plan.proofs.HeldSpanLemmas.{sum_held}
 use Rattle.cc_laws.proofs.PackingLemmas.{below, covered-next}
 use Rattle.cc_values.specs.declared.usage.Usage.{Usage}
@@ -434,7 +434,7 @@ module _ (pool : Span) (objects : List PlannedObject) (placed : ArePlaced pool o
       free = λ byte. (to_hole byte, of_hole byte);
     }
 
-  pub counts_free : (usage : Usage) → HasHoles pool (plan_spans objects) usage → usage.held ≡ held_bytes_of objects
+  pub counts_free : (usage : Usage) → HasHoles pool (plan_spans objects) usage → usage.held ≡ plan_bytes objects
       → usage.pool ≡ length_of pool → CountsFreeBytes pool (plan_spans objects) usage
   unfolding found
   counts_free usage has held_is pool_is =

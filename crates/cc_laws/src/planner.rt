@@ -9,7 +9,7 @@ ghost use Rattle.cc_bounds.specs.declared.align.Align.{Align};
 ghost use Rattle.cc_bounds.specs.declared.align.Align.TheVariants.{One, Sixteen};
 ghost use Rattle.cc_cap.specs.Capability.{Capability};
 ghost use Rattle.cc_placer.specs.Align.{IsUnit, rounded_up, unit_of};
-ghost use Rattle.cc_plan.specs.Plan.{Plan, HaveBoundsInPool, HaveDisjointBounds, held_bytes_of};
+ghost use Rattle.cc_plan.specs.Plan.{Plan, HaveBoundsInPool, HaveDisjointBounds, plan_bytes};
 ghost use Rattle.cc_placer.specs.Placement.{HasNoPlace, HaveSameSpans, IsApartFrom, IsPlace, IsPlacement};
 
 /// Proves that two lists have the same spans, in whatever order, if and only if every weight of a
@@ -42,7 +42,7 @@ pub fn units_of_alignments()
 /// [`Planner`](cc_plan::Planner) keeps both properties.
 pub fn held_bytes_fit_the_pool()
     ensures { (plan : Plan) (pool : Capability) → HaveBoundsInPool plan → HaveDisjointBounds plan.objects
-        → plan.pool ≡ Some pool → held_bytes_of plan.objects ≤ length_of pool.span }
+        → plan.pool ≡ Some pool → plan_bytes plan.objects ≤ length_of pool.span }
 {}
 
 /// Proves that a smaller object fits at every place of a larger object of at most 2^64 bytes, even

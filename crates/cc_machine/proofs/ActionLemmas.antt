@@ -14,7 +14,7 @@ use Rattle.cc_plan.specs.declared.planned_object.PlannedObject.{PlannedObject}
 use Rattle.cc_bounds.specs.declared.align.Align.{Align}
 use Rattle.cc_placer.specs.Align.{rounded_up}
 use Rattle.cc_placer.specs.Placement.{IsPlacement, HasNoPlace}
-use Rattle.cc_plan.specs.Plan.{Plan, GivesPool, PlanAllocates, RefusesCall, PlanMakesObject, PlanHasNoRoom, plan_spans as planned_spans, held_bytes_of as planned_bytes, capability_over, span_at}
+use Rattle.cc_plan.specs.Plan.{Plan, GivesPool, PlanAllocates, RefusesCall, PlanMakesObject, PlanHasNoRoom, plan_spans as planned_spans, plan_bytes as planned_bytes, capability_over, span_at}
 use Rattle.cc_values.specs.declared.reply.Reply.{Reply}
 use Rattle.cc_values.specs.declared.reply.Reply.TheVariants.{PoolSet, Allocated, Refused}
 use Rattle.cc_machine.specs.State.{State, SlotState, tagged_slot, IsSlot}
