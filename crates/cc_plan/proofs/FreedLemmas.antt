@@ -16,7 +16,7 @@ use Rattle.cc_bounds.specs.declared.align.Align.{Align}
 use Rattle.cc_plan.specs.declared.planned_object.ObjectState.{ObjectState}
 use Rattle.cc_plan.specs.declared.planned_object.ObjectState.TheVariants.{Live, Freed, Swept}
 use Rattle.cc_plan.specs.declared.planned_object.PlannedObject.{PlannedObject}
-use Rattle.cc_plan.specs.Plan.{Plan, PlanSweeps, freed_count, is_freed, is_held, swept}
+use Rattle.cc_plan.specs.Plan.{Plan, PlanSweeps, plan_freed, is_freed, is_held, swept}
 use Rattle.cc_plan.specs.PlannerState.{IsFreedAt, ListsFreed, SweepsOne}
 use Rattle.cc_plan.proofs.HeldSpanLemmas.{made, as_swept, as_freed}
 
@@ -27,7 +27,7 @@ freed_weight object = cond (is_freed object.state) 1 0
 -- ---- the list of the freed objects
 
 -- at most as many are freed as there are
-freed_at_most : (objects : List PlannedObject) → freed_count objects ≤ length objects
+freed_at_most : (objects : List PlannedObject) → plan_freed objects ≤ length objects
 freed_at_most objects =
     let most : All (λ object. freed_weight object ≤ 1) objects =
     λ k d _. at_most_one (is_freed (get_or objects k d).state) in
@@ -218,7 +218,7 @@ pub record IsSweeping (old now : Plan) (done : ℕ) : Type 0 where
   pub pool : now.pool ≡ old.pool
   pub align : now.align ≡ old.align
   pub same : map swept now.objects ≡ map swept old.objects
-  pub counted : freed_count now.objects + done ≡ freed_count old.objects
+  pub counted : plan_freed now.objects + done ≡ plan_freed old.objects
 
 pub sweeping_begins : (old : Plan) → IsSweeping old old 0
 sweeping_begins old = record { limit = refl; pool = refl; align = refl; same = refl; counted = omega arith }
@@ -236,8 +236,8 @@ sweeping_on old now new done so_far one =
     let was : freed_weight (get_or now.objects one.position d) ≡ 1 =
     ap freed_weight (sym one.at) ∙ ap (λ (s : ObjectState). cond (is_freed s) 1 0) one.freed in
     let is : freed_weight (swept one.object) ≡ 0 = ap freed_weight gone in
-    let count : freed_count new.objects ≡ freed_count (slice_set now.objects one.position (swept one.object)) =
-    ap freed_count objects_are in
+    let count : plan_freed new.objects ≡ plan_freed (slice_set now.objects one.position (swept one.object)) =
+    ap plan_freed objects_are in
     record {
       limit = ap (λ (p : Plan). p.limit) one.is_new ∙ so_far.limit;
       pool = ap (λ (p : Plan). p.pool) one.is_new ∙ so_far.pool;
@@ -249,12 +249,12 @@ sweeping_on old now new done so_far one =
     }
 
 -- if none is freed, sweeping leaves the objects
-none_swept : (objects : List PlannedObject) → freed_count objects ≡ 0 → map swept objects ≡ objects
+none_swept : (objects : List PlannedObject) → plan_freed objects ≡ 0 → map swept objects ≡ objects
 none_swept [] none = refl
 none_swept (object ∷ objects) none =
     by_state (is_freed object.state) refl (λ few. none_swept objects few)
   where
-    by_state : (freed : Bool) → is_freed object.state ≡ freed → (freed_count objects ≡ 0 → map swept objects ≡ objects)
+    by_state : (freed : Bool) → is_freed object.state ≡ freed → (plan_freed objects ≡ 0 → map swept objects ≡ objects)
         → map swept (object ∷ objects) ≡ object ∷ objects
     by_state true is again =
         let one : freed_weight object ≡ 1 = ap (λ (b : Bool). cond b 1 0) is in
@@ -268,10 +268,10 @@ none_swept (object ∷ objects) none =
         ap (λ (o : PlannedObject). o ∷ map swept objects) first ∙ ap (λ (os : List PlannedObject). object ∷ os) rest
 
 -- the last was swept
-pub sweeping_ends : (old now : Plan) (done : ℕ) → IsSweeping old now done → done ≡ freed_count old.objects
+pub sweeping_ends : (old now : Plan) (done : ℕ) → IsSweeping old now done → done ≡ plan_freed old.objects
     → PlanSweeps old done now
 sweeping_ends old now done so_far all =
-    let none : freed_count now.objects ≡ 0 = omega (arith, so_far.counted, all) in
+    let none : plan_freed now.objects ≡ 0 = omega (arith, so_far.counted, all) in
     let objects_are : now.objects ≡ map swept old.objects = sym (none_swept now.objects none) ∙ so_far.same in (
       all,
       λ i. record {
