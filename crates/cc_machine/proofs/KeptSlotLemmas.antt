@@ -1,4 +1,4 @@
--- Slots of the state, as the objects that they belong to are made, freed and swept, and their
+-- Slots of the state, as the objects that they belong to are made, freed and plan_swept, and their
 -- numbers as they are counted.
 use Rattle.std.proofs.Common.{ℕ, zero, suc, Bool, true, false, ◌≡◌, ◌+◌, ◌<◌, ◌≤◌, ◌∙◌, ◌||◌, List, [], ◌∷◌, ◌++◌, Option, Some, None, cond, count_by, length, map, nat_eq, not, option_map, set, slice_index, unwrap_or, refl, sym, ap, subst, inl, inr, arith}
 use Rattle.std.specs.List.{slice_get}
@@ -9,7 +9,7 @@ use Rattle.std.proofs.lemmas.Option.{get_or_from_slice_get, slice_get-map, slice
 use Rattle.cc_plan.specs.declared.planned_object.ObjectState.{ObjectState}
 use Rattle.cc_plan.specs.declared.planned_object.ObjectState.TheVariants.{Live, Freed, Swept}
 use Rattle.cc_plan.specs.declared.planned_object.PlannedObject.{PlannedObject}
-use Rattle.cc_plan.specs.Plan.{is_freed, is_held, object_numbered, swept}
+use Rattle.cc_plan.specs.Plan.{is_freed, is_held, object_numbered, plan_swept}
 use Rattle.cc_machine.specs.declared.slot.Slot.{Slot}
 use Rattle.cc_machine.specs.State.{SlotState}
 use Rattle.cc_machine.specs.Step.{revoked_count}
@@ -98,7 +98,7 @@ freed-at objects number object found freed =
 
 -- ---- what a slot is in the state
 
--- slots are the same in two states in which the same objects are swept
+-- slots are the same in two states in which the same objects are plan_swept
 slots-same : (objects objects' : List PlannedObject) → ((number : ℕ) → is_swept_at objects' number ≡ is_swept_at objects number) → (slots : List Slot)
     → map (slot_state objects') slots ≡ map (slot_state objects) slots
 slots-same objects objects' same slots =
@@ -137,10 +137,10 @@ slots-first objects made slots more held next =
     ∙ slots-push objects slots more (told-next (λ object. not (is_held object.state)) objects more.owner next)
 
 -- what a sweep makes of the mark of an object
-mark-swept : (object : PlannedObject) → not (is_held (swept object).state) ≡ (not (is_held object.state) || is_freed object.state)
+mark-swept : (object : PlannedObject) → not (is_held (plan_swept object).state) ≡ (not (is_held object.state) || is_freed object.state)
 mark-swept object = by_state object.state refl
   where
-    by_state : (state : ObjectState) → object.state ≡ state → not (is_held (swept object).state) ≡ (not (is_held object.state) || is_freed object.state)
+    by_state : (state : ObjectState) → object.state ≡ state → not (is_held (plan_swept object).state) ≡ (not (is_held object.state) || is_freed object.state)
     by_state Live is =
         ap (λ (s : ObjectState). not (is_held (cond (is_freed s) (record object { state = Swept }) object).state)) is
         ∙ ap (λ (s : ObjectState). not (is_held s)) is ∙ sym (ap (λ (s : ObjectState). not (is_held s) || is_freed s) is)
@@ -151,11 +151,11 @@ mark-swept object = by_state object.state refl
         ap (λ (s : ObjectState). not (is_held (cond (is_freed s) (record object { state = Swept }) object).state)) is
         ∙ ap (λ (s : ObjectState). not (is_held s)) is ∙ sym (ap (λ (s : ObjectState). not (is_held s) || is_freed s) is)
 
--- after a sweep an object is swept if it was, or was freed
+-- after a sweep an object is plan_swept if it was, or was freed
 pub swept-at : (objects : List PlannedObject) (number : ℕ)
-    → is_swept_at (map swept objects) number ≡ (is_swept_at objects number || is_freed_at objects number)
+    → is_swept_at (map plan_swept objects) number ≡ (is_swept_at objects number || is_freed_at objects number)
 swept-at objects number =
-    told-map (λ object. not (is_held object.state)) swept objects number
+    told-map (λ object. not (is_held object.state)) plan_swept objects number
     ∙ ap (λ (test : PlannedObject → Bool). tells test objects number) (λ i object. mark-swept object i)
     ∙ by_found (object_numbered objects number)
   where
@@ -166,27 +166,27 @@ swept-at objects number =
     by_found (Some object) = refl
 
 -- after a sweep no object is freed
-pub freed-at-swept : (objects : List PlannedObject) (number : ℕ) → is_freed_at (map swept objects) number ≡ false
+pub freed-at-swept : (objects : List PlannedObject) (number : ℕ) → is_freed_at (map plan_swept objects) number ≡ false
 freed-at-swept objects number =
-    told-map (λ object. is_freed object.state) swept objects number
+    told-map (λ object. is_freed object.state) plan_swept objects number
     ∙ ap (λ (test : PlannedObject → Bool). tells test objects number) (λ i object. unmarked object i)
     ∙ by_found (object_numbered objects number)
   where
-    by_state : (object : PlannedObject) (state : ObjectState) → object.state ≡ state → is_freed (swept object).state ≡ false
+    by_state : (object : PlannedObject) (state : ObjectState) → object.state ≡ state → is_freed (plan_swept object).state ≡ false
     by_state object Live is =
         ap (λ (s : ObjectState). is_freed (cond (is_freed s) (record object { state = Swept }) object).state) is ∙ ap is_freed is
     by_state object Freed is = ap (λ (s : ObjectState). is_freed (cond (is_freed s) (record object { state = Swept }) object).state) is
     by_state object Swept is =
         ap (λ (s : ObjectState). is_freed (cond (is_freed s) (record object { state = Swept }) object).state) is ∙ ap is_freed is
 
-    unmarked : (object : PlannedObject) → is_freed (swept object).state ≡ false
+    unmarked : (object : PlannedObject) → is_freed (plan_swept object).state ≡ false
     unmarked object = by_state object object.state refl
 
     by_found : (found : Option PlannedObject) → unwrap_or (option_map (λ _. false) found) false ≡ false
     by_found None = refl
     by_found (Some object) = refl
 
--- no object is both swept and freed
+-- no object is both plan_swept and freed
 pub not-both : (objects : List PlannedObject) (number : ℕ) → is_swept_at objects number ≡ true → is_freed_at objects number ≡ false
 not-both objects number is = by_found (object_numbered objects number) is
   where
@@ -266,13 +266,13 @@ count_by-none test none (slot ∷ slots) =
     let here : weight (test slot) ≡ 0 = ap weight (none slot) in
     omega (arith, rest, here, sum_by-cons (λ s. weight (test s)) slot slots)
 
--- the slots whose objects are swept by a sweep are counted as revoked after it
+-- the slots whose objects are plan_swept by a sweep are counted as revoked after it
 pub revoked-swept : (objects : List PlannedObject) (slots : List Slot)
-    → revoked_count (map (slot_state (map swept objects)) slots) ≡ revoked_count (map (slot_state objects) slots) + freed_slot_count objects slots
+    → revoked_count (map (slot_state (map plan_swept objects)) slots) ≡ revoked_count (map (slot_state objects) slots) + freed_slot_count objects slots
 revoked-swept objects slots =
-    counted (map swept objects) slots
+    counted (map plan_swept objects) slots
     ∙ count_by-apart (λ slot. is_swept_at objects slot.owner) (λ slot. is_freed_at objects slot.owner)
-    (λ slot. is_swept_at (map swept objects) slot.owner) each slots
+    (λ slot. is_swept_at (map plan_swept objects) slot.owner) each slots
     ∙ ap (λ (n : ℕ). n + freed_slot_count objects slots) (sym (counted objects slots))
   where
     counted : (planned : List PlannedObject) (slots : List Slot) → revoked_count (map (slot_state planned) slots) ≡ count_by (λ slot. is_swept_at planned slot.owner) slots
@@ -291,7 +291,7 @@ revoked-swept objects slots =
     either false true apart = refl
     either false false apart = refl
 
-    each : (slot : Slot) → weight (is_swept_at (map swept objects) slot.owner) ≡ weight (is_swept_at objects slot.owner) + weight (is_freed_at objects slot.owner)
+    each : (slot : Slot) → weight (is_swept_at (map plan_swept objects) slot.owner) ≡ weight (is_swept_at objects slot.owner) + weight (is_freed_at objects slot.owner)
     each slot =
         ap weight (swept-at objects slot.owner)
         ∙ either (is_swept_at objects slot.owner) (is_freed_at objects slot.owner) (not-both objects slot.owner)
@@ -439,11 +439,11 @@ CountsSlots-freed objects slots counts freed number object told found live = rec
 
 -- a sweep
 pub CountsSlots-swept : (objects : List PlannedObject) (slots : List Slot) (counts : List ℕ) (freed : ℕ)
-    → CountsSlots objects slots counts freed → CountsSlots (map swept objects) slots counts 0
+    → CountsSlots objects slots counts freed → CountsSlots (map plan_swept objects) slots counts 0
 CountsSlots-swept objects slots counts freed told = record {
-  as_many = omega (arith, told.as_many, length-map objects swept);
+  as_many = omega (arith, told.as_many, length-map objects plan_swept);
   each = told.each;
-  all_freed = sym (count_by-none (λ slot. is_freed_at (map swept objects) slot.owner) (λ slot. freed-at-swept objects slot.owner) slots);
+  all_freed = sym (count_by-none (λ slot. is_freed_at (map plan_swept objects) slot.owner) (λ slot. freed-at-swept objects slot.owner) slots);
 }
 
 -- counts are no more than the slots

@@ -16,7 +16,7 @@ use Rattle.cc_bounds.specs.declared.align.Align.{Align}
 use Rattle.cc_plan.specs.declared.planned_object.ObjectState.{ObjectState}
 use Rattle.cc_plan.specs.declared.planned_object.ObjectState.TheVariants.{Live, Freed, Swept}
 use Rattle.cc_plan.specs.declared.planned_object.PlannedObject.{PlannedObject}
-use Rattle.cc_plan.specs.Plan.{Plan, PlanSweeps, plan_freed, is_freed, is_held, swept}
+use Rattle.cc_plan.specs.Plan.{Plan, PlanSweeps, plan_freed, is_freed, is_held, plan_swept}
 use Rattle.cc_plan.specs.PlannerState.{IsFreedAt, ListsFreed, SweepsOne}
 use Rattle.cc_plan.proofs.HeldSpanLemmas.{made, as_swept, as_freed}
 
@@ -111,7 +111,7 @@ listed_sorted objects freed sorted same lists = record {
       | inr other ↦ ne_eqb x y other ∙ sym (ne_eqb y x (λ same. other (sym same)))
     ]
 
--- the freed object that was listed last is swept
+-- the freed object that was listed last is plan_swept
 pub listed_swept : (objects : List PlannedObject) (freed : List ℕ) (position : ℕ) (object : PlannedObject)
     → object ≡ get_or objects position object
     → ListsFreed objects (freed ++ position ∷ []) → ListsFreed (slice_set objects position (as_swept object)) freed
@@ -181,13 +181,13 @@ freed_room objects freed position object within is live lists =
 
 -- ---- sweeping
 
--- a freed object is swept
-swept-freed : (object : PlannedObject) → object.state ≡ Freed → swept object ≡ as_swept object
+-- a freed object is plan_swept
+swept-freed : (object : PlannedObject) → object.state ≡ Freed → plan_swept object ≡ as_swept object
 swept-freed object freed =
     ap (λ (s : ObjectState). if is_freed s then record object { state = Swept } else object) freed
 
--- and what is swept stays so
-swept-again : (object : PlannedObject) → swept (as_swept object) ≡ as_swept object
+-- and what is plan_swept stays so
+swept-again : (object : PlannedObject) → plan_swept (as_swept object) ≡ as_swept object
 swept-again object = refl
 
 pub sweeps_one : (limit : ℕ) (pool : Option Capability) (align : Align) (objects : List PlannedObject)
@@ -212,12 +212,12 @@ sweeps_one limit pool align objects position object at is =
       };
     }
 
--- some objects were swept so far
+-- some objects were plan_swept so far
 pub record IsSweeping (old now : Plan) (done : ℕ) : Type 0 where
   pub limit : now.limit ≡ old.limit
   pub pool : now.pool ≡ old.pool
   pub align : now.align ≡ old.align
-  pub same : map swept now.objects ≡ map swept old.objects
+  pub same : map plan_swept now.objects ≡ map plan_swept old.objects
   pub counted : plan_freed now.objects + done ≡ plan_freed old.objects
 
 pub sweeping_begins : (old : Plan) → IsSweeping old old 0
@@ -227,52 +227,52 @@ pub sweeping_on : (old now new : Plan) (done : ℕ) → IsSweeping old now done 
     → IsSweeping old new (done + 1)
 sweeping_on old now new done so_far one =
     let d = one.object in
-    let gone : swept one.object ≡ as_swept one.object = swept-freed one.object one.freed in
-    let objects_are : new.objects ≡ slice_set now.objects one.position (swept one.object) =
+    let gone : plan_swept one.object ≡ as_swept one.object = swept-freed one.object one.freed in
+    let objects_are : new.objects ≡ slice_set now.objects one.position (plan_swept one.object) =
     ap (λ (p : Plan). p.objects) one.is_new in
-    let again : swept (swept one.object) ≡ swept (get_or now.objects one.position d) =
-    ap swept gone ∙ swept-again one.object ∙ sym gone ∙ ap swept one.at in
-    let set_sum = sum_by-set freed_weight now.objects one.position (swept one.object) d one.within in
+    let again : plan_swept (plan_swept one.object) ≡ plan_swept (get_or now.objects one.position d) =
+    ap plan_swept gone ∙ swept-again one.object ∙ sym gone ∙ ap plan_swept one.at in
+    let set_sum = sum_by-set freed_weight now.objects one.position (plan_swept one.object) d one.within in
     let was : freed_weight (get_or now.objects one.position d) ≡ 1 =
     ap freed_weight (sym one.at) ∙ ap (λ (s : ObjectState). cond (is_freed s) 1 0) one.freed in
-    let is : freed_weight (swept one.object) ≡ 0 = ap freed_weight gone in
-    let count : plan_freed new.objects ≡ plan_freed (slice_set now.objects one.position (swept one.object)) =
+    let is : freed_weight (plan_swept one.object) ≡ 0 = ap freed_weight gone in
+    let count : plan_freed new.objects ≡ plan_freed (slice_set now.objects one.position (plan_swept one.object)) =
     ap plan_freed objects_are in
     record {
       limit = ap (λ (p : Plan). p.limit) one.is_new ∙ so_far.limit;
       pool = ap (λ (p : Plan). p.pool) one.is_new ∙ so_far.pool;
       align = ap (λ (p : Plan). p.align) one.is_new ∙ so_far.align;
       same =
-          ap (λ (os : List PlannedObject). map swept os) objects_are
-          ∙ map-set_same swept now.objects one.position (swept one.object) d again ∙ so_far.same;
+          ap (λ (os : List PlannedObject). map plan_swept os) objects_are
+          ∙ map-set_same plan_swept now.objects one.position (plan_swept one.object) d again ∙ so_far.same;
       counted = omega (arith, so_far.counted, set_sum, was, is, count);
     }
 
 -- if none is freed, sweeping leaves the objects
-none_swept : (objects : List PlannedObject) → plan_freed objects ≡ 0 → map swept objects ≡ objects
+none_swept : (objects : List PlannedObject) → plan_freed objects ≡ 0 → map plan_swept objects ≡ objects
 none_swept [] none = refl
 none_swept (object ∷ objects) none =
     by_state (is_freed object.state) refl (λ few. none_swept objects few)
   where
-    by_state : (freed : Bool) → is_freed object.state ≡ freed → (plan_freed objects ≡ 0 → map swept objects ≡ objects)
-        → map swept (object ∷ objects) ≡ object ∷ objects
+    by_state : (freed : Bool) → is_freed object.state ≡ freed → (plan_freed objects ≡ 0 → map plan_swept objects ≡ objects)
+        → map plan_swept (object ∷ objects) ≡ object ∷ objects
     by_state true is again =
         let one : freed_weight object ≡ 1 = ap (λ (b : Bool). cond b 1 0) is in
         absurd (omega (arith, none, one, sum_by-cons freed_weight object objects))
     by_state false is again =
-        let first : swept object ≡ object = ap (λ (b : Bool). if b then record object {
+        let first : plan_swept object ≡ object = ap (λ (b : Bool). if b then record object {
           state =
               Swept;
         } else object) is in
         let rest = again (omega (arith, none, sum_by-cons freed_weight object objects)) in
-        ap (λ (o : PlannedObject). o ∷ map swept objects) first ∙ ap (λ (os : List PlannedObject). object ∷ os) rest
+        ap (λ (o : PlannedObject). o ∷ map plan_swept objects) first ∙ ap (λ (os : List PlannedObject). object ∷ os) rest
 
--- the last was swept
+-- the last was plan_swept
 pub sweeping_ends : (old now : Plan) (done : ℕ) → IsSweeping old now done → done ≡ plan_freed old.objects
     → PlanSweeps old done now
 sweeping_ends old now done so_far all =
     let none : plan_freed now.objects ≡ 0 = omega (arith, so_far.counted, all) in
-    let objects_are : now.objects ≡ map swept old.objects = sym (none_swept now.objects none) ∙ so_far.same in (
+    let objects_are : now.objects ≡ map plan_swept old.objects = sym (none_swept now.objects none) ∙ so_far.same in (
       all,
       λ i. record {
         limit = so_far.limit i;
