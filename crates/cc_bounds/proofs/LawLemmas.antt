@@ -12,7 +12,8 @@ use Rattle.cc_bounds.specs.Encoding.{HasBoundsFields, ie_of, t_of, b_of}
 use Rattle.cc_bounds.specs.Tightest.{IsDecoded}
 use Rattle.cc_bounds.proofs.GranuleLemmas.{le-div_ceil, div_ceil-lt, div_ceil-le, IsLeastExponent}
 use Rattle.cc_bounds.proofs.SoundLemmas.{granted-sound, long-granted}
-use Rattle.cc_bounds.proofs.ComputingLemmas.{exponent_of-is, exponent-exponent_of, exponent_of-long, granule_of-is, granule-granule_of, granule_of-short, granule_of-long, granted_span-is, granted-granted_span, bounds_fields-is, bounds_fields-are, from_zero-span}
+use Rattle.cc_bounds.proofs.ComputingLemmas.{exponent_of-is, exponent-exponent_of, exponent_of-long, granule_of-is, granule-granule_of, granule_of-short, granule_of-long, granted_span-is}
+use Rattle.cc_bounds.proofs.ComputingLemmas.{granted-granted_span, bounds_fields-is, bounds_fields-are, from_zero-span}
 use Rattle.cc_bounds.proofs.SoundDecodingLemmas.{sound-IsDecoded}
 use Rattle.cc_bounds.proofs.TightestLemmas.{decoded-sound}
 

@@ -7,7 +7,8 @@ use Rattle.std.proofs.lemmas.Bool.{cases_lt}
 use Rattle.cc_bounds.specs.declared.span.Span.{Span}
 use Rattle.cc_bounds.specs.Span.{IsSpan, length_of}
 use Rattle.cc_bounds.specs.Granule.{IsCoarseEnough, IsGranule, IsExponent, rounded_to, IsGranted, IsSound}
-use Rattle.cc_bounds.proofs.GranuleLemmas.{le-div_ceil, div_ceil-lt, div_ceil-le, div_ceil-multiple, granule_count-within, granule_count-covered, IsLeastExponent, least_same, least-fits, least-many, pow-order, granule-least, least-granule, exponent-least, least-exponent}
+use Rattle.cc_bounds.proofs.GranuleLemmas.{le-div_ceil, div_ceil-lt, div_ceil-le, div_ceil-multiple, granule_count-within, granule_count-covered, IsLeastExponent, least_same, least-fits}
+use Rattle.cc_bounds.proofs.GranuleLemmas.{least-many, pow-order, granule-least, least-granule, exponent-least, least-exponent}
 
 -- ---- rounding
 

@@ -1,6 +1,7 @@
 //! The bounds that a word decodes to.
 ghost use Rattle.std.specs.Prelude.{◌≡◌, ◌+◌, ◌-◌, ◌*◌, ◌%◌, ◌^◌, ◌<◌, ◌≤◌, ◌↔◌, IsTrue, if◌then◌else◌};
-ghost use Rattle.cc_bounds.specs.Decoding.{exponent_digits, stored_exponent, without_exponent, base_mantissa, IsTopMantissa, IsDecodedBase, IsDecodedTop, DecodesTo, EveryBitCounts};
+ghost use Rattle.cc_bounds.specs.Decoding.{exponent_digits, stored_exponent, without_exponent, base_mantissa};
+ghost use Rattle.cc_bounds.specs.Decoding.{IsTopMantissa, IsDecodedBase, IsDecodedTop, DecodesTo, EveryBitCounts};
 ghost use Rattle.cc_bounds.specs.Window.{IsRepresentable};
 ghost use Rattle.cc_bounds.specs.declared.span.Span.{Span as SpanSpec};
 

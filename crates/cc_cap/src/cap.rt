@@ -77,10 +77,12 @@ impl Cap {
     ghost use Rattle.cc_bounds.specs.Span.{IsSpan, IsWithin, length_of};
     ghost use Rattle.cc_bounds.specs.Encoding.{ie_of, t_of, b_of};
     ghost use Rattle.cc_cap.specs.Cap.{IsEncodingFor, IsRefusedBounds, ChecksAuthority, IsUnsealedFrom};
-    ghost use Rattle.cc_cap.specs.Capability.{Capability, IsCapability, IsSealed, IsUnsealed, GrantsNoMore, at_address, root_capability, with_span};
+    ghost use Rattle.cc_cap.specs.Capability.{Capability, IsCapability, IsSealed, IsUnsealed, GrantsNoMore};
+    ghost use Rattle.cc_cap.specs.Capability.{at_address, root_capability, with_span};
     ghost use Rattle.cc_cap.specs.Canonical.{IsWordOf, IsCanonical, word_of_capability};
     ghost use Rattle.cc_cap.specs.Reach.{IsReachable};
-    ghost use Rattle.cc_cap.specs.Derivation.{SetsAddress, Increments, SetsBounds, SetsExactBounds, MasksPermissions, SetsFlag, Seals, Unseals, Rebuilds};
+    ghost use Rattle.cc_cap.specs.Derivation.{SetsAddress, Increments, SetsBounds, SetsExactBounds};
+    ghost use Rattle.cc_cap.specs.Derivation.{MasksPermissions, SetsFlag, Seals, Unseals, Rebuilds};
 
     /// Returns the root capability: every permission over every address, at address 0 and unsealed.
     pub fn root() -> Cap
@@ -489,7 +491,8 @@ impl Cap {
 ///
 /// A word has its type inverted, so the bits of both are then zero. The flag is between them.
 fn is_plain(word: u128) -> bool
-    ensures { (fields : FieldsSpec) → word_of fields ≡ word → (IsTrue result ↔ ((fields.reserved ≡ 0) × (fields.otype ≡ unsealed_type))) }
+    ensures { (fields : FieldsSpec) → word_of fields ≡ word
+        → (IsTrue result ↔ ((fields.reserved ≡ 0) × (fields.otype ≡ unsealed_type))) }
 {
     let flag_between = (word >> 91) & 0x1f_ffff;
     flag_between == 0 || flag_between == 0x4_0000
@@ -500,7 +503,8 @@ fn is_plain(word: u128) -> bool
 #[cold]
 #[inline(never)]
 fn refusal_of(word: u128) -> Refusal
-    requires { (fields : FieldsSpec) → word_of fields ≡ word → ¬ ((fields.reserved ≡ 0) × (fields.otype ≡ unsealed_type)) }
+    requires { (fields : FieldsSpec) → word_of fields ≡ word
+        → ¬ ((fields.reserved ≡ 0) × (fields.otype ≡ unsealed_type)) }
     ensures { IsRefusedWord word result }
 {
     if Cap::of_word(word).is_some() {

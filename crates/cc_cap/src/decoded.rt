@@ -21,7 +21,8 @@ pub struct Decoded {
     pub fields: Fields,
     /// The bounds that the fields decode to.
     pub bounds: Span,
-    pub ghost decodes: { (span : SpanSpec) → DecodesTo fields span → (span.base ≡ bounds.base) × (span.top ≡ bounds.top) },
+    pub ghost decodes: { (span : SpanSpec) → DecodesTo fields span → (span.base ≡ bounds.base)
+        × (span.top ≡ bounds.top) },
 }
 
 impl Decoded {
@@ -49,7 +50,8 @@ impl Decoded {
     /// Returns the first reason why the word is not canonical, or `None` if it is.
     #[inline(always)]
     pub fn defect(&self) -> Option<Defect>
-        ensures { MatchOption result (IsCanonical (word_of self.now.fields)) (λ defect. (¬ IsCanonical (word_of self.now.fields)) × HasDefect self.now.fields self.now.bounds defect) }
+        ensures { MatchOption result (IsCanonical (word_of self.now.fields))
+            (λ defect. (¬ IsCanonical (word_of self.now.fields)) × HasDefect self.now.fields self.now.bounds defect) }
     {
         if self.fields.reserved != 0 {
             Some(Defect::ReservedBits)

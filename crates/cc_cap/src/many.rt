@@ -26,7 +26,8 @@ pub fn decode(words: &[u128], spans: &mut [Span])
 /// Requires: `words` and `answers` have the same length.
 pub fn is_canonical(words: &[u128], answers: &mut [bool])
     requires { length words.now ≡ length answers.old }
-    ensures { AnswersEach (λ i answer. IsTrue answer ↔ IsCanonical (slice_index words.now i)) answers.new (length words.now) }
+    ensures { AnswersEach (λ i answer. IsTrue answer ↔ IsCanonical (slice_index words.now i)) answers.new
+        (length words.now) }
 {
     for (i, answer) in answers.iter_mut().enumerate() {
         *answer = crate::is_canonical(words[i]);
@@ -42,7 +43,8 @@ pub fn is_canonical(words: &[u128], answers: &mut [bool])
 pub fn represents(words: &[u128], addresses: &[u64], answers: &mut [bool])
     requires addresses { length words.now ≡ length addresses.now }
     requires answers { length words.now ≡ length answers.old }
-    ensures { AnswersEach (λ i answer. TellsRepresentable (slice_index words.now i) (slice_index addresses.now i) answer) answers.new (length words.now) }
+    ensures { AnswersEach (λ i answer. TellsRepresentable (slice_index words.now i) (slice_index addresses.now i)
+        answer) answers.new (length words.now) }
 {
     for (i, answer) in answers.iter_mut().enumerate() {
         *answer = represented(words[i], addresses[i]);

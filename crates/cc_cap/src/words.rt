@@ -17,7 +17,8 @@ ghost use Rattle.cc_word.specs.Permissions.{bits_of};
 ghost use Rattle.cc_cap.specs.Capability.{Capability, GrantsNoMore};
 ghost use Rattle.cc_cap.specs.Canonical.{IsWordOf, IsCanonical};
 ghost use Rattle.cc_cap.specs.Cap.{IsReadFrom};
-ghost use Rattle.cc_cap.specs.Derivation.{SetsAddress, Increments, SetsBounds, SetsExactBounds, MasksPermissions, SetsFlag, Seals, Unseals, Rebuilds};
+ghost use Rattle.cc_cap.specs.Derivation.{SetsAddress, Increments, SetsBounds, SetsExactBounds, MasksPermissions};
+ghost use Rattle.cc_cap.specs.Derivation.{SetsFlag, Seals, Unseals, Rebuilds};
 ghost use Rattle.cc_cap.specs.WordRules.{InWords, OnWord, OnWords, IsSubset};
 
 use crate::cap::Cap;
@@ -154,10 +155,12 @@ pub fn rebuild(authority: u128, word: u128) -> Result<u128, Refusal>
 ///
 /// Instruction: CTestSubset, for words with equal tags.
 pub fn is_subset(inner: u128, outer: u128) -> bool
-    ensures words { (one other : FieldsSpec) → word_of one ≡ inner → word_of other ≡ outer → (IsTrue result ↔ IsSubset one other) }
+    ensures words { (one other : FieldsSpec) → word_of one ≡ inner → word_of other ≡ outer
+        → (IsTrue result ↔ IsSubset one other) }
     // For words of capabilities: true if and only if the inner capability grants no more than the
     // outer one.
-    ensures capabilities { (one other : Capability) → IsWordOf one inner → IsWordOf other outer → (IsTrue result ↔ GrantsNoMore one other) }
+    ensures capabilities { (one other : Capability) → IsWordOf one inner → IsWordOf other outer
+        → (IsTrue result ↔ GrantsNoMore one other) }
 {
     is_subset_of(&unpack(inner), &unpack(outer))
 }
@@ -200,14 +203,16 @@ fn with_address(word: u128, address: u64) -> u128
 
 // Returns the word with another flag.
 fn with_flag(word: u128, flag: bool) -> u128
-    ensures { (fields : FieldsSpec) → word_of fields ≡ word → result ≡ word - bit_of fields.flag * 2 ^ 109 + bit_of flag * 2 ^ 109 }
+    ensures { (fields : FieldsSpec) → word_of fields ≡ word
+        → result ≡ word - bit_of fields.flag * 2 ^ 109 + bit_of flag * 2 ^ 109 }
 {
     word - (u128::from(unpack(word).flag) << 109) + (u128::from(flag) << 109)
 }
 
 // Returns the word with other permissions.
 fn with_perms(word: u128, perms: Perms) -> u128
-    ensures { (fields : FieldsSpec) → word_of fields ≡ word → result ≡ word - fields.perms * 2 ^ 112 + bits_of perms * 2 ^ 112 }
+    ensures { (fields : FieldsSpec) → word_of fields ≡ word
+        → result ≡ word - fields.perms * 2 ^ 112 + bits_of perms * 2 ^ 112 }
 {
     word - (u128::from(unpack(word).perms) << 112) + (u128::from(perms.bits()) << 112)
 }

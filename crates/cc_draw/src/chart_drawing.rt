@@ -1,7 +1,9 @@
 //! The SVG document of a chart.
 ghost use Rattle.std.specs.Prelude.{◌≡◌, ◌≤◌, ◌+◌, ◌*◌, ◌^◌, ◌++◌, length, false, Err, OnErr};
 ghost use Rattle.cc_io.specs.Devices.{SendsBytes};
-ghost use Rattle.cc_draw.specs.ChartDrawing.{byte_label, byte_labels, byte_unit, chart_text, chart_counts_text, drawing_of, entry_text, event_label, event_labels, event_letter, event_unit, labels_text, chart_legend_text, scaled_text};
+ghost use Rattle.cc_draw.specs.ChartDrawing.{byte_label, byte_labels, byte_unit, chart_text, chart_counts_text};
+ghost use Rattle.cc_draw.specs.ChartDrawing.{drawing_of, entry_text, event_label, event_labels, event_letter};
+ghost use Rattle.cc_draw.specs.ChartDrawing.{event_unit, labels_text, chart_legend_text, scaled_text};
 ghost use Rattle.cc_draw.specs.Levels.{greatest};
 ghost use Rattle.cc_draw.specs.Scale.{event_step, reach_of, right_to, scale_of, step_count, step_power};
 
@@ -69,7 +71,8 @@ fn push_scaled<const N: usize>(page: &mut Page<N>, events: u128, width: u64, col
     requires few { length columns.now ≤ 256 }
     requires fits { events ≤ 2 ^ 73 }
     requires room { length page.old + 92000 ≤ N }
-    ensures value { page.new ≡ page.old ++ scaled_text (scale_of (reach_of (greatest columns.now)) events width) (reach_of (greatest columns.now)) columns.now }
+    ensures value { page.new ≡ page.old ++ scaled_text (scale_of (reach_of (greatest columns.now)) events width)
+        (reach_of (greatest columns.now)) columns.now }
     ensures fits { length page.new ≤ length page.old + 92000 }
 {
     let reach = reach_of(greatest(columns));

@@ -2,7 +2,9 @@
 ghost use Rattle.std.specs.Prelude.{◌≡◌, ◌<◌, ◌≤◌, ◌+◌, ◌-◌, ◌*◌, ◌^◌, ◌++◌, [], Err, false, IfOk, OnErr, length, min};
 ghost use Rattle.cc_io.specs.CommandOutput.{WritesAnswer};
 ghost use Rattle.cc_io.specs.Devices.{SendsBytes, WritesBytes};
-ghost use Rattle.cc_draw.specs.Drawing.{IsDrawing, bounds_line, drawing_text, ground_text, head_text, is_in, key_text, laid_out_text, layer_text, layout_for, mark_count, mark_text, marks_text, object_text, rectangle_text, row_count, rows_text, start_text};
+ghost use Rattle.cc_draw.specs.Drawing.{IsDrawing, bounds_line, drawing_text, ground_text, head_text, is_in};
+ghost use Rattle.cc_draw.specs.Drawing.{key_text, laid_out_text, layer_text, layout_for, mark_count, mark_text};
+ghost use Rattle.cc_draw.specs.Drawing.{marks_text, object_text, rectangle_text, row_count, rows_text, start_text};
 
 use crate::layout::{Layout, ROW, cells_of};
 use crate::usage::pool_span;
@@ -75,7 +77,8 @@ fn send_laid_out<W: Sink>(
     requires size { layout.now.size ≤ 2 ^ 50 }
     requires cells { layout.now.cells ≤ 16384 }
     requires width { layout.now.width ≤ 1024 }
-    ensures sends { SendsBytes (W.state sink.old) (W.state sink.new) (laid_out_text layout.now objects.now pool.now) result }
+    ensures sends { SendsBytes (W.state sink.old) (W.state sink.new) (laid_out_text layout.now objects.now pool.now)
+        result }
     ensures write { OnErr result (result ≡ Err IoError.Write) }
 {
     let mut start: Page<MOST_PART> = Page::new();
@@ -140,7 +143,8 @@ fn push_head(page: &mut Page<MOST_PART>, layout: &Layout, pool: &Span)
     );
     push_markup(
         page,
-        b"<defs><pattern id='stripes' width='8' height='6' patternUnits='userSpaceOnUse'>\n<rect width='8' height='3' fill='#e69f00'/></pattern></defs>\n",
+        b"<defs><pattern id='stripes' width='8' height='6' patternUnits='userSpaceOnUse'>\n\
+          <rect width='8' height='3' fill='#e69f00'/></pattern></defs>\n",
     );
     push_bounds(
         page,
@@ -176,11 +180,13 @@ fn push_key(page: &mut Page<MOST_PART>)
     );
     push_markup(
         page,
-        b"<rect x='272' y='44' width='24' height='16' fill='url(#stripes)'/>\n<rect x='432' y='44' width='24' height='16' fill='#fff'/>\n</g>\n",
+        b"<rect x='272' y='44' width='24' height='16' fill='url(#stripes)'/>\n\
+          <rect x='432' y='44' width='24' height='16' fill='#fff'/>\n</g>\n",
     );
     push_markup(
         page,
-        b"<text y='56'><tspan x='182'>live</tspan><tspan x='302'>quarantined</tspan><tspan x='462'>free</tspan></text>\n",
+        b"<text y='56'><tspan x='182'>live</tspan>\
+          <tspan x='302'>quarantined</tspan><tspan x='462'>free</tspan></text>\n",
     );
 }
 
@@ -270,7 +276,8 @@ fn write_layer<W: Sink>(
     requires some { 0 < layout.now.size }
     requires cells { layout.now.cells ≤ 16384 }
     requires width { layout.now.width ≤ 1024 }
-    ensures { WritesBytes (W.state sink.old) (W.state sink.new) (before.now ++ layer_text layout.now state 1 objects.now) result }
+    ensures { WritesBytes (W.state sink.old) (W.state sink.new)
+        (before.now ++ layer_text layout.now state 1 objects.now) result }
 {
     match write_all(sink, before) {
         Ok(()) => {}

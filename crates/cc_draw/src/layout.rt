@@ -101,7 +101,8 @@ pub fn cells_of(start: u128, size: u128, span: &Span) -> (u128, u128)
     ensures first { result.0 ≡ first_cell start size span.now }
     ensures end { result.1 ≡ end_cell start size span.now }
     // For a span with bytes, none of them below `start`, exactly these cells hold a byte of it.
-    ensures exactly { start ≤ span.now.base → span.now.base < span.now.top → AreCellsOf start size span.now result.0 result.1 }
+    ensures exactly { start ≤ span.now.base → span.now.base < span.now.top
+        → AreCellsOf start size span.now result.0 result.1 }
 {
     let first = u128::from(span.base).saturating_sub(start) / size;
     let end = span.top.saturating_sub(start).div_ceil(size);

@@ -1,5 +1,6 @@
 //! A map of a pool: a mark for each cell, which says what holds its bytes.
-ghost use Rattle.std.specs.Prelude.{◌≡◌, ◌<◌, ◌≤◌, ◌+◌, ◌^◌, ◌++◌, ◌↔◌, ℕ, List, [], false, true, IfOk, IsErr, IsTrue, OnErr, OnOk, length};
+ghost use Rattle.std.specs.Prelude.{◌≡◌, ◌<◌, ◌≤◌, ◌+◌, ◌^◌, ◌++◌, ◌↔◌, ℕ, List, [], false, true, IfOk, IsErr};
+ghost use Rattle.std.specs.Prelude.{IsTrue, OnErr, OnOk, length};
 ghost use Rattle.std.specs.Int.{div_ceil};
 ghost use Rattle.cc_io.specs.CommandOutput.{WritesAnswer};
 ghost use Rattle.cc_draw.specs.Map.{AreMapRows, HoldsByte, IsMap, IsMapOf, IsMapRow, TellsCell, map_row_text};
@@ -104,7 +105,8 @@ fn push_rows(text: &mut Text, objects: &[PlannedObject], start: u128, size: u128
     requires size { size ≤ 2 ^ 54 }
     requires cells { cells ≤ 1024 }
     requires room { length text.old ≤ 200 }
-    ensures { (rows : List ℕ) × AreMapRows objects.now size (div_ceil cells 64) start cells rows × (text.new ≡ text.old ++ rows) }
+    ensures { (rows : List ℕ) × AreMapRows objects.now size (div_ceil cells 64) start cells rows
+        × (text.new ≡ text.old ++ rows) }
 {
     let mut first = start;
     let mut left = cells;

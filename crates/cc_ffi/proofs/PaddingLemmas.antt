@@ -12,5 +12,6 @@ zero_behind n copied h few =
     let whole : List ℕ = copied ++ drop n (replicate 96 0) in
     let long : length whole ≡ length copied + (96 - n) = length-append copied (drop n (replicate 96 0)) ∙ ap (λ k. length copied + k) (length-drop n (replicate 96 0)) in
     let back : n ≡ n + 0 = grind arith in
-    let is_zero : get_or whole n 0 ≡ 0 = ap (λ k. get_or whole k 0) back ∙ sym (get_or-drop n whole 0 0) ∙ ap (λ zeros. get_or zeros 0 0) (zeros_behind n copied h) ∙ get_or-replicate (96 - n) 0 0 0 (grind (arith, few)) in
+    let is_zero : get_or whole n 0 ≡ 0 = ap (λ k. get_or whole k 0) back ∙ sym (get_or-drop n whole 0 0) ∙ ap (λ zeros. get_or zeros 0 0) (zeros_behind n copied h) ∙ get_or-replicate (96 - n) 0 0
+    0 (grind (arith, few)) in
     slice_get-get_or whole n 0 (grind (arith, long, h, few)) ∙ ap Some is_zero

@@ -5,7 +5,8 @@ use Rattle.cc_word.specs.declared.fields.Fields.{Fields}
 use Rattle.cc_word.specs.Word.{word_of}
 use Rattle.cc_word.specs.Refusal.{code_of}
 use Rattle.cc_word.specs.declared.refusal.Refusal.{Refusal}
-use Rattle.cc_word.specs.declared.refusal.Refusal.TheVariants.{Syntax, Unfinished, TooLong, OutOfRange, NoSlot, Revoked, Sealed, Unsealed, OutOfBounds, Inexact, Unrepresentable, MissingPermission, ReservedType, TypeMismatch, NotCanonical, ExceedsAuthority, NoPool, PoolAlreadySet, ZeroSize, NoRoom, NoObject, Full}
+use Rattle.cc_word.specs.declared.refusal.Refusal.TheVariants.{Syntax, Unfinished, TooLong, OutOfRange, NoSlot, Revoked, Sealed, Unsealed, OutOfBounds, Inexact, Unrepresentable, MissingPermission}
+use Rattle.cc_word.specs.declared.refusal.Refusal.TheVariants.{ReservedType, TypeMismatch, NotCanonical, ExceedsAuthority, NoPool, PoolAlreadySet, ZeroSize, NoRoom, NoObject, Full}
 use Rattle.cc_word.proofs.WordLemmas.{word_of-same}
 use Rattle.cc_bounds.specs.declared.span.Span.{Span}
 use Rattle.cc_bounds.specs.Span.{IsSpan, IsWithin, span_from}

@@ -15,9 +15,9 @@ ghost use Rattle.cc_ffi.specs.Many.{IsOneIf, IsOneIfRepresentable, word_at};
 ghost use Rattle.cc_ffi.specs.Memory.{GivesInMemory, SetsBoundsBy, word_in_memory, word_of_bytes};
 ghost use Rattle.cc_ffi.specs.Rules.{GivesResult};
 
+use crate::c_rules::{cheri_cap_set_bounds_exact_on, cheri_cap_set_bounds_on};
 use crate::halves::{halves, number};
 use crate::many::{canonical, decoded, represented};
-use crate::c_rules::{cheri_cap_set_bounds_exact_on, cheri_cap_set_bounds_on};
 use crate::structs::{Bounds, Halves, MadeWord};
 
 /// Writes the base, the top and the exponent of each word of memory, and returns the number of
@@ -29,7 +29,8 @@ pub extern "C" fn cheri_cap_decode_memory(
     bounds: &mut [Bounds],
 ) -> usize
     ensures count { result ≡ min (length memory.now) (length bounds.old) }
-    ensures decoded { AnswersEach (λ i told. OfFields (word_in_memory big_endian memory.now i) (λ fields. AreDecoded fields told)) bounds.new result }
+    ensures decoded { AnswersEach (λ i told. OfFields (word_in_memory big_endian memory.now i)
+        (λ fields. AreDecoded fields told)) bounds.new result }
     ensures rest { SameFrom bounds.old bounds.new result }
 {
     let count = memory.len().min(bounds.len());
@@ -48,7 +49,8 @@ pub extern "C" fn cheri_cap_is_canonical_memory(
     answers: &mut [u8],
 ) -> usize
     ensures count { result ≡ min (length memory.now) (length answers.old) }
-    ensures told { AnswersEach (λ i answer. IsOneIf (IsCanonical (word_in_memory big_endian memory.now i)) answer) answers.new result }
+    ensures told { AnswersEach (λ i answer. IsOneIf (IsCanonical (word_in_memory big_endian memory.now i)) answer)
+        answers.new result }
     ensures rest { SameFrom answers.old answers.new result }
 {
     let count = memory.len().min(answers.len());
@@ -69,7 +71,8 @@ pub extern "C" fn cheri_cap_represents_memory(
     answers: &mut [u8],
 ) -> usize
     ensures count { result ≡ min (length memory.now) (min (length addresses.now) (length answers.old)) }
-    ensures told { AnswersEach (λ i answer. IsOneIfRepresentable (word_in_memory big_endian memory.now i) (slice_index addresses.now i) answer) answers.new result }
+    ensures told { AnswersEach (λ i answer. IsOneIfRepresentable (word_in_memory big_endian memory.now i)
+        (slice_index addresses.now i) answer) answers.new result }
     ensures rest { SameFrom answers.old answers.new result }
 {
     let count = memory.len().min(addresses.len().min(answers.len()));
@@ -91,7 +94,8 @@ pub extern "C" fn cheri_cap_set_bounds_memory(
     made: &mut [[u8; 16]],
     refusals: &mut [u8],
 ) -> usize
-    ensures count { result ≡ min (min (length memory.now) (length lengths.now)) (min (length made.old) (length refusals.old)) }
+    ensures count { result ≡ min (min (length memory.now) (length lengths.now))
+        (min (length made.old) (length refusals.old)) }
     ensures made { AnswersEach (λ i bytes. GivesInMemory (OnWord (λ cap. SetsBoundsBy exact cap (word_at lengths.now i))
         (word_in_memory big_endian memory.now i)) big_endian bytes (slice_index refusals.new i)) made.new result }
     ensures rest { SameFrom made.old made.new result }
@@ -114,7 +118,8 @@ fn set_bounds_in(
     made: &mut [[u8; 16]],
     refusals: &mut [u8],
 ) -> usize
-    ensures count { result ≡ min (min (length memory.now) (length lengths.now)) (min (length made.old) (length refusals.old)) }
+    ensures count { result ≡ min (min (length memory.now) (length lengths.now))
+        (min (length made.old) (length refusals.old)) }
     ensures made { AnswersEach (λ i bytes. GivesInMemory (OnWord (λ cap. SetsBoundsBy exact cap (word_at lengths.now i))
         (word_in_memory big_endian memory.now i)) big_endian bytes (slice_index refusals.new i)) made.new result }
     ensures rest { SameFrom made.old made.new result }

@@ -5,7 +5,8 @@ ghost use Rattle.std.specs.Prelude.{◌≡◌, ◌↔◌, IsTrue};
 ghost use Rattle.cc_word.specs.declared.fields.Fields.{Fields as FieldsSpec};
 ghost use Rattle.cc_cap.specs.Capability.{Capability, GrantsNoMore};
 ghost use Rattle.cc_cap.specs.Canonical.{IsWordOf};
-ghost use Rattle.cc_cap.specs.Derivation.{SetsAddress, Increments, SetsBounds, SetsExactBounds, MasksPermissions, SetsFlag, Seals, Unseals, Rebuilds};
+ghost use Rattle.cc_cap.specs.Derivation.{SetsAddress, Increments, SetsBounds, SetsExactBounds, MasksPermissions};
+ghost use Rattle.cc_cap.specs.Derivation.{SetsFlag, Seals, Unseals, Rebuilds};
 ghost use Rattle.cc_cap.specs.WordRules.{OnWord, OnWords, IsSubset, IsCanonicalSubset};
 ghost use Rattle.cc_ffi.specs.Numbers.{number_of_halves};
 ghost use Rattle.cc_ffi.specs.Words.{OfFields};
@@ -44,7 +45,8 @@ fn told(answer: Result<u128, Refusal>) -> MadeWord
 #[unsafe(no_mangle)]
 pub extern "C" fn cheri_cap_set_address(high: u64, low: u64, address: u64) -> MadeWord
     ensures made { GivesResult (OnWord (λ cap. SetsAddress cap address) (number_of_halves high low)) result }
-    ensures monotonic { result.refusal ≡ 0 → IsCanonicalSubset (number_of_halves result.high result.low) (number_of_halves high low) }
+    ensures monotonic { result.refusal ≡ 0 → IsCanonicalSubset (number_of_halves result.high result.low)
+        (number_of_halves high low) }
 {
     told(words::set_address(number(high, low), address))
 }
@@ -56,7 +58,8 @@ pub extern "C" fn cheri_cap_set_address(high: u64, low: u64, address: u64) -> Ma
 #[unsafe(no_mangle)]
 pub extern "C" fn cheri_cap_increment(high: u64, low: u64, amount: u64) -> MadeWord
     ensures made { GivesResult (OnWord (λ cap. Increments cap amount) (number_of_halves high low)) result }
-    ensures monotonic { result.refusal ≡ 0 → IsCanonicalSubset (number_of_halves result.high result.low) (number_of_halves high low) }
+    ensures monotonic { result.refusal ≡ 0 → IsCanonicalSubset (number_of_halves result.high result.low)
+        (number_of_halves high low) }
 {
     told(words::increment(number(high, low), amount))
 }
@@ -76,11 +79,14 @@ pub extern "C" fn cheri_cap_set_bounds_on(
     length_high: u64,
     length_low: u64,
 ) -> MadeWord
-    ensures made { GivesResult (OnWord (λ cap. SetsBounds cap (number_of_halves length_high length_low)) (number_of_halves high low)) result }
-    ensures monotonic { result.refusal ≡ 0 → IsCanonicalSubset (number_of_halves result.high result.low) (number_of_halves high low) }
+    ensures made { GivesResult (OnWord (λ cap. SetsBounds cap (number_of_halves length_high length_low))
+        (number_of_halves high low)) result }
+    ensures monotonic { result.refusal ≡ 0 → IsCanonicalSubset (number_of_halves result.high result.low)
+        (number_of_halves high low) }
     // The word stores the granted span of the request from its address, which covers the request
     // and is within the word's own bounds. Everything else stays.
-    ensures stores { result.refusal ≡ 0 → OfFields (number_of_halves high low) (λ fields. OfFields (number_of_halves result.high result.low) (λ made.
+    ensures stores { result.refusal ≡ 0 → OfFields (number_of_halves high low)
+        (λ fields. OfFields (number_of_halves result.high result.low) (λ made.
         StoresRequest fields (number_of_halves length_high length_low) made)) }
 {
     told(words::set_bounds(number(high, low), number(length_high, length_low)))
@@ -97,8 +103,10 @@ pub extern "C" fn cheri_cap_set_bounds_exact_on(
     length_high: u64,
     length_low: u64,
 ) -> MadeWord
-    ensures made { GivesResult (OnWord (λ cap. SetsExactBounds cap (number_of_halves length_high length_low)) (number_of_halves high low)) result }
-    ensures monotonic { result.refusal ≡ 0 → IsCanonicalSubset (number_of_halves result.high result.low) (number_of_halves high low) }
+    ensures made { GivesResult (OnWord (λ cap. SetsExactBounds cap (number_of_halves length_high length_low))
+        (number_of_halves high low)) result }
+    ensures monotonic { result.refusal ≡ 0 → IsCanonicalSubset (number_of_halves result.high result.low)
+        (number_of_halves high low) }
 {
     told(words::set_bounds_exact(number(high, low), number(length_high, length_low)))
 }
@@ -110,7 +118,8 @@ pub extern "C" fn cheri_cap_set_bounds_exact_on(
 #[unsafe(no_mangle)]
 pub extern "C" fn cheri_cap_and_perms(high: u64, low: u64, mask: u16) -> MadeWord
     ensures made { GivesResult (OnWord (λ cap. MasksPermissions cap mask) (number_of_halves high low)) result }
-    ensures monotonic { result.refusal ≡ 0 → IsCanonicalSubset (number_of_halves result.high result.low) (number_of_halves high low) }
+    ensures monotonic { result.refusal ≡ 0 → IsCanonicalSubset (number_of_halves result.high result.low)
+        (number_of_halves high low) }
 {
     told(words::and_perms(number(high, low), Perms::from_bits_retain(mask)))
 }
@@ -122,7 +131,8 @@ pub extern "C" fn cheri_cap_and_perms(high: u64, low: u64, mask: u16) -> MadeWor
 #[unsafe(no_mangle)]
 pub extern "C" fn cheri_cap_set_flag(high: u64, low: u64, flag: bool) -> MadeWord
     ensures made { GivesResult (OnWord (λ cap. SetsFlag cap flag) (number_of_halves high low)) result }
-    ensures monotonic { result.refusal ≡ 0 → IsCanonicalSubset (number_of_halves result.high result.low) (number_of_halves high low) }
+    ensures monotonic { result.refusal ≡ 0 → IsCanonicalSubset (number_of_halves result.high result.low)
+        (number_of_halves high low) }
 {
     told(words::set_flag(number(high, low), flag))
 }
@@ -139,8 +149,10 @@ pub extern "C" fn cheri_cap_seal(
     authority_high: u64,
     authority_low: u64,
 ) -> MadeWord
-    ensures made { GivesResult (OnWords Seals (number_of_halves high low) (number_of_halves authority_high authority_low)) result }
-    ensures monotonic { result.refusal ≡ 0 → IsCanonicalSubset (number_of_halves result.high result.low) (number_of_halves high low) }
+    ensures made { GivesResult (OnWords Seals (number_of_halves high low)
+        (number_of_halves authority_high authority_low)) result }
+    ensures monotonic { result.refusal ≡ 0 → IsCanonicalSubset (number_of_halves result.high result.low)
+        (number_of_halves high low) }
 {
     told(words::seal(number(high, low), number(authority_high, authority_low)))
 }
@@ -157,8 +169,10 @@ pub extern "C" fn cheri_cap_unseal(
     authority_high: u64,
     authority_low: u64,
 ) -> MadeWord
-    ensures made { GivesResult (OnWords Unseals (number_of_halves high low) (number_of_halves authority_high authority_low)) result }
-    ensures monotonic { result.refusal ≡ 0 → IsCanonicalSubset (number_of_halves result.high result.low) (number_of_halves high low) }
+    ensures made { GivesResult (OnWords Unseals (number_of_halves high low)
+        (number_of_halves authority_high authority_low)) result }
+    ensures monotonic { result.refusal ≡ 0 → IsCanonicalSubset (number_of_halves result.high result.low)
+        (number_of_halves high low) }
 {
     told(words::unseal(number(high, low), number(authority_high, authority_low)))
 }
@@ -175,8 +189,10 @@ pub extern "C" fn cheri_cap_rebuild(
     high: u64,
     low: u64,
 ) -> MadeWord
-    ensures made { GivesResult (OnWord (λ cap. Rebuilds cap (number_of_halves high low)) (number_of_halves authority_high authority_low)) result }
-    ensures monotonic { result.refusal ≡ 0 → IsCanonicalSubset (number_of_halves result.high result.low) (number_of_halves authority_high authority_low) }
+    ensures made { GivesResult (OnWord (λ cap. Rebuilds cap (number_of_halves high low))
+        (number_of_halves authority_high authority_low)) result }
+    ensures monotonic { result.refusal ≡ 0 → IsCanonicalSubset (number_of_halves result.high result.low)
+        (number_of_halves authority_high authority_low) }
 {
     told(words::rebuild(number(authority_high, authority_low), number(high, low)))
 }
@@ -187,11 +203,13 @@ pub extern "C" fn cheri_cap_rebuild(
 /// Instruction: CTestSubset.
 #[unsafe(no_mangle)]
 pub extern "C" fn cheri_cap_is_subset(high: u64, low: u64, outer_high: u64, outer_low: u64) -> bool
-    ensures words { OfFields (number_of_halves high low) (λ inner. OfFields (number_of_halves outer_high outer_low) (λ outer.
+    ensures words { OfFields (number_of_halves high low)
+        (λ inner. OfFields (number_of_halves outer_high outer_low) (λ outer.
         IsTrue result ↔ IsSubset inner outer)) }
     // For words of capabilities: true if and only if the inner capability grants no more than the
     // outer one.
-    ensures capabilities { (one other : Capability) → IsWordOf one (number_of_halves high low) → IsWordOf other (number_of_halves outer_high outer_low)
+    ensures capabilities { (one other : Capability) → IsWordOf one (number_of_halves high low)
+        → IsWordOf other (number_of_halves outer_high outer_low)
         → (IsTrue result ↔ GrantsNoMore one other) }
 {
     words::is_subset(number(high, low), number(outer_high, outer_low))

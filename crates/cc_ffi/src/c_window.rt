@@ -50,7 +50,8 @@ pub extern "C" fn cheri_cap_window(high: u64, low: u64) -> Window
     ensures window { OfFields (number_of_halves high low) (λ fields.
         (span : SpanSpec) (address : ℕ) → DecodesTo fields span → address < 2 ^ 64
         → (IsFromTo result.first result.last address ↔ IsRepresentable span.base (stored_exponent fields) address)) }
-    ensures large { OfFields (number_of_halves high low) (λ fields. 50 ≤ stored_exponent fields → IsEveryAddress result) }
+    ensures large { OfFields (number_of_halves high low)
+        (λ fields. 50 ≤ stored_exponent fields → IsEveryAddress result) }
 {
     let fields = unpack(number(high, low));
     window_of(decode(&fields).base, exponent(&fields))

@@ -75,7 +75,8 @@ fn cut(given: WordFields) -> Fields
 pub extern "C" fn cheri_cap_pack(given: WordFields) -> Halves
     ensures cut { (fields : FieldsSpec) → IsCut given fields → word_of fields ≡ number_in result }
     ensures unpacked { (high low : ℕ) → high < 2 ^ 64 → low < 2 ^ 64
-        → OfFields (number_of_halves high low) (λ fields. IsSame given fields) → number_in result ≡ number_of_halves high low }
+        → OfFields (number_of_halves high low) (λ fields. IsSame given fields)
+        → number_in result ≡ number_of_halves high low }
 {
     halves(pack(&cut(given)))
 }

@@ -12,7 +12,8 @@ use cc_bounds::ADDRESS_SPACE;
 /// from 8 to 2^55. Returns 0 for a length above 2^64.
 #[unsafe(no_mangle)]
 pub extern "C" fn cheri_cap_granule(length_high: u64, length_low: u64) -> u64
-    ensures granule { number_of_halves length_high length_low ≤ 2 ^ 64 → IsGranule (from_zero (number_of_halves length_high length_low)) result }
+    ensures granule { number_of_halves length_high length_low ≤ 2 ^ 64
+        → IsGranule (from_zero (number_of_halves length_high length_low)) result }
     ensures too_long { 2 ^ 64 < number_of_halves length_high length_low → result ≡ 0 }
 {
     let length = number(length_high, length_low);
@@ -28,7 +29,8 @@ pub extern "C" fn cheri_cap_granule(length_high: u64, length_low: u64) -> u64
 /// Instruction: CRRL.
 #[unsafe(no_mangle)]
 pub extern "C" fn cheri_cap_round_length(length_high: u64, length_low: u64) -> Halves
-    ensures rounded { number_of_halves length_high length_low ≤ 2 ^ 64 → number_in result ≡ padded_size (number_of_halves length_high length_low) }
+    ensures rounded { number_of_halves length_high length_low ≤ 2 ^ 64
+        → number_in result ≡ padded_size (number_of_halves length_high length_low) }
     ensures too_long { 2 ^ 64 < number_of_halves length_high length_low → number_in result ≡ 2 ^ 128 - 1 }
 {
     let length = number(length_high, length_low);
@@ -44,7 +46,8 @@ pub extern "C" fn cheri_cap_round_length(length_high: u64, length_low: u64) -> H
 /// Instruction: CRAM.
 #[unsafe(no_mangle)]
 pub extern "C" fn cheri_cap_alignment_mask(length_high: u64, length_low: u64) -> u64
-    ensures mask { number_of_halves length_high length_low ≤ 2 ^ 64 → result ≡ 2 ^ 64 - granule_of (from_zero (number_of_halves length_high length_low)) }
+    ensures mask { number_of_halves length_high length_low ≤ 2 ^ 64
+        → result ≡ 2 ^ 64 - granule_of (from_zero (number_of_halves length_high length_low)) }
     ensures too_long { 2 ^ 64 < number_of_halves length_high length_low → result ≡ 0 }
 {
     let length = number(length_high, length_low);

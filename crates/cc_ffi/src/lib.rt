@@ -7,16 +7,16 @@
 #![tactic(auto)]
 
 mod bounds;
+mod c_memory;
+mod c_rules;
+mod c_text;
+mod c_window;
+mod c_words;
 mod defect;
 mod halves;
 mod lengths;
 mod many;
 mod measures;
-mod c_memory;
-mod c_rules;
 mod search;
 mod structs;
-mod c_text;
 mod version;
-mod c_window;
-mod c_words;

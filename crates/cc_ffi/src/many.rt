@@ -9,18 +9,20 @@ ghost use Rattle.cc_cap.specs.Many.{AnswersEach};
 ghost use Rattle.cc_ffi.specs.Numbers.{number_in};
 ghost use Rattle.cc_ffi.specs.Words.{OfFields};
 ghost use Rattle.cc_ffi.specs.Bounds.{AreDecoded};
-ghost use Rattle.cc_ffi.specs.Many.{IsAlignmentMask, IsGrantedIfInRange, IsOneIf, IsOneIfRepresentable, IsRoundedLength, word_at};
+ghost use Rattle.cc_ffi.specs.Many.{IsAlignmentMask, IsGrantedIfInRange, IsOneIf, IsOneIfRepresentable};
+ghost use Rattle.cc_ffi.specs.Many.{IsRoundedLength, word_at};
 
 use crate::bounds::{cheri_cap_decode, cheri_cap_represents, cheri_cap_set_bounds};
+use crate::c_words::cheri_cap_is_canonical;
 use crate::lengths::{cheri_cap_alignment_mask, cheri_cap_round_length};
 use crate::structs::{Bounds, GrantedBounds, Halves};
-use crate::c_words::cheri_cap_is_canonical;
 
 /// Writes the base, the top and the exponent of each word, and returns the number of results.
 #[unsafe(no_mangle)]
 pub extern "C" fn cheri_cap_decode_many(words: &[Halves], bounds: &mut [Bounds]) -> usize
     ensures count { result ≡ min (length words.now) (length bounds.old) }
-    ensures decoded { AnswersEach (λ i told. OfFields (word_at words.now i) (λ fields. AreDecoded fields told)) bounds.new result }
+    ensures decoded { AnswersEach (λ i told. OfFields (word_at words.now i) (λ fields. AreDecoded fields told))
+        bounds.new result }
     ensures rest { SameFrom bounds.old bounds.new result }
 {
     let count = words.len().min(bounds.len());
@@ -53,7 +55,8 @@ pub extern "C" fn cheri_cap_represents_many(
     answers: &mut [u8],
 ) -> usize
     ensures count { result ≡ min (length words.now) (min (length addresses.now) (length answers.old)) }
-    ensures told { AnswersEach (λ i answer. IsOneIfRepresentable (word_at words.now i) (slice_index addresses.now i) answer) answers.new result }
+    ensures told { AnswersEach (λ i answer. IsOneIfRepresentable (word_at words.now i) (slice_index addresses.now i)
+        answer) answers.new result }
     ensures rest { SameFrom answers.old answers.new result }
 {
     let count = words.len().min(addresses.len().min(answers.len()));
@@ -72,7 +75,8 @@ pub extern "C" fn cheri_cap_set_bounds_many(
     granted: &mut [GrantedBounds],
 ) -> usize
     ensures count { result ≡ min (length bases.now) (min (length lengths.now) (length granted.old)) }
-    ensures granted { AnswersEach (λ i told. IsGrantedIfInRange (slice_index bases.now i) (word_at lengths.now i) told) granted.new result }
+    ensures granted { AnswersEach (λ i told. IsGrantedIfInRange (slice_index bases.now i) (word_at lengths.now i)
+        told) granted.new result }
     ensures rest { SameFrom granted.old granted.new result }
 {
     let count = bases.len().min(lengths.len().min(granted.len()));
@@ -86,7 +90,8 @@ pub extern "C" fn cheri_cap_set_bounds_many(
 #[unsafe(no_mangle)]
 pub extern "C" fn cheri_cap_round_length_many(lengths: &[Halves], rounded: &mut [Halves]) -> usize
     ensures count { result ≡ min (length lengths.now) (length rounded.old) }
-    ensures rounded { AnswersEach (λ i told. IsRoundedLength (word_at lengths.now i) (number_in told)) rounded.new result }
+    ensures rounded { AnswersEach (λ i told. IsRoundedLength (word_at lengths.now i) (number_in told)) rounded.new
+        result }
     ensures rest { SameFrom rounded.old rounded.new result }
 {
     let count = lengths.len().min(rounded.len());

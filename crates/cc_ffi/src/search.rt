@@ -8,10 +8,11 @@ ghost use Rattle.cc_bounds.specs.Span.{HasByte};
 ghost use Rattle.cc_bounds.specs.declared.span.Span.{Span as SpanSpec};
 ghost use Rattle.cc_cap.specs.Capability.{Capability};
 ghost use Rattle.cc_ffi.specs.Numbers.{number_in};
-ghost use Rattle.cc_ffi.specs.Search.{AreUnsealed, EndsSearch, HasTag, IsListed, IsTaggable, IsWanted, IsWantedAt, searchable};
+ghost use Rattle.cc_ffi.specs.Search.{AreUnsealed, EndsSearch, HasTag, IsListed, IsTaggable, IsWanted, IsWantedAt};
+ghost use Rattle.cc_ffi.specs.Search.{searchable};
 
-use crate::halves::number;
 use crate::c_memory::word_of;
+use crate::halves::number;
 use crate::structs::{Halves, Query};
 use cc_bounds::decode;
 use cc_cap::is_canonical;
@@ -33,7 +34,8 @@ pub extern "C" fn cheri_cap_search_memory(
     next: &mut usize,
 ) -> usize
     ensures listed { IsListed (IsWantedAt query.now big_endian memory.now tag_bits.now) positions.new result next.new }
-    ensures ends { EndsSearch positions.new (length positions.old) (searchable query.now memory.now tag_bits.now) result next.new }
+    ensures ends { EndsSearch positions.new (length positions.old) (searchable query.now memory.now tag_bits.now)
+        result next.new }
     ensures rest { SameFrom positions.old positions.new result }
 {
     let end = end_of(memory.len(), tag_bits.len(), query.needs_tag);

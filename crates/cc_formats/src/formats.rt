@@ -1,8 +1,15 @@
 //! The event of a line of a trace in each format.
 ghost use Rattle.std.specs.Prelude.{◌≡◌, take, IfOk, IfSome};
 ghost use Rattle.cc_placer.specs.Alignment.{HasAlignment};
-ghost use Rattle.cc_formats.specs.Formats.{entry_from, entry_in, entry_with, event_of, has_pointers, joined_entry,
-    reported_entry};
+ghost use Rattle.cc_formats.specs.Formats.{
+  entry_from,
+  entry_in,
+  entry_with,
+  event_of,
+  has_pointers,
+  joined_entry,
+  reported_entry,
+};
 
 use crate::heaptrack::read_heaptrack;
 use crate::ltrace::read_ltrace;

@@ -1,7 +1,15 @@
 //! The lines of raw files of heaptrack.
 ghost use Rattle.std.specs.Prelude.{◌≡◌, ◌≤◌, length, take};
-ghost use Rattle.cc_formats.specs.Heaptrack.{heaptrack_in, hexadecimal_in, is_told, object_in, place_in, second_of,
-    told_in, values_in};
+ghost use Rattle.cc_formats.specs.Heaptrack.{
+  heaptrack_in,
+  hexadecimal_in,
+  is_told,
+  object_in,
+  place_in,
+  second_of,
+  told_in,
+  values_in,
+};
 
 use crate::cutting::cut;
 use crate::report::{Report, allocation, free};

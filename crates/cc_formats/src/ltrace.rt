@@ -1,8 +1,23 @@
 //! The lines that ltrace writes.
 ghost use Rattle.std.specs.Prelude.{◌≡◌, take};
-ghost use Rattle.cc_formats.specs.Ltrace.{address_or_nil, assigned_in, called_in, calloc_in, free_in, ltrace_in,
-    malloc_in, name_of, product_in, product_of, realloc_in, reallocated, resized_in, result_in, spaced_address,
-    spaced_number};
+ghost use Rattle.cc_formats.specs.Ltrace.{
+  address_or_nil,
+  assigned_in,
+  called_in,
+  calloc_in,
+  free_in,
+  ltrace_in,
+  malloc_in,
+  name_of,
+  product_in,
+  product_of,
+  realloc_in,
+  reallocated,
+  resized_in,
+  result_in,
+  spaced_address,
+  spaced_number,
+};
 
 use crate::cutting::{after_or_all, cut, has_byte};
 use crate::report::{Report, allocation, clearing, free, reallocation};

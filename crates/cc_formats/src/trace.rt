@@ -5,8 +5,18 @@ ghost use Rattle.std.specs.List.{slice_split};
 ghost use Rattle.cc_word.specs.declared.refusal.Refusal.{Refusal as RefusalSpec};
 ghost use Rattle.cc_values.specs.Values.{words_of};
 ghost use Rattle.cc_placer.specs.Alignment.{HasAlignment};
-ghost use Rattle.cc_formats.specs.Trace.{alignment_in, allocation_in, as_alignment, as_entry, clearing_in, entry_of,
-    event_in, pair_in, reallocation_in, single_in};
+ghost use Rattle.cc_formats.specs.Trace.{
+  alignment_in,
+  allocation_in,
+  as_alignment,
+  as_entry,
+  clearing_in,
+  entry_of,
+  event_in,
+  pair_in,
+  reallocation_in,
+  single_in,
+};
 
 use cc_placer::Event;
 use cc_values::{both, read_address, split_at_first};

@@ -1,5 +1,6 @@
 -- The gaps of a pool when a span is held or given back: the change is at one position.
-use Rattle.std.proofs.Common.{ℕ, zero, suc, ◌≡◌, ◌≢◌, ◌+◌, ◌-◌, ◌<◌, ◌≤◌, max, min, List, ◌∷◌, Some, None, Contains, length, get_or, slice_get, insert, remove, set, sum_by, arith, refl, ◌∙◌, sym, ap, inl, inr}
+use Rattle.std.proofs.Common.{ℕ, zero, suc, ◌≡◌, ◌≢◌, ◌+◌, ◌-◌, ◌<◌, ◌≤◌, max, min, List, ◌∷◌, Some, None, Contains, length, get_or, slice_get, insert, remove, set, sum_by, arith, refl, ◌∙◌, sym}
+use Rattle.std.proofs.Common.{ap, inl, inr}
 use Rattle.std.proofs.lemmas.Bool.{cases_lt}
 use Rattle.std.proofs.lemmas.List.{get_or_default, get_or-set_same, get_or-set_other, length-set}
 use Rattle.std.proofs.lemmas.Option.{get_or_from_slice_get, slice_get-get_or, slice_get_within}

@@ -1,8 +1,11 @@
 -- A row of gaps: its blocks and heads, and its gaps one after another.
-use Rattle.std.proofs.Common.{ℕ, zero, suc, ◌≡◌, ◌+◌, ◌-◌, ◌*◌, ◌/◌, ◌^◌, ◌<◌, ◌≤◌, max, ◌⊎◌, Some, None, List, [], ◌∷◌, ◌++◌, All, Contains, slice_get, length, take, drop, get_or, set, insert, remove, arith, refl, sym, ap, subst, ◌∙◌, inl, inr, append_assoc, length-append}
+use Rattle.std.proofs.Common.{ℕ, zero, suc, ◌≡◌, ◌+◌, ◌-◌, ◌*◌, ◌/◌, ◌^◌, ◌<◌, ◌≤◌, max, ◌⊎◌, Some, None, List, [], ◌∷◌, ◌++◌, All, Contains, slice_get, length, take, drop, get_or, set, insert}
+use Rattle.std.proofs.Common.{remove, arith, refl, sym, ap, subst, ◌∙◌, inl, inr, append_assoc, length-append}
 use Rattle.std.proofs.lemmas.Bool.{cases_eq, cases_lt}
-use Rattle.std.proofs.lemmas.List.{append-nil, get_or_default, get_or-set_same, get_or-set_other, get_or_append_left, get_or-append-add, length-set, length-take-le, take-append-le, take-set-le, take-take, set-append_left, set-append_right, take_more, take_all}
-use Rattle.std.proofs.lemmas.List.Edits.{get_or-insert_above, get_or-insert_at, get_or-insert_below, get_or-remove_below, length-insert, length-remove, insert-append_left, insert-append_right, remove-append_left, remove-append_right}
+use Rattle.std.proofs.lemmas.List.{append-nil, get_or_default, get_or-set_same, get_or-set_other, get_or_append_left, get_or-append-add, length-set, length-take-le, take-append-le, take-set-le}
+use Rattle.std.proofs.lemmas.List.{take-take, set-append_left, set-append_right, take_more, take_all}
+use Rattle.std.proofs.lemmas.List.Edits.{get_or-insert_above, get_or-insert_at, get_or-insert_below, get_or-remove_below, length-insert, length-remove, insert-append_left, insert-append_right}
+use Rattle.std.proofs.lemmas.List.Edits.{remove-append_left, remove-append_right}
 use Rattle.std.proofs.lemmas.List.Elements.{All-append, All-cons, All-drop, All-set, All-take, Contains-append_cases, Contains-append_left, Contains-append_right}
 use Rattle.std.proofs.lemmas.List.Quantifiers.{all_pairs_remove}
 use Rattle.std.proofs.lemmas.Option.{slice_get-get_or}

@@ -1,5 +1,6 @@
 //! A block of gaps, in the order of their addresses.
-ghost use Rattle.std.specs.Prelude.{◌≡◌, ◌↔◌, ◌+◌, ◌-◌, ◌<◌, ◌≤◌, ◌^◌, ◌∷◌, ◌++◌, ℕ, [], length, insert, remove, slice_set, All, Some, None, IfNone, IfSome, IsTrue, Option, option_map};
+ghost use Rattle.std.specs.Prelude.{◌≡◌, ◌↔◌, ◌+◌, ◌-◌, ◌<◌, ◌≤◌, ◌^◌, ◌∷◌, ◌++◌, ℕ, [], length, insert, remove};
+ghost use Rattle.std.specs.Prelude.{slice_set, All, Some, None, IfNone, IfSome, IsTrue, Option, option_map};
 ghost use Rattle.std.specs.List.{slice_index_or};
 ghost use Rattle.cc_bounds.specs.declared.span.Span.{Span as SpanSpec};
 ghost use Rattle.cc_placer.specs.PlacerState.{IsSomeBytes};

@@ -1,5 +1,6 @@
 //! The heads of blocks of gaps: what a search reads before it opens a block.
-ghost use Rattle.std.specs.Prelude.{◌≡◌, ℕ, ◌+◌, ◌*◌, ◌/◌, ◌-◌, ◌<◌, ◌≤◌, [], length, insert, remove, slice_set, max, IfOk};
+ghost use Rattle.std.specs.Prelude.{◌≡◌, ℕ, ◌+◌, ◌*◌, ◌/◌, ◌-◌, ◌<◌, ◌≤◌, [], length, insert, remove, slice_set};
+ghost use Rattle.std.specs.Prelude.{max, IfOk};
 ghost use Rattle.std.specs.List.{slice_index_or};
 ghost use Rattle.cc_gaps.specs.declared.gap_heads.Head.{Head as HeadSpec};
 ghost use Rattle.cc_gaps.specs.GapHeads.{AreAtMost, AreBounded, AreBoundedBut};

@@ -1,5 +1,7 @@
 //! A row of gaps: the free spans of a pool, in the order of their addresses.
-ghost use Rattle.std.specs.Prelude.{◌≡◌, ◌+◌, ◌-◌, ◌*◌, ◌/◌, ◌<◌, ◌≤◌, ◌^◌, ℕ, List, [], ◌∷◌, length, max, take, insert, remove, slice_set, slice_get, All, IfOk, IfSome, IfNone, IsTrue, Some, None, option_map};
+ghost use Rattle.std.specs.Prelude.{◌≡◌, ◌+◌, ◌-◌, ◌*◌, ◌/◌, ◌<◌, ◌≤◌, ◌^◌, ℕ, List, [], ◌∷◌, length, max, take};
+ghost use Rattle.std.specs.Prelude.{insert, remove, slice_set, slice_get, All, IfOk, IfSome, IfNone, IsTrue, Some};
+ghost use Rattle.std.specs.Prelude.{None, option_map};
 ghost use Rattle.std.specs.List.{slice_index_or};
 ghost use Rattle.cc_bounds.specs.declared.span.Span.{Span as SpanSpec};
 ghost use Rattle.cc_gaps.specs.declared.gap_place.Place.{Place as PlaceSpec};
@@ -209,7 +211,8 @@ impl GapRow {
         requires within { index_of self.old place < length (gaps_in self.old) }
         ensures gaps { gaps_in self.new ≡ remove (gaps_in self.old) (index_of self.old place) }
         ensures room { self.new.room ≡ self.old.room }
-        ensures places { (other : PlaceSpec) → IsPlaceIn self.old other → index_of self.old other < index_of self.old place
+        ensures places { (other : PlaceSpec) → IsPlaceIn self.old other
+            → index_of self.old other < index_of self.old place
             → IsPlaceIn self.new other × (index_of self.new other ≡ index_of self.old other) }
     {
         if self.blocks.at(place.block).len() == 1 {
@@ -242,8 +245,10 @@ fn locate_in(blocks: &GapBlocks, heads: &Heads, address: u64) -> (Place, Option<
     requires gaps { AreGaps (gaps_of blocks.now.blocks) }
     requires headed { AreHeaded blocks.now.blocks heads.now.heads }
     ensures place { IsPlaceAt blocks.now.blocks result.0.block result.0.at }
-    ensures gap { result.1 ≡ slice_get (gaps_of blocks.now.blocks) (index_at blocks.now.blocks result.0.block result.0.at) }
-    ensures located { IsLocated (gaps_of blocks.now.blocks) address (index_at blocks.now.blocks result.0.block result.0.at) }
+    ensures gap { result.1 ≡ slice_get (gaps_of blocks.now.blocks)
+        (index_at blocks.now.blocks result.0.block result.0.at) }
+    ensures located { IsLocated (gaps_of blocks.now.blocks) address
+        (index_at blocks.now.blocks result.0.block result.0.at) }
 {
     let block = heads.position(address);
     if block == heads.len() {
@@ -261,7 +266,8 @@ fn gap_before_in(blocks: &GapBlocks, heads: &Heads, place: Place) -> Option<(Pla
     requires place { IsPlaceAt blocks.now.blocks place.block place.at }
     ensures some { IfSome result (λ found. IsPlaceAt blocks.now.blocks found.0.block found.0.at
         × (index_at blocks.now.blocks found.0.block found.0.at + 1 ≡ index_at blocks.now.blocks place.block place.at)
-        × (slice_get (gaps_of blocks.now.blocks) (index_at blocks.now.blocks found.0.block found.0.at) ≡ Some found.1)) }
+        × (slice_get (gaps_of blocks.now.blocks) (index_at blocks.now.blocks found.0.block found.0.at) ≡ Some
+        found.1)) }
     ensures none { IfNone result (index_at blocks.now.blocks place.block place.at ≡ 0) }
 {
     if place.at > 0 {
@@ -465,7 +471,8 @@ fn insert_with_room(blocks: &mut GapBlocks, heads: &mut Heads, block: usize, at:
     requires few { blocks.old.room ≤ 2 ^ 20 }
     requires heads_room { heads.old.room ≡ blocks.old.room }
     requires some { IsSomeBytes gap }
-    ensures gaps { gaps_of blocks.new.blocks ≡ insert (gaps_of blocks.old.blocks) (index_at blocks.old.blocks block at) gap }
+    ensures gaps { gaps_of blocks.new.blocks ≡ insert (gaps_of blocks.old.blocks)
+        (index_at blocks.old.blocks block at) gap }
     ensures headed { AreHeaded blocks.new.blocks heads.new.heads }
     ensures fits { length blocks.new.blocks ≤ blocks.new.room }
     ensures room { blocks.new.room ≡ blocks.old.room }
@@ -492,7 +499,8 @@ fn insert_at(blocks: &mut GapBlocks, heads: &mut Heads, block: usize, at: usize,
     requires few { blocks.old.room ≤ 2 ^ 20 }
     requires heads_room { heads.old.room ≡ blocks.old.room }
     requires some { IsSomeBytes gap }
-    ensures gaps { gaps_of blocks.new.blocks ≡ insert (gaps_of blocks.old.blocks) (index_at blocks.old.blocks block at) gap }
+    ensures gaps { gaps_of blocks.new.blocks ≡ insert (gaps_of blocks.old.blocks)
+        (index_at blocks.old.blocks block at) gap }
     ensures headed { AreHeaded blocks.new.blocks heads.new.heads }
     ensures fits { length blocks.new.blocks ≤ blocks.new.room }
     ensures room { blocks.new.room ≡ blocks.old.room }

@@ -1,5 +1,6 @@
 //! A placer that keeps the gaps between its spans.
-ghost use Rattle.std.specs.Prelude.{◌≡◌, ◌≢◌, ◌+◌, ◌<◌, ◌≤◌, ◌^◌, ℕ, List, Some, IfSome, IfNone, IsSome, length, slice_get};
+ghost use Rattle.std.specs.Prelude.{◌≡◌, ◌≢◌, ◌+◌, ◌<◌, ◌≤◌, ◌^◌, ℕ, List, Some, IfSome, IfNone, IsSome, length};
+ghost use Rattle.std.specs.Prelude.{slice_get};
 ghost use Rattle.std.specs.List.{slice_index_or};
 ghost use Rattle.cc_bounds.specs.declared.span.Span.{Span as SpanSpec};
 ghost use Rattle.cc_bounds.specs.Span.{IsWithin};
@@ -217,7 +218,8 @@ fn top_from(gap: Option<Span>, base: u128) -> Option<u128>
 #[inline(always)]
 fn gap_up_to(row: &GapRow, place: Place, top: u128) -> Option<(Place, u64)>
     requires { IsPlaceIn row.now place }
-    ensures some { IfSome result (λ found. IsPlaceIn row.now found.0 × (index_of row.now found.0 + 1 ≡ index_of row.now place)
+    ensures some { IfSome result (λ found. IsPlaceIn row.now found.0
+        × (index_of row.now found.0 + 1 ≡ index_of row.now place)
         × (slice_get (gaps_in row.now) (index_of row.now found.0) ≡ Some (record { base = found.1; top = top }))) }
     ensures none { IfNone result ((k : ℕ) (gap : SpanSpec) → k + 1 ≡ index_of row.now place
         → slice_get (gaps_in row.now) k ≡ Some gap → gap.top ≢ top) }

@@ -1,5 +1,6 @@
 -- What a heap is after an object was made, after one was freed, and after an event.
-use Rattle.std.proofs.Common.{ℕ, Bool, true, false, ◌≡◌, ◌+◌, ◌-◌, ◌<◌, if◌then◌else◌, nat_eq, List, [], ◌∷◌, ◌++◌, Option, Some, Result, Ok, Err, IfOk, IsSome, map, length, arith, refl, subst, ◌∙◌, sym, ap, inl, inr, IsPermutation}
+use Rattle.std.proofs.Common.{ℕ, Bool, true, false, ◌≡◌, ◌+◌, ◌-◌, ◌<◌, if◌then◌else◌, nat_eq, List, [], ◌∷◌, ◌++◌, Option, Some, Result, Ok, Err, IfOk, IsSome, map, length, arith, refl, subst}
+use Rattle.std.proofs.Common.{◌∙◌, sym, ap, inl, inr, IsPermutation}
 use Rattle.std.specs.Map.{lookup}
 use Rattle.std.specs.Option.{is_some}
 use Rattle.std.proofs.lemmas.Bool.Decides.{nat_tests}

@@ -1,17 +1,66 @@
 //! The heap.
-ghost use Rattle.std.specs.Prelude.{◌≡◌, ℕ, false, true, None, Some, nat_eq, ◌+◌, ◌<◌, ◌≤◌, ◌^◌, ◌↔◌, length, All, IfOk,
-    OnErr, OnOk, IfSome, IsNone, IsSome, IsTrue};
+ghost use Rattle.std.specs.Prelude.{
+  ◌≡◌,
+  ℕ,
+  false,
+  true,
+  None,
+  Some,
+  nat_eq,
+  ◌+◌,
+  ◌<◌,
+  ◌≤◌,
+  ◌^◌,
+  ◌↔◌,
+  length,
+  All,
+  IfOk,
+  OnErr,
+  OnOk,
+  IfSome,
+  IsNone,
+  IsSome,
+  IsTrue,
+};
 ghost use Rattle.std.specs.Bool.{OnFalse, OnTrue};
 ghost use Rattle.std.specs.Int.{IsPowerOfTwo};
 ghost use Rattle.cc_heap.specs.Memory.{IsSound, held_spans, usage_of};
 ghost use Rattle.cc_heap.specs.Totals.{with_usage};
-ghost use Rattle.cc_heap.specs.Heap.{Attempts, KeepsObject, MustSweep, empty_heap, kept_object, object_under, swept,
-    swept_memory};
+ghost use Rattle.cc_heap.specs.Heap.{
+  Attempts,
+  KeepsObject,
+  MustSweep,
+  empty_heap,
+  kept_object,
+  object_under,
+  swept,
+  swept_memory,
+};
 ghost use Rattle.cc_heap.specs.Reallocation.{can_take};
 ghost use Rattle.cc_placer.specs.Alignment.{HasAlignment};
-ghost use Rattle.cc_heap.specs.Events.{Allocates, AttemptsToReplace, ClearsOther, FailsInEvent, FailsToMake,
-    FailsToReallocate, FollowsPolicy, FollowsReplacing, FreesIfLive, FreesOrNot, IsEvent, IsSweptOrNot, KeepsPlace,
-    Moves, Reallocates, Remakes, ReplacesLive, Tries, TriesToReplace, outcome_of, swept_if_asked};
+ghost use Rattle.cc_heap.specs.Events.{
+  Allocates,
+  AttemptsToReplace,
+  ClearsOther,
+  FailsInEvent,
+  FailsToMake,
+  FailsToReallocate,
+  FollowsPolicy,
+  FollowsReplacing,
+  FreesIfLive,
+  FreesOrNot,
+  IsEvent,
+  IsSweptOrNot,
+  KeepsPlace,
+  Moves,
+  Reallocates,
+  Remakes,
+  ReplacesLive,
+  Tries,
+  TriesToReplace,
+  outcome_of,
+  swept_if_asked,
+};
 ghost use Rattle.cc_heap.specs.Peaks.{without_peaks};
 ghost use Rattle.cc_heap.specs.Run.{Runs};
 ghost use Rattle.cc_heap.specs.HeapState.{PutsOver, QuarantinesLive, ReleasesLast, Settles};

@@ -22,7 +22,7 @@ pub(crate) fn place<P: Placer>(
     requires some { 0 < size }
     ensures { (spans : List SpanSpec) → P.holds placer.now spans
         → IfSome (P.pool placer.now) (λ pool. IsRoomFor align requested pool spans size
-            (option_map (λ found. found.0) result)) }
+        (option_map (λ found. found.0) result)) }
 {
     let size = u128::from(size);
     let unit = unit(align, size);

@@ -1,5 +1,6 @@
 -- The replies to a text, from the replies to its parts.
-use Rattle.std.proofs.Common.{◌≡◌, ℕ, ◌+◌, ◌<◌, ◌≤◌, List, [], ◌∷◌, ◌++◌, length, take, refl, sym, ◌∙◌, ap, subst, append_assoc, append-nil, arith, Bool, true, false, ◌||◌, ◌==◌, Option, Ok, Err, inl, inr, ◌⊎◌}
+use Rattle.std.proofs.Common.{◌≡◌, ℕ, ◌+◌, ◌<◌, ◌≤◌, List, [], ◌∷◌, ◌++◌, length, take, refl, sym, ◌∙◌, ap, subst, append_assoc, append-nil, arith, Bool, true, false, ◌||◌, ◌==◌, Option, Ok, Err}
+use Rattle.std.proofs.Common.{inl, inr, ◌⊎◌}
 use Rattle.std.proofs.lemmas.Bool.{eqb-true, eqb-false}
 use Rattle.std.proofs.lemmas.List.{take_all, map-append}
 use Rattle.std.proofs.lemmas.List.Folds.{list_any-append}
@@ -22,7 +23,8 @@ FitsPage room most answers = (answers ≡ []) ⊎ LastFits room most answers
 
 -- The first entries of the chunk got replies, and `rest` is still unread. The next entry has begun
 -- with `begun_now`. The replies to `earlier` were written, and those to `on_page` are pending.
-pub record AnswersFirst {S : Type 0} (Answered : Relation S) (frame : Frame) (room most : ℕ) (old : S) (begun piece rest start : List ℕ) (taken taken_now : Option (List ℕ)) (waiting : List ℕ) (any_error : Bool) (new : S) : Type 0 where
+pub record AnswersFirst {S : Type 0} (Answered : Relation S) (frame : Frame) (room most : ℕ) (old : S) (begun piece rest start : List ℕ) (taken taken_now : Option (List ℕ)) (waiting : List ℕ)
+    (any_error : Bool) (new : S) : Type 0 where
   pub earlier : List (List ℕ)
   pub on_page : List (List ℕ)
   pub begun_now : List ℕ
@@ -41,7 +43,8 @@ pub record AnswersFirst {S : Type 0} (Answered : Relation S) (frame : Frame) (ro
 
 -- the effects up to a read: `pending` was written, and then the replies to the text that was given
 -- so far
-pub record Reads {S : Type 0} (Answered : Relation S) (frame : Frame) (old : S) (pending : List ℕ) (unread left : Option (List ℕ)) (start : List ℕ) (taken taken_now : Option (List ℕ)) (any_error : Bool) (new : S) : Type 0 where
+pub record Reads {S : Type 0} (Answered : Relation S) (frame : Frame) (old : S) (pending : List ℕ) (unread left : Option (List ℕ)) (start : List ℕ) (taken taken_now : Option (List ℕ))
+    (any_error : Bool) (new : S) : Type 0 where
   pub text : List ℕ
   pub given : Consumes unread left text
   pub opened : Option (List ℕ)
@@ -315,7 +318,8 @@ reads_begins {S} A frame is a pending c t u start empty written = record {
 }
 
 -- the sink failed in what waited
-pub stops_pending : {S : Type 0} (done : S → Bool) (A E : Relation S) (frame : Frame) (room most : ℕ) (a : S) (pending : List ℕ) (c t u : Option (List ℕ)) → TakesPrefix t u pending → 0 < length pending
+pub stops_pending : {S : Type 0} (done : S → Bool) (A E : Relation S) (frame : Frame) (room most : ℕ) (a : S) (pending : List ℕ) (c t u : Option (List ℕ)) → TakesPrefix t u pending
+    → 0 < length pending
     → Pumps done A E frame room most a pending c c t u (Err Write) a
 stops_pending {S} done A E frame room most a pending c t u q some = record {
   text = [];
@@ -352,7 +356,8 @@ fails_reading {S} done A E frame room most a b pending c l j t u start e r nothi
 }
 
 -- the sink failed in a piece
-pub stops_reading : {S : Type 0} (done : S → Bool) (A E : Relation S) (frame : Frame) → IsFrame frame → (room most : ℕ) (a b d : S) (pending : List ℕ) (c l j t u v : Option (List ℕ)) (start piece : List ℕ) (e : Bool)
+pub stops_reading : {S : Type 0} (done : S → Bool) (A E : Relation S) (frame : Frame) → IsFrame frame
+    → (room most : ℕ) (a b d : S) (pending : List ℕ) (c l j t u v : Option (List ℕ)) (start piece : List ℕ) (e : Bool)
     → (r : Reads A frame a pending c l start t u e b) → Consumes l j piece
     → StopsOnPage A room most b [] (seen (frame.entries (frame.left [] r.text) piece)) u v d → Pumps done A E frame room most a pending c j t v (Err Write) d
 stops_reading {S} done A E frame is room most a b d pending c l j t u v start piece e r given s = record {
@@ -363,7 +368,8 @@ stops_reading {S} done A E frame is room most a b d pending c l j t u v start pi
 }
 
 -- the source is at its end, and the output was ended
-pub ends : {S : Type 0} (done : S → Bool) (A E : Relation S) (frame : Frame) (room most : ℕ) (a b d : S) (pending : List ℕ) (c l j t u v : Option (List ℕ)) (start : List ℕ) (e : Bool) (ending : Answer)
+pub ends : {S : Type 0} (done : S → Bool) (A E : Relation S) (frame : Frame) (room most : ℕ) (a b d : S) (pending : List ℕ) (c l j t u v : Option (List ℕ)) (start : List ℕ) (e : Bool)
+    (ending : Answer)
     → Reads A frame a pending c l start t u e b → Consumes l j [] → IsAtEnd j
     → EndsWith E b start ending d → Appends u v ending.text
     → Pumps done A E frame room most a pending c j t v (Ok (record { any_error = e || ending.is_error })) d
@@ -383,13 +389,15 @@ ends {S} done A E frame room most a b d pending c l j t u v start e ending r not
         output_is = refl;
         error_is = ap (λ (x : Bool). x || ending.is_error) r.answers.error_is;
       };
-      written = appends_twice t r.opened v pending (answers_text r.answers.answers ++ ending.text) r.opening (appends_twice r.opened u v (answers_text r.answers.answers) ending.text r.answers.written w);
+      written = appends_twice t r.opened v pending (answers_text r.answers.answers ++ ending.text) r.opening
+          (appends_twice r.opened u v (answers_text r.answers.answers) ending.text r.answers.written w);
     },
   );
 }
 
 -- the source is at its end, and the sink failed in ending the output
-pub stops_ending : {S : Type 0} (done : S → Bool) (A E : Relation S) (frame : Frame) (room most : ℕ) (a b d : S) (pending : List ℕ) (c l j t u v : Option (List ℕ)) (start : List ℕ) (e : Bool) (ending : Answer)
+pub stops_ending : {S : Type 0} (done : S → Bool) (A E : Relation S) (frame : Frame) (room most : ℕ) (a b d : S) (pending : List ℕ) (c l j t u v : Option (List ℕ)) (start : List ℕ) (e : Bool)
+    (ending : Answer)
     → Reads A frame a pending c l start t u e b → Consumes l j [] → IsAtEnd j
     → EndsWith E b start ending d → TakesPrefix u v ending.text
     → Pumps done A E frame room most a pending c j t v (Err Write) d
@@ -406,7 +414,8 @@ stops_ending {S} done A E frame room most a b d pending c l j t u v start e endi
       ends = subst (λ (x : List ℕ). EndsWith E b x ending d) r.answers.start_is s;
       count = w.count;
       within = w.within;
-      written = appends_twice t u v (pending ++ answers_text r.answers.answers) (take w.count ending.text) (appends_twice t r.opened u pending (answers_text r.answers.answers) r.opening r.answers.written) w.taken;
+      written = appends_twice t u v (pending ++ answers_text r.answers.answers) (take w.count ending.text)
+          (appends_twice t r.opened u pending (answers_text r.answers.answers) r.opening r.answers.written) w.taken;
     },
   )));
 }
@@ -466,7 +475,8 @@ kept_early {S} A a d pending entries t v w e kept p = record {
 }
 
 -- the answerer is done, and the sink was flushed
-pub ends_early : {S : Type 0} (done : S → Bool) (A E : Relation S) (frame : Frame) → IsFrame frame → (room most : ℕ) (a b d : S) (pending : List ℕ) (c l j t u v w : Option (List ℕ)) (start piece : List ℕ) (e f : Bool)
+pub ends_early : {S : Type 0} (done : S → Bool) (A E : Relation S) (frame : Frame) → IsFrame frame
+    → (room most : ℕ) (a b d : S) (pending : List ℕ) (c l j t u v w : Option (List ℕ)) (start piece : List ℕ) (e f : Bool)
     → (r : Reads A frame a pending c l start t u e b) → Consumes l j piece → done d ≡ true
     → AnswersSome A frame b (frame.left [] r.text) piece u v f d → Keeps v w → Pumps done A E frame room most a pending c j t w (Ok (record { any_error = e || f })) d
 ends_early {S} done A E frame is room most a b d pending c l j t u v w start piece e f r given over p kept = record {
@@ -476,7 +486,8 @@ ends_early {S} done A E frame is room most a b d pending c l j t u v w start pie
 }
 
 -- the answerer is done, and the flush failed
-pub stops_done : {S : Type 0} (done : S → Bool) (A E : Relation S) (frame : Frame) → IsFrame frame → (room most : ℕ) (a b d : S) (pending : List ℕ) (c l j t u v w : Option (List ℕ)) (start piece : List ℕ) (e f : Bool)
+pub stops_done : {S : Type 0} (done : S → Bool) (A E : Relation S) (frame : Frame) → IsFrame frame
+    → (room most : ℕ) (a b d : S) (pending : List ℕ) (c l j t u v w : Option (List ℕ)) (start piece : List ℕ) (e f : Bool)
     → (r : Reads A frame a pending c l start t u e b) → Consumes l j piece → done d ≡ true
     → AnswersSome A frame b (frame.left [] r.text) piece u v f d → Keeps v w → Pumps done A E frame room most a pending c j t w (Err Write) d
 stops_done {S} done A E frame is room most a b d pending c l j t u v w start piece e f r given over p kept = record {

@@ -49,7 +49,8 @@ seen_parts (entry ∷ entries) (x ∷ xs) ys h =
 -- ---- the cases of the pump
 
 -- an answerer that is not done was not stopped
-pub runs_through : {S : Type 0} (done : S → Bool) (Answered Ended : Relation S) (frame : Frame) (room most : ℕ) (old new : S) (pending : List ℕ) (c j t u : Option (List ℕ)) (result : Result Summary IoError)
+pub runs_through : {S : Type 0} (done : S → Bool) (Answered Ended : Relation S) (frame : Frame) (room most : ℕ) (old new : S) (pending : List ℕ) (c j t u : Option (List ℕ))
+    (result : Result Summary IoError)
     → done new ≡ false → (p : Pumps done Answered Ended frame room most old pending c j t u result new)
     → PumpsText Answered Ended frame room most old pending p.text j t u result new
 runs_through {S} done Answered Ended frame room most old new pending c j t u result going p = elim p.pumps [

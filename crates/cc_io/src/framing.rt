@@ -25,7 +25,8 @@ pub trait Framing {
         ensures ends { (begun : List ℕ) → start.now ≡ take 129 begun → IfSome result (λ parts.
             EndsEntry (frame self.now) begun text.now parts.0.now parts.1.now) }
         ensures shorter { IfSome result (λ parts. length parts.1.now < length text.now) }
-        ensures none { (begun : List ℕ) → start.now ≡ take 129 begun → IfNone result (EndsNone (frame self.now) begun text.now) }
+        ensures none { (begun : List ℕ) → start.now ≡ take 129 begun
+            → IfNone result (EndsNone (frame self.now) begun text.now) }
         ensures begun { IfNone result (IsBegun self.now (take 129 (start.now ++ text.now))) };
 
     ghost is_frame: { (s : Self) → IsFrame (frame s) };

@@ -1,6 +1,7 @@
 //! Bytes with a number after them, on a page.
 ghost use Rattle.std.specs.Prelude.{◌≡◌, ◌+◌, ◌≤◌, ◌++◌, length};
-ghost use Rattle.cc_io.specs.Numbered.{line_with_decimal, line_with_hexadecimal, with_decimal, with_digits, with_hexadecimal};
+ghost use Rattle.cc_io.specs.Numbered.{line_with_decimal, line_with_hexadecimal, with_decimal, with_digits};
+ghost use Rattle.cc_io.specs.Numbered.{with_hexadecimal};
 
 use crate::page::Page;
 

@@ -1,5 +1,6 @@
 //! Output bytes in fixed-size buffers: a reply, or replies that are pending.
-ghost use Rattle.std.specs.Prelude.{◌≡◌, ◌+◌, ◌-◌, ◌*◌, ◌/◌, ◌%◌, ◌^◌, ◌≤◌, ◌<◌, [], ◌∷◌, ◌++◌, length, take, decimal, false};
+ghost use Rattle.std.specs.Prelude.{◌≡◌, ◌+◌, ◌-◌, ◌*◌, ◌/◌, ◌%◌, ◌^◌, ◌≤◌, ◌<◌, [], ◌∷◌, ◌++◌, length, take};
+ghost use Rattle.std.specs.Prelude.{decimal, false};
 ghost use Rattle.std.specs.Fmt.{digits};
 ghost use Rattle.cc_word.specs.WordText.{digits_of, hexadecimal};
 ghost use Rattle.cc_io.specs.Text.{with_line_feed};

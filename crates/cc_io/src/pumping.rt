@@ -1,5 +1,6 @@
 //! The engine: reads entries from a source, and writes the replies to them to a sink.
-ghost use Rattle.std.specs.Prelude.{◌≡◌, ◌≤◌, ◌<◌, ◌+◌, ℕ, true, false, List, [], take, length, ◌↔◌, Err, IfOk, OnOk, OnErr, IsErr, ◌++◌};
+ghost use Rattle.std.specs.Prelude.{◌≡◌, ◌≤◌, ◌<◌, ◌+◌, ℕ, true, false, List, [], take, length, ◌↔◌, Err, IfOk};
+ghost use Rattle.std.specs.Prelude.{OnOk, OnErr, IsErr, ◌++◌};
 ghost use Rattle.cc_io.specs.Devices.{AreReady, IsOutcome, SendsBytes, TakesPrefix, WritesBytes};
 ghost use Rattle.cc_io.specs.Answers.{AnswersInto, seen};
 ghost use Rattle.cc_io.specs.Correct.{Pumps, StopsOnPage};
@@ -44,7 +45,8 @@ pub fn pump<F: Framing, A: Answerer<N>, R: Source, W: Sink, const N: usize>(
     requires room { A.MOST ≤ N }
     requires goes_on { A.done answerer.old ≡ false }
     ensures pumps { Pumps A.done A.Answered A.Ended (F.frame framing.now) N A.MOST answerer.old page.old
-        (R.state source.old).unread (R.state source.new).unread (W.state sink.old).taken (W.state sink.new).taken result answerer.new }
+        (R.state source.old).unread (R.state source.new).unread (W.state sink.old).taken (W.state sink.new).taken
+        result answerer.new }
     ensures outcome { IsOutcome (R.state source.new) (W.state sink.new) result }
 {
     let mut start = LineStart::new();
@@ -98,9 +100,11 @@ fn take_piece<F: Framing, A: Answerer<N>, W: Sink, const N: usize>(
     requires empty { page.old ≡ [] }
     requires goes_on { A.done answerer.old ≡ false }
     ensures ok { (begun : List ℕ) → start.old ≡ take 129 begun → IfOk result (λ error.
-        AnswersPiece A.done A.Answered (F.frame framing.now) answerer.old begun piece.now start.new (W.state sink.old).taken (W.state sink.new).taken error answerer.new) }
+        AnswersPiece A.done A.Answered (F.frame framing.now) answerer.old begun piece.now start.new
+        (W.state sink.old).taken (W.state sink.new).taken error answerer.new) }
     ensures err { (begun : List ℕ) → start.old ≡ take 129 begun → OnErr result (
-        StopsOnPage A.Answered N A.MOST answerer.old [] (seen ((F.frame framing.now).entries begun piece.now)) (W.state sink.old).taken (W.state sink.new).taken answerer.new) }
+        StopsOnPage A.Answered N A.MOST answerer.old [] (seen ((F.frame framing.now).entries begun piece.now))
+        (W.state sink.old).taken (W.state sink.new).taken answerer.new) }
     ensures begun { OnOk result (F.IsBegun framing.now start.new) }
     ensures empty { OnOk result (page.new ≡ []) }
     ensures fails { IsErr result ↔ ((W.state sink.new).has_failed ≡ true) }

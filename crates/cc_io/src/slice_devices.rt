@@ -1,6 +1,7 @@
 //! A source and a sink over borrowed slices, with a given size of chunks and a given call that
 //! fails.
-ghost use Rattle.std.specs.Prelude.{◌≡◌, ◌⊎◌, ◌+◌, ◌-◌, ◌<◌, ◌↔◌, Some, length, true, false, [], min, IfOk, OnOk, IsErr};
+ghost use Rattle.std.specs.Prelude.{◌≡◌, ◌⊎◌, ◌+◌, ◌-◌, ◌<◌, ◌↔◌, Some, length, true, false, [], min, IfOk, OnOk};
+ghost use Rattle.std.specs.Prelude.{IsErr};
 ghost use Rattle.std.specs.Option.{unwrap_or};
 ghost use Rattle.cc_io.specs.Devices.{FailsNext, Flushes, ReadsPiece, WritesPiece, input_of, output_of};
 
@@ -23,7 +24,13 @@ impl<'a> Model for SliceSource<'a> {
 
     ghost Value = { SourceState };
 
-    ghost view = { λ s. record { rest = s.rest.now; piece = s.piece; calls_left = s.calls_left; has_failed = s.has_failed } };
+    ghost view = { λ s. record {
+      rest = s.rest.now;
+      piece = s.piece;
+      calls_left = s.calls_left;
+      has_failed =
+          s.has_failed;
+    } };
 
     ghost invariant = { λ s. 0 < s.piece };
 }
@@ -36,7 +43,13 @@ impl<'a> SliceSource<'a> {
     /// Requires: `0 < piece`.
     pub fn new(bytes: &'a [u8], piece: usize, fail_at: Option<u32>) -> Self
         requires { 0 < piece }
-        ensures { result ≡ record { rest = bytes.now; piece = piece; calls_left = unwrap_or fail_at 0; has_failed = false } }
+        ensures { result ≡ record {
+          rest = bytes.now;
+          piece = piece;
+          calls_left = unwrap_or fail_at 0;
+          has_failed =
+              false;
+        } }
     {
         SliceSource {
             rest: bytes,
@@ -53,8 +66,10 @@ impl<'a> Source for SliceSource<'a> {
     fn read(&mut self, room: &mut [u8]) -> Result<usize, Failed>
         ensures reads { ReadsPiece (input_of self.old) (input_of self.new) room.new result }
         ensures planned { IsErr result ↔ FailsNext self.old.calls_left self.old.has_failed }
-        ensures pieces { IfOk result (λ count. count ≡ min (min self.old.piece (length room.old)) (length self.old.rest)) }
-        ensures counted { OnOk result ((self.new.calls_left ≡ self.old.calls_left - 1) × (self.new.piece ≡ self.old.piece)) }
+        ensures pieces { IfOk result (λ count. count ≡ min (min self.old.piece (length room.old))
+            (length self.old.rest)) }
+        ensures counted { OnOk result ((self.new.calls_left ≡ self.old.calls_left - 1)
+            × (self.new.piece ≡ self.old.piece)) }
     {
         if self.has_failed || self.calls_left == 1 {
             self.has_failed = true;
@@ -106,7 +121,14 @@ impl<'a> SliceSink<'a> {
     /// Requires: `0 < piece`.
     pub fn new(room: &'a mut [u8], piece: usize, fail_at: Option<u32>) -> Self
         requires { 0 < piece }
-        ensures { result ≡ record { taken = []; room = length room.old; piece = piece; calls_left = unwrap_or fail_at 0; has_failed = false } }
+        ensures { result ≡ record {
+          taken = [];
+          room = length room.old;
+          piece = piece;
+          calls_left = unwrap_or
+              fail_at 0;
+          has_failed = false;
+        } }
     {
         SliceSink {
             room,

@@ -22,14 +22,16 @@ pub struct FromReader<R> {
 impl<R: Read> FromReader<R> {
     /// Creates a source over this reader, with a limit of 2^30 bytes.
     pub fn new(reader: R) -> Self
-        ensures { ⟦<FromReader<R> as Source>⟧.state result ≡ record { unread = R.remaining reader; most_unread = 2 ^ 30; has_failed = false } }
+        ensures { ⟦<FromReader<R> as Source>⟧.state result ≡ record
+            { unread = R.remaining reader; most_unread = 2 ^ 30; has_failed = false } }
     {
         FromReader::with_limit(reader, MOST_BYTES)
     }
 
     /// Creates a source over this reader, with a limit of `limit` bytes.
     pub fn with_limit(reader: R, limit: usize) -> Self
-        ensures { ⟦<FromReader<R> as Source>⟧.state result ≡ record { unread = R.remaining reader; most_unread = limit; has_failed = false } }
+        ensures { ⟦<FromReader<R> as Source>⟧.state result ≡ record
+            { unread = R.remaining reader; most_unread = limit; has_failed = false } }
     {
         FromReader {
             reader,
@@ -74,7 +76,8 @@ pub struct FromWriter<W> {
 impl<W: Write> FromWriter<W> {
     /// Creates a sink over this writer.
     pub fn new(writer: W) -> Self
-        ensures { ⟦<FromWriter<W> as Sink>⟧.state result ≡ record { taken = W.contents writer; is_flushed = true; has_failed = false } }
+        ensures { ⟦<FromWriter<W> as Sink>⟧.state result ≡ record
+            { taken = W.contents writer; is_flushed = true; has_failed = false } }
     {
         FromWriter {
             writer,

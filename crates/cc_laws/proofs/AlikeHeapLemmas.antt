@@ -1,5 +1,6 @@
 -- An event has one outcome from a heap, whatever the order of its live objects.
-use Rattle.std.proofs.Common.{◌≡◌, ℕ, Bool, true, false, ◌+◌, ◌-◌, ◌≤◌, map, length, List, [], ◌∷◌, ◌++◌, nat_eq, Option, Some, None, IsSome, refl, sym, ◌∙◌, ap, subst, inl, inr, arith, sum_by, if◌then◌else◌, cond}
+use Rattle.std.proofs.Common.{◌≡◌, ℕ, Bool, true, false, ◌+◌, ◌-◌, ◌≤◌, map, length, List, [], ◌∷◌, ◌++◌, nat_eq, Option, Some, None, IsSome, refl, sym, ◌∙◌, ap, subst, inl, inr, arith, sum_by}
+use Rattle.std.proofs.Common.{if◌then◌else◌, cond}
 use Rattle.std.specs.Prelude.{IsNone, MatchOption, option_and_then}
 use Rattle.std.proofs.lemmas.List.Sums.{sum_by-cons, sum_by-append}
 use Rattle.std.proofs.lemmas.List.Sorted.{IsPermutation-refl, length_permutation, sum_by-IsPermutation}
@@ -16,7 +17,8 @@ use Rattle.cc_heap.specs.declared.object.Object.{Object}
 use Rattle.cc_heap.specs.declared.outcome.Outcome.{Outcome}
 use Rattle.cc_heap.specs.declared.totals.Totals.{Totals}
 use Rattle.cc_heap.specs.declared.usage.Usage.{Usage}
-use Rattle.cc_heap.specs.Events.{Allocates, AllocatesUnknown, AttemptsToReplace, ClearsOther, FollowsPolicy, FollowsReplacing, Frees, FreesIfLive, FreesOrNot, HasNoRoom, IsEvent, KeepsPlace, Moves, Reallocates, Remakes, Replaces, ReplacesLive, Tries, TriesToReplace, outcome_of, size_of, swept_if_asked}
+use Rattle.cc_heap.specs.Events.{Allocates, AllocatesUnknown, AttemptsToReplace, ClearsOther, FollowsPolicy, FollowsReplacing, Frees, FreesIfLive, FreesOrNot, HasNoRoom, IsEvent, KeepsPlace}
+use Rattle.cc_heap.specs.Events.{Moves, Reallocates, Remakes, Replaces, ReplacesLive, Tries, TriesToReplace, outcome_of, size_of, swept_if_asked}
 use Rattle.cc_heap.specs.Heap.{Attempts, FreesObject, Heap, KeepsObject, MakesObject, MustSweep, kept_object, object_under, quarantined_with, resized, swept}
 use Rattle.cc_heap.specs.Memory.{held_spans, object_at, span_of, start_unit, usage_of}
 use Rattle.cc_heap.specs.Policy.{AsksForSweep, is_of_the_trace}

@@ -1,6 +1,7 @@
 -- Entries in whatever order. Two lists have the same entries exactly if every weight adds up to the same
 -- over both.
-use Rattle.std.proofs.Common.{ℕ, zero, suc, ◌≡◌, ◌+◌, ◌≤◌, ◌&&◌, Bool, true, false, cond, nat_eq, List, [], ◌∷◌, Option, Some, None, Contains, count_by, sum_by, remove, arith, refl, ap, ◌∙◌, sym, IsPermutation}
+use Rattle.std.proofs.Common.{ℕ, zero, suc, ◌≡◌, ◌+◌, ◌≤◌, ◌&&◌, Bool, true, false, cond, nat_eq, List, [], ◌∷◌, Option, Some, None, Contains, count_by, sum_by, remove, arith, refl, ap, ◌∙◌, sym}
+use Rattle.std.proofs.Common.{IsPermutation}
 use Rattle.std.specs.Map.{lookup, remove_entry}
 use Rattle.std.proofs.lemmas.List.Sums.{sum_by-cons}
 use Rattle.std.proofs.lemmas.List.Sorted.{IsPermutation-cons, IsPermutation-refl, IsPermutation-remove, IsPermutation-sym, IsPermutation-trans, sum_by-IsPermutation}

@@ -1,5 +1,6 @@
 -- From a heap in which each id has one object at most, every event has an outcome.
-use Rattle.std.proofs.Common.{◌≡◌, ◌⊎◌, ℕ, Bool, true, false, ◌*◌, ◌<◌, ◌≤◌, length, List, ◌∷◌, nat_eq, Option, Some, None, IsSome, refl, sym, ◌∙◌, ap, subst, inl, inr, arith, sum_by, if◌then◌else◌, cond, IsPermutation}
+use Rattle.std.proofs.Common.{◌≡◌, ◌⊎◌, ℕ, Bool, true, false, ◌*◌, ◌<◌, ◌≤◌, length, List, ◌∷◌, nat_eq, Option, Some, None, IsSome, refl, sym, ◌∙◌, ap, subst, inl, inr, arith, sum_by}
+use Rattle.std.proofs.Common.{if◌then◌else◌, cond, IsPermutation}
 use Rattle.std.specs.Map.{lookup, remove_entry}
 use Rattle.std.specs.Prelude.{IsNone, MatchOption, option_and_then}
 use Rattle.std.proofs.Math.Decide.{ℕ_discrete, dec_lt, dec_le}
@@ -15,7 +16,8 @@ use Rattle.cc_heap.specs.declared.object.Object.{Object}
 use Rattle.cc_heap.specs.declared.outcome.Outcome.{Outcome}
 use Rattle.cc_heap.specs.declared.policy.Policy.{Policy}
 use Rattle.cc_heap.specs.declared.policy.Policy.TheVariants.{Immediate, Never, Percent, Bytes, Frees as AfterFrees, Trace}
-use Rattle.cc_heap.specs.Events.{Allocates, AllocatesUnknown, AttemptsToReplace, ClearsOther, FollowsPolicy, FollowsReplacing, Frees, FreesIfLive, HasNoRoom, IsEvent, KeepsPlace, Moves, Reallocates, Remakes, Replaces, ReplacesLive, Tries, TriesToReplace, outcome_of, size_of, swept_if_asked}
+use Rattle.cc_heap.specs.Events.{Allocates, AllocatesUnknown, AttemptsToReplace, ClearsOther, FollowsPolicy, FollowsReplacing, Frees, FreesIfLive, HasNoRoom, IsEvent, KeepsPlace, Moves}
+use Rattle.cc_heap.specs.Events.{Reallocates, Remakes, Replaces, ReplacesLive, Tries, TriesToReplace, outcome_of, size_of, swept_if_asked}
 use Rattle.cc_heap.specs.Heap.{Attempts, FreesObject, Heap, KeepsObject, MakesObject, gauge_of, is_made, kept_object, object_under, resized, swept}
 use Rattle.cc_heap.specs.Memory.{held_spans, object_at, start_unit, usage_of}
 use Rattle.cc_heap.specs.Policy.{AsksForSweep, Gauge, share_of}

@@ -17,7 +17,8 @@ use Rattle.cc_heap.specs.Totals.{inexact_of, with_made, with_sweep, with_usage}
 use Rattle.cc_heap.specs.Memory.{object_at, usage_of}
 use Rattle.cc_heap.specs.Policy.{is_of_the_trace}
 use Rattle.cc_heap.specs.Heap.{Attempts, FreesObject, Heap, KeepsObject, MakesObject, empty_heap, kept_object, swept}
-use Rattle.cc_heap.specs.Events.{Allocates, AttemptsToReplace, ClearsOther, FollowsPolicy, FollowsReplacing, Frees, FreesIfLive, IsEvent, KeepsPlace, Reallocates, Remakes, Replaces, ReplacesLive, Tries, TriesToReplace}
+use Rattle.cc_heap.specs.Events.{Allocates, AttemptsToReplace, ClearsOther, FollowsPolicy, FollowsReplacing, Frees, FreesIfLive, IsEvent, KeepsPlace, Reallocates, Remakes, Replaces, ReplacesLive}
+use Rattle.cc_heap.specs.Events.{Tries, TriesToReplace}
 use Rattle.cc_heap.specs.Run.{ArePassedBy, HasTotals, IsFreeing, IsKeeping, IsMaking, IsSweeping, Moment, Passes, Runs, greatest, of_made, of_swept, totals_after, usage_in}
 
 -- ---- the changes that an event is

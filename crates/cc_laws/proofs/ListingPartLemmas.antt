@@ -1,5 +1,6 @@
 -- The listing of an input and of more input after it, if the first has no trailing bytes.
-use Rattle.std.proofs.Common.{◌≡◌, ℕ, zero, suc, ◌+◌, ◌*◌, ◌%◌, ◌<◌, Bool, true, false, List, [], ◌∷◌, ◌++◌, length, refl, sym, ◌∙◌, ap, subst, append_assoc, append-nil, arith, inl, inr, not, ◌||◌, ◌==◌, Option, if◌then◌else◌}
+use Rattle.std.proofs.Common.{◌≡◌, ℕ, zero, suc, ◌+◌, ◌*◌, ◌%◌, ◌<◌, Bool, true, false, List, [], ◌∷◌, ◌++◌, length, refl, sym, ◌∙◌, ap, subst, append_assoc, append-nil, arith, inl, inr, not}
+use Rattle.std.proofs.Common.{◌||◌, ◌==◌, Option, if◌then◌else◌}
 use Rattle.std.proofs.lemmas.Bool.{cases_lt, eqb-true, eqb-false}
 use Rattle.std.proofs.lemmas.List.{length-append, nil_from_length}
 use Rattle.std.specs.Prelude.{◌↔◌}
@@ -144,7 +145,8 @@ module _ (options : Options) (text more : List ℕ) (ends : left_of options.inpu
       ap (λ (rest : List ℕ). list_any (λ (a : Answer). a.is_error) (first ++ second) || not (length rest == 0)) last
       ∙ ap (λ (b : Bool). b || not (length (left_of options.input more) == 0)) (list_any-append (λ (a : Answer). a.is_error) first second)
       ∙ grouped (list_any (λ (a : Answer). a.is_error) first) (list_any (λ (a : Answer). a.is_error) second) (not (length (left_of options.input more) == 0))
-      ∙ ap (λ (rest : List ℕ). (list_any (λ (a : Answer). a.is_error) first || not (length rest == 0)) || (list_any (λ (a : Answer). a.is_error) second || not (length (left_of options.input more) == 0))) (sym ends)
+      ∙ ap (λ (rest : List ℕ). (list_any (λ (a : Answer). a.is_error) first || not (length rest == 0)) ||
+      (list_any (λ (a : Answer). a.is_error) second || not (length (left_of options.input more) == 0))) (sym ends)
     where
       grouped : (a b c : Bool) → ((a || b) || c) ≡ ((a || false) || (b || c))
       grouped true b c = refl

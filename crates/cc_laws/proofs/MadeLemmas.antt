@@ -1,5 +1,6 @@
 -- The objects that an event makes, and the rows of their sizes over all states.
-use Rattle.std.proofs.Common.{ℕ, zero, suc, min, max, Bool, true, false, ◌≡◌, ◌⊎◌, ◌+◌, ◌-◌, ◌*◌, ◌<◌, ◌≤◌, ◌^◌, nat_eq, if◌then◌else◌, List, [], ◌∷◌, ◌++◌, Option, Some, None, get_or, length, replicate, sum_by, arith, refl, subst, ◌∙◌, sym, ap, inl, inr}
+use Rattle.std.proofs.Common.{ℕ, zero, suc, min, max, Bool, true, false, ◌≡◌, ◌⊎◌, ◌+◌, ◌-◌, ◌*◌, ◌<◌, ◌≤◌, ◌^◌, nat_eq, if◌then◌else◌, List, [], ◌∷◌, ◌++◌, Option, Some, None, get_or, length}
+use Rattle.std.proofs.Common.{replicate, sum_by, arith, refl, subst, ◌∙◌, sym, ap, inl, inr}
 use Rattle.std.specs.Option.{MatchOption}
 use Rattle.std.proofs.lemmas.List.{get_or-replicate, length-replicate}
 use Rattle.std.proofs.lemmas.List.Sums.{sum_by-append, sum_by-cons}
@@ -18,7 +19,8 @@ use Rattle.cc_heap.specs.Totals.{inexact_of}
 use Rattle.cc_heap.specs.Memory.{object_at, usage_of}
 use Rattle.cc_heap.specs.Policy.{is_of_the_trace}
 use Rattle.cc_heap.specs.Heap.{Attempts, FreesObject, Heap, KeepsObject, MakesObject, empty_heap, kept_object, swept}
-use Rattle.cc_heap.specs.Events.{Allocates, AttemptsToReplace, ClearsOther, FollowsPolicy, FollowsReplacing, Frees, FreesIfLive, IsEvent, KeepsPlace, Reallocates, Remakes, Replaces, ReplacesLive, Tries, TriesToReplace}
+use Rattle.cc_heap.specs.Events.{Allocates, AttemptsToReplace, ClearsOther, FollowsPolicy, FollowsReplacing, Frees, FreesIfLive, IsEvent, KeepsPlace, Reallocates, Remakes, Replaces, ReplacesLive}
+use Rattle.cc_heap.specs.Events.{Tries, TriesToReplace}
 use Rattle.cc_heap.specs.Run.{ArePassedBy, Moment, Passes}
 use Rattle.cc_heap.specs.Sizes.{is_of_power, made_size, no_objects, no_sizes, of_size, sizes_after, with_made_size, with_object, with_size}
 use Rattle.cc_heap.specs.Lost.{HasSizes, IsRunEvent, RunState, RunsNoting, empty_run}

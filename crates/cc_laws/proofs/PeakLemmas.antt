@@ -71,10 +71,14 @@ quarantine_peak = record {
 
 held_peak : IsPeak (λ (u : Usage). u.live + u.quarantine) (λ (t : Totals). t.peak_held)
 held_peak = record {
-  makes = λ old moment next is. ap (λ (h : Heap). h.totals.peak_held) is.makes.is_new ∙ ap (λ (h : Heap). max old.totals.peak_held ((usage_of h.memory).live + (usage_of h.memory).quarantine)) (sym is.makes.is_new);
-  frees = λ old moment next is. ap (λ (h : Heap). h.totals.peak_held) is.frees.is_new ∙ ap (λ (h : Heap). max old.totals.peak_held ((usage_of h.memory).live + (usage_of h.memory).quarantine)) (sym is.frees.is_new);
-  sweeps = λ old moment next is. ap (λ (h : Heap). h.totals.peak_held) is.sweeps ∙ ap (λ (h : Heap). max old.totals.peak_held ((usage_of h.memory).live + (usage_of h.memory).quarantine)) (sym is.sweeps);
-  keeps = λ old moment next is. ap (λ (h : Heap). h.totals.peak_held) is.keeps.is_new ∙ ap (λ (h : Heap). max old.totals.peak_held ((usage_of h.memory).live + (usage_of h.memory).quarantine)) (sym is.keeps.is_new);
+  makes = λ old moment next is. ap (λ (h : Heap). h.totals.peak_held) is.makes.is_new ∙ ap (λ (h : Heap). max old.totals.peak_held ((usage_of h.memory).live + (usage_of h.memory).quarantine))
+      (sym is.makes.is_new);
+  frees = λ old moment next is. ap (λ (h : Heap). h.totals.peak_held) is.frees.is_new ∙ ap (λ (h : Heap). max old.totals.peak_held ((usage_of h.memory).live + (usage_of h.memory).quarantine))
+      (sym is.frees.is_new);
+  sweeps = λ old moment next is. ap (λ (h : Heap). h.totals.peak_held) is.sweeps ∙ ap (λ (h : Heap). max old.totals.peak_held ((usage_of h.memory).live + (usage_of h.memory).quarantine))
+      (sym is.sweeps);
+  keeps = λ old moment next is. ap (λ (h : Heap). h.totals.peak_held) is.keeps.is_new ∙ ap (λ (h : Heap). max old.totals.peak_held ((usage_of h.memory).live + (usage_of h.memory).quarantine))
+      (sym is.keeps.is_new);
 }
 
 from_none : (n : ℕ) → max 0 n ≡ n

@@ -9,7 +9,8 @@ use Rattle.cc_heap.specs.declared.object.Object.{Object}
 use Rattle.cc_heap.specs.declared.outcome.Outcome.{Outcome}
 use Rattle.cc_heap.specs.declared.totals.Totals.{Totals}
 use Rattle.cc_placer.specs.Align.{padded_size_for}
-use Rattle.cc_heap.specs.Events.{Allocates, AttemptsToReplace, ClearsOther, FollowsPolicy, FollowsReplacing, Frees, FreesIfLive, IsEvent, KeepsPlace, Reallocates, Remakes, Replaces, ReplacesLive, Tries, TriesToReplace}
+use Rattle.cc_heap.specs.Events.{Allocates, AttemptsToReplace, ClearsOther, FollowsPolicy, FollowsReplacing, Frees, FreesIfLive, IsEvent, KeepsPlace, Reallocates, Remakes, Replaces, ReplacesLive}
+use Rattle.cc_heap.specs.Events.{Tries, TriesToReplace}
 use Rattle.cc_heap.specs.Heap.{Attempts, FreesObject, Heap, KeepsObject, MakesObject, MustSweep, kept_object, quarantined_with, swept, swept_memory}
 use Rattle.cc_heap.specs.Memory.{object_at, usage_of}
 use Rattle.cc_heap.specs.Peaks.{totals_without_peaks}

@@ -1,5 +1,6 @@
 -- Each change of a heap, and its operations.
-use Rattle.std.proofs.Common.{ℕ, suc, nat_eq, Bool, true, false, if◌then◌else◌, cond, ◌≡◌, ◌+◌, ◌<◌, ◌≤◌, max, List, [], ◌∷◌, ◌++◌, Some, None, map, set, length, slice_get, sum_by, arith, refl, sym, ap, subst, ◌∙◌, IsPermutation, IsNone, Option}
+use Rattle.std.proofs.Common.{ℕ, suc, nat_eq, Bool, true, false, if◌then◌else◌, cond, ◌≡◌, ◌+◌, ◌<◌, ◌≤◌, max, List, [], ◌∷◌, ◌++◌, Some, None, map, set, length, slice_get, sum_by, arith, refl}
+use Rattle.std.proofs.Common.{sym, ap, subst, ◌∙◌, IsPermutation, IsNone, Option}
 use Rattle.std.specs.List.{AllByRecursion}
 use Rattle.std.specs.Map.{lookup, remove_entry}
 use Rattle.std.proofs.lemmas.List.{set-append_left}

@@ -1,7 +1,8 @@
 -- From a state that a run leads to every operation has an outcome, and so has every list of operations.
 use Rattle.std.specs.List.{AllByRecursion}
 use Rattle.std.specs.Int.{div_ceil}
-use Rattle.std.proofs.Common.{ℕ, slice_set, ◌≡◌, ◌⊎◌, ◌+◌, ◌-◌, ◌*◌, ◌^◌, ◌<◌, ◌∙◌, List, [], ◌∷◌, Option, Some, None, IsSome, IsNone, Result, Ok, Err, MatchResult, length, map, refl, sym, ap, subst, inl, inr, arith}
+use Rattle.std.proofs.Common.{ℕ, slice_set, ◌≡◌, ◌⊎◌, ◌+◌, ◌-◌, ◌*◌, ◌^◌, ◌<◌, ◌∙◌, List, [], ◌∷◌, Option, Some, None, IsSome, IsNone, Result, Ok, Err, MatchResult, length, map, refl, sym, ap}
+use Rattle.std.proofs.Common.{subst, inl, inr, arith}
 use Rattle.std.proofs.Math.Decide.{ℕ_discrete, dec_lt}
 use Rattle.cc_word.specs.Refusal.{RefusedUnless}
 use Rattle.cc_word.specs.declared.refusal.Refusal.{Refusal}
@@ -13,7 +14,8 @@ use Rattle.cc_word.specs.Permissions.{bits_of}
 use Rattle.cc_word.specs.ObjType.{unsealed_type}
 use Rattle.cc_cap.specs.Capability.{Capability, IsCapability, IsUnsealed}
 use Rattle.cc_cap.specs.Derivation.{SetsAddress, Increments, SetsBounds, SetsExactBounds, MasksPermissions, SetsFlag, Seals, Unseals, Rebuilds}
-use Rattle.cc_laws.proofs.ResultLemmas.{HasResult, has_word, SetsAddress-result, Increments-result, SetsBounds-result, SetsExactBounds-result, MasksPermissions-result, SetsFlag-result, Seals-result, Unseals-result, Rebuilds-result}
+use Rattle.cc_laws.proofs.ResultLemmas.{HasResult, has_word, SetsAddress-result, Increments-result, SetsBounds-result, SetsExactBounds-result, MasksPermissions-result, SetsFlag-result}
+use Rattle.cc_laws.proofs.ResultLemmas.{Seals-result, Unseals-result, Rebuilds-result}
 use Rattle.cc_bounds.specs.declared.align.Align.{Align}
 use Rattle.cc_plan.specs.declared.planned_object.ObjectState.{ObjectState}
 use Rattle.cc_plan.specs.declared.planned_object.ObjectState.TheVariants.{Live, Freed, Swept}

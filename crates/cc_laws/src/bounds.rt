@@ -7,10 +7,12 @@ ghost use Rattle.std.specs.Prelude.{ℕ, Bool, ◌≡◌, ◌+◌, ◌%◌, ◌/
 ghost use Rattle.cc_word.specs.declared.fields.Fields.{Fields as FieldsSpec};
 ghost use Rattle.cc_bounds.specs.declared.span.Span.{Span as SpanSpec};
 ghost use Rattle.cc_bounds.specs.Span.{IsSpan, IsWithin, length_of, span_from, from_zero};
-ghost use Rattle.cc_bounds.specs.Granule.{IsGranule, IsExponent, IsGranted, IsSound, granule_of, exponent_of, granted_span, padded_size};
+ghost use Rattle.cc_bounds.specs.Granule.{IsGranule, IsExponent, IsGranted, IsSound, granule_of, exponent_of};
+ghost use Rattle.cc_bounds.specs.Granule.{granted_span, padded_size};
 ghost use Rattle.cc_bounds.specs.Encoding.{HasBoundsFields, StoresSpan, ie_of, t_of, b_of};
 ghost use Rattle.cc_bounds.specs.Window.{IsRepresentable, Represents};
-ghost use Rattle.cc_bounds.specs.Decoding.{stored_exponent, IsTopMantissa, IsWindow, IsPlaced, IsTopBeside, DecodesTo, SharesBoundsFields, EveryBitCounts, ExactlyOne};
+ghost use Rattle.cc_bounds.specs.Decoding.{stored_exponent, IsTopMantissa, IsWindow, IsPlaced, IsTopBeside};
+ghost use Rattle.cc_bounds.specs.Decoding.{DecodesTo, SharesBoundsFields, EveryBitCounts, ExactlyOne};
 ghost use Rattle.cc_bounds.specs.Tightest.{IsDecoded};
 ghost use Rattle.cc_laws.specs.Margin.{IsNear};
 

@@ -1,10 +1,12 @@
 //! Laws of all capabilities, and of their words.
 ghost use Rattle.std.specs.Prelude.{ℕ, Bool, ◌≡◌, Ok};
 ghost use Rattle.cc_word.specs.Permissions.{HasAll, global_permission};
-ghost use Rattle.cc_cap.specs.Capability.{Capability, IsCapability, IsUnsealed, GrantsNoMore, unsealed_permissions, with_permissions};
+ghost use Rattle.cc_cap.specs.Capability.{Capability, IsCapability, IsUnsealed, GrantsNoMore, unsealed_permissions};
+ghost use Rattle.cc_cap.specs.Capability.{with_permissions};
 ghost use Rattle.cc_cap.specs.Canonical.{IsCanonical};
 ghost use Rattle.cc_cap.specs.Reach.{IsReachable};
-ghost use Rattle.cc_cap.specs.Derivation.{SetsAddress, Increments, SetsBounds, SetsExactBounds, MasksPermissions, SetsFlag, Seals, Unseals, Rebuilds};
+ghost use Rattle.cc_cap.specs.Derivation.{SetsAddress, Increments, SetsBounds, SetsExactBounds, MasksPermissions};
+ghost use Rattle.cc_cap.specs.Derivation.{SetsFlag, Seals, Unseals, Rebuilds};
 ghost use Rattle.cc_cap.specs.WordRules.{IsLikeCalls, AreLikeCalls, IsCanonicalSubset, IsMonotonicOn, IsMonotonicUnder};
 
 /// Proves that each capability grants no more than itself, and that granting no more is transitive.
@@ -14,7 +16,8 @@ ghost use Rattle.cc_cap.specs.WordRules.{IsLikeCalls, AreLikeCalls, IsCanonicalS
 /// that the derivation began with.
 pub fn granting_no_more_is_an_order()
     ensures itself { (cap : Capability) → GrantsNoMore cap cap }
-    ensures chain { (one two three : Capability) → GrantsNoMore one two → GrantsNoMore two three → GrantsNoMore one three }
+    ensures chain { (one two three : Capability) → GrantsNoMore one two → GrantsNoMore two three
+        → GrantsNoMore one three }
 {}
 
 /// Proves that every unsealed capability that grants no more than an unsealed one is reached from
@@ -67,8 +70,10 @@ pub fn rules_on_words_are_monotonic()
 /// Proves that a capability that is sealed and unsealed again is as before, except for GLOBAL. It keeps
 /// GLOBAL if the authority that unseals it has GLOBAL, and loses it otherwise.
 pub fn sealed_and_unsealed_again()
-    ensures permissions { (cap by authority sealed again : Capability) → Seals cap by (Ok sealed) → Unseals sealed authority (Ok again)
+    ensures permissions { (cap by authority sealed again : Capability) → Seals cap by (Ok sealed)
+        → Unseals sealed authority (Ok again)
         → again ≡ with_permissions cap (unsealed_permissions cap.permissions authority.permissions) }
-    ensures global { (cap by authority sealed again : Capability) → Seals cap by (Ok sealed) → Unseals sealed authority (Ok again)
+    ensures global { (cap by authority sealed again : Capability) → Seals cap by (Ok sealed)
+        → Unseals sealed authority (Ok again)
         → HasAll authority.permissions global_permission → again ≡ cap }
 {}

@@ -4,7 +4,8 @@
 ghost use Rattle.std.specs.Prelude.{◌≡◌, ◌*◌, ◌^◌, Ok};
 ghost use Rattle.cc_cap.specs.Capability.{IsCapability, IsUnsealed, root_capability, sealed_with, with_permissions};
 ghost use Rattle.cc_cap.specs.Derivation.{MasksPermissions, Rebuilds, Seals, Unseals};
-ghost use Rattle.cc_cap.specs.WordRules.{OnWord, IsCanonicalSubset, AreLikeCalls, IsLikeCalls, IsMonotonicOn, IsMonotonicUnder};
+ghost use Rattle.cc_cap.specs.WordRules.{OnWord, IsCanonicalSubset, AreLikeCalls, IsLikeCalls, IsMonotonicOn};
+ghost use Rattle.cc_cap.specs.WordRules.{IsMonotonicUnder};
 
 /// Proves that removing all permissions of the root's word returns null, and that the root's word
 /// is not a subset of null.

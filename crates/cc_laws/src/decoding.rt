@@ -13,7 +13,8 @@ ghost use Rattle.cc_decode.specs.declared.options.Options.{Options as OptionsSpe
 /// taken the same bytes after it, and both listings have an error, or neither.
 pub fn one_listing()
     ensures { (options : OptionsSpec) (text taken : List ℕ) (one other : Option (List ℕ)) (any_error other_error : Bool)
-        → WritesListing options text (Some taken) one any_error → WritesListing options text (Some taken) other other_error
+        → WritesListing options text (Some taken) one any_error
+        → WritesListing options text (Some taken) other other_error
         → (one ≡ other) × (any_error ≡ other_error) }
 {}
 
@@ -27,9 +28,12 @@ pub fn one_listing()
 pub fn listing_in_parts()
     ensures rows { (options : OptionsSpec) (text : List ℕ) (taken taken_now : Option (List ℕ)) (any_error : Bool)
         → (WritesListing options text taken taken_now any_error
-        ↔ ((rows : List ℕ) × AreListingRows options text rows any_error × Appends taken taken_now (header_of options ++ rows))) }
-    ensures parts { (options : OptionsSpec) (text more rows : List ℕ) (any_error : Bool) → left_of options.input text ≡ []
+        ↔ ((rows : List ℕ) × AreListingRows options text rows any_error
+        × Appends taken taken_now (header_of options ++ rows))) }
+    ensures parts { (options : OptionsSpec) (text more rows : List ℕ) (any_error : Bool)
+        → left_of options.input text ≡ []
         → (AreListingRows options (text ++ more) rows any_error ↔ RowsInParts options text more rows any_error) }
     ensures line_feed { (text : List ℕ) → left_of form.Lines (text ++ 10 ∷ []) ≡ [] }
-    ensures blocks { (order : ByteOrderSpec) (text : List ℕ) → length text % 16 ≡ 0 → left_of (form.Bytes order) text ≡ [] }
+    ensures blocks { (order : ByteOrderSpec) (text : List ℕ) → length text % 16 ≡ 0
+        → left_of (form.Bytes order) text ≡ [] }
 {}

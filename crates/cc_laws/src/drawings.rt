@@ -17,7 +17,8 @@ ghost use Rattle.cc_laws.specs.DrawnObjects.{ArePlaced, CountsFreeBytes, IsDrawn
 ///
 /// The holes are as long as possible: between each and the next lies at least one held byte.
 pub fn holes_are_the_free_bytes()
-    ensures { (slots : ℕ) (plan : Plan) (usage : Usage) → ArePlaced (pool_span plan) plan.objects → IsUsage slots plan usage
+    ensures { (slots : ℕ) (plan : Plan) (usage : Usage) → ArePlaced (pool_span plan) plan.objects
+        → IsUsage slots plan usage
         → CountsFreeBytes (pool_span plan) (plan_spans plan.objects) usage }
 {}
 

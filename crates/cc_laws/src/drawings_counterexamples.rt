@@ -53,5 +53,6 @@ fn a_plan_with_its_usage()
 fn a_listing_of_a_line()
     ensures { (format : Format) (at : Option ℕ) (search : Option Search) → WritesListing
         (record { input = Lines; format = format; at = at; search = search }) (120 ∷ 10 ∷ []) (Some [])
-        (Some (header_of (record { input = Lines; format = format; at = at; search = search }) ++ (refused_text search ++ []) ++ [])) true }
+        (Some (header_of (record { input = Lines; format = format; at = at; search = search }) ++
+        (refused_text search ++ []) ++ [])) true }
 {}

@@ -25,7 +25,8 @@ pub fn one_cut()
 ///
 /// The second part starts from the state that the first part leads to.
 pub fn parts<F: Framing, A: Answerer<N>, const N: usize>(framing: &F)
-    ensures { (old : A) (first second output : List ℕ) (any_error : Bool) (new : A) → (F.frame framing.now).left [] first ≡ []
+    ensures { (old : A) (first second output : List ℕ) (any_error : Bool) (new : A)
+        → (F.frame framing.now).left [] first ≡ []
         → Output A.Answered A.Ended (F.frame framing.now) old (first ++ second) output any_error new
         → InParts A.Answered A.Ended (F.frame framing.now) old first second output any_error new }
 {
@@ -36,14 +37,17 @@ pub fn parts<F: Framing, A: Answerer<N>, const N: usize>(framing: &F)
 ///
 /// The answerer has then taken the entry of this reply, and none after it.
 pub fn one_on_page<A: Answerer<N>, const N: usize>()
-    ensures { IsSome A.Answered → (room : ℕ) (old new : A) (pending : List ℕ) (entries : List (List ℕ)) (taken taken_now : Option (List ℕ))
-        → StopsOnPage A.Answered room room old pending entries taken taken_now new → StopsInAnswer A.Answered old pending entries taken taken_now new }
+    ensures { IsSome A.Answered → (room : ℕ) (old new : A) (pending : List ℕ) (entries : List (List ℕ))
+        (taken taken_now : Option (List ℕ))
+        → StopsOnPage A.Answered room room old pending entries taken taken_now new
+        → StopsInAnswer A.Answered old pending entries taken taken_now new }
 {}
 
 /// Proves that the bytes written before the sink failed on a page are a prefix of the whole output,
 /// if no entry may get two replies.
 pub fn stops_begins<F: Framing, A: Answerer<N>, const N: usize>(framing: &F)
-    ensures { IsOne A.Answered → (room most : ℕ) (old new : A) (pending given rest : List ℕ) (taken taken_now : Option (List ℕ))
+    ensures { IsOne A.Answered → (room most : ℕ) (old new : A) (pending given rest : List ℕ)
+        (taken taken_now : Option (List ℕ))
         → StopsOnPage A.Answered room most old pending (entries_of (F.frame framing.now) given) taken taken_now new
         → BeginsOutput A.Answered A.Ended (F.frame framing.now) old pending (given ++ rest) taken taken_now }
 {

@@ -17,5 +17,6 @@ fn replies_that_are_none_or_two()
 fn outputs_of_other_texts()
     ensures parts { ¬ InParts IsCounted IsCounted lines 0 [] [] (33 ∷ []) false 0 }
     ensures begins { ¬ BeginsOutput IsCounted IsCounted lines 0 [] [] (Some []) (Some (33 ∷ [])) }
-    ensures stops { (taken taken_now : Option (List ℕ)) (new : ℕ) → ¬ StopsInAnswer IsCounted 0 [] [] taken taken_now new }
+    ensures stops { (taken taken_now : Option (List ℕ)) (new : ℕ)
+        → ¬ StopsInAnswer IsCounted 0 [] [] taken taken_now new }
 {}

@@ -17,5 +17,6 @@ fn a_text_in_parts()
 fn a_sink_that_fails_on_a_page()
     ensures some { IsSome IsCounted }
     ensures one { IsOne IsCounted }
-    ensures stops { StopsOnPage IsCounted 1 1 0 [] (entries_of lines (97 ∷ 10 ∷ 98 ∷ 10 ∷ [])) (Some []) (Some (33 ∷ [])) 2 }
+    ensures stops { StopsOnPage IsCounted 1 1 0 [] (entries_of lines (97 ∷ 10 ∷ 98 ∷ 10 ∷ [])) (Some [])
+        (Some (33 ∷ [])) 2 }
 {}

@@ -63,14 +63,18 @@ pub fn every_trace_has_a_summary()
 /// A run that notes lost ids has the same outcome for each event too, the same lost ids, and the same
 /// numbers of objects by their sizes.
 pub fn one_summary()
-    ensures outcome { (settings : Settings) (events : List Event) (old other new another : Heap) (event : Event) (outcome told : Outcome)
+    ensures outcome { (settings : Settings) (events : List Event) (old other new another : Heap) (event : Event)
+        (outcome told : Outcome)
         → Runs (empty_heap settings) events old → Runs (empty_heap settings) events other
         → IsEvent old event outcome new → IsEvent other event told another → (told ≡ outcome) × AreAlike new another }
     ensures heap { (settings : Settings) (events : List Event) (one other : Heap)
         → Runs (empty_heap settings) events one → Runs (empty_heap settings) events other → AreAlike one other }
-    ensures noting { (settings : Settings) (events : List Event) (old other new another : RunState) (event : Event) (outcome told : Outcome)
+    ensures noting { (settings : Settings) (events : List Event) (old other new another : RunState) (event : Event)
+        (outcome told : Outcome)
         → RunsNoting (empty_run settings) events old → RunsNoting (empty_run settings) events other
-        → IsRunEvent old event outcome new → IsRunEvent other event told another → (told ≡ outcome) × AreAlikeRuns new another }
+        → IsRunEvent old event outcome new → IsRunEvent other event told another → (told ≡ outcome)
+        × AreAlikeRuns new another }
     ensures run { (settings : Settings) (events : List Event) (one other : RunState)
-        → RunsNoting (empty_run settings) events one → RunsNoting (empty_run settings) events other → AreAlikeRuns one other }
+        → RunsNoting (empty_run settings) events one → RunsNoting (empty_run settings) events other
+        → AreAlikeRuns one other }
 {}

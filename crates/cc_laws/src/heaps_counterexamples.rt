@@ -26,10 +26,12 @@ fn numbers_of_other_states()
 
 /// A sweep, and an id that was live, which the event does not report, and an id that no event lost.
 fn outcomes_of_another_event()
-    ensures heap { (settings : Settings) (time : ℕ) (outcome : Outcome) → ¬ IgnoresPeaks (empty_heap settings) (Clock time) outcome
+    ensures heap { (settings : Settings) (time : ℕ) (outcome : Outcome)
+        → ¬ IgnoresPeaks (empty_heap settings) (Clock time) outcome
         (record (empty_heap settings) { totals = record no_totals { sweeps = 1 } }) }
     ensures outcome { (old new : Heap) (time : ℕ) → ¬ IgnoresPeaks old (Clock time) (outcome_of true false None) new }
-    ensures run { (settings : Settings) → ¬ RunsNoting (empty_run settings) [] (record (empty_run settings) { lost = 1 ∷ [] }) }
+    ensures run { (settings : Settings) → ¬ RunsNoting (empty_run settings) []
+        (record (empty_run settings) { lost = 1 ∷ [] }) }
 {}
 
 /// Two live objects in either order, a live object too many, a sweep too many, and an id that is lost
@@ -41,5 +43,6 @@ fn heaps_that_are_not_alike()
     ensures live { (settings : Settings) (one : Object) → ¬ AreAlike (empty_heap settings)
         (record (empty_heap settings) { memory = record { live = (1, one) ∷ []; quarantined = [] } }) }
     ensures totals { (settings : Settings) → ¬ AreAlike (empty_heap settings) (swept (empty_heap settings)) }
-    ensures lost { (settings : Settings) → ¬ AreAlikeRuns (empty_run settings) (record (empty_run settings) { lost = 1 ∷ [] }) }
+    ensures lost { (settings : Settings) → ¬ AreAlikeRuns (empty_run settings)
+        (record (empty_run settings) { lost = 1 ∷ [] }) }
 {}

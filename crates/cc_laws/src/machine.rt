@@ -60,7 +60,8 @@ pub fn every_run_has_an_outcome()
 /// Proves that every run from a state that a run leads to ends in such a state. So the laws below,
 /// which hold for every such state, hold after it too.
 pub fn runs_join()
-    ensures { (old new : State) (ops : List Op) (replies : List Reply) → IsReached old → Run old ops replies new → IsReached new }
+    ensures { (old new : State) (ops : List Op) (replies : List Reply) → IsReached old → Run old ops replies new
+        → IsReached new }
 {}
 
 /// Proves that, in every state that a run leads to, every slot, tagged or revoked, holds a

@@ -14,7 +14,8 @@ ghost use Rattle.cc_plan.specs.declared.planned_object.ObjectState.TheVariants.{
 ghost use Rattle.cc_machine.specs.Objects.{IsPool, held_bytes_of};
 ghost use Rattle.cc_machine.specs.ObjectConfinement.{ReusesAfterRevocation, IsConfinedToObject};
 ghost use Rattle.cc_laws.specs.Counterexamples.{reused_before_revocation, objects_past_the_pool, object_in};
-ghost use Rattle.cc_laws.specs.Counterexamples.{two_objects, child_of_the_pool, child_in_another_object, child_tagged_after_sweep};
+ghost use Rattle.cc_laws.specs.Counterexamples.{two_objects, child_of_the_pool, child_in_another_object};
+ghost use Rattle.cc_laws.specs.Counterexamples.{child_tagged_after_sweep};
 ghost use Rattle.cc_machine.specs.Reach.{path_to, ReachesAll};
 ghost use Rattle.cc_laws.specs.Counterexamples.{unsound_bounds, address_past_the_end, reserved_type, own_parent};
 ghost use Rattle.cc_laws.specs.Counterexamples.{child_with_more_bytes, revoked_child_with_more_permissions};
@@ -26,7 +27,8 @@ ghost use Rattle.cc_laws.specs.Counterexamples.{revoked_while_live, revoked_pool
 ghost use Rattle.cc_laws.specs.Staying.{KeepsSlots};
 ghost use Rattle.cc_laws.specs.ByteConfinement.{IsConfinedInBytes};
 ghost use Rattle.cc_laws.specs.Counterexamples.{with_another_limit, pool_alone, live_after_sweep, grown_object};
-ghost use Rattle.cc_laws.specs.Counterexamples.{child_with_more_permissions, sixteen_bytes, revoked_alone, child_of_revoked};
+ghost use Rattle.cc_laws.specs.Counterexamples.{child_with_more_permissions, sixteen_bytes, revoked_alone};
+ghost use Rattle.cc_laws.specs.Counterexamples.{child_of_revoked};
 ghost use Rattle.cc_laws.specs.Counterexamples.{is_first, two_slots, child_of_another, sealed_alone, child_unsealed};
 ghost use Rattle.cc_laws.specs.Counterexamples.{unsealed_alone, child_sealed, root_alone, five_refusals};
 

@@ -37,7 +37,8 @@ pub fn machines_place_like_heaps()
     ensures { (limit base size : ℕ) (settings : Settings) (changes : List Change) (heap : Heap)
         (opening replies : List Reply) (opened state : State)
         → settings.pool ≡ span_from base size
-        → Run (initial_state limit) (plan_opening base size settings.align) opening opened → AllByRecursion IsAccepted opening
+        → Run (initial_state limit) (plan_opening base size settings.align) opening opened
+        → AllByRecursion IsAccepted opening
         → Changes (empty_heap settings) changes heap
         → AllByRecursion (CanBePlanned settings.align) (objects_made changes)
         → length (objects_made changes) + 3 ≤ limit
@@ -60,7 +61,8 @@ pub fn traces_are_placed_alike()
     ensures { (limit base size : ℕ) (settings : Settings) (events : List Event) (heap : Heap)
         (opening : List Reply) (opened : State)
         → settings.pool ≡ span_from base size
-        → Run (initial_state limit) (plan_opening base size settings.align) opening opened → AllByRecursion IsAccepted opening
+        → Run (initial_state limit) (plan_opening base size settings.align) opening opened
+        → AllByRecursion IsAccepted opening
         → settings.realloc ≡ Move
         → AllByRecursion (AsksForUnit settings.align) events → Runs (empty_heap settings) events heap
         → limit ≤ 65536 → heap.totals.made + 3 ≤ limit
@@ -84,7 +86,8 @@ pub fn scripts_are_placed_alike()
         → Output ScriptsLine ScriptsRest lines (script_begun settings reading) text output any_error new
         → new.progress ≢ OutOfMemory
         → settings.pool ≡ span_from base size
-        → Run (initial_state limit) (plan_opening base size settings.align) opening opened → AllByRecursion IsAccepted opening
+        → Run (initial_state limit) (plan_opening base size settings.align) opening opened
+        → AllByRecursion IsAccepted opening
         → 65536 ≤ limit
         → IsFollowed settings (events_in reading.format None (lines_of text)) new.progress output new.heap opened }
 {}
@@ -96,14 +99,18 @@ pub fn scripts_are_placed_alike()
 /// run the operations as which the script is read, in the pool of the heap. It has 65,536 slots or
 /// more, and refuses no setup operation.
 pub fn scripts_hold_the_bytes_of_replays()
-    ensures { (limit base size : ℕ) (settings : Settings) (reading : Reading) (text script series : List ℕ) (any_error is_error : Bool)
-        (scripted : ScriptState) (replayed : ReplayState) (opening replies : List Reply) (opened state : State) (ops : List Op)
+    ensures { (limit base size : ℕ) (settings : Settings) (reading : Reading) (text script series : List ℕ)
+        (any_error is_error : Bool)
+        (scripted : ScriptState) (replayed : ReplayState) (opening replies : List Reply) (opened state : State)
+        (ops : List Op)
         → Output ScriptsLine ScriptsRest lines (script_begun settings reading) text script any_error scripted
         → scripted.progress ≡ Running
         → Output TakesLine TakesRest lines (begun (empty_run settings) reading) text series is_error replayed
         → replayed.progress ≡ Running
         → settings.pool ≡ span_from base size
-        → Run (initial_state limit) (plan_opening base size settings.align) opening opened → AllByRecursion IsAccepted opening
+        → Run (initial_state limit) (plan_opening base size settings.align) opening opened
+        → AllByRecursion IsAccepted opening
         → 65536 ≤ limit → IsReadAs script ops → Run opened ops replies state
-        → held_bytes_of state ≡ (usage_of replayed.run.heap.memory).live + (usage_of replayed.run.heap.memory).quarantine }
+        → held_bytes_of state ≡ (usage_of replayed.run.heap.memory).live +
+        (usage_of replayed.run.heap.memory).quarantine }
 {}

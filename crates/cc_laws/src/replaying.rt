@@ -17,7 +17,8 @@ ghost use Rattle.cc_laws.specs.OneOutcome.{AreAlikeReplays};
 /// Proves that a replay has the events of the trace's lines happen to its heap, in order, and nothing
 /// else, if lines are still taken at its end. The ids that are lost are noted after each event.
 ///
-/// `Output` is the relation between an input and its output that [`replay_trace`](cc_replay::replay_trace) states by `Pumps`. So
+/// `Output` is the relation between an input and its output that [`replay_trace`](cc_replay::replay_trace) states
+/// by `Pumps`. So
 /// the totals of a whole replay are numbers of all states that the heap has passed.
 pub fn replays_are_runs()
     ensures heap { (old new : ReplayState) (text output : List ℕ) (any_error : Bool)
@@ -35,7 +36,8 @@ pub fn replays_are_runs()
 /// `Output` is the relation between an input and its output that [`replay_trace`](cc_replay::replay_trace)
 /// states by `Pumps`. The output is the series. Only the order of live objects can differ.
 pub fn one_replay()
-    ensures same { (settings : Settings) (reading : Reading) (text output told : List ℕ) (any_error is_told : Bool) (new another : ReplayState)
+    ensures same { (settings : Settings) (reading : Reading) (text output told : List ℕ) (any_error is_told : Bool)
+        (new another : ReplayState)
         → Output TakesLine TakesRest lines (begun (empty_run settings) reading) text output any_error new
         → Output TakesLine TakesRest lines (begun (empty_run settings) reading) text told is_told another
         → new.progress ≢ OutOfMemory → another.progress ≢ OutOfMemory

@@ -29,7 +29,8 @@ pub fn one_join()
 /// So a claim that holds for every run of a machine holds for every script. From a state that a run
 /// leads to, the commands lead to such a state.
 pub fn commands_run()
-    ensures run { (old new : State) (commands : List (Result Op Refusal)) (replies : List Reply) → TakesAll old commands replies new
+    ensures run { (old new : State) (commands : List (Result Op Refusal)) (replies : List Reply)
+        → TakesAll old commands replies new
         → Run old (operations_among commands) (operation_replies commands replies) new }
     ensures reached { (old new : State) (commands : List (Result Op Refusal)) (replies : List Reply)
         → IsReached old → TakesAll old commands replies new → IsReached new }
@@ -40,7 +41,8 @@ pub fn commands_run()
 ///
 /// The law [`confinement_to_an_object`](crate::machine::confinement_to_an_object) says the same of a run.
 pub fn scripts_are_confined_to_an_object()
-    ensures { (given : ℕ → Bool) (old new : State) (commands : List (Result Op Refusal)) (replies : List Reply) (number : ℕ) (object : Object)
+    ensures { (given : ℕ → Bool) (old new : State) (commands : List (Result Op Refusal)) (replies : List Reply)
+        (number : ℕ) (object : Object)
         → IsReached old → IsHeldObject old number object → AreOfObject given old object
         → TakesAllWithin given old old commands replies new → IsConfinedToObject old new number object }
 {}
@@ -50,8 +52,10 @@ pub fn scripts_are_confined_to_an_object()
 /// Two runs of it from one state have the same output bytes, and lead to the same state. Both have
 /// an error among their replies, or neither has.
 pub fn one_output()
-    ensures { (old new other : State) (opening : List Op) (text output other_output : List ℕ) (any_error other_error : Bool)
-        → ScriptOutput old opening text output any_error new → ScriptOutput old opening text other_output other_error other
+    ensures { (old new other : State) (opening : List Op) (text output other_output : List ℕ)
+        (any_error other_error : Bool)
+        → ScriptOutput old opening text output any_error new
+        → ScriptOutput old opening text other_output other_error other
         → (output ≡ other_output) × (any_error ≡ other_error) × (new ≡ other) }
 {}
 
@@ -59,7 +63,8 @@ pub fn one_output()
 /// bytes, and for all setup operations that set no address above 2^64 - 1. By [`one_output`] there
 /// is no other.
 pub fn every_script_has_an_output()
-    ensures { (old : State) (opening : List Op) (text : List ℕ) → IsReached old → AllByRecursion IsInAddressSpace opening
+    ensures { (old : State) (opening : List Op) (text : List ℕ) → IsReached old
+        → AllByRecursion IsInAddressSpace opening
         → (output : List ℕ) × (any_error : Bool) × (new : State) × ScriptOutput old opening text output any_error new }
 {}
 
@@ -70,13 +75,15 @@ pub fn every_script_has_an_output()
 /// line and continued later, and a script can be extended at its end.
 pub fn output_in_parts()
     ensures parts { (old new : State) (opening : List Op) (text more output : List ℕ) (any_error : Bool) → EndsLine text
-        → (ScriptOutput old opening (text ++ more) output any_error new ↔ OutputInParts old opening text more output any_error new) }
+        → (ScriptOutput old opening (text ++ more) output any_error new
+        ↔ OutputInParts old opening text more output any_error new) }
     ensures line_feed { (text : List ℕ) → EndsLine (text ++ 10 ∷ []) }
 {}
 
 /// Proves that, if a sink failed, the bytes that it took are a prefix of the script's output.
 pub fn stopped_output_begins()
     ensures { (room : ℕ) (old new : State) (opening : List Op) (text : List ℕ) (taken taken_now : Option (List ℕ))
-        → StopsInReplies room old (commands_of opening text) (Appends taken taken_now) new ⊎ StopsAfterLines old opening text (Appends taken taken_now) new
+        → StopsInReplies room old (commands_of opening text) (Appends taken taken_now) new ⊎ StopsAfterLines old
+        opening text (Appends taken taken_now) new
         → BeginsScriptOutput old opening text (Appends taken taken_now) }
 {}

@@ -25,12 +25,14 @@ fn a_state_with_setup_operations()
 /// A script of a client that is given an object's slot alone: a slot is derived from it, and a line is
 /// refused.
 fn a_script_within_an_object()
-    ensures { (word : ℕ) × TakesAllWithin is_of_object with_first_object with_first_object (Ok (Flag 1 true) ∷ Err Syntax ∷ [])
+    ensures { (word : ℕ) × TakesAllWithin is_of_object with_first_object with_first_object
+        (Ok (Flag 1 true) ∷ Err Syntax ∷ [])
         (Made 2 word (span_from 0 16) ∷ Refused Syntax ∷ []) with_derived_slot }
 {}
 
 /// A sink that takes one byte: of the reply to a command, and of the refusal of trailing bytes.
 fn a_sink_that_takes_one_byte()
-    ensures in_replies { StopsInReplies 193 (initial_state 8) (commands_of (Show 9 ∷ []) []) (Appends (Some []) (Some (101 ∷ []))) (initial_state 8) }
+    ensures in_replies { StopsInReplies 193 (initial_state 8) (commands_of (Show 9 ∷ []) [])
+        (Appends (Some []) (Some (101 ∷ []))) (initial_state 8) }
     ensures after_lines { (old : State) → StopsAfterLines old [] (120 ∷ []) (Appends (Some []) (Some (101 ∷ []))) old }
 {}

@@ -26,7 +26,8 @@ ghost use Rattle.cc_laws.specs.Witnesses.{with_first_object};
 /// An event that is in no column, and a column that has other levels than its event.
 fn charts_of_other_events()
     ensures event { (levels : Levels) → ¬ IsChartOf (levels ∷ []) no_chart }
-    ensures levels { (levels : Levels) → 0 < levels.live → ¬ IsChartOf (levels ∷ []) (record no_chart { columns = no_levels ∷ [] }) }
+    ensures levels { (levels : Levels) → 0 < levels.live
+        → ¬ IsChartOf (levels ∷ []) (record no_chart { columns = no_levels ∷ [] }) }
     ensures run { (settings : Settings) (reading : Reading) (time : ℕ)
         → ¬ ShowsRun (empty_heap settings) (Clock time ∷ []) (begun_chart settings reading) }
 {}
@@ -34,7 +35,8 @@ fn charts_of_other_events()
 /// A high-water mark above that of the heap, quarantined bytes that the levels lack, and levels of no
 /// event.
 fn levels_of_other_events()
-    ensures high { (settings : Settings) (levels : Levels) → 0 < levels.high → ¬ HasLevels (empty_heap settings) (empty_heap settings) levels }
+    ensures high { (settings : Settings) (levels : Levels) → 0 < levels.high
+        → ¬ HasLevels (empty_heap settings) (empty_heap settings) levels }
     ensures quarantine { (settings : Settings) (old : Heap) (levels : Levels) → levels.quarantine ≡ 0 → ¬ HasLevels old
         (record (empty_heap settings) { memory = record { live = []; quarantined = span_from 0 16 ∷ [] } }) levels }
     ensures event { (old new : Heap) (levels : Levels) → ¬ RunsWithLevels old [] (levels ∷ []) new }
@@ -48,23 +50,28 @@ fn replays_that_are_not_alike()
 
 /// Sweeps that no event did, and a machine that holds an object already.
 fn changes_of_other_events()
-    ensures changes { (settings : Settings) → ¬ AreChangesOf (empty_heap settings) [] (Sweep ∷ []) (empty_heap settings) }
+    ensures changes { (settings : Settings) → ¬ AreChangesOf (empty_heap settings) [] (Sweep ∷ [])
+        (empty_heap settings) }
     ensures heap { (settings : Settings) (opened : State) → ¬ IsTranslated settings []
         (record (empty_heap settings) { totals = record no_totals { sweeps = 1 } }) opened }
     ensures machine { (settings : Settings) → ¬ IsTranslated settings [] (empty_heap settings) with_first_object }
 {}
 
-/// A line that no event has, a line and a byte that no operation has, and a script of no line for a machine that holds an object already.
+/// A line that no event has, a line and a byte that no operation has, and a script of no line for a machine that
+/// holds an object already.
 fn scripts_of_other_events()
     ensures line { (settings : Settings) → ¬ HasScript settings [] Running (10 ∷ []) (empty_heap settings) }
     ensures read { ¬ IsReadAs (10 ∷ []) [] }
     ensures rest { ¬ IsReadAs (120 ∷ []) [] }
-    ensures machine { (settings : Settings) → ¬ IsFollowed settings [] Running [] (empty_heap settings) with_first_object }
+    ensures machine { (settings : Settings) → ¬ IsFollowed settings [] Running [] (empty_heap settings)
+        with_first_object }
 {}
 
 /// A reply that refuses, an object that the heap does not make, and an object that it does not hold.
 fn machines_that_place_otherwise()
-    ensures accepted { (heap : Heap) (state : State) (refusal : Refusal) → ¬ PlacesAlike [] heap (Refused refusal ∷ []) state }
-    ensures spans { (heap : Heap) (state : State) → ¬ PlacesAlike [] heap (Allocated 1 1 0 (span_from 0 16) 16 ∷ []) state }
+    ensures accepted { (heap : Heap) (state : State) (refusal : Refusal)
+        → ¬ PlacesAlike [] heap (Refused refusal ∷ []) state }
+    ensures spans { (heap : Heap) (state : State) → ¬ PlacesAlike [] heap (Allocated 1 1 0 (span_from 0 16) 16 ∷ [])
+        state }
     ensures held { (settings : Settings) → ¬ PlacesAlike [] (empty_heap settings) [] with_first_object }
 {}

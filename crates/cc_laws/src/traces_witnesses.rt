@@ -26,14 +26,16 @@ ghost use Rattle.cc_laws.specs.WorkedTrace.{worked_settings, worked_reading, wor
 /// A trace whose object is made, freed and swept, and its script.
 fn a_trace_that_has_a_script()
     ensures { (new : ScriptState)
-        × Output ScriptsLine ScriptsRest lines (script_begun worked_settings worked_reading) worked_trace worked_trace_script false new
+        × Output ScriptsLine ScriptsRest lines (script_begun worked_settings worked_reading) worked_trace
+        worked_trace_script false new
         × (new.progress ≡ Running) }
 {}
 
 /// A machine with enough slots for each script, and the pool of the trace.
 fn a_machine_that_has_the_pool()
     ensures { (opening : List Reply) × (opened : State)
-        × Run (initial_state 65536) (plan_opening 0x10000 65536 One) opening opened × AllByRecursion IsAccepted opening }
+        × Run (initial_state 65536) (plan_opening 0x10000 65536 One) opening opened
+        × AllByRecursion IsAccepted opening }
 {}
 
 /// The events of this trace, and their changes, which have the operations of the script.
@@ -52,8 +54,10 @@ fn a_machine_that_runs_the_script()
     ensures reads { IsReadAs worked_trace_script (op.Alloc 16 ∷ op.Free 1 ∷ op.Sweep ∷ []) }
     ensures runs { (limit : ℕ) (opening : List Reply) (opened : State)
         → Run (initial_state limit) (plan_opening 0x10000 65536 One) opening opened
-        → (replies : List Reply) × (state : State) × Run opened (op.Alloc 16 ∷ op.Free 1 ∷ op.Sweep ∷ []) replies state }
+        → (replies : List Reply) × (state : State) × Run opened (op.Alloc 16 ∷ op.Free 1 ∷ op.Sweep ∷ []) replies
+        state }
     ensures replay { (output : List ℕ) × (any_error : Bool) × (new : ReplayState)
-        × Output TakesLine TakesRest lines (begun (empty_run worked_settings) worked_reading) worked_trace output any_error new
+        × Output TakesLine TakesRest lines (begun (empty_run worked_settings) worked_reading) worked_trace output
+        any_error new
         × (new.progress ≡ Running) }
 {}

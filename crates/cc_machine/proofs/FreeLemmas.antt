@@ -1,5 +1,6 @@
 -- The planner's free is the machine's step.
-use Rattle.std.proofs.Common.{ℕ, zero, suc, ◌≡◌, ◌-◌, ◌∙◌, List, Option, Some, None, IfSome, IsSomeAnd, Ok, Err, length, map, ok_or, option_map, slice_index, slice_index_or, slice_set, set, sum_by, refl, sym, ap, subst, inl, inr, arith}
+use Rattle.std.proofs.Common.{ℕ, zero, suc, ◌≡◌, ◌-◌, ◌∙◌, List, Option, Some, None, IfSome, IsSomeAnd, Ok, Err, length, map, ok_or, option_map, slice_index, slice_index_or, slice_set, set}
+use Rattle.std.proofs.Common.{sum_by, refl, sym, ap, subst, inl, inr, arith}
 use Rattle.std.specs.List.{slice_get}
 use Rattle.std.proofs.lemmas.Grind.{get_or_default_zero}
 use Rattle.std.proofs.lemmas.List.{length-set, map-set}

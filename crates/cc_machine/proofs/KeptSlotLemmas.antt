@@ -1,6 +1,7 @@
 -- Slots of the state, as the objects that they belong to are made, freed and plan_swept, and their
 -- numbers as they are counted.
-use Rattle.std.proofs.Common.{ℕ, zero, suc, Bool, true, false, ◌≡◌, ◌+◌, ◌<◌, ◌≤◌, ◌∙◌, ◌||◌, List, [], ◌∷◌, ◌++◌, Option, Some, None, cond, count_by, length, map, nat_eq, not, option_map, set, slice_index, unwrap_or, refl, sym, ap, subst, inl, inr, arith}
+use Rattle.std.proofs.Common.{ℕ, zero, suc, Bool, true, false, ◌≡◌, ◌+◌, ◌<◌, ◌≤◌, ◌∙◌, ◌||◌, List, [], ◌∷◌, ◌++◌, Option, Some, None, cond, count_by, length, map, nat_eq, not, option_map, set}
+use Rattle.std.proofs.Common.{slice_index, unwrap_or, refl, sym, ap, subst, inl, inr, arith}
 use Rattle.std.specs.List.{slice_get}
 use Rattle.std.proofs.lemmas.Bool.{eq-eqb, ne_eqb, cases_eq}
 use Rattle.std.proofs.lemmas.List.{get_or_append_left, get_or_push, get_or-set_same, get_or-set_other, length_push, length-map, length-set, map_push}

@@ -1,5 +1,6 @@
 -- The properties of the objects that a sweep keeps.
-use Rattle.std.proofs.Common.{ℕ, zero, suc, true, false, ◌≡◌, ◌⊎◌, ◌↔◌, ◌<◌, ◌∙◌, List, IsTrue, Option, Some, None, Ok, if◌then◌else◌, length, map, ok_or, option_map, refl, sym, ap, subst, inl, inr, arith}
+use Rattle.std.proofs.Common.{ℕ, zero, suc, true, false, ◌≡◌, ◌⊎◌, ◌↔◌, ◌<◌, ◌∙◌, List, IsTrue, Option, Some, None, Ok, if◌then◌else◌, length, map, ok_or, option_map, refl, sym, ap, subst, inl}
+use Rattle.std.proofs.Common.{inr, arith}
 use Rattle.std.specs.List.{slice_get}
 use Rattle.std.proofs.lemmas.List.{length-map}
 use Rattle.std.proofs.lemmas.Option.{slice_get-map}

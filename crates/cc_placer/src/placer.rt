@@ -1,5 +1,6 @@
 //! The interface between a planner and its placer.
-ghost use Rattle.std.specs.Prelude.{◌≡◌, ℕ, ◌^◌, ◌<◌, ◌≤◌, List, [], length, Option, Some, None, IfOk, IfSome, IsSome, IsSomeAnd, Contains, option_map};
+ghost use Rattle.std.specs.Prelude.{◌≡◌, ℕ, ◌^◌, ◌<◌, ◌≤◌, List, [], length, Option, Some, None, IfOk, IfSome};
+ghost use Rattle.std.specs.Prelude.{IsSome, IsSomeAnd, Contains, option_map};
 ghost use Rattle.cc_bounds.specs.declared.span.Span.{Span as SpanSpec};
 ghost use Rattle.cc_bounds.specs.Span.{IsWithin};
 ghost use Rattle.cc_placer.specs.Placement.{AddsSpan, RemovesSpan, IsApartFrom, IsRoom};

@@ -1,5 +1,6 @@
 //! A placer that searches all its spans.
-ghost use Rattle.std.specs.Prelude.{◌≡◌, ◌↔◌, ◌<◌, ◌≤◌, ◌^◌, IfSome, IfNone, All, Contains, IsTrue, length, slice_get, Some};
+ghost use Rattle.std.specs.Prelude.{◌≡◌, ◌↔◌, ◌<◌, ◌≤◌, ◌^◌, IfSome, IfNone, All, Contains, IsTrue, length};
+ghost use Rattle.std.specs.Prelude.{slice_get, Some};
 ghost use Rattle.cc_bounds.specs.Span.{SharesByte};
 ghost use Rattle.cc_placer.specs.Placement.{HaveSameSpans, IsApartFrom, IsRoom};
 ghost use Rattle.cc_placer.specs.PlacerState.{IsSomeBytes};

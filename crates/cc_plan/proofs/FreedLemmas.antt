@@ -1,6 +1,7 @@
 -- The freed objects: the planner's list of their positions, and the result of sweeping them one by
 -- one.
-use Rattle.std.proofs.Common.{ℕ, Bool, true, false, if◌then◌else◌, cond, ◌≡◌, ◌≢◌, ◌+◌, ◌<◌, ◌≤◌, List, [], ◌∷◌, ◌++◌, Option, Some, All, length, get_or, map, slice_set, IsPermutation, eqb, inl, inr, arith, refl, subst, ◌∙◌, sym, ap}
+use Rattle.std.proofs.Common.{ℕ, Bool, true, false, if◌then◌else◌, cond, ◌≡◌, ◌≢◌, ◌+◌, ◌<◌, ◌≤◌, List, [], ◌∷◌, ◌++◌, Option, Some, All, length, get_or, map, slice_set, IsPermutation, eqb, inl}
+use Rattle.std.proofs.Common.{inr, arith, refl, subst, ◌∙◌, sym, ap}
 use Rattle.std.proofs.lemmas.Bool.{cases_eq, eqb-false, ne_eqb}
 use Rattle.std.proofs.lemmas.List.{get_or_append_left, get_or_push, get_or-set_same, get_or-set_other, length_push, length-set}
 use Rattle.std.proofs.lemmas.List.Elements.{All-push}

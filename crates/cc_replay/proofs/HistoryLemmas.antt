@@ -1,5 +1,6 @@
 -- Every event is a list of changes, which have the operations of its deeds.
-use Rattle.std.proofs.Common.{ℕ, zero, suc, Bool, true, false, not, cond, nat_eq, ◌≡◌, ◌&&◌, ◌+◌, ◌-◌, ◌<◌, ◌≤◌, ◌^◌, max, min, if◌then◌else◌, List, [], ◌∷◌, ◌++◌, Option, Some, None, All, length, length-append, replicate, sum_by, arith, refl, sym, ap, subst, ◌∙◌, inl, inr, IsPermutation}
+use Rattle.std.proofs.Common.{ℕ, zero, suc, Bool, true, false, not, cond, nat_eq, ◌≡◌, ◌&&◌, ◌+◌, ◌-◌, ◌<◌, ◌≤◌, ◌^◌, max, min, if◌then◌else◌, List, [], ◌∷◌, ◌++◌, Option, Some, None, All, length}
+use Rattle.std.proofs.Common.{length-append, replicate, sum_by, arith, refl, sym, ap, subst, ◌∙◌, inl, inr, IsPermutation}
 use Rattle.std.specs.List.{AllByRecursion}
 use Rattle.std.specs.Map.{lookup}
 use Rattle.std.specs.Prelude.{MatchOption, option_and_then}

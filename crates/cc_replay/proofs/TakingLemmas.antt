@@ -92,7 +92,8 @@ stops_whole {S} taker old new pending text taken taken_now any_error over stops 
     answers = stops.answers ++ silent stops.later;
     mid = new;
     takes = subst (λ (l : List (List ℕ)). AnswersAll (λ (s : S). TakesLineIn taker (taker.progress s) s) old l (stops.answers ++ silent stops.later) new) (sym stops.entries_are)
-        (all_further (λ (s : S). TakesLineIn taker (taker.progress s) s) old new new stops.answered stops.later stops.answers (silent stops.later) stops.takes (passes_lines taker new stops.later over));
+        (all_further (λ (s : S). TakesLineIn taker (taker.progress s) s) old new new stops.answered stops.later stops.answers (silent stops.later) stops.takes
+        (passes_lines taker new stops.later over));
     ending = record { text = []; is_error = false };
     ends = passes_rest taker new (rest_of lines text) over;
     output_is = sym (ap (λ (l : List ℕ). l ++ [])

@@ -1,7 +1,8 @@
 //! The counts of the lines of a trace, and of what comes of its events.
 ghost use Rattle.std.specs.Prelude.{◌≡◌};
 ghost use Rattle.cc_heap.specs.Outcomes.{is_full, is_no_room};
-ghost use Rattle.cc_replay.specs.Counts.{counted, counted_if, with_event, with_failure, with_line, with_outcome, with_refusal};
+ghost use Rattle.cc_replay.specs.Counts.{counted, counted_if, with_event, with_failure, with_line, with_outcome};
+ghost use Rattle.cc_replay.specs.Counts.{with_refusal};
 
 use cc_heap::{Event, Making, Outcome};
 use cc_word::Refusal;

@@ -1,5 +1,6 @@
 //! A heap over a trace that takes the lines of it.
-ghost use Rattle.std.specs.Prelude.{◌≡◌, ◌≤◌, ◌+◌, ◌↔◌, ◌++◌, ◌^◌, [], true, false, length, Err, IfOk, IfSome, IsTrue, OnErr};
+ghost use Rattle.std.specs.Prelude.{◌≡◌, ◌≤◌, ◌+◌, ◌↔◌, ◌++◌, ◌^◌, [], true, false, length, Err, IfOk, IfSome};
+ghost use Rattle.std.specs.Prelude.{IsTrue, OnErr};
 ghost use Rattle.cc_io.specs.Answers.{AnswersInto};
 ghost use Rattle.cc_io.specs.Correct.{Pumps};
 ghost use Rattle.cc_io.specs.Frames.{lines};
@@ -9,7 +10,8 @@ ghost use Rattle.cc_formats.specs.Reading.{is_over};
 ghost use Rattle.cc_placer.specs.Alignment.{HasAlignment};
 ghost use Rattle.cc_heap.specs.Lost.{empty_run};
 ghost use Rattle.cc_heap.specs.Peaks.{without_peaks};
-ghost use Rattle.cc_replay.specs.Replay.{TakesLine, TakesRest, begun, figures_of, last_sample, most_sample, replaying, series_header, time_after};
+ghost use Rattle.cc_replay.specs.Replay.{TakesLine, TakesRest, begun, figures_of, last_sample, most_sample};
+ghost use Rattle.cc_replay.specs.Replay.{replaying, series_header, time_after};
 ghost use Rattle.cc_replay.specs.Taking.{AppendsEntry, AppendsEvent, Refuses, next_entry};
 
 use crate::counts::{Count, Counts};
@@ -18,7 +20,7 @@ use crate::summary::Figures;
 use cc_formats::{Entry, Progress, Reading, read_entry};
 use cc_heap::{Event, Heap, Run, Settings, SizeTotals};
 use cc_io::{
-    Answerer, IoError, Lines, Page, Sink, Source, Summary, Pending, pump, write_and_flush,
+    Answerer, IoError, Lines, Page, Pending, Sink, Source, Summary, pump, write_and_flush,
 };
 use cc_placer::Placer;
 use cc_word::Refusal;
@@ -45,7 +47,16 @@ impl<P: Placer> Model for Replay<P> {
 
     ghost Value = { ReplayState };
 
-    ghost view = { λ s. record { run = s.run; reading = s.reading; counts = s.counts; pending = s.pending; time = s.time; progress = s.progress; is_sampled = s.is_sampled } };
+    ghost view = { λ s. record {
+      run = s.run;
+      reading = s.reading;
+      counts = s.counts;
+      pending = s.pending;
+      time =
+          s.time;
+      progress = s.progress;
+      is_sampled = s.is_sampled;
+    } };
 }
 
 impl<P: Placer> Replay<P> {
@@ -323,8 +334,10 @@ pub fn replay_trace<P: Placer, R: Source, W: Sink>(
     requires goes_on { is_over replay.old.progress ≡ false }
     // Each line is taken in order, as `TakesLine` says, and the sink took the header of the series
     // and the samples of the events that have one.
-    ensures replays { Pumps (λ state. is_over state.progress) TakesLine TakesRest lines 65536 most_sample replay.old (series_header replay.old)
-        (R.state source.old).unread (R.state source.new).unread (W.state series.old).taken (W.state series.new).taken result replay.new }
+    ensures replays { Pumps (λ state. is_over state.progress) TakesLine TakesRest lines 65536 most_sample replay.old
+        (series_header replay.old)
+        (R.state source.old).unread (R.state source.new).unread (W.state series.old).taken
+        (W.state series.new).taken result replay.new }
     ensures outcome { IsOutcome (R.state source.new) (W.state series.new) result }
 {
     let mut page = Pending::new();

@@ -1,6 +1,7 @@
 //! Tables of names and values, and their text in each format.
 ghost use Rattle.std.specs.Prelude.{◌≡◌, ◌≤◌, ◌+◌, ◌*◌, ◌%◌, ◌++◌, decimal, length};
-ghost use Rattle.cc_replay.specs.Rows.{item_text, items_text, more_items, names_line, parts_of, percent_text, rows_of, separator_of, table_text, value_text, values_line};
+ghost use Rattle.cc_replay.specs.Rows.{item_text, items_text, more_items, names_line, parts_of, percent_text};
+ghost use Rattle.cc_replay.specs.Rows.{rows_of, separator_of, table_text, value_text, values_line};
 
 use crate::table::{Format, Part, Row, Value};
 use cc_io::{Line, Page};

@@ -1,5 +1,6 @@
 //! A script that is written while the lines of a trace are taken.
-ghost use Rattle.std.specs.Prelude.{◌≡◌, ◌≤◌, ◌<◌, ◌+◌, ◌^◌, ◌++◌, [], true, false, length, Err, IfOk, IfSome, OnErr, OnOk};
+ghost use Rattle.std.specs.Prelude.{◌≡◌, ◌≤◌, ◌<◌, ◌+◌, ◌^◌, ◌++◌, [], true, false, length, Err, IfOk, IfSome};
+ghost use Rattle.std.specs.Prelude.{OnErr, OnOk};
 ghost use Rattle.cc_io.specs.Answers.{AnswersInto};
 ghost use Rattle.cc_io.specs.Correct.{Pumps};
 ghost use Rattle.cc_io.specs.Devices.{IsOutcome};
@@ -20,7 +21,7 @@ use crate::numbering::Numbering;
 use crate::script_lines::push_deeds;
 use cc_formats::{Entry, Progress, Reading, read_entry};
 use cc_heap::{Heap, Outcome, Settings};
-use cc_io::{Answerer, IoError, Lines, Page, Sink, Source, Summary, Pending, pump};
+use cc_io::{Answerer, IoError, Lines, Page, Pending, Sink, Source, Summary, pump};
 use cc_placer::{Event, Placer};
 use std::alloc::{AllocError, Global};
 use std::marker::Model;
@@ -47,7 +48,14 @@ impl<P: Placer> Model for Script<P> {
 
     ghost Value = { ScriptState };
 
-    ghost view = { λ s. record { heap = s.heap; reading = s.reading; pending = s.pending; ids = s.ids; progress = s.progress } };
+    ghost view = { λ s. record {
+      heap = s.heap;
+      reading = s.reading;
+      pending = s.pending;
+      ids = s.ids;
+      progress =
+          s.progress;
+    } };
 
     ghost invariant = { λ s. IsKept s.heap };
 }
@@ -189,7 +197,8 @@ impl<P: Placer> Script<P> {
         requires room { length out.old + 128 ≤ N }
         requires few { deeds.sweeps ≤ 2 }
         requires made { IfSome deeds.made (λ _. self.old.ids.made < most_objects) }
-        ensures lines { OnOk result (out.new ≡ out.old ++ operation_lines (deed_operations self.old.heap.settings.policy (numbers_of self.old.ids) deeds)) }
+        ensures lines { OnOk result (out.new ≡ out.old ++ operation_lines
+            (deed_operations self.old.heap.settings.policy (numbers_of self.old.ids) deeds)) }
         ensures ids { OnOk result (numbers_of self.new.ids ≡ numbers_with (numbers_of self.old.ids) deeds.made) }
         ensures rest { self.new ≡ record self.old { ids = self.new.ids } }
         ensures nothing { OnErr result (out.new ≡ out.old) }
@@ -267,7 +276,8 @@ pub fn script_trace<P: Placer, R: Source, W: Sink>(
     requires sink { (W.state sink.old).has_failed ≡ false }
     requires goes_on { is_over script.old.progress ≡ false }
     ensures scripts { Pumps (λ state. is_over state.progress) ScriptsLine ScriptsRest lines 65536 128 script.old []
-        (R.state source.old).unread (R.state source.new).unread (W.state sink.old).taken (W.state sink.new).taken result script.new }
+        (R.state source.old).unread (R.state source.new).unread (W.state sink.old).taken (W.state sink.new).taken
+        result script.new }
     ensures outcome { IsOutcome (R.state source.new) (W.state sink.new) result }
 {
     let mut page = Pending::new();

@@ -80,7 +80,8 @@ fn take_trace<P: Placer, R: Source>(
 ) -> Result<Summary, Failed>
     requires source { (R.state source.old).has_failed ≡ false }
     requires goes_on { is_over replay.old.progress ≡ false }
-    ensures takes { IfOk result (λ summary. TakesTrace replay.old (R.state source.old).unread (R.state source.new).unread summary.any_error replay.new) }
+    ensures takes { IfOk result (λ summary. TakesTrace replay.old (R.state source.old).unread
+        (R.state source.new).unread summary.any_error replay.new) }
     ensures read { IsErr result ↔ ((R.state source.new).has_failed ≡ true) }
 {
     match replay_trace(replay, source, &mut Discard) {

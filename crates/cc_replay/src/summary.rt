@@ -3,7 +3,8 @@ ghost use Rattle.std.specs.Prelude.{◌≡◌, ◌≤◌, ◌<◌, ◌+◌, ◌-
 ghost use Rattle.arrayvec.specs.ArrayVec.{array_vec_len};
 ghost use Rattle.cc_io.specs.Devices.{SendsBytes};
 ghost use Rattle.cc_replay.specs.Rows.{rows_of, table_text};
-ghost use Rattle.cc_replay.specs.Summary.{end_rows, failure_rows, line_rows, made_rows, peak_rows, refusal_rows, summary_rows};
+ghost use Rattle.cc_replay.specs.Summary.{end_rows, failure_rows, line_rows, made_rows, peak_rows, refusal_rows};
+ghost use Rattle.cc_replay.specs.Summary.{summary_rows};
 
 use crate::counts::Counts;
 use crate::row;
@@ -42,7 +43,8 @@ pub fn write_summary<W: Sink>(
     sink: &mut W,
 ) -> Result<(), IoError>
     requires sink { (W.state sink.old).has_failed ≡ false }
-    ensures sends { SendsBytes (W.state sink.old) (W.state sink.new) (table_text format (summary_rows figures.now)) result }
+    ensures sends { SendsBytes (W.state sink.old) (W.state sink.new) (table_text format (summary_rows figures.now))
+        result }
     ensures write { OnErr result (result ≡ Err IoError.Write) }
 {
     let mut page: Page<MOST_SUMMARY> = Page::new();

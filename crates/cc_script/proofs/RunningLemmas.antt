@@ -1,5 +1,6 @@
 -- The output of a script's run, from the output of the engine of cc_io.
-use Rattle.std.proofs.Common.{◌≡◌, ℕ, ◌<◌, ◌≤◌, ◌+◌, List, [], ◌∷◌, ◌++◌, length, take, map, refl, sym, ◌∙◌, ap, subst, append_assoc, append-nil, arith, length-append, length-take, ◌==◌, Bool, true, ◌||◌, not, nat_lt, Option, Some, None, IfSome, IfOk, IfErr, Result, Ok, Err, inl, inr, false}
+use Rattle.std.proofs.Common.{◌≡◌, ℕ, ◌<◌, ◌≤◌, ◌+◌, List, [], ◌∷◌, ◌++◌, length, take, map, refl, sym, ◌∙◌, ap, subst, append_assoc, append-nil, arith, length-append, length-take, ◌==◌, Bool}
+use Rattle.std.proofs.Common.{true, ◌||◌, not, nat_lt, Option, Some, None, IfSome, IfOk, IfErr, Result, Ok, Err, inl, inr, false}
 use Rattle.std.proofs.lemmas.Bool.{cases_lt, lt-ltb}
 use Rattle.std.proofs.lemmas.List.{take_all, map-append}
 use Rattle.std.proofs.lemmas.List.Folds.{list_any-append}
@@ -195,7 +196,8 @@ ok_part start opening a b pending text c left s t u e error o at_end w =
             ∙ ap (λ (l : List ℕ). l ++ rest) (sym (replies_text-append o.replies p.replies));
         error_is =
             ap (λ (x : Bool). x || error) o.error_is
-            ∙ ap (λ (x : Bool). list_any is_error o.replies || x) (out.error_is ∙ ap (λ (x : Bool). x || out.ending.is_error) p.error_is ∙ ap (λ (x : Bool). list_any is_error p.replies || x) r.error_is)
+            ∙ ap (λ (x : Bool). list_any is_error o.replies || x) (out.error_is ∙ ap (λ (x : Bool). x || out.ending.is_error) p.error_is ∙ ap (λ (x : Bool). list_any is_error p.replies || x)
+            r.error_is)
             ∙ or_assoc (list_any is_error o.replies) (list_any is_error p.replies) (not (length (rest_of text) == 0))
             ∙ ap (λ (x : Bool). x || not (length (rest_of text) == 0)) (sym (list_any-append is_error o.replies p.replies));
       };
@@ -431,7 +433,8 @@ stops_in_opening room before after opening reached same p =
 
 -- ---- the theorem of a script's run
 
-pub whole_part : (room : ℕ) (start : State) (tally counts : Tally) (opening : List Op) (a b : Lent) (pending given : List ℕ) (c left s t u : Option (List ℕ)) (e : Bool) (result : Result Summary IoError)
+pub whole_part : (room : ℕ) (start : State) (tally counts : Tally) (opening : List Op) (a b : Lent) (pending given : List ℕ) (c left s t u : Option (List ℕ)) (e : Bool)
+    (result : Result Summary IoError)
     → Opens room start tally opening pending s t e (machine a) counts → PumpsText AnswersLine RefusesScriptRest lines room 193 a pending given left t u result b
     → IfOk (joined e result) (λ (summary : Summary). WritesScriptOutput opening given (io start c s) summary.any_error (io (machine b) left u))
 whole_part room start tally counts opening a b pending given c left s t u e (Ok summary) o p =
@@ -458,7 +461,8 @@ some_part room start tally counts opening a b pending given left s t u e (Err Wr
     (inr (none, q), begins_after start (machine b) s u opening given (rest_left left) none q)
 
 -- The setup operations got their replies, of which some are on the page, and then the lines.
-unfoldable pub pumps_script : (room : ℕ) (start : State) (tally counts : Tally) (opening : List Op) (a b : Lent) (pending : List ℕ) (c left s t u : Option (List ℕ)) (e : Bool) (result : Result Summary IoError)
+unfoldable pub pumps_script : (room : ℕ) (start : State) (tally counts : Tally) (opening : List Op) (a b : Lent) (pending : List ℕ) (c left s t u : Option (List ℕ)) (e : Bool)
+    (result : Result Summary IoError)
     → IsReached start → Opens room start tally opening pending s t e (machine a) counts → Pumps (λ (state : Lent). false) AnswersLine RefusesScriptRest lines room 193 a pending c left t u result b
     → RunsScript (StopsInReplies room) opening (io start c s) (joined e result) (io (machine b) left u)
 unfolding runs_script

@@ -158,9 +158,11 @@ fn take_opening<W: Sink, const N: usize>(
     requires room { 193 ≤ N }
     requires empty { page.old ≡ [] }
     ensures ok { IfOk result (λ error.
-        Opens N machine.old tally.old opening.now page.new (W.state sink.old).taken (W.state sink.new).taken error machine.new tally.new) }
+        Opens N machine.old tally.old opening.now page.new (W.state sink.old).taken (W.state sink.new).taken error
+        machine.new tally.new) }
     ensures err { OnErr result (
-        StopsInReplies N machine.old (map Ok opening.now) (Appends (W.state sink.old).taken (W.state sink.new).taken) machine.new) }
+        StopsInReplies N machine.old (map Ok opening.now)
+        (Appends (W.state sink.old).taken (W.state sink.new).taken) machine.new) }
     ensures fails { IsErr result ↔ ((W.state sink.new).has_failed ≡ true) }
 {
     let mut any_error = false;

@@ -1,5 +1,6 @@
 -- The line of an operation parses as the operation.
-use Rattle.std.proofs.Common.{◌≡◌, ◌≢◌, ℕ, zero, suc, Bool, true, false, ◌+◌, ◌-◌, ◌*◌, ◌/◌, ◌%◌, ◌^◌, ◌<◌, ◌≤◌, ◌==◌, ◌&&◌, not, List, [], ◌∷◌, ◌++◌, append-nil, append_assoc, length, map, filter, codes, Option, Some, Result, Ok, Err, refl, sym, ◌∙◌, ap, subst, arith, inl, inr, if◌then◌else◌}
+use Rattle.std.proofs.Common.{◌≡◌, ◌≢◌, ℕ, zero, suc, Bool, true, false, ◌+◌, ◌-◌, ◌*◌, ◌/◌, ◌%◌, ◌^◌, ◌<◌, ◌≤◌, ◌==◌, ◌&&◌, not, List, [], ◌∷◌, ◌++◌, append-nil, append_assoc, length, map}
+use Rattle.std.proofs.Common.{filter, codes, Option, Some, Result, Ok, Err, refl, sym, ◌∙◌, ap, subst, arith, inl, inr, if◌then◌else◌}
 use Rattle.std.specs.Prelude.{decimal, option_and_then}
 use Rattle.std.specs.Int.{bit_at}
 use Rattle.std.specs.Int.RustNames.{bit_and, bit_or}
@@ -140,7 +141,8 @@ names_read bits i [] last = ap (λ (n : ℕ). Some (bits % 2 ^ n)) last
 names_read bits i (row ∷ rows) is = by (bit_and bits row.1 == row.1) refl (names_read bits (suc i) rows is.2) where
   by : (has : Bool) → (bit_and bits row.1 == row.1) ≡ has
       → with_names (bits % 2 ^ suc i) (names_of_set bits rows) ≡ Some (bits % 2 ^ 16)
-      → with_names (bits % 2 ^ i) (map (λ (r : Row). r.0) (if has then row ∷ filter (λ (r : Row). bit_and bits r.1 == r.1) rows else filter (λ (r : Row). bit_and bits r.1 == r.1) rows)) ≡ Some (bits % 2 ^ 16)
+      → with_names (bits % 2 ^ i) (map (λ (r : Row). r.0) (if has then row ∷ filter (λ (r : Row). bit_and bits r.1 == r.1) rows else filter (λ (r : Row). bit_and bits r.1 == r.1) rows)) ≡ Some
+      (bits % 2 ^ 16)
   by true has later =
       let set : bit_and bits (2 ^ i) ≡ 2 ^ i = subst (λ (b : ℕ). bit_and bits b ≡ b) is.0 (eqb-true (bit_and bits row.1) row.1 has) in
       let sum : bit_or (bits % 2 ^ i) row.1 ≡ bits % 2 ^ suc i = ap (bit_or (bits % 2 ^ i)) is.0 ∙ bit_taken bits i set in

@@ -1,5 +1,6 @@
 -- The values after a name: an alignment, or the number of a slot and one more value.
-use Rattle.std.proofs.Common.{true≢false, ◌<◌, ◌++◌, take, drop, get_or, length-take, ◌≡◌, ℕ, ◌+◌, ◌≤◌, Bool, true, false, ◌==◌, List, [], ◌∷◌, ◌^◌, ◌-◌, length, Some, Result, Ok, Err, refl, sym, ◌∙◌, ap, arith, if◌then◌else◌, codes}
+use Rattle.std.proofs.Common.{true≢false, ◌<◌, ◌++◌, take, drop, get_or, length-take, ◌≡◌, ℕ, ◌+◌, ◌≤◌, Bool, true, false, ◌==◌, List, [], ◌∷◌, ◌^◌, ◌-◌, length, Some, Result, Ok, Err, refl, sym}
+use Rattle.std.proofs.Common.{◌∙◌, ap, arith, if◌then◌else◌, codes}
 use Rattle.std.proofs.lemmas.Bool.{eqb-true, le-leb}
 use Rattle.std.proofs.lemmas.List.{take-append-drop, drop_more, take_rest}
 use Rattle.std.proofs.lemmas.Slice.Eq.{bytes_eq-Decides}

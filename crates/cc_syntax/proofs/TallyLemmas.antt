@@ -1,5 +1,6 @@
 -- The change of a tally by one more reply.
-use Rattle.std.proofs.Common.{◌≡◌, ◌∙◌, ◌+◌, ◌-◌, ◌<◌, ◌^◌, ◌==◌, ◌&&◌, ◌||◌, ℕ, zero, suc, Bool, true, false, cond, List, [], ◌∷◌, ◌++◌, ap, arith, count_by, get_or, if◌then◌else◌, inl, inr, length, length-append, length-take, min, nat_le, refl, sym, take}
+use Rattle.std.proofs.Common.{◌≡◌, ◌∙◌, ◌+◌, ◌-◌, ◌<◌, ◌^◌, ◌==◌, ◌&&◌, ◌||◌, ℕ, zero, suc, Bool, true, false, cond, List, [], ◌∷◌, ◌++◌, ap, arith, count_by, get_or, if◌then◌else◌, inl, inr}
+use Rattle.std.proofs.Common.{length, length-append, length-take, min, nat_le, refl, sym, take}
 use Rattle.std.specs.List.{list_any}
 use Rattle.std.proofs.lemmas.Bool.{cases_lt, eqb-false, eqb-true, lt-leb, true≢false}
 use Rattle.std.proofs.Math.Dec.{eqb-suc-zero}

@@ -1,5 +1,6 @@
 //! Reads lengths, and the number of a slot before other values.
-ghost use Rattle.std.specs.Prelude.{◌≡◌, ◌+◌, ◌*◌, ◌-◌, ◌<◌, ◌≤◌, ◌^◌, ◌∷◌, [], length, min, Some, IfSome, IfNone, SomeIff, IsSome};
+ghost use Rattle.std.specs.Prelude.{◌≡◌, ◌+◌, ◌*◌, ◌-◌, ◌<◌, ◌≤◌, ◌^◌, ◌∷◌, [], length, min, Some, IfSome, IfNone};
+ghost use Rattle.std.specs.Prelude.{SomeIff, IsSome};
 ghost use Rattle.std.specs.Char.{digit_value};
 ghost use Rattle.cc_values.specs.Digits.{Spells};
 ghost use Rattle.cc_values.specs.Numbers.{within_limit, number_of};

@@ -21,14 +21,16 @@ pub trait Taker<const N: usize> {
     type Out;
 
     // the results that a command may have
-    ghost Taken: { (old : Self) → (command : Result OpSpec RefusalSpec) → Self.Out → (text text_now : List ℕ) → (new : Self) → Type 0 };
+    ghost Taken: { (old : Self) → (command : Result OpSpec RefusalSpec) → Self.Out → (text text_now : List ℕ)
+        → (new : Self) → Type 0 };
 
     /// Takes the operation of a line, or its refusal.
     ///
     /// Requires: 193 bytes fit the page.
     fn take(&mut self, text: &mut Page<N>, parsed: Result<Op, Refusal>) -> Self::Out
         requires { length text.old + 193 ≤ N }
-        ensures { (command : Result OpSpec RefusalSpec) → command ≡ parsed → Taken self.old command result text.old text.new self.new };
+        ensures { (command : Result OpSpec RefusalSpec) → command ≡ parsed
+            → Taken self.old command result text.old text.new self.new };
 }
 
 /// Returns the operation or the refusal as it is.
@@ -67,7 +69,8 @@ fn parse_words(line: &[u8]) -> Result<Op, Refusal>
     take_command(&mut Parser, &mut WholeLine::new(), line)
 }
 
-/// Takes the operation of a line of at most 128 bytes, or the refusal of the line. This is the table of commands: a name,
+/// Takes the operation of a line of at most 128 bytes, or the refusal of the line. This is the table of commands: a
+/// name,
 /// the form of the values, and the operation.
 ///
 /// Requires: 193 bytes of the page are free.

@@ -3,7 +3,8 @@ ghost use Rattle.std.specs.Prelude.{◌≡◌, ◌+◌, ◌≤◌, ◌++◌, len
 ghost use Rattle.cc_word.specs.Word.{bit_of};
 ghost use Rattle.cc_word.specs.WordText.{digits_of};
 ghost use Rattle.cc_word.specs.Permissions.{bits_of};
-ghost use Rattle.cc_syntax.specs.Replies.{align_text, bounds_text, hexadecimal, made_text, parent_text, refusal_text, reply_text, revoked_text};
+ghost use Rattle.cc_syntax.specs.Replies.{align_text, bounds_text, hexadecimal, made_text, parent_text};
+ghost use Rattle.cc_syntax.specs.Replies.{refusal_text, reply_text, revoked_text};
 
 use cc_bounds::{Align, Span};
 use cc_io::{Line, Page};
@@ -118,7 +119,8 @@ fn push_allocated<const N: usize>(
     held: u128,
 )
     requires { length line.old + 182 ≤ N }
-    ensures value { line.new ≡ line.old ++ codes "object " ++ decimal object ++ codes " slot " ++ made_text slot word span.now ++ codes " held " ++ decimal held }
+    ensures value { line.new ≡ line.old ++ codes "object " ++ decimal object ++ codes " slot " ++ made_text slot
+        word span.now ++ codes " held " ++ decimal held }
     ensures fits { length line.new ≤ length line.old + 182 }
 {
     line.push_known(*b"object ");
@@ -154,7 +156,8 @@ fn push_swept<const N: usize>(line: &mut Page<N>, objects: u32, revoked: u32, he
 /// Appends the line of a new pool.
 fn push_pool<const N: usize>(line: &mut Page<N>, slot: u32, span: &Span, align: Align)
     requires { length line.old + 94 ≤ N }
-    ensures value { line.new ≡ line.old ++ codes "pool " ++ decimal slot ++ codes " " ++ bounds_text span.now ++ align_text align }
+    ensures value { line.new ≡ line.old ++ codes "pool " ++ decimal slot ++ codes " " ++ bounds_text span.now ++
+        align_text align }
     ensures fits { length line.new ≤ length line.old + 94 }
 {
     line.push_known(*b"pool ");
@@ -170,7 +173,8 @@ fn push_pool<const N: usize>(line: &mut Page<N>, slot: u32, span: &Span, align: 
 /// Appends the line of a rounded length.
 fn push_rounded<const N: usize>(line: &mut Page<N>, rounded: u128, granule: u64, mask: u64)
     requires { length line.old + 110 ≤ N }
-    ensures value { line.new ≡ line.old ++ codes "round " ++ hexadecimal rounded ++ codes " " ++ hexadecimal granule ++ codes " " ++ hexadecimal mask }
+    ensures value { line.new ≡ line.old ++ codes "round " ++ hexadecimal rounded ++ codes " " ++ hexadecimal granule
+        ++ codes " " ++ hexadecimal mask }
     ensures fits { length line.new ≤ length line.old + 110 }
 {
     line.push_known(*b"round ");
@@ -208,7 +212,8 @@ fn push_revoked<const N: usize>(line: &mut Page<N>, revoked: u32, held: u128)
 /// Appends permissions, flag and type.
 fn push_rights<const N: usize>(line: &mut Page<N>, perms: Perms, flag: bool, otype: ObjType)
     requires { length line.old + 60 ≤ N }
-    ensures value { line.new ≡ line.old ++ codes " " ++ digits_of 4 (bits_of perms) ++ codes " " ++ decimal (bit_of flag) ++ codes " " ++ digits_of 5 otype }
+    ensures value { line.new ≡ line.old ++ codes " " ++ digits_of 4 (bits_of perms) ++ codes " " ++ decimal
+        (bit_of flag) ++ codes " " ++ digits_of 5 otype }
     ensures fits { length line.new ≤ length line.old + 60 }
 {
     let digits = digits_of_rights(perms.bits(), otype.bits());

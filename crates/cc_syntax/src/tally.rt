@@ -130,7 +130,8 @@ impl Tally {
 
     /// Counts the reply to a setup operation.
     pub fn take_opening(&mut self, reply: &Reply)
-        ensures { (opening : List ReplySpec) → IsTally opening [] self.old → IsTally (opening ++ reply.now ∷ []) [] self.new }
+        ensures { (opening : List ReplySpec) → IsTally opening [] self.old
+            → IsTally (opening ++ reply.now ∷ []) [] self.new }
     {
         if let Reply::Refused(refusal) = *reply {
             add_reply(&mut self.counts, refusal, 0);
@@ -140,7 +141,8 @@ impl Tally {
     /// Counts a line whose reply is not a refusal.
     #[inline(always)]
     pub fn take_line(&mut self)
-        ensures { (opening : List ReplySpec) (exchanges : List Exchange) (line : List ℕ) (reply : ReplySpec) → is_error reply ≡ false → IsTally opening exchanges self.old
+        ensures { (opening : List ReplySpec) (exchanges : List Exchange) (line : List ℕ) (reply : ReplySpec)
+            → is_error reply ≡ false → IsTally opening exchanges self.old
             → IsTally opening (exchanges ++ record { line = line; reply = reply } ∷ []) self.new }
     {
         self.lines = self.lines.saturating_add(1);
@@ -150,7 +152,8 @@ impl Tally {
     #[cold]
     #[inline(never)]
     pub fn take_refused(&mut self, start: &[u8], refusal: Refusal)
-        ensures { (opening : List ReplySpec) (exchanges : List Exchange) (line : List ℕ) → start.now ≡ take 129 line → IsTally opening exchanges self.old
+        ensures { (opening : List ReplySpec) (exchanges : List Exchange) (line : List ℕ) → start.now ≡ take 129 line
+            → IsTally opening exchanges self.old
             → IsTally opening (exchanges ++ record { line = line; reply = Refused refusal } ∷ []) self.new }
     {
         self.lines = self.lines.saturating_add(1);

@@ -1,7 +1,8 @@
 //! The values of commands.
 ghost use Rattle.std.specs.Prelude.{◌≡◌, ℕ, List, Result};
 ghost use Rattle.cc_word.specs.declared.refusal.Refusal.{Refusal as RefusalSpec};
-ghost use Rattle.cc_values.specs.Values.{address_in, both, flag_in, index_in, length_in, permissions_in, single, word_in, words_of};
+ghost use Rattle.cc_values.specs.Values.{address_in, both, flag_in, index_in, length_in, permissions_in, single};
+ghost use Rattle.cc_values.specs.Values.{word_in, words_of};
 ghost use Rattle.cc_syntax.specs.Commands.{align_in, slot_and, slot_and_perhaps};
 
 use crate::numbers::{read_length, split_number, split_slot};

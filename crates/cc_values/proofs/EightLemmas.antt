@@ -1,5 +1,6 @@
 -- Digits read eight at a time.
-use Rattle.std.proofs.Common.{◌≡◌, ◌⊎◌, inl, inr, ℕ, zero, suc, Bool, true, false, ◌+◌, ◌-◌, ◌==◌, ◌*◌, ◌≤◌, ◌<◌, ◌^◌, ◌&&◌, max, List, [], ◌∷◌, ◌++◌, get_or, take, drop, length, slice_index, Some, None, if◌then◌else◌, refl, sym, ◌∙◌, ap, arith, ◌↔◌}
+use Rattle.std.proofs.Common.{◌≡◌, ◌⊎◌, inl, inr, ℕ, zero, suc, Bool, true, false, ◌+◌, ◌-◌, ◌==◌, ◌*◌, ◌≤◌, ◌<◌, ◌^◌, ◌&&◌, max, List, [], ◌∷◌, ◌++◌, get_or, take, drop, length, slice_index}
+use Rattle.std.proofs.Common.{Some, None, if◌then◌else◌, refl, sym, ◌∙◌, ap, arith, ◌↔◌}
 use Rattle.std.proofs.lemmas.Bool.{ltb-true, lt-ltb}
 use Rattle.std.proofs.lemmas.Nat.{pow-add}
 use Rattle.std.proofs.lemmas.List.{take_all, take-append-drop, length-take, length-drop}

@@ -25,12 +25,12 @@ unfolding find_row
 missing [] name texts is_not = refl
 missing (row ∷ rows) name texts is_not =
     by (list_all is_ascii row.0) (pointwise nat_eq row.0 name) (find_row rows name) refl refl texts (λ rest. missing rows name rest is_not) where
-  by : (is_text same : Bool) (later : Option ℕ) → list_all is_ascii row.0 ≡ is_text → pointwise nat_eq row.0 name ≡ same
-      → (is_text && list_all (λ row. list_all is_ascii row.0) rows) ≡ true → (list_all (λ row. list_all is_ascii row.0) rows ≡ true → later ≡ None)
-      → (if same then Some row.1 else later) ≡ None
-  by true true later text same rest missed = absurd (is_not (subst IsUtf8 (same_text row.0 name (sym same)) (IsUtf8-from_ascii row.0 (ascii row.0 text))))
-  by true false later text same rest missed = missed rest
-  by false same later text equal rest missed = absurd (true≢false (sym rest))
+      by : (is_text same : Bool) (later : Option ℕ) → list_all is_ascii row.0 ≡ is_text → pointwise nat_eq row.0 name ≡ same
+          → (is_text && list_all (λ row. list_all is_ascii row.0) rows) ≡ true → (list_all (λ row. list_all is_ascii row.0) rows ≡ true → later ≡ None)
+          → (if same then Some row.1 else later) ≡ None
+      by true true later text same rest missed = absurd (is_not (subst IsUtf8 (same_text row.0 name (sym same)) (IsUtf8-from_ascii row.0 (ascii row.0 text))))
+      by true false later text same rest missed = missed rest
+      by false same later text equal rest missed = absurd (true≢false (sym rest))
 
 -- Bytes that are not text are not the name of a permission.
 pub unnamed : (name : List ℕ) → ¬ IsUtf8 name → None ≡ find_name permission_table name

@@ -1,5 +1,6 @@
 //! Digits, and the numbers that they parse as.
-ghost use Rattle.std.specs.Prelude.{◌≡◌, ◌⊎◌, ◌↔◌, ◌+◌, ◌*◌, ◌%◌, ◌<◌, ◌≤◌, ◌^◌, length, min, take, false, ℕ, Option, Some, SomeIff, IsSome, IsTrue};
+ghost use Rattle.std.specs.Prelude.{◌≡◌, ◌⊎◌, ◌↔◌, ◌+◌, ◌*◌, ◌%◌, ◌<◌, ◌≤◌, ◌^◌, length, min, take, false, ℕ};
+ghost use Rattle.std.specs.Prelude.{Option, Some, SomeIff, IsSome, IsTrue};
 ghost use Rattle.std.specs.Char.{digit_value};
 ghost use Rattle.cc_values.specs.Numbers.{numeral_of, capped};
 ghost use Rattle.cc_values.specs.Digits.{number_further, Spells};

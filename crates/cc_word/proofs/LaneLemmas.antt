@@ -1,5 +1,6 @@
 -- Digits read and written by vectors, which a proof sees as the lists of their lanes.
-use Rattle.std.proofs.Common.{◌++◌, bit_and, replicate, if◌then◌else◌, ◌<◌, ◌≡◌, ℕ, zero, suc, Bool, true, false, cond, ltb, ◌+◌, ◌*◌, ◌-◌, ◌/◌, ◌%◌, ◌^◌, List, [], ◌∷◌, length, map, slice_index, ◌==◌, ◌&&◌, refl, sym, ◌∙◌, ap, arith, Fits, w8, ltb-true, ltb-false}
+use Rattle.std.proofs.Common.{◌++◌, bit_and, replicate, if◌then◌else◌, ◌<◌, ◌≡◌, ℕ, zero, suc, Bool, true, false, cond, ltb, ◌+◌, ◌*◌, ◌-◌, ◌/◌, ◌%◌, ◌^◌, List, [], ◌∷◌, length, map, slice_index}
+use Rattle.std.proofs.Common.{◌==◌, ◌&&◌, refl, sym, ◌∙◌, ap, arith, Fits, w8, ltb-true, ltb-false}
 use Rattle.std.proofs.lemmas.Bool.{agree_below_at, eqb-true}
 use Rattle.std.specs.List.{list_all}
 use Rattle.std.specs.Char.{digit_value}
@@ -113,12 +114,14 @@ paired-value (suc n) before (b ∷ c ∷ text) (v ∷ w ∷ values) even same h 
 pub bytes_are : (values : List ℕ) → length values ≡ 32
     → zip2 plus (zip2 times (pick_l 0 (values ++ values) firsts) (replicate 16 16)) (pick_l 0 (values ++ values) seconds) ≡ paired values
 unfolding paired
-bytes_are (v0 ∷ v1 ∷ v2 ∷ v3 ∷ v4 ∷ v5 ∷ v6 ∷ v7 ∷ v8 ∷ v9 ∷ v10 ∷ v11 ∷ v12 ∷ v13 ∷ v14 ∷ v15 ∷ v16 ∷ v17 ∷ v18 ∷ v19 ∷ v20 ∷ v21 ∷ v22 ∷ v23 ∷ v24 ∷ v25 ∷ v26 ∷ v27 ∷ v28 ∷ v29 ∷ v30 ∷ v31 ∷ []) h = refl
+bytes_are (v0 ∷ v1 ∷ v2 ∷ v3 ∷ v4 ∷ v5 ∷ v6 ∷ v7 ∷ v8 ∷ v9 ∷ v10 ∷ v11 ∷ v12 ∷ v13 ∷ v14 ∷ v15 ∷ v16 ∷ v17 ∷ v18 ∷ v19 ∷ v20 ∷ v21 ∷ v22 ∷ v23 ∷ v24 ∷ v25 ∷ v26 ∷ v27 ∷ v28 ∷ v29 ∷ v30 ∷ v31 ∷ [])
+    h = refl
 bytes_are _ h = absurd (omega arith)
 
 pub length-paired : (values : List ℕ) → length values ≡ 32 → length (paired values) ≡ 16
 unfolding paired
-length-paired (v0 ∷ v1 ∷ v2 ∷ v3 ∷ v4 ∷ v5 ∷ v6 ∷ v7 ∷ v8 ∷ v9 ∷ v10 ∷ v11 ∷ v12 ∷ v13 ∷ v14 ∷ v15 ∷ v16 ∷ v17 ∷ v18 ∷ v19 ∷ v20 ∷ v21 ∷ v22 ∷ v23 ∷ v24 ∷ v25 ∷ v26 ∷ v27 ∷ v28 ∷ v29 ∷ v30 ∷ v31 ∷ []) h = refl
+length-paired (v0 ∷ v1 ∷ v2 ∷ v3 ∷ v4 ∷ v5 ∷ v6 ∷ v7 ∷ v8 ∷ v9 ∷ v10 ∷ v11 ∷ v12 ∷ v13 ∷ v14 ∷ v15 ∷ v16 ∷ v17 ∷ v18 ∷ v19 ∷ v20 ∷ v21 ∷ v22 ∷ v23 ∷ v24 ∷ v25 ∷ v26 ∷ v27 ∷ v28 ∷ v29 ∷ v30 ∷ v31 ∷
+    []) h = refl
 length-paired _ h = absurd (omega arith)
 
 -- ---- the value of a byte
@@ -243,7 +246,11 @@ picked number =
 
 picked-is : (half : ℕ) → picked half ≡ digits_of 16 half
 unfolding divided digits_of
-picked-is half = λ i. slice_index lower_digits (high_lane 7 half i) ∷ slice_index lower_digits (low_lane 7 half i) ∷ slice_index lower_digits (high_lane 6 half i) ∷ slice_index lower_digits (low_lane 6 half i) ∷ slice_index lower_digits (high_lane 5 half i) ∷ slice_index lower_digits (low_lane 5 half i) ∷ slice_index lower_digits (high_lane 4 half i) ∷ slice_index lower_digits (low_lane 4 half i) ∷ slice_index lower_digits (high_lane 3 half i) ∷ slice_index lower_digits (low_lane 3 half i) ∷ slice_index lower_digits (high_lane 2 half i) ∷ slice_index lower_digits (low_lane 2 half i) ∷ slice_index lower_digits (high_lane 1 half i) ∷ slice_index lower_digits (low_lane 1 half i) ∷ slice_index lower_digits (high_lane 0 half i) ∷ slice_index lower_digits (low_lane 0 half i) ∷ []
+picked-is half = λ i. slice_index lower_digits (high_lane 7 half i) ∷ slice_index lower_digits (low_lane 7 half i) ∷ slice_index lower_digits (high_lane 6 half i) ∷ slice_index lower_digits
+    (low_lane 6 half i) ∷ slice_index lower_digits (high_lane 5 half i) ∷ slice_index lower_digits (low_lane 5 half i) ∷ slice_index lower_digits (high_lane 4 half i) ∷ slice_index lower_digits
+    (low_lane 4 half i) ∷ slice_index lower_digits (high_lane 3 half i) ∷ slice_index lower_digits (low_lane 3 half i) ∷ slice_index lower_digits (high_lane 2 half i) ∷ slice_index lower_digits
+    (low_lane 2 half i) ∷ slice_index lower_digits (high_lane 1 half i) ∷ slice_index lower_digits (low_lane 1 half i) ∷ slice_index lower_digits (high_lane 0 half i) ∷ slice_index lower_digits
+    (low_lane 0 half i) ∷ []
 
 pub half_picked : (half : ℕ) → picked (number_l (2 ^ 64) (half ∷ 0 ∷ [])) ≡ digits_of 16 half
 half_picked half =

@@ -1,5 +1,6 @@
 -- Numbers read from eight digits, two at a time.
-use Rattle.std.proofs.Common.{◌-◌, ◌<◌, ◌≤◌, ◌≡◌, ℕ, Bool, true, false, ◌+◌, ◌*◌, ◌^◌, List, [], ◌∷◌, length, drop, slice_index, ◌==◌, ◌&&◌, Option, Some, None, is_some, if◌then◌else◌, refl, sym, ◌∙◌, ap, arith}
+use Rattle.std.proofs.Common.{◌-◌, ◌<◌, ◌≤◌, ◌≡◌, ℕ, Bool, true, false, ◌+◌, ◌*◌, ◌^◌, List, [], ◌∷◌, length, drop, slice_index, ◌==◌, ◌&&◌, Option, Some, None, is_some, if◌then◌else◌, refl, sym}
+use Rattle.std.proofs.Common.{◌∙◌, ap, arith}
 use Rattle.std.proofs.lemmas.Bool.{eqb-true, agree_below_at}
 use Rattle.std.proofs.lemmas.Nat.{pow-add}
 use Rattle.std.proofs.lemmas.List.{drop_all, drop_more}

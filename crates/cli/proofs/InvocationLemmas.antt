@@ -27,7 +27,8 @@ use Rattle.cc_io.specs.declared.input_form.InputForm.TheVariants.{Bytes, Lines}
 use Rattle.cc_io.specs.declared.format.Format.{Format}
 use Rattle.cc_io.specs.declared.format.Format.TheVariants.{Columns}
 use Rattle.cc_io.specs.declared.format.Format.TheVariants as format
-use Rattle.cli.specs.Invocation.{HasChoice, HasItsTexts, HasLimit, IsChosen, IsGiven, IsLimit, IsLimitText, choice_fault_in, align_named, decimal_value, format_named, format_names, program, slots_option, choice_option, input_named, order_names, HasFlag, flag_option, summary_named, summary_names}
+use Rattle.cli.specs.Invocation.{HasChoice, HasItsTexts, HasLimit, IsChosen, IsGiven, IsLimit, IsLimitText, choice_fault_in, align_named, decimal_value, format_named, format_names, program}
+use Rattle.cli.specs.Invocation.{slots_option, choice_option, input_named, order_names, HasFlag, flag_option, summary_named, summary_names}
 use Rattle.cli.specs.declared.invocation.SummaryFormat.{SummaryFormat}
 use Rattle.cli.specs.declared.invocation.SummaryFormat.TheVariants as summary
 use Rattle.cli.proofs.GivenLemmas.{GiveValues, GivesValue, IsTaken, flag_gives, level-given, level_parts, no_default-given, required_given, set_gives, taken}
@@ -451,7 +452,8 @@ module _ (aligns : Bor (List (Bor Text))) (are : texts aligns.now ≡ codes "1" 
       let rows = rows_after plan.rules [] words in
       let wanted = required_given plan words plan_gives e in
       let limit = limit_served plan words plan_gives refl e in
-      let align = has_choice align_named (codes "align") (codes "1" ∷ codes "16" ∷ []) align_read aligns are rows (taken plan.rules (codes "align") (filled (choice_option (codes "align") aligns)) rows (level-given plan [] words false [] plan_gives e) refl) in
+      let align = has_choice align_named (codes "align") (codes "1" ∷ codes "16" ∷ []) align_read aligns are rows
+      (taken plan.rules (codes "align") (filled (choice_option (codes "align") aligns)) rows (level-given plan [] words false [] plan_gives e) refl) in
       let stats = flag_served plan words (codes "stats") plan_gives refl e in
       (codes "plan", rows, refl, ((wanted.1.1.1.0 refl, wanted.1.1.1.1.0 refl), limit, align, stats))
 
@@ -460,23 +462,28 @@ module _ (aligns : Bor (List (Bor Text))) (are : texts aligns.now ≡ codes "1" 
       let rows = rows_after map.rules [] words in
       let wanted = required_given map words map_gives e in
       let limit = limit_served map words map_gives refl e in
-      let align = has_choice align_named (codes "align") (codes "1" ∷ codes "16" ∷ []) align_read aligns are rows (taken map.rules (codes "align") (filled (choice_option (codes "align") aligns)) rows (level-given map [] words false [] map_gives e) refl) in
+      let align = has_choice align_named (codes "align") (codes "1" ∷ codes "16" ∷ []) align_read aligns are rows
+      (taken map.rules (codes "align") (filled (choice_option (codes "align") aligns)) rows (level-given map [] words false [] map_gives e) refl) in
       let svg = flag_served map words (codes "svg") map_gives refl e in
       (codes "map", rows, refl, ((wanted.1.1.1.0 refl, wanted.1.1.1.1.0 refl), limit, align, svg))
 
   replay_serves : Serves replay
   replay_serves words e choice =
       let rows = rows_after replay.rules [] words in
-      let align = has_choice align_named (codes "align") (codes "1" ∷ codes "16" ∷ []) align_read aligns are rows (taken replay.rules (codes "align") (filled (choice_option (codes "align") aligns)) rows (level-given replay [] words false [] replay_gives e) refl) in
+      let align = has_choice align_named (codes "align") (codes "1" ∷ codes "16" ∷ []) align_read aligns are rows
+      (taken replay.rules (codes "align") (filled (choice_option (codes "align") aligns)) rows (level-given replay [] words false [] replay_gives e) refl) in
       let strict = flag_served replay words (codes "strict") replay_gives refl e in
-      let told = has_choice summary_named (codes "summary") summary_names summary_read summaries are_summaries rows (taken replay.rules (codes "summary") (filled (choice_option (codes "summary") summaries)) rows (level-given replay [] words false [] replay_gives e) refl) in
+      let told = has_choice summary_named (codes "summary") summary_names summary_read summaries are_summaries rows
+      (taken replay.rules (codes "summary") (filled (choice_option (codes "summary") summaries)) rows (level-given replay [] words false [] replay_gives e) refl) in
       (codes "replay", rows, refl, (align, strict, told))
 
   decode_serves : Serves decode
   decode_serves words e choice =
       let rows = rows_after decode.rules [] words in
-      let format = has_choice format_named (codes "format") format_names format_read formats are_formats rows (taken decode.rules (codes "format") (filled (choice_option (codes "format") formats)) rows (level-given decode [] words false [] decode_gives e) refl) in
-      let order = has_choice input_named (codes "bytes") order_names order_read orders are_orders rows (taken decode.rules (codes "bytes") (filled (choice_option (codes "bytes") orders)) rows (level-given decode [] words false [] decode_gives e) refl) in
+      let format = has_choice format_named (codes "format") format_names format_read formats are_formats rows
+      (taken decode.rules (codes "format") (filled (choice_option (codes "format") formats)) rows (level-given decode [] words false [] decode_gives e) refl) in
+      let order = has_choice input_named (codes "bytes") order_names order_read orders are_orders rows
+      (taken decode.rules (codes "bytes") (filled (choice_option (codes "bytes") orders)) rows (level-given decode [] words false [] decode_gives e) refl) in
       (codes "decode", rows, refl, (format, order))
 
   abbrev AllServe : List Shape → Type 0

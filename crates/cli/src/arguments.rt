@@ -1,7 +1,8 @@
 //! The arguments and options of the commands, as clap reads them.
 ghost use Rattle.std.specs.Prelude.{◌≡◌, codes, false};
 ghost use Rattle.clap.specs.Words.{rule_of};
-ghost use Rattle.cli.specs.Usage.{argument_of, choice_option, flag_option, optional_argument, slots_option, valued_option, wanted_argument};
+ghost use Rattle.cli.specs.Usage.{argument_of, choice_option, flag_option, optional_argument, slots_option};
+ghost use Rattle.cli.specs.Usage.{valued_option, wanted_argument};
 
 use crate::table::{Choices, Kind, Row, help};
 use clap::builder::ValueParser;

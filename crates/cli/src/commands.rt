@@ -24,7 +24,8 @@ pub fn program<'a>(
     orders: &'a [&'a str],
     summaries: &'a [&'a str],
 ) -> Result<Command<'a>, AllocError>
-    ensures { IfOk result (λ command. app_of command ≡ program aligns.entry formats.entry orders.entry summaries.entry) }
+    ensures { IfOk result (λ command. app_of command ≡ program aligns.entry formats.entry orders.entry
+        summaries.entry) }
 {
     let choices = Choices {
         aligns,
@@ -95,7 +96,8 @@ fn with_arguments<'a>(
     choices: Choices<'a>,
 ) -> Result<Command<'a>, AllocError>
     requires { (out-Command bare).has_globals ≡ false }
-    ensures shape { IfOk result (λ command. app_of command ≡ with_arguments choices.entry (app_of bare.entry) rows.now) }
+    ensures shape { IfOk result (λ command. app_of command ≡ with_arguments choices.entry (app_of bare.entry)
+        rows.now) }
     ensures local { IfOk result (λ command. (out-Command command).has_globals ≡ false) }
 {
     let mut command = bare;

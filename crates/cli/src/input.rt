@@ -55,7 +55,8 @@ pub trait Inputs {
         content: Content,
         source: &mut Self::Opened,
     ) -> Result<(), Fault>
-        ensures opened { OnOk result (IfSome (bytes_of self.old input.entry) (λ bytes. (Self.Opened.state source.new).unread ≡ Some bytes)) }
+        ensures opened { OnOk result (IfSome (bytes_of self.old input.entry)
+            (λ bytes. (Self.Opened.state source.new).unread ≡ Some bytes)) }
         ensures fails { IfErr result (λ fault. (fault ≡ Fault.Open) × IsFile input.entry) }
         ensures asked { last_asked self.new input.entry content ≡ true }
         ensures refused { IsErr result ↔ (has_refused self.new ≡ true) }

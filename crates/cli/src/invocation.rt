@@ -51,7 +51,8 @@ pub enum ReplayOutput<'a> {
     Series(&'a str),
 }
 
-/// The values of the options of `replay` that are numbers, names, a policy or a pool, as they were typed, and its output.
+/// The values of the options of `replay` that are numbers, names, a policy or a pool, as they were typed, and its
+/// output.
 #[derive(Clone, Copy)]
 pub struct ReplayTexts<'a> {
     /// The effect of a realloc.
@@ -109,7 +110,8 @@ pub enum Invocation<'a> {
         file: Option<&'a str>,
     },
     /// `replay [--format FORMAT] [--align ALIGN] [--realloc MODE] [--sweep POLICY] [--min BYTES] [--pool BASE:LENGTH]
-    /// [--strict] [--summary FORMAT] [--each N] [--sizes] [--svg] [--script] [FILE]`: replays the trace of an allocator.
+    /// [--strict] [--summary FORMAT] [--each N] [--sizes] [--svg] [--script] [FILE]`: replays the trace of an
+    /// allocator.
     Replay {
         /// The alignment of each object.
         align: Align,
@@ -120,7 +122,8 @@ pub enum Invocation<'a> {
         /// The trace's file; `None` and `-` are standard input.
         file: Option<&'a str>,
     },
-    /// `decode [--format FORMAT] [--bytes ORDER] [--skip N] [--at START] [--holds ADDRESS] [--perms NAMES] [FILE]`: lists
+    /// `decode [--format FORMAT] [--bytes ORDER] [--skip N] [--at START] [--holds ADDRESS] [--perms NAMES] [FILE]`:
+    /// lists
     /// the content of each word of a text, or of raw bytes, or of those that a search finds.
     Decode {
         /// The form of the words in the input.

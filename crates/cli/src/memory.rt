@@ -17,9 +17,11 @@ pub trait Memory {
 
     /// Reads the program's arguments as [`read_words`] does.
     fn read_words<'a>(&mut self, words: &'a [&'a str]) -> Result<Invocation<'a>, Error>
-        ensures read { IfOk result (λ invocation. (app : App) × IsProgram app × IsInvocation (subcommand_of app (texts words.now)) invocation) }
+        ensures read { IfOk result (λ invocation. (app : App) × IsProgram app
+            × IsInvocation (subcommand_of app (texts words.now)) invocation) }
         ensures refused { IfErr result (λ error.
-            (app : App) × IsProgram app × (is_taken app (texts words.now) ≡ true → kind_of error ≡ ErrorKind.OutOfMemory)) }
+            (app : App) × IsProgram app × (is_taken app (texts words.now) ≡ true
+            → kind_of error ≡ ErrorKind.OutOfMemory)) }
         ensures kinds { (app : App) × IsProgram app × FailsBy (faults_of app (texts words.now)) result }
         ensures fails { MatchResult result (λ invocation. Self.has_failed self.new ≡ false)
             (λ error. (kind_of error ≡ ErrorKind.OutOfMemory) ↔ (Self.has_failed self.new ≡ true)) };

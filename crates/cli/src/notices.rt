@@ -22,7 +22,8 @@ pub fn percent_of(done: u64, length: u64) -> Option<u64>
 /// it is called.
 pub fn show_progress<E: Sink>(percent: u64, errors: &mut E)
     requires { (E.state errors.old).has_failed ≡ false }
-    ensures { (E.state errors.new).has_failed ≡ false → Appends (E.state errors.old).taken (E.state errors.new).taken (progress_text percent) }
+    ensures { (E.state errors.new).has_failed ≡ false
+        → Appends (E.state errors.old).taken (E.state errors.new).taken (progress_text percent) }
 {
     let mut page: Page<64> = Page::new();
     page.push(b"replay: ");
@@ -34,7 +35,8 @@ pub fn show_progress<E: Sink>(percent: u64, errors: &mut E)
 /// Clears the line of [`show_progress`]. Errors of the sink are ignored.
 pub fn clear_progress<E: Sink>(errors: &mut E)
     requires { (E.state errors.old).has_failed ≡ false }
-    ensures { (E.state errors.new).has_failed ≡ false → Appends (E.state errors.old).taken (E.state errors.new).taken clearing_text }
+    ensures { (E.state errors.new).has_failed ≡ false
+        → Appends (E.state errors.old).taken (E.state errors.new).taken clearing_text }
 {
     let _ = write_all(errors, b"            \r");
 }
@@ -42,7 +44,8 @@ pub fn clear_progress<E: Sink>(errors: &mut E)
 /// Writes that the script is read from the terminal. Errors of the sink are ignored. Only tests show when it is called.
 pub fn announce<E: Sink>(errors: &mut E)
     requires { (E.state errors.old).has_failed ≡ false }
-    ensures { (E.state errors.new).has_failed ≡ false → Appends (E.state errors.old).taken (E.state errors.new).taken waiting_text }
+    ensures { (E.state errors.new).has_failed ≡ false
+        → Appends (E.state errors.old).taken (E.state errors.new).taken waiting_text }
 {
     let _ = write_all(
         errors,

@@ -24,7 +24,8 @@ pub struct ProcessInputs<'a, R> {
 }
 
 impl<'a, R: Files + Input + Eprint> ProcessInputs<'a, R> {
-    /// Creates the inputs of the process. If `is_typed`, a user at the terminal types the standard input, and if `is_watched`,
+    /// Creates the inputs of the process. If `is_typed`, a user at the terminal types the standard input, and if
+    /// `is_watched`,
     /// standard error shows how much of a file has been read.
     pub fn new(rt: &'a R, is_typed: bool, is_watched: bool) -> Self
         ensures { ⟦<ProcessInputs<'a, R> as Inputs>⟧.has_refused result ≡ false }
@@ -95,7 +96,8 @@ impl<'a, R: Files + Input + Eprint> Inputs for ProcessInputs<'a, R> {
     }
 }
 
-/// Returns the number of bytes below which an input has to stay. For all but scripts it is more than any file or pipe gives.
+/// Returns the number of bytes below which an input has to stay. For all but scripts it is more than any file or
+/// pipe gives.
 fn limit_of(content: Content) -> usize {
     match content {
         Content::Script | Content::Pool => 1 << 30,

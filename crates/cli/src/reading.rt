@@ -1,8 +1,13 @@
 //! Parses the arguments of the command line, and reads them as an `Invocation`, or returns an error of clap's.
 ghost use Rattle.std.specs.Prelude.{◌≡◌, ◌∷◌, [], IfErr, IfOk, None, codes, is_some, true};
 ghost use Rattle.clap.specs.Walk.{texts};
-ghost use Rattle.clap.specs.Words.{App, FailsBy, first_of, found_of, kind_of, rows_of, subcommand_of, subcommand_rows_of};
-ghost use Rattle.cli.specs.Invocation.{HasChoice, HasFlag, HasItsTexts, HasLimit, HasPoolTexts, HasText, HasValues, HasWanted, IsInvocation, IsProgram, align_named, choice_fault_in, choice_fault_of, command_name_of, faults_of, format_named, format_names, input_named, is_taken, kinds_in, list_fault_of, order_names, summary_named, summary_names};
+ghost use Rattle.clap.specs.Words.{App, FailsBy, first_of, found_of, kind_of, rows_of, subcommand_of};
+ghost use Rattle.clap.specs.Words.{subcommand_rows_of};
+ghost use Rattle.cli.specs.Invocation.{HasChoice, HasFlag, HasItsTexts, HasLimit, HasPoolTexts, HasText, HasValues};
+ghost use Rattle.cli.specs.Invocation.{HasWanted, IsInvocation, IsProgram, align_named, choice_fault_in};
+ghost use Rattle.cli.specs.Invocation.{choice_fault_of, command_name_of, faults_of, format_named, format_names};
+ghost use Rattle.cli.specs.Invocation.{input_named, is_taken, kinds_in, list_fault_of, order_names, summary_named};
+ghost use Rattle.cli.specs.Invocation.{summary_names};
 
 use crate::commands::{bare_round_command, explain_command, program};
 use crate::help::{EXPLAIN_CHOICE, ROUND_CHOICE};
@@ -21,7 +26,8 @@ use std::alloc::{AllocError, Global};
 /// Errors: a mistake in the arguments, a request for help or for the version, or an allocation that fails. The kind of
 /// the error says which.
 pub fn read_words<'a>(alloc: Global, words: &'a [&'a str]) -> Result<Invocation<'a>, Error>
-    ensures read { IfOk result (λ invocation. (app : App) × IsProgram app × IsInvocation (subcommand_of app (texts words.now)) invocation) }
+    ensures read { IfOk result (λ invocation. (app : App) × IsProgram app
+        × IsInvocation (subcommand_of app (texts words.now)) invocation) }
     ensures refused { IfErr result (λ error.
         (app : App) × IsProgram app × (is_taken app (texts words.now) ≡ true → kind_of error ≡ ErrorKind.OutOfMemory)) }
     ensures kinds { (app : App) × IsProgram app × FailsBy (faults_of app (texts words.now)) result }
@@ -35,7 +41,8 @@ pub fn read_words<'a>(alloc: Global, words: &'a [&'a str]) -> Result<Invocation<
 /// Parses the program's arguments as one of its commands with the values that it needs.
 fn parse_words<'a>(alloc: Global, words: &'a [&'a str]) -> Result<ArgMatches<'a>, Error>
     ensures read { IfOk result (λ matches.
-        (app : App) × IsProgram app × (subcommand_rows_of matches ≡ subcommand_of app (texts words.now)) × HasItsTexts (subcommand_rows_of matches)) }
+        (app : App) × IsProgram app × (subcommand_rows_of matches ≡ subcommand_of app (texts words.now))
+        × HasItsTexts (subcommand_rows_of matches)) }
     ensures refused { IfErr result (λ error.
         (app : App) × IsProgram app × (is_taken app (texts words.now) ≡ true → kind_of error ≡ ErrorKind.OutOfMemory)) }
     ensures kinds { (app : App) × IsProgram app × FailsBy (faults_of app (texts words.now)) result }
@@ -75,9 +82,11 @@ fn summaries<'a>() -> &'a [&'a str]
     &["text", "csv", "json"]
 }
 
-/// Returns what clap found, or the error of the values of `explain` or of `round` that exclude each other or are missing.
+/// Returns what clap found, or the error of the values of `explain` or of `round` that exclude each other or are
+/// missing.
 fn chosen<'a>(alloc: Global, matches: ArgMatches<'a>) -> Result<ArgMatches<'a>, Error>
-    ensures read { IfOk result (λ chosen. (chosen ≡ matches.entry) × (choice_fault_in (subcommand_rows_of matches.entry) ≡ None)) }
+    ensures read { IfOk result (λ chosen. (chosen ≡ matches.entry)
+        × (choice_fault_in (subcommand_rows_of matches.entry) ≡ None)) }
     ensures kinds { FailsBy (kinds_in (choice_fault_in (subcommand_rows_of matches.entry))) result }
 {
     match choice_fault(&matches) {

@@ -554,7 +554,8 @@ const EXPLAIN_ROWS: &[Row] = &[
 
 /// Returns the commands except `explain`.
 pub(crate) fn commands<'a>() -> &'a [CommandRow<'a>]
-    ensures { (choices : Choices) → with_commands choices bare_program result.now ≡ listed_commands choices.aligns choices.formats choices.orders choices.summaries }
+    ensures { (choices : Choices) → with_commands choices bare_program result.now ≡ listed_commands choices.aligns
+        choices.formats choices.orders choices.summaries }
 {
     COMMANDS
 }

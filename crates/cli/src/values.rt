@@ -1,7 +1,9 @@
 //! The values that clap found for arguments and options.
 ghost use Rattle.std.specs.Prelude.{◌≡◌, Some, codes, option_map, unwrap_or};
 ghost use Rattle.clap.specs.Words.{first_of, found_of, rows_of};
-ghost use Rattle.cli.specs.Invocation.{HasChoice, HasDecodeTexts, HasFlag, HasLimit, HasOutput, HasPool, HasPoolTexts, HasReplayTexts, HasText, IsChosen, IsGiven, IsLimit, align_named, format_named, input_named, is_on, summary_named};
+ghost use Rattle.cli.specs.Invocation.{HasChoice, HasDecodeTexts, HasFlag, HasLimit, HasOutput, HasPool};
+ghost use Rattle.cli.specs.Invocation.{HasPoolTexts, HasReplayTexts, HasText, IsChosen, IsGiven, IsLimit};
+ghost use Rattle.cli.specs.Invocation.{align_named, format_named, input_named, is_on, summary_named};
 
 use crate::invocation::{DecodeTexts, PoolTexts, ReplayOutput, ReplayTexts, SummaryFormat};
 use cc_bounds::Align;
@@ -147,7 +149,8 @@ pub(crate) fn format_of(matches: &ArgMatches<'_>) -> Format
 /// Returns the value of `--summary`, or text.
 pub(crate) fn summary_of(matches: &ArgMatches<'_>) -> SummaryFormat
     requires { HasChoice summary_named (codes "summary") (rows_of (found_of matches.now)) }
-    ensures { IsChosen summary_named SummaryFormat.Text (first_of (codes "summary") (rows_of (found_of matches.now))) result }
+    ensures { IsChosen summary_named SummaryFormat.Text
+        (first_of (codes "summary") (rows_of (found_of matches.now))) result }
 {
     match value_of(matches, "summary") {
         Some("csv") => SummaryFormat::Csv,

@@ -78,14 +78,16 @@ output_found sweeping given placing found told =
 
 -- A refusal of one of the texts.
 pub replay_refused : (align : Align) (strict : Bool) (texts : ReplayTexts) (refusal : Refusal)
-    → both (both (sweep_given texts.sweep) (least_in texts.least)) (both (output_in texts.output) (both (span_given texts.pool) (both (format_in texts.format) (realloc_given texts.output texts.realloc)))) ≡ Err refusal
+    → both (both (sweep_given texts.sweep) (least_in texts.least)) (both (output_in texts.output)
+    (both (span_given texts.pool) (both (format_in texts.format) (realloc_given texts.output texts.realloc)))) ≡ Err refusal
     → Err refusal ≡ replay_in align strict texts
 replay_refused align strict texts refusal told = ap (changed _) (sym told)
 
 -- The values of all texts.
 pub replay_found : (align : Align) (strict : Bool) (texts : ReplayTexts) (policy : Policy) (least : ℕ) (output : ReplayOutput) (each : ℕ) (pool : Span) (format : TraceFormat)
     (realloc : Reallocation)
-    → both (both (sweep_given texts.sweep) (least_in texts.least)) (both (output_in texts.output) (both (span_given texts.pool) (both (format_in texts.format) (realloc_given texts.output texts.realloc))))
+    → both (both (sweep_given texts.sweep) (least_in texts.least)) (both (output_in texts.output)
+    (both (span_given texts.pool) (both (format_in texts.format) (realloc_given texts.output texts.realloc))))
     ≡ Ok ((policy, least), ((output, each), (pool, (format, realloc))))
     → Ok (
       output,

@@ -6,17 +6,24 @@ ghost use Rattle.cli.specs.Input.{IsFile};
 ghost use Rattle.cc_formats.specs.Reading.{is_over};
 ghost use Rattle.cc_formats.specs.declared.reading.Progress.TheVariants.{Running};
 ghost use Rattle.cc_replay.specs.Replay.{most_sample};
-ghost use Rattle.cli_replay.specs.Charting.{Charts, ChartsLine, ChartsRest, TakesLines, begun_chart, charted,
-    levels_of};
+ghost use Rattle.cli_replay.specs.Charting.{
+  Charts,
+  ChartsLine,
+  ChartsRest,
+  TakesLines,
+  begun_chart,
+  charted,
+  levels_of,
+};
 ghost use Rattle.cli_replay.specs.Settings.{IsForHeap};
 
 use crate::memory::TraceMemory;
 use cc_draw::{Chart, Levels, write_chart};
-use cli::{Content, Discard, Fault, InputName, Inputs};
 use cc_gaps::GapPlacer;
-use cc_io::{Answerer, IoError, Lines, Page, Sink, Source, Summary, Pending, pump};
+use cc_io::{Answerer, IoError, Lines, Page, Pending, Sink, Source, Summary, pump};
 use cc_placer::Placer;
 use cc_replay::{Entry, Figures, MOST_SAMPLE, Progress, Reading, Replay, Settings};
+use cli::{Content, Discard, Fault, InputName, Inputs};
 use std::alloc::{AllocError, Global};
 use std::marker::Model;
 
@@ -148,8 +155,8 @@ pub(crate) fn take_trace<P: Placer, S: Source>(
 ) -> Result<Summary, IoError>
     requires source { (S.state source.old).has_failed ≡ false }
     requires goes_on { is_over charting.old.replay.progress ≡ false }
-    ensures takes { TakesLines charting.old (S.state source.old).unread (S.state source.new).unread result charting.new
-        }
+    ensures takes { TakesLines charting.old (S.state source.old).unread (S.state source.new).unread result
+        charting.new }
     ensures read { (result ≡ Err IoError.Read) ↔ ((S.state source.new).has_failed ≡ true) }
     ensures written { result ≢ Err IoError.Write }
 {

@@ -12,10 +12,10 @@ ghost use Rattle.cli_replay.specs.Scripting.{Writes};
 ghost use Rattle.cli_replay.specs.Settings.{IsForHeap, IsForScript};
 
 use crate::charting::{Charting, take_trace};
-use cli::{GlobalMemory, Memory};
 use cc_gaps::GapPlacer;
 use cc_io::{IoError, Sink, Source, Summary};
 use cc_replay::{Progress, Reading, Replay, Script, Settings, replay_trace, script_trace};
+use cli::{GlobalMemory, Memory};
 use std::alloc::AllocError;
 
 /// The memory for the heap of a trace, which grows while lines are taken.

@@ -3,8 +3,19 @@ ghost use Rattle.std.specs.Prelude.{◌≡◌, ◌^◌, IfOk, Some};
 ghost use Rattle.cc_bounds.specs.Span.{IsSpan};
 ghost use Rattle.cli.specs.declared.invocation.ReplayOutput.TheVariants.{Script};
 ghost use Rattle.cc_heap.specs.declared.reallocation.Reallocation.TheVariants.{Move};
-ghost use Rattle.cli_replay.specs.ReplayTexts.{format_in, trace_format_named, in_output, least_in, output_in, realloc_given,
-    realloc_named, replay_in, span_given, span_in, sweep_given};
+ghost use Rattle.cli_replay.specs.ReplayTexts.{
+  format_in,
+  trace_format_named,
+  in_output,
+  least_in,
+  output_in,
+  realloc_given,
+  realloc_named,
+  replay_in,
+  span_given,
+  span_in,
+  sweep_given,
+};
 
 use cc_bounds::{Align, Span};
 use cc_replay::{Policy, Reading, Reallocation, Settings, Share, TraceFormat, read_policy};

@@ -5,8 +5,18 @@ ghost use Rattle.cli.specs.Devices.{FromInput, IsEnd, OnDevices, OnOutput, Traff
 ghost use Rattle.cli.specs.Input.{IsFile, file_input, trace_content};
 ghost use Rattle.cli_replay.specs.Charting.{ChartsTrace};
 ghost use Rattle.cli_replay.specs.ReplayTexts.{replay_in};
-ghost use Rattle.cli_replay.specs.Replaying.{IsStreaming, IsTable, ReplaysTrace, Samples, SumsUp, WithReplay,
-    WritesReplay, replay_table_text, command_summary_text, table_format};
+ghost use Rattle.cli_replay.specs.Replaying.{
+  IsStreaming,
+  IsTable,
+  ReplaysTrace,
+  Samples,
+  SumsUp,
+  WithReplay,
+  WritesReplay,
+  replay_table_text,
+  command_summary_text,
+  table_format,
+};
 ghost use Rattle.cc_formats.specs.Reading.{is_over};
 ghost use Rattle.cc_heap.specs.Lost.{empty_run};
 ghost use Rattle.cc_replay.specs.Replay.{begun};
@@ -66,8 +76,8 @@ pub fn replay_file<M: TraceMemory, I: Inputs, W: Sink>(
     requires sink { (W.state sink.old).has_failed ≡ false }
     ensures replays { OnOutput (I.bytes_of inputs.old) (I.Opened.state source.new) (W.state sink.old) (W.state sink.new)
         (λ console. WithReplay align strict texts.entry console
-            (λ output settings reading. FromInput (file_input file.entry) console
-            (ReplaysTrace output settings reading))) result }
+        (λ output settings reading. FromInput (file_input file.entry) console
+        (ReplaysTrace output settings reading))) result }
     ensures memory { result ≡ Err Fault.Memory → IsOk (replay_in align strict texts.entry) }
     ensures open { result ≡ Err Fault.Open → IsFile (file_input file.entry) }
     ensures starved { ¬ IsStreaming texts.entry.output → result ≡ Err Fault.Memory
@@ -120,7 +130,7 @@ fn replay<M: TraceMemory, I: Inputs, W: Sink>(
     requires sink { (W.state sink.old).has_failed ≡ false }
     ensures replays { OnOutput (I.bytes_of inputs.old) (I.Opened.state source.new) (W.state sink.old) (W.state sink.new)
         (λ console. FromInput input.entry console (WritesReplay output.entry (begun (empty_run settings) reading)))
-            result }
+        result }
     ensures open { result ≡ Err Fault.Open → IsFile input.entry }
     ensures starved { IsTable output.entry → result ≡ Err Fault.Memory
         → (W.state sink.new).taken ≡ (W.state sink.old).taken }
@@ -271,7 +281,8 @@ fn write_table<P: Placer, W: Sink>(
     sink: &mut W,
 ) -> Result<(), IoError>
     requires { (W.state sink.old).has_failed ≡ false }
-    ensures sends { SendsBytes (W.state sink.old) (W.state sink.new) (replay_table_text table format replay.now) result }
+    ensures sends { SendsBytes (W.state sink.old) (W.state sink.new) (replay_table_text table format replay.now)
+        result }
     ensures write { OnErr result (result ≡ Err IoError.Write) }
 {
     match table {

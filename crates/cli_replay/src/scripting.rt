@@ -6,10 +6,10 @@ ghost use Rattle.cc_formats.specs.Reading.{is_over};
 ghost use Rattle.cli_replay.specs.Scripting.{Scripts};
 
 use crate::memory::TraceMemory;
-use cli::{Content, Fault, InputName, Inputs};
 use cc_gaps::GapPlacer;
 use cc_io::{Sink, Source, Summary};
 use cc_replay::{Progress, Script};
+use cli::{Content, Fault, InputName, Inputs};
 
 /// Takes the trace of an input, and writes its script.
 pub(crate) fn script_input<M: TraceMemory, I: Inputs, W: Sink>(

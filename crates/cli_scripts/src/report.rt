@@ -60,7 +60,8 @@ pub fn write_report<M: RunMemory, E: Sink>(
     requires errors { (E.state errors.old).has_failed ≡ false }
     ensures written { OnOk result ((E.state errors.new).has_failed ≡ false
         → (opening : List Reply) (exchanges : List Exchange) → IsTally opening exchanges session.now.tally
-        → WritesReport report session.now opening exchanges pool (E.state errors.old).taken (E.state errors.new).taken) }
+        → WritesReport report session.now opening exchanges pool (E.state errors.old).taken
+        (E.state errors.new).taken) }
     ensures unwritten { OnErr result ((E.state errors.new).taken ≡ (E.state errors.old).taken) }
     ensures allocates { IsErr result ↔ (M.has_failed memory.new ≡ true) }
     ensures wanted { OnErr result (report.stats ≡ true) }

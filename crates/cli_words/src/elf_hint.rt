@@ -27,13 +27,15 @@ fn raw_file<'a>(form: InputForm, skip: Option<&str>, input: InputName<'a>) -> Op
 /// Writes the hint if a file that begins with these bytes is an ELF file. Errors of the sink are ignored.
 fn hint_elf<E: Sink>(start: &[u8], errors: &mut E)
     requires { (E.state errors.old).has_failed ≡ false }
-    ensures hinted { (E.state errors.new).has_failed ≡ false → Appends (E.state errors.old).taken (E.state errors.new).taken (elf_hint start.now) }
+    ensures hinted { (E.state errors.new).has_failed ≡ false
+        → Appends (E.state errors.old).taken (E.state errors.new).taken (elf_hint start.now) }
     ensures silent { ¬ IsTrue (is_elf start.now) → errors.new ≡ errors.old }
 {
     if is_elf(start) {
         let _ = write_all(
             errors,
-            b"hint: this is an ELF file, and its segments need not begin at multiples of 16: readelf -lW prints the Offset of each, for --skip\n",
+            b"hint: this is an ELF file, and its segments need not begin at multiples of 16: \
+              readelf -lW prints the Offset of each, for --skip\n",
         );
     }
 }

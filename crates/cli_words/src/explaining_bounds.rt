@@ -29,7 +29,8 @@ use cc_syntax::read_request;
 /// Errors: `Write` if and only if the sink fails. A prefix of the output is then written.
 pub fn explain_length<W: Sink>(base: &str, length: &str, sink: &mut W) -> Result<Summary, IoError>
     requires { (W.state sink.old).has_failed ≡ false }
-    ensures shown { WritesAnswer (IsLengthExplanation base.now length.now) (W.state sink.old) (W.state sink.new) result }
+    ensures shown { WritesAnswer (IsLengthExplanation base.now length.now) (W.state sink.old) (W.state sink.new)
+        result }
     ensures any_error { IfOk result (λ summary. IsTrue summary.any_error ↔ IsErr (request_in base.now length.now)) }
 {
     let mut answer = Text::new();

@@ -86,7 +86,8 @@ pub fn round_list<R: Source, W: Sink>(
     bare: &mut bool,
 ) -> Result<Summary, IoError>
     requires { AreReady (R.state source.old) (W.state sink.old) }
-    ensures { RoundsList base bare.new (R.state source.old) (R.state source.new) (W.state sink.old) (W.state sink.new) result }
+    ensures { RoundsList base bare.new (R.state source.old) (R.state source.new) (W.state sink.old)
+        (W.state sink.new) result }
 {
     let mut page = Page::<ROOM>::new();
     let mut rounder = Rounder { base, bare: false };

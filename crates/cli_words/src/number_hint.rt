@@ -30,7 +30,9 @@ fn has_bare(typed: &[&str]) -> bool
 /// the sink are ignored.
 pub(crate) fn hint_numbers<E: Sink>(hints: bool, base: Option<&str>, typed: &[&str], errors: &mut E)
     requires { (E.state errors.old).has_failed ≡ false }
-    ensures hinted { (E.state errors.new).has_failed ≡ false → Appends (E.state errors.old).taken (E.state errors.new).taken (number_hint hints (after_base base.entry (texts typed.now))) }
+    ensures hinted { (E.state errors.new).has_failed ≡ false
+        → Appends (E.state errors.old).taken (E.state errors.new).taken
+        (number_hint hints (after_base base.entry (texts typed.now))) }
     ensures silent { ¬ IsTrue (is_hinted hints (after_base base.entry (texts typed.now))) → errors.new ≡ errors.old }
 {
     write_hint_if(hints && has_bare_after(base, typed), errors);
@@ -40,7 +42,9 @@ pub(crate) fn hint_numbers<E: Sink>(hints: bool, base: Option<&str>, typed: &[&s
 /// the sink are ignored.
 pub(crate) fn hint_list<E: Sink>(hints: bool, base: Option<&str>, bare: bool, errors: &mut E)
     requires { (E.state errors.old).has_failed ≡ false }
-    ensures hinted { (E.state errors.new).has_failed ≡ false → Appends (E.state errors.old).taken (E.state errors.new).taken (hint_if (hints && (list_any is_bare (after_base base.entry []) || bare))) }
+    ensures hinted { (E.state errors.new).has_failed ≡ false
+        → Appends (E.state errors.old).taken (E.state errors.new).taken
+        (hint_if (hints && (list_any is_bare (after_base base.entry []) || bare))) }
     ensures silent { ¬ IsTrue hints → errors.new ≡ errors.old }
 {
     write_hint_if(hints && (has_bare_after(base, &[]) || bare), errors);
@@ -49,13 +53,15 @@ pub(crate) fn hint_list<E: Sink>(hints: bool, base: Option<&str>, bare: bool, er
 /// Writes the hint if there is one. Errors of the sink are ignored.
 fn write_hint_if<E: Sink>(is_hinted: bool, errors: &mut E)
     requires { (E.state errors.old).has_failed ≡ false }
-    ensures hinted { (E.state errors.new).has_failed ≡ false → Appends (E.state errors.old).taken (E.state errors.new).taken (hint_if is_hinted) }
+    ensures hinted { (E.state errors.new).has_failed ≡ false
+        → Appends (E.state errors.old).taken (E.state errors.new).taken (hint_if is_hinted) }
     ensures silent { ¬ IsTrue is_hinted → errors.new ≡ errors.old }
 {
     if is_hinted {
         let _ = write_all(
             errors,
-            b"hint: a number of 8 or 16 digits that begins with 0 is read as decimal: put 0x before hexadecimal digits\n",
+            b"hint: a number of 8 or 16 digits that begins with 0 is read as decimal: \
+              put 0x before hexadecimal digits\n",
         );
     }
 }

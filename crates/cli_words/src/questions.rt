@@ -82,10 +82,13 @@ fn show<W: Sink, E: Sink>(
 ) -> Result<Summary, IoError>
     requires sink { (W.state sink.old).has_failed ≡ false }
     requires errors { (E.state errors.old).has_failed ≡ false }
-    ensures answered { WritesAnswer (IsAnswerTo (question.Show word.entry as_line)) (W.state sink.old) (W.state sink.new) result }
-    ensures any_error { IfOk result (λ summary. IsTrue summary.any_error ↔ IsUnanswerable (question.Show word.entry as_line)) }
+    ensures answered { WritesAnswer (IsAnswerTo (question.Show word.entry as_line)) (W.state sink.old)
+        (W.state sink.new) result }
+    ensures any_error { IfOk result (λ summary. IsTrue summary.any_error
+        ↔ IsUnanswerable (question.Show word.entry as_line)) }
     ensures hinted { OnOk result ((E.state errors.new).has_failed ≡ false
-        → Appends (E.state errors.old).taken (E.state errors.new).taken (question_hint hints (question.Show word.entry as_line))) }
+        → Appends (E.state errors.old).taken (E.state errors.new).taken
+        (question_hint hints (question.Show word.entry as_line))) }
     ensures silent { ¬ IsTrue (has_hint hints (question.Show word.entry as_line)) → errors.new ≡ errors.old }
     ensures unreported { OnErr result (errors.new ≡ errors.old) }
 {
@@ -101,8 +104,10 @@ fn show<W: Sink, E: Sink>(
 /// Writes the listing of a word, or its one-line form.
 fn show_typed<W: Sink>(word: &str, as_line: bool, sink: &mut W) -> Result<Summary, IoError>
     requires { (W.state sink.old).has_failed ≡ false }
-    ensures answered { WritesAnswer (IsAnswerTo (question.Show word.entry as_line)) (W.state sink.old) (W.state sink.new) result }
-    ensures any_error { IfOk result (λ summary. IsTrue summary.any_error ↔ IsUnanswerable (question.Show word.entry as_line)) }
+    ensures answered { WritesAnswer (IsAnswerTo (question.Show word.entry as_line)) (W.state sink.old)
+        (W.state sink.new) result }
+    ensures any_error { IfOk result (λ summary. IsTrue summary.any_error
+        ↔ IsUnanswerable (question.Show word.entry as_line)) }
 {
     if as_line {
         show_line(word.as_bytes(), sink)
@@ -122,10 +127,13 @@ fn round<W: Sink, E: Sink>(
 ) -> Result<Summary, IoError>
     requires sink { (W.state sink.old).has_failed ≡ false }
     requires errors { (E.state errors.old).has_failed ≡ false }
-    ensures answered { WritesAnswer (IsAnswerTo (question.Round base.entry length.entry)) (W.state sink.old) (W.state sink.new) result }
-    ensures any_error { IfOk result (λ summary. IsTrue summary.any_error ↔ IsUnanswerable (question.Round base.entry length.entry)) }
+    ensures answered { WritesAnswer (IsAnswerTo (question.Round base.entry length.entry)) (W.state sink.old)
+        (W.state sink.new) result }
+    ensures any_error { IfOk result (λ summary. IsTrue summary.any_error
+        ↔ IsUnanswerable (question.Round base.entry length.entry)) }
     ensures hinted { OnOk result ((E.state errors.new).has_failed ≡ false
-        → Appends (E.state errors.old).taken (E.state errors.new).taken (question_hint hints (question.Round base.entry length.entry))) }
+        → Appends (E.state errors.old).taken (E.state errors.new).taken
+        (question_hint hints (question.Round base.entry length.entry))) }
     ensures silent { ¬ IsTrue (has_hint hints (question.Round base.entry length.entry)) → errors.new ≡ errors.old }
     ensures unreported { OnErr result (errors.new ≡ errors.old) }
 {
@@ -141,8 +149,10 @@ fn round<W: Sink, E: Sink>(
 /// Writes how setting bounds rounds a length, with the bounds granted from a base on if one is given.
 fn round_typed<W: Sink>(base: Option<&str>, length: &str, sink: &mut W) -> Result<Summary, IoError>
     requires { (W.state sink.old).has_failed ≡ false }
-    ensures answered { WritesAnswer (IsAnswerTo (question.Round base.entry length.entry)) (W.state sink.old) (W.state sink.new) result }
-    ensures any_error { IfOk result (λ summary. IsTrue summary.any_error ↔ IsUnanswerable (question.Round base.entry length.entry)) }
+    ensures answered { WritesAnswer (IsAnswerTo (question.Round base.entry length.entry)) (W.state sink.old)
+        (W.state sink.new) result }
+    ensures any_error { IfOk result (λ summary. IsTrue summary.any_error
+        ↔ IsUnanswerable (question.Round base.entry length.entry)) }
 {
     match base {
         None => show_round(length.as_bytes(), sink),
@@ -160,11 +170,15 @@ fn explain_request<W: Sink, E: Sink>(
 ) -> Result<Summary, IoError>
     requires sink { (W.state sink.old).has_failed ≡ false }
     requires errors { (E.state errors.old).has_failed ≡ false }
-    ensures answered { WritesAnswer (IsAnswerTo (question.ExplainLength base.entry length.entry)) (W.state sink.old) (W.state sink.new) result }
-    ensures any_error { IfOk result (λ summary. IsTrue summary.any_error ↔ IsUnanswerable (question.ExplainLength base.entry length.entry)) }
+    ensures answered { WritesAnswer (IsAnswerTo (question.ExplainLength base.entry length.entry)) (W.state sink.old)
+        (W.state sink.new) result }
+    ensures any_error { IfOk result (λ summary. IsTrue summary.any_error
+        ↔ IsUnanswerable (question.ExplainLength base.entry length.entry)) }
     ensures hinted { OnOk result ((E.state errors.new).has_failed ≡ false
-        → Appends (E.state errors.old).taken (E.state errors.new).taken (question_hint hints (question.ExplainLength base.entry length.entry))) }
-    ensures silent { ¬ IsTrue (has_hint hints (question.ExplainLength base.entry length.entry)) → errors.new ≡ errors.old }
+        → Appends (E.state errors.old).taken (E.state errors.new).taken
+        (question_hint hints (question.ExplainLength base.entry length.entry))) }
+    ensures silent { ¬ IsTrue (has_hint hints (question.ExplainLength base.entry length.entry))
+        → errors.new ≡ errors.old }
     ensures unreported { OnErr result (errors.new ≡ errors.old) }
 {
     match explain_length(base, length, sink) {

@@ -1,13 +1,15 @@
 //! The output of `round` for a length: how setting bounds rounds it, and with a base the bounds that the request is
 //! granted.
-ghost use Rattle.std.specs.Prelude.{◌≡◌, ◌↔◌, ◌≤◌, ◌+◌, ◌++◌, ℕ, IfOk, IsErr, IsTrue, List, None, Ok, codes, false, length, true};
+ghost use Rattle.std.specs.Prelude.{◌≡◌, ◌↔◌, ◌≤◌, ◌+◌, ◌++◌, ℕ, IfOk, IsErr, IsTrue, List, None, Ok, codes, false};
+ghost use Rattle.std.specs.Prelude.{length, true};
 ghost use Rattle.cc_bounds.specs.Granule.{IsGranted};
 ghost use Rattle.cc_bounds.specs.Span.{IsSpan};
 ghost use Rattle.cc_bounds.specs.declared.span.Span.{Span as SpanSpec};
 ghost use Rattle.cc_syntax.specs.Replies.{bounds_text};
 ghost use Rattle.cc_values.specs.Values.{length_in};
 ghost use Rattle.cc_io.specs.CommandOutput.{WritesAnswer};
-ghost use Rattle.cli_words.specs.Rounding.{IsRounding, IsRoundingAfter, IsRoundingFrom, IsUnroundable, IsUnroundableAfter};
+ghost use Rattle.cli_words.specs.Rounding.{IsRounding, IsRoundingAfter, IsRoundingFrom, IsUnroundable};
+ghost use Rattle.cli_words.specs.Rounding.{IsUnroundableAfter};
 
 use cc_bounds::{Len, Span, set_bounds};
 use cc_io::{IoError, Page, Sink, Summary, Text, refusal_bytes, write_and_flush, write_refusal};
@@ -76,7 +78,8 @@ fn write_round<W: Sink>(base: Option<u64>, text: &[u8], sink: &mut W) -> Result<
 /// Appends the output for a length, and returns whether it is an error.
 pub(crate) fn push_round<const N: usize>(base: Option<u64>, text: &[u8], out: &mut Page<N>) -> bool
     requires { length out.old + 264 ≤ N }
-    ensures { (answer : List ℕ) × (out.new ≡ out.old ++ answer) × IsRounding base text.now answer × (IsTrue result ↔ IsUnroundable base (length_in text.now)) }
+    ensures { (answer : List ℕ) × (out.new ≡ out.old ++ answer) × IsRounding base text.now answer
+        × (IsTrue result ↔ IsUnroundable base (length_in text.now)) }
 {
     match read_length(text) {
         Ok(length) => push_rounding(base, length, out),
@@ -90,7 +93,8 @@ pub(crate) fn push_round<const N: usize>(base: Option<u64>, text: &[u8], out: &m
 /// Appends the reply to a length, and returns whether it is an error.
 fn push_rounding<const N: usize>(base: Option<u64>, size: Len, out: &mut Page<N>) -> bool
     requires { length out.old + 264 ≤ N }
-    ensures { (text : List ℕ) × (out.new ≡ out.old ++ text) × IsRoundingFrom base size text × (IsTrue result ↔ IsUnroundable base (Ok size)) }
+    ensures { (text : List ℕ) × (out.new ≡ out.old ++ text) × IsRoundingFrom base size text
+        × (IsTrue result ↔ IsUnroundable base (Ok size)) }
 {
     match base {
         None => {
@@ -117,7 +121,8 @@ fn push_rounding<const N: usize>(base: Option<u64>, size: Len, out: &mut Page<N>
 fn push_granted<const N: usize>(request: &Span, out: &mut Page<N>)
     requires is_span { IsSpan request.now }
     requires room { length out.old + 70 ≤ N }
-    ensures value { (granted : SpanSpec) × IsGranted request.now granted × (out.new ≡ out.old ++ codes " " ++ bounds_text granted) }
+    ensures value { (granted : SpanSpec) × IsGranted request.now granted
+        × (out.new ≡ out.old ++ codes " " ++ bounds_text granted) }
     ensures fits { length out.new ≤ length out.old + 70 }
 {
     let granted = granted_to(request);

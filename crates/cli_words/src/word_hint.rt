@@ -11,7 +11,8 @@ use cc_word::{read_word, write_word};
 /// Writes the hint if hints are given and the text is `0x` and a word. Errors of the sink are ignored.
 pub(crate) fn hint_word<E: Sink>(hints: bool, text: &[u8], errors: &mut E)
     requires { (E.state errors.old).has_failed ≡ false }
-    ensures hinted { (E.state errors.new).has_failed ≡ false → Appends (E.state errors.old).taken (E.state errors.new).taken (word_hint hints text.now) }
+    ensures hinted { (E.state errors.new).has_failed ≡ false
+        → Appends (E.state errors.old).taken (E.state errors.new).taken (word_hint hints text.now) }
     ensures silent { ¬ IsTrue (is_word_hinted hints text.now) → errors.new ≡ errors.old }
 {
     if hints {
@@ -24,7 +25,8 @@ pub(crate) fn hint_word<E: Sink>(hints: bool, text: &[u8], errors: &mut E)
 /// Writes the hint that names a word. Errors of the sink are ignored.
 fn write_word_hint<E: Sink>(word: u128, errors: &mut E)
     requires { (E.state errors.old).has_failed ≡ false }
-    ensures { (E.state errors.new).has_failed ≡ false → Appends (E.state errors.old).taken (E.state errors.new).taken (word_hint_text word) }
+    ensures { (E.state errors.new).has_failed ≡ false
+        → Appends (E.state errors.old).taken (E.state errors.new).taken (word_hint_text word) }
 {
     let hint = hint_line(word);
     let _ = write_all(errors, hint.bytes());

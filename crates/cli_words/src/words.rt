@@ -36,14 +36,18 @@ pub fn decode_file<I: Inputs, W: Sink, E: Sink>(
     requires sink { (W.state sink.old).has_failed ≡ false }
     requires errors { (E.state errors.old).has_failed ≡ false }
     ensures decodes { OnOutput (I.bytes_of inputs.old) (I.Opened.state source.new) (W.state sink.old) (W.state sink.new)
-        (λ console. WithListing input format texts.entry console (λ skipped options. FromInput (file_input file.entry) console (ListsWords skipped options))) result }
+        (λ console. WithListing input format texts.entry console
+        (λ skipped options. FromInput (file_input file.entry) console (ListsWords skipped options))) result }
     ensures silent { ¬ (IsTrue hints × IsOk (listing_in input format texts.entry)) → errors.new ≡ errors.old }
     ensures unreported { OnErr result (errors.new ≡ errors.old) }
     ensures open { result ≡ Err Fault.Open → IsFile (file_input file.entry) }
     ensures memory { result ≢ Err Fault.Memory }
-    ensures asked { I.last_asked inputs.new (file_input file.entry) Content.Words ≡ false → (inputs.new ≡ inputs.old) × (source.new ≡ source.old) }
-    ensures unused { ¬ IsOk (listing_in input format texts.entry) → (inputs.new ≡ inputs.old) × (source.new ≡ source.old) }
-    ensures end { IsEnd (I.has_refused inputs.new) (I.Opened.state source.new) (W.state sink.old) (W.state sink.new) result }
+    ensures asked { I.last_asked inputs.new (file_input file.entry) Content.Words ≡ false
+        → (inputs.new ≡ inputs.old) × (source.new ≡ source.old) }
+    ensures unused { ¬ IsOk (listing_in input format texts.entry) → (inputs.new ≡ inputs.old)
+        × (source.new ≡ source.old) }
+    ensures end { IsEnd (I.has_refused inputs.new) (I.Opened.state source.new) (W.state sink.old) (W.state sink.new)
+        result }
 {
     match listing_of(input, format, texts) {
         Ok((skipped, options)) => {
@@ -76,8 +80,10 @@ fn list_words<I: Inputs, W: Sink>(
         (λ console. FromInput input.entry console (ListsWords skipped options)) result }
     ensures open { result ≡ Err Fault.Open → IsFile input.entry }
     ensures memory { result ≢ Err Fault.Memory }
-    ensures asked { I.last_asked inputs.new input.entry Content.Words ≡ false → (inputs.new ≡ inputs.old) × (source.new ≡ source.old) }
-    ensures end { IsEnd (I.has_refused inputs.new) (I.Opened.state source.new) (W.state sink.old) (W.state sink.new) result }
+    ensures asked { I.last_asked inputs.new input.entry Content.Words ≡ false → (inputs.new ≡ inputs.old)
+        × (source.new ≡ source.old) }
+    ensures end { IsEnd (I.has_refused inputs.new) (I.Opened.state source.new) (W.state sink.old) (W.state sink.new)
+        result }
 {
     inputs.open(input, Content::Words, source)?;
     Ok(decode_words(skipped, options, source, sink)?)
@@ -97,12 +103,15 @@ pub fn annotate_file<I: Inputs, W: Sink>(
     requires source { (I.Opened.state source.old).has_failed ≡ false }
     requires inputs { I.has_refused inputs.old ≡ false }
     requires sink { (W.state sink.old).has_failed ≡ false }
-    ensures annotates { OnOutput (I.bytes_of inputs.old) (I.Opened.state source.new) (W.state sink.old) (W.state sink.new)
+    ensures annotates { OnOutput (I.bytes_of inputs.old) (I.Opened.state source.new) (W.state sink.old)
+        (W.state sink.new)
         (λ console. FromInput (file_input file.entry) console AnnotatesWords) result }
     ensures open { result ≡ Err Fault.Open → IsFile (file_input file.entry) }
     ensures memory { result ≢ Err Fault.Memory }
-    ensures asked { I.last_asked inputs.new (file_input file.entry) Content.Words ≡ false → (inputs.new ≡ inputs.old) × (source.new ≡ source.old) }
-    ensures end { IsEnd (I.has_refused inputs.new) (I.Opened.state source.new) (W.state sink.old) (W.state sink.new) result }
+    ensures asked { I.last_asked inputs.new (file_input file.entry) Content.Words ≡ false
+        → (inputs.new ≡ inputs.old) × (source.new ≡ source.old) }
+    ensures end { IsEnd (I.has_refused inputs.new) (I.Opened.state source.new) (W.state sink.old) (W.state sink.new)
+        result }
 {
     inputs.open(file_input(file), Content::Words, source)?;
     Ok(annotate(source, sink)?)
@@ -129,15 +138,19 @@ pub fn round_file<I: Inputs, W: Sink, E: Sink>(
     requires inputs { I.has_refused inputs.old ≡ false }
     requires sink { (W.state sink.old).has_failed ≡ false }
     requires errors { (E.state errors.old).has_failed ≡ false }
-    ensures rounds { OnDevices (WithBase base.entry (W.state sink.old) (W.state sink.new) (λ place. FromInput (file_input file.entry)
-        (console_of (I.bytes_of inputs.old) (I.Opened.state source.new) (W.state sink.old) (W.state sink.new) (E.state errors.old) (E.state errors.new)) (RoundsLengths base.entry hints place))) result }
+    ensures rounds { OnDevices (WithBase base.entry (W.state sink.old) (W.state sink.new)
+        (λ place. FromInput (file_input file.entry)
+        (console_of (I.bytes_of inputs.old) (I.Opened.state source.new) (W.state sink.old) (W.state sink.new)
+        (E.state errors.old) (E.state errors.new)) (RoundsLengths base.entry hints place))) result }
     ensures silent { ¬ (IsTrue hints × IsOk (place_in base.entry)) → errors.new ≡ errors.old }
     ensures unreported { OnErr result (errors.new ≡ errors.old) }
     ensures open { result ≡ Err Fault.Open → IsFile (file_input file.entry) }
     ensures memory { result ≢ Err Fault.Memory }
-    ensures asked { I.last_asked inputs.new (file_input file.entry) Content.Words ≡ false → (inputs.new ≡ inputs.old) × (source.new ≡ source.old) }
+    ensures asked { I.last_asked inputs.new (file_input file.entry) Content.Words ≡ false
+        → (inputs.new ≡ inputs.old) × (source.new ≡ source.old) }
     ensures unused { ¬ IsOk (place_in base.entry) → (inputs.new ≡ inputs.old) × (source.new ≡ source.old) }
-    ensures end { IsEnd (I.has_refused inputs.new) (I.Opened.state source.new) (W.state sink.old) (W.state sink.new) result }
+    ensures end { IsEnd (I.has_refused inputs.new) (I.Opened.state source.new) (W.state sink.old) (W.state sink.new)
+        result }
 {
     match place_of(base) {
         Ok(place) => round_hinted(
@@ -170,13 +183,16 @@ fn round_hinted<I: Inputs, W: Sink, E: Sink>(
     requires sink { (W.state sink.old).has_failed ≡ false }
     requires errors { (E.state errors.old).has_failed ≡ false }
     ensures rounds { OnDevices (FromInput input.entry
-        (console_of (I.bytes_of inputs.old) (I.Opened.state source.new) (W.state sink.old) (W.state sink.new) (E.state errors.old) (E.state errors.new)) (RoundsLengths base.entry hints place)) result }
+        (console_of (I.bytes_of inputs.old) (I.Opened.state source.new) (W.state sink.old) (W.state sink.new)
+        (E.state errors.old) (E.state errors.new)) (RoundsLengths base.entry hints place)) result }
     ensures silent { ¬ IsTrue hints → errors.new ≡ errors.old }
     ensures unreported { OnErr result (errors.new ≡ errors.old) }
     ensures open { result ≡ Err Fault.Open → IsFile input.entry }
     ensures memory { result ≢ Err Fault.Memory }
-    ensures asked { I.last_asked inputs.new input.entry Content.Words ≡ false → (inputs.new ≡ inputs.old) × (source.new ≡ source.old) }
-    ensures end { IsEnd (I.has_refused inputs.new) (I.Opened.state source.new) (W.state sink.old) (W.state sink.new) result }
+    ensures asked { I.last_asked inputs.new input.entry Content.Words ≡ false → (inputs.new ≡ inputs.old)
+        × (source.new ≡ source.old) }
+    ensures end { IsEnd (I.has_refused inputs.new) (I.Opened.state source.new) (W.state sink.old) (W.state sink.new)
+        result }
 {
     let mut bare = false;
     let result = round_input(place, inputs, source, input, sink, &mut bare);
@@ -204,8 +220,10 @@ fn round_input<I: Inputs, W: Sink>(
         (λ console. FromInput input.entry console (SeesLengths base bare.new)) result }
     ensures open { result ≡ Err Fault.Open → IsFile input.entry }
     ensures memory { result ≢ Err Fault.Memory }
-    ensures asked { I.last_asked inputs.new input.entry Content.Words ≡ false → (inputs.new ≡ inputs.old) × (source.new ≡ source.old) }
-    ensures end { IsEnd (I.has_refused inputs.new) (I.Opened.state source.new) (W.state sink.old) (W.state sink.new) result }
+    ensures asked { I.last_asked inputs.new input.entry Content.Words ≡ false → (inputs.new ≡ inputs.old)
+        × (source.new ≡ source.old) }
+    ensures end { IsEnd (I.has_refused inputs.new) (I.Opened.state source.new) (W.state sink.old) (W.state sink.new)
+        result }
 {
     inputs.open(input, Content::Words, source)?;
     Ok(round_list(base, source, sink, bare)?)

@@ -5,4 +5,5 @@ use Rattle.cc_cap.proofs.many.represents.Goals as goal
 
 pub loop-i-preserved : goal.loop-i-preserved
 loop-i-preserved c =
-    answers_more (λ i answer. TellsRepresentable (slice_index c.args.words.now i) (slice_index c.args.addresses.now i) answer) c.loop-i.answers c.loop-i.i c.represented.result (omega arith) c.loop-i.invariant c.represented.ensures
+    answers_more (λ i answer. TellsRepresentable (slice_index c.args.words.now i) (slice_index c.args.addresses.now i) answer) c.loop-i.answers c.loop-i.i c.represented.result (omega arith)
+    c.loop-i.invariant c.represented.ensures

@@ -3,4 +3,5 @@ use Rattle.cc_draw.proofs.drawing.push_row.Goals as goal
 
 pub returns-clause-value : goal.returns-clause-value
 returns-clause-value c =
-    rw (c.end_with_hexadecimal.ensures.value, c.push_decimal-3.ensures.value, c.push_decimal-2.ensures.value, c.push_decimal.ensures.value, c.from.ensures, c.from-2.ensures, c.from-3.ensures) (simp append_assoc)
+    rw (c.end_with_hexadecimal.ensures.value, c.push_decimal-3.ensures.value, c.push_decimal-2.ensures.value, c.push_decimal.ensures.value, c.from.ensures, c.from-2.ensures, c.from-3.ensures)
+    (simp append_assoc)

@@ -32,5 +32,6 @@ returns-clause-sends g c =
     let closed : c.push_markup-2.new.page ≡ closing_text = rw (c.push_markup-2.ensures.value, c.new-end.ensures) refl in
     sends_after (g.W.Sink.state c.args.sink.now) (g.W.Sink.state c.write_layer.new.sink) (g.W.Sink.state c.write_and_flush.new.sink) _
     (start_text layout c.args.pool.now ++ layer_text layout Live 1 objects) (after_live_text layout objects) _ live c.in-Ok.ensures.ok
-    (sends_after (g.W.Sink.state c.write_layer.new.sink) (g.W.Sink.state c.write_layer-2.new.sink) (g.W.Sink.state c.write_and_flush.new.sink) _ (quarantined_text ++ layer_text layout Freed 1 objects) closing_text _ freed c.in-Ok-write_layer.ensures.ok
+    (sends_after (g.W.Sink.state c.write_layer.new.sink) (g.W.Sink.state c.write_layer-2.new.sink) (g.W.Sink.state c.write_and_flush.new.sink) _
+    (quarantined_text ++ layer_text layout Freed 1 objects) closing_text _ freed c.in-Ok-write_layer.ensures.ok
     (sends_same _ _ _ _ _ closed c.write_and_flush.ensures.sends))

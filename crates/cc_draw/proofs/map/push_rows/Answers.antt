@@ -21,7 +21,8 @@ rows-preserved c =
     record {
       more = λ rest are.
           let left = subst (λ (n : ℕ). AreMapRows c.args.objects.now c.args.size (c.rows.rows_left - 1) (c.rows.first + 64 * c.args.size) n rest) c.saturating_sub-left.ensures are in
-          let told = kept.more (piece ++ rest) (one_more_row c.args.objects.now c.args.size c.rows.rows_left c.rows.first c.rows.left c.map_row-row.result rest (omega arith) c.map_row-row.ensures left) in
+          let told = kept.more (piece ++ rest) (one_more_row c.args.objects.now c.args.size c.rows.rows_left c.rows.first c.rows.left c.map_row-row.result rest (omega arith) c.map_row-row.ensures
+          left) in
           (told.0, told.1, ap (λ (text : List ℕ). text ++ rest) pushed ∙ append_assoc c.rows.text piece rest ∙ told.2);
       room = omega (arith, kept.room, c.push_row.ensures.fits);
       ends = omega (arith, kept.ends, c.requires.size);

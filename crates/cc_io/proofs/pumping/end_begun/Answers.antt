@@ -8,4 +8,5 @@ returns-clause-answers g c begun is =
     let end = c.args.end.now in
     let same : c.as_slice.result.now ≡ take 129 (begun ++ end) =
     c.as_slice.ensures ∙ c.extend.ensures ∙ ap (λ (l : List ℕ). take 129 (l ++ end)) is ∙ start_longer begun end in
-    subst (λ (l : List ℕ). AnswersInto g.A.Answerer.Answered c.args.answerer.now l c.args.page.now c.answer-is_error.new.out c.answer-is_error.result c.answer-is_error.new.self) same c.answer-is_error.ensures
+    subst (λ (l : List ℕ). AnswersInto g.A.Answerer.Answered c.args.answerer.now l c.args.page.now c.answer-is_error.new.out c.answer-is_error.result c.answer-is_error.new.self) same
+    c.answer-is_error.ensures

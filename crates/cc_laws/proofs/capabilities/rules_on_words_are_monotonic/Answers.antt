@@ -1,6 +1,7 @@
 use Rattle.std.proofs.Common.{◌+◌, ◌%◌, ◌^◌}
 use Rattle.cc_cap.specs.Derivation.{SetsAddress, Increments, SetsBounds, SetsExactBounds, MasksPermissions, SetsFlag, Seals, Unseals, Rebuilds}
-use Rattle.cc_cap.proofs.SubsetLemmas.{SetsAddress-grants, SetsBounds-grants, SetsExactBounds-grants, MasksPermissions-grants, SetsFlag-grants, Seals-grants, Unseals-grants, Rebuilds-grants, OnWord-subset, OnWords-subset, subset_itself, subset_chain}
+use Rattle.cc_cap.proofs.SubsetLemmas.{SetsAddress-grants, SetsBounds-grants, SetsExactBounds-grants, MasksPermissions-grants, SetsFlag-grants, Seals-grants, Unseals-grants, Rebuilds-grants}
+use Rattle.cc_cap.proofs.SubsetLemmas.{OnWord-subset, OnWords-subset, subset_itself, subset_chain}
 use Rattle.cc_laws.proofs.capabilities.rules_on_words_are_monotonic.Goals as goal
 
 pub returns-clause-set_address : goal.returns-clause-set_address

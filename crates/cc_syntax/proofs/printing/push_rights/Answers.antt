@@ -35,29 +35,37 @@ within now start used left is whole = omega arith
 
 pub push_known-requires-2 : goal.push_known-requires-2
 push_known-requires-2 g c =
-    let b1 : length c.push_known.new.self ≤ length c.args.line.now + 1 = longer _ c.args.line.now (32 ∷ []) (length c.args.line.now) 0 1 c.push_known.ensures (one 32) (at_first (length c.args.line.now)) in
-    let b2 : length c.push.new.self ≤ length c.args.line.now + 5 = longer _ c.push_known.new.self (take 4 (drop 4 c.digits_of_rights-digits.result)) (length c.args.line.now) 1 4 c.push.ensures (few 4 (drop 4 c.digits_of_rights-digits.result)) b1 in
+    let b1 : length c.push_known.new.self ≤ length c.args.line.now + 1 = longer _ c.args.line.now (32 ∷ []) (length c.args.line.now) 0 1 c.push_known.ensures (one 32)
+    (at_first (length c.args.line.now)) in
+    let b2 : length c.push.new.self ≤ length c.args.line.now + 5 = longer _ c.push_known.new.self (take 4 (drop 4 c.digits_of_rights-digits.result)) (length c.args.line.now) 1 4 c.push.ensures
+    (few 4 (drop 4 c.digits_of_rights-digits.result)) b1 in
     (search rules, (omega arith, room _ (length c.args.line.now) 5 1 54 _ b2 c.requires refl))
 
 pub push_flag-requires : goal.push_flag-requires
 push_flag-requires g c =
-    let b1 : length c.push_known.new.self ≤ length c.args.line.now + 1 = longer _ c.args.line.now (32 ∷ []) (length c.args.line.now) 0 1 c.push_known.ensures (one 32) (at_first (length c.args.line.now)) in
-    let b2 : length c.push.new.self ≤ length c.args.line.now + 5 = longer _ c.push_known.new.self (take 4 (drop 4 c.digits_of_rights-digits.result)) (length c.args.line.now) 1 4 c.push.ensures (few 4 (drop 4 c.digits_of_rights-digits.result)) b1 in
+    let b1 : length c.push_known.new.self ≤ length c.args.line.now + 1 = longer _ c.args.line.now (32 ∷ []) (length c.args.line.now) 0 1 c.push_known.ensures (one 32)
+    (at_first (length c.args.line.now)) in
+    let b2 : length c.push.new.self ≤ length c.args.line.now + 5 = longer _ c.push_known.new.self (take 4 (drop 4 c.digits_of_rights-digits.result)) (length c.args.line.now) 1 4 c.push.ensures
+    (few 4 (drop 4 c.digits_of_rights-digits.result)) b1 in
     let b3 : length c.push_known-2.new.self ≤ length c.args.line.now + 6 = longer _ c.push.new.self (32 ∷ []) (length c.args.line.now) 5 1 c.push_known-2.ensures (one 32) b2 in
     (search rules, room _ (length c.args.line.now) 6 1 53 _ b3 c.requires refl)
 
 pub push_known-requires-3 : goal.push_known-requires-3
 push_known-requires-3 g c =
-    let b1 : length c.push_known.new.self ≤ length c.args.line.now + 1 = longer _ c.args.line.now (32 ∷ []) (length c.args.line.now) 0 1 c.push_known.ensures (one 32) (at_first (length c.args.line.now)) in
-    let b2 : length c.push.new.self ≤ length c.args.line.now + 5 = longer _ c.push_known.new.self (take 4 (drop 4 c.digits_of_rights-digits.result)) (length c.args.line.now) 1 4 c.push.ensures (few 4 (drop 4 c.digits_of_rights-digits.result)) b1 in
+    let b1 : length c.push_known.new.self ≤ length c.args.line.now + 1 = longer _ c.args.line.now (32 ∷ []) (length c.args.line.now) 0 1 c.push_known.ensures (one 32)
+    (at_first (length c.args.line.now)) in
+    let b2 : length c.push.new.self ≤ length c.args.line.now + 5 = longer _ c.push_known.new.self (take 4 (drop 4 c.digits_of_rights-digits.result)) (length c.args.line.now) 1 4 c.push.ensures
+    (few 4 (drop 4 c.digits_of_rights-digits.result)) b1 in
     let b3 : length c.push_known-2.new.self ≤ length c.args.line.now + 6 = longer _ c.push.new.self (32 ∷ []) (length c.args.line.now) 5 1 c.push_known-2.ensures (one 32) b2 in
     let b4 : length c.push_flag.new.line ≤ length c.args.line.now + 7 = further _ (length c.push_known-2.new.self) (length c.args.line.now) 6 1 c.push_flag.ensures.fits b3 in
     (search rules, (omega arith, room _ (length c.args.line.now) 7 1 52 _ b4 c.requires refl))
 
 pub push-requires-2 : goal.push-requires-2
 push-requires-2 g c =
-    let b1 : length c.push_known.new.self ≤ length c.args.line.now + 1 = longer _ c.args.line.now (32 ∷ []) (length c.args.line.now) 0 1 c.push_known.ensures (one 32) (at_first (length c.args.line.now)) in
-    let b2 : length c.push.new.self ≤ length c.args.line.now + 5 = longer _ c.push_known.new.self (take 4 (drop 4 c.digits_of_rights-digits.result)) (length c.args.line.now) 1 4 c.push.ensures (few 4 (drop 4 c.digits_of_rights-digits.result)) b1 in
+    let b1 : length c.push_known.new.self ≤ length c.args.line.now + 1 = longer _ c.args.line.now (32 ∷ []) (length c.args.line.now) 0 1 c.push_known.ensures (one 32)
+    (at_first (length c.args.line.now)) in
+    let b2 : length c.push.new.self ≤ length c.args.line.now + 5 = longer _ c.push_known.new.self (take 4 (drop 4 c.digits_of_rights-digits.result)) (length c.args.line.now) 1 4 c.push.ensures
+    (few 4 (drop 4 c.digits_of_rights-digits.result)) b1 in
     let b3 : length c.push_known-2.new.self ≤ length c.args.line.now + 6 = longer _ c.push.new.self (32 ∷ []) (length c.args.line.now) 5 1 c.push_known-2.ensures (one 32) b2 in
     let b4 : length c.push_flag.new.line ≤ length c.args.line.now + 7 = further _ (length c.push_known-2.new.self) (length c.args.line.now) 6 1 c.push_flag.ensures.fits b3 in
     let b5 : length c.push_known-3.new.self ≤ length c.args.line.now + 8 = longer _ c.push_flag.new.line (32 ∷ []) (length c.args.line.now) 7 1 c.push_known-3.ensures (one 32) b4 in
@@ -84,10 +92,13 @@ returns-clause-value g c =
 
 pub returns-clause-fits : goal.returns-clause-fits
 returns-clause-fits g c =
-    let b1 : length c.push_known.new.self ≤ length c.args.line.now + 1 = longer _ c.args.line.now (32 ∷ []) (length c.args.line.now) 0 1 c.push_known.ensures (one 32) (at_first (length c.args.line.now)) in
-    let b2 : length c.push.new.self ≤ length c.args.line.now + 5 = longer _ c.push_known.new.self (take 4 (drop 4 c.digits_of_rights-digits.result)) (length c.args.line.now) 1 4 c.push.ensures (few 4 (drop 4 c.digits_of_rights-digits.result)) b1 in
+    let b1 : length c.push_known.new.self ≤ length c.args.line.now + 1 = longer _ c.args.line.now (32 ∷ []) (length c.args.line.now) 0 1 c.push_known.ensures (one 32)
+    (at_first (length c.args.line.now)) in
+    let b2 : length c.push.new.self ≤ length c.args.line.now + 5 = longer _ c.push_known.new.self (take 4 (drop 4 c.digits_of_rights-digits.result)) (length c.args.line.now) 1 4 c.push.ensures
+    (few 4 (drop 4 c.digits_of_rights-digits.result)) b1 in
     let b3 : length c.push_known-2.new.self ≤ length c.args.line.now + 6 = longer _ c.push.new.self (32 ∷ []) (length c.args.line.now) 5 1 c.push_known-2.ensures (one 32) b2 in
     let b4 : length c.push_flag.new.line ≤ length c.args.line.now + 7 = further _ (length c.push_known-2.new.self) (length c.args.line.now) 6 1 c.push_flag.ensures.fits b3 in
     let b5 : length c.push_known-3.new.self ≤ length c.args.line.now + 8 = longer _ c.push_flag.new.line (32 ∷ []) (length c.args.line.now) 7 1 c.push_known-3.ensures (one 32) b4 in
-    let b6 : length c.push-2.new.self ≤ length c.args.line.now + 13 = longer _ c.push_known-3.new.self (take 5 (drop 11 c.digits_of_rights-digits.result)) (length c.args.line.now) 8 5 c.push-2.ensures (few 5 (drop 11 c.digits_of_rights-digits.result)) b5 in
+    let b6 : length c.push-2.new.self ≤ length c.args.line.now + 13 = longer _ c.push_known-3.new.self (take 5 (drop 11 c.digits_of_rights-digits.result)) (length c.args.line.now) 8 5
+    c.push-2.ensures (few 5 (drop 11 c.digits_of_rights-digits.result)) b5 in
     within _ (length c.args.line.now) 13 47 b6 refl

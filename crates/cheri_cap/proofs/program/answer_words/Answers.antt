@@ -24,8 +24,10 @@ pub returns-in-Ok-clause-runs_script : goal.returns-in-Ok-clause-runs_script
 returns-in-Ok-clause-runs_script g c =
     let told = c.in-Ok.ensures.read in
     let done = c.answer_invocation.ensures.executes (subcommand_of told.0 (texts c.args.words.now)) told.2 in
-    let console : Console = console_of (g.I.Inputs.bytes_of c.args.inputs.now) (g.I.Opened.Source.state c.answer_invocation.new.source) (g.W.Sink.state c.args.sink.now) (g.W.Sink.state c.answer_invocation.new.sink) (g.E.Sink.state c.args.errors.now) (g.E.Sink.state c.answer_invocation.new.errors) in
-    let failures : Failures = failures_of (g.I.Inputs.has_refused c.answer_invocation.new.inputs) (g.I.Opened.Source.state c.answer_invocation.new.source) (g.W.Sink.state c.answer_invocation.new.sink) (g.M.Memory.has_failed c.answer_invocation.new.memory) (g.I.Inputs.last_asked c.answer_invocation.new.inputs) in
+    let console : Console = console_of (g.I.Inputs.bytes_of c.args.inputs.now) (g.I.Opened.Source.state c.answer_invocation.new.source) (g.W.Sink.state c.args.sink.now)
+    (g.W.Sink.state c.answer_invocation.new.sink) (g.E.Sink.state c.args.errors.now) (g.E.Sink.state c.answer_invocation.new.errors) in
+    let failures : Failures = failures_of (g.I.Inputs.has_refused c.answer_invocation.new.inputs) (g.I.Opened.Source.state c.answer_invocation.new.source)
+    (g.W.Sink.state c.answer_invocation.new.sink) (g.M.Memory.has_failed c.answer_invocation.new.memory) (g.I.Inputs.last_asked c.answer_invocation.new.inputs) in
     (told.0, told.1, (done.invocation, done.is_invocation, runs_script done.invocation c.args.terminals console failures c.answer_invocation.result done.executed))
 
 pub returns-in-Err-clause-runs_script : goal.returns-in-Err-clause-runs_script

@@ -37,8 +37,13 @@ returns-in-Ok-clause-read c =
     let matches : subcommand_rows_of c.in-Ok.matches ≡ subcommand_of app words =
     (c.in-Ok.ensures.ok.2 (ap is_simple is)).1 ∙ ap (λ (a : App). subcommand_of a words) is in
     IfOk-weaker c.chosen.result _ _ (λ chosen told.
-    let same : subcommand_rows_of chosen ≡ subcommand_of app words = ap subcommand_rows_of told.0 ∙ matches in
-    (app, is_program, same, subst HasItsTexts (sym same) (found c.aligns.result c.aligns.ensures c.formats.result c.formats.ensures c.orders.result c.orders.ensures c.summaries.result c.summaries.ensures words faultless (sym (ap choice_fault_in matches) ∙ told.1))))
+    let same : subcommand_rows_of chosen ≡ subcommand_of app words = ap subcommand_rows_of told.0 ∙ matches in (
+      app,
+      is_program,
+      same,
+      subst HasItsTexts (sym same) (found c.aligns.result c.aligns.ensures c.formats.result c.formats.ensures c.orders.result c.orders.ensures c.summaries.result
+          c.summaries.ensures words faultless (sym (ap choice_fault_in matches) ∙ told.1)),
+    ))
     c.chosen.ensures.read
 
 pub returns-in-Ok-clause-refused : goal.returns-in-Ok-clause-refused

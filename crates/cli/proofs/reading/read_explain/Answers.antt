@@ -10,4 +10,5 @@ wanted_text-requires c =
     let rows = rows_of (found_of c.args.matches.now) in
     let none : first_of (codes "word") rows ≡ None = c.value_of.ensures ∙ ap (option_map (λ s. s.now)) c.in-None.is in
     (length_wanted (first_of (codes "length") rows) (first_of (codes "base") rows) (is_on (first_of (codes "svg") rows))
-    (subst (λ (o : Option Text). choice_fault (is_some o) (is_some (first_of (codes "length") rows)) (is_some (first_of (codes "base") rows)) (is_on (first_of (codes "svg") rows)) ≡ None) none c.requires)).0
+    (subst (λ (o : Option Text). choice_fault (is_some o) (is_some (first_of (codes "length") rows)) (is_some (first_of (codes "base") rows)) (is_on (first_of (codes "svg") rows)) ≡ None) none
+    c.requires)).0

@@ -18,7 +18,8 @@ returns-in-Summary-clause-replays g c = λ errors errors_now.
 pub returns-in-Sizes-clause-replays : goal.returns-in-Sizes-clause-replays
 returns-in-Sizes-clause-replays g c = λ errors errors_now.
     reads_input (WritesReplay c.args.output c.args.replay.now) c.args.input
-    (console_of (g.I.Inputs.bytes_of c.args.inputs.now) (g.I.Opened.Source.state c.sum_up-in-Sizes.new.source) (g.W.Sink.state c.args.sink.now) (g.W.Sink.state c.sum_up-in-Sizes.new.sink) errors errors_now)
+    (console_of (g.I.Inputs.bytes_of c.args.inputs.now) (g.I.Opened.Source.state c.sum_up-in-Sizes.new.source) (g.W.Sink.state c.args.sink.now) (g.W.Sink.state c.sum_up-in-Sizes.new.sink) errors
+    errors_now)
     (g.I.Inputs.bytes_of c.args.inputs.now) (g.I.Opened.Source.state c.open.new.source) _ _ _ _ c.sum_up-in-Sizes.result refl refl
     c.in_ok-open.ensures.opened refl refl refl
     (λ traffic u l o n. subst (λ (output : ReplayOutput). OnDevices (WritesReplay output c.args.replay.now traffic) c.sum_up-in-Sizes.result) (sym c.in-Sizes.is)

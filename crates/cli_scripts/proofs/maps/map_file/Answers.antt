@@ -10,6 +10,7 @@ returns-in-Ok-clause-executes g c = λ errors errors_now.
     cc (c.as_bytes.ensures.value, c.as_bytes-2.ensures.value, c.plan_numbers.ensures) in
     let is_opening : c.plan_opening-opening.result ≡ plan_opening c.in-Ok.base c.in-Ok.length c.args.align =
     search rules in
-    let console : Console = console_of (g.I.Inputs.bytes_of c.args.inputs.now) (g.I.Opened.Source.state c.draw.new.source) (g.W.Sink.state c.args.sink.now) (g.W.Sink.state c.draw.new.sink) errors errors_now in
+    let console : Console = console_of (g.I.Inputs.bytes_of c.args.inputs.now) (g.I.Opened.Source.state c.draw.new.source) (g.W.Sink.state c.args.sink.now) (g.W.Sink.state c.draw.new.sink) errors
+    errors_now in
     maps_file c.args.limit c.args.pool c.args.align c.args.svg c.args.file console _ _ _ c.draw.result
     (texts ∙ c.in-Ok.is) is_opening c.file_input.ensures (c.draw.ensures.draws errors errors_now)

@@ -9,7 +9,8 @@ pub returns-in_err-summary-clause-runs : goal.returns-in_err-summary-clause-runs
 returns-in_err-summary-clause-runs g c =
     let told = err_from_is_err_and c.from_residual.result c.from_residual.ensures.1 in
     on_devices
-    (ReportsRun c.args.report c.args.opening.now c.args.pool c.args.session.now.machine (traffic_on (g.S.Source.state c.args.source.now) (g.S.Source.state c.run_session.new.source) (g.W.Sink.state c.args.sink.now) (g.W.Sink.state c.run_session.new.sink) (g.E.Sink.state c.args.errors.now) (g.E.Sink.state c.args.errors.now)))
+    (ReportsRun c.args.report c.args.opening.now c.args.pool c.args.session.now.machine (traffic_on (g.S.Source.state c.args.source.now) (g.S.Source.state c.run_session.new.source)
+    (g.W.Sink.state c.args.sink.now) (g.W.Sink.state c.run_session.new.sink) (g.E.Sink.state c.args.errors.now) (g.E.Sink.state c.args.errors.now)))
     c.from_residual.result (Err c.in_err-summary.field-0.0) (told.1 ∙ ap Err told.2)
     (record {
       session = record { machine = c.run_session.new.machine; tally = c.run_session.new.tally };

@@ -88,7 +88,14 @@ push_granted-requires g c =
 pub push-requires-in-Ok-2 : goal.push-requires-in-Ok-2
 push-requires-in-Ok-2 g c =
     let few : length c.bytes-in-Ok.result.now ≤ 192 = c.bytes-in-Ok.ensures.fits in
-    let fits : length c.push_granted.new.out + 1 ≤ g.row.N = omega (arith, few, ap length c.push-in-Ok.ensures, length-append c.args.out.now c.bytes-in-Ok.result.now, c.push_granted.ensures.fits, c.requires) in
+    let fits : length c.push_granted.new.out + 1 ≤ g.row.N = omega (
+      arith,
+      few,
+      ap length c.push-in-Ok.ensures,
+      length-append c.args.out.now c.bytes-in-Ok.result.now,
+      c.push_granted.ensures.fits,
+      c.requires,
+    ) in
     (search rules, fits)
 
 pub push-requires-in-Err : goal.push-requires-in-Err

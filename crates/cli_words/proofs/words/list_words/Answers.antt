@@ -9,7 +9,8 @@ pub returns-in_err-decode_words-clause-lists :
     goal.returns-in_err-decode_words-clause-lists
 returns-in_err-decode_words-clause-lists g c = λ errors errors_now.
     let told = err_from_is_err_and c.from_residual-in_err-decode_words.result c.from_residual-in_err-decode_words.ensures.1 in
-    let console : Console = console_of (g.I.Inputs.bytes_of c.args.inputs.now) (g.I.Opened.Source.state c.decode_words.new.source) (g.W.Sink.state c.args.sink.now) (g.W.Sink.state c.decode_words.new.sink) errors errors_now in
+    let console : Console = console_of (g.I.Inputs.bytes_of c.args.inputs.now) (g.I.Opened.Source.state c.decode_words.new.source) (g.W.Sink.state c.args.sink.now)
+    (g.W.Sink.state c.decode_words.new.sink) errors errors_now in
     on_devices (FromInput c.args.input console (ListsWords c.args.skipped c.args.options)) c.from_residual-in_err-decode_words.result
     (Err c.in_err-decode_words.field-0.0) (told.1 ∙ ap Err told.2)
     (from_input c.args.input console (ListsWords c.args.skipped c.args.options) (g.I.Inputs.bytes_of c.args.inputs.now) _ _

@@ -5,14 +5,16 @@ use Rattle.cli_words.proofs.words.round_hinted.Goals as goal
 
 pub returns-then-is_err-clause-rounds : goal.returns-then-is_err-clause-rounds
 returns-then-is_err-clause-rounds g c =
-    let console : Console = console_of (g.I.Inputs.bytes_of c.args.inputs.now) (g.I.Opened.Source.state c.round_input-result.new.source) (g.W.Sink.state c.args.sink.now) (g.W.Sink.state c.round_input-result.new.sink) (g.E.Sink.state c.args.errors.now) (g.E.Sink.state c.args.errors.now) in
+    let console : Console = console_of (g.I.Inputs.bytes_of c.args.inputs.now) (g.I.Opened.Source.state c.round_input-result.new.source) (g.W.Sink.state c.args.sink.now)
+    (g.W.Sink.state c.round_input-result.new.sink) (g.E.Sink.state c.args.errors.now) (g.E.Sink.state c.args.errors.now) in
     hinted_too c.args.base c.args.hints c.round_input-result.new.bare c.args.place c.args.input console c.round_input-result.result
     (no_hint _ c.round_input-result.result (search rules))
     (c.round_input-result.ensures.rounds console.errors console.errors_now)
 
 pub returns-clause-rounds : goal.returns-clause-rounds
 returns-clause-rounds g c =
-    let console : Console = console_of (g.I.Inputs.bytes_of c.args.inputs.now) (g.I.Opened.Source.state c.round_input-result.new.source) (g.W.Sink.state c.args.sink.now) (g.W.Sink.state c.round_input-result.new.sink) (g.E.Sink.state c.args.errors.now) (g.E.Sink.state c.hint_list.new.errors) in
+    let console : Console = console_of (g.I.Inputs.bytes_of c.args.inputs.now) (g.I.Opened.Source.state c.round_input-result.new.source) (g.W.Sink.state c.args.sink.now)
+    (g.W.Sink.state c.round_input-result.new.sink) (g.E.Sink.state c.args.errors.now) (g.E.Sink.state c.hint_list.new.errors) in
     hinted_too c.args.base c.args.hints c.round_input-result.new.bare c.args.place c.args.input console c.round_input-result.result
     (search rules)
     (c.round_input-result.ensures.rounds console.errors console.errors_now)

@@ -48,7 +48,8 @@ invariant_of-self g c =
     c.self.inside.quarantine.items c.pop.new.self.items c.self.inside.usage _ _ _ _ _ _ _
     (g.P.Placer.holds c.self.inside.placer) (g.P.Placer.holds c.give_back.new.self) c.unwrap-span.result c.self.invariant
     was (λ others removes. c.give_back.ensures.held _ others
-    (c.self.invariant.held_is _ (IsPermutation-refl (held_spans (memory_of c.self.inside.objects.entries c.self.inside.quarantine.items)))) last.is_held removes) (rw c.len.ensures at c.with_released-self-inside.ensures) c.pop.ensures.capacity
+    (c.self.invariant.held_is _ (IsPermutation-refl (held_spans (memory_of c.self.inside.objects.entries c.self.inside.quarantine.items)))) last.is_held removes)
+    (rw c.len.ensures at c.with_released-self-inside.ensures) c.pop.ensures.capacity
     c.give_back.ensures.limit c.give_back.ensures.pool
 
 pub returns-clause-sound : goal.returns-clause-sound
