@@ -429,7 +429,9 @@ size_t cheri_cap_represents_memory(
  * positions, in increasing order, until `positions` is full, and returns their number.
  *
  * `next` gets the position of the first word that was not examined: the word after the one whose
- * position was the last to fit, or the end of the words. A further call continues from there.
+ * position was the last to fit, the number of words that can be examined, or 0 if `position_count` is
+ * 0. A call with the words from there on continues: its positions count from 0 again, and its
+ * `tag_bits` begin with the bit of its first word.
  *
  * A word can have a tag if it is canonical, or a sentry: its type is CHERI_CAP_OTYPE_SENTRY, and it
  * is canonical with CHERI_CAP_OTYPE_UNSEALED in its place. Null and each integer below 2^64 are

@@ -572,7 +572,7 @@ inline void set_bounds_memory(const void *memory, byte_order order, bool exact, 
 /*
  * Writes the positions of the words of memory that the query wants to `positions`, at most `capacity`
  * of them, and returns their number: cheri_cap_search_memory. `tag_bits` has a bit for each word, or
- * is null if the query needs no tag.
+ * is null if the query needs no tag. `next` is as there.
  */
 [[nodiscard]] inline std::size_t search_memory(const void *memory, byte_order order, std::size_t count,
                                                const std::uint8_t *tag_bits, const cheri_cap_query &query,

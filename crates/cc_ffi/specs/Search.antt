@@ -49,8 +49,8 @@ pub record IsWantedAt (query : Query) (big_endian : Bool) (memory : List (List �
   pub tagged : IsTrue query.needs_tag → HasTag tag_bits i
   pub wanted : IsWanted query (word_in_memory big_endian memory i)
 
--- The number of words that a search can examine: those of memory. If the query needs a tag, only
--- those that have a bit for it too.
+-- The number of words that a search can examine: all of memory, or if the query needs a tag, those of
+-- them that have a bit.
 abbrev pub searchable : Query → (memory : List (List ℕ)) (tag_bits : List ℕ) → ℕ
 searchable query memory tag_bits =
     if query.needs_tag then min (length memory) (8 * length tag_bits) else length memory
@@ -67,7 +67,8 @@ pub record IsListed (P : ℕ → Type 0) (positions : List ℕ) (count next : �
   pub all : (i : ℕ) → i < next → P i → (k : ℕ) × (k < count) × (position_at positions k ≡ i)
 
 -- EndsSearch holds if a search for `room` positions among `words` words ends before the word `next`,
--- with `count` positions: after the word whose position filled them, or after the last word.
+-- with `count` positions: after the word whose position was the last to fit, or after the last word.
+-- With no position to fill it ends before the first word.
 pub record EndsSearch (positions : List ℕ) (room words count next : ℕ) : Type 0 where
   pub fits : count ≤ room
   pub within : next ≤ words

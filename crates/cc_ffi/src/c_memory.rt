@@ -82,9 +82,9 @@ pub extern "C" fn cheri_cap_represents_memory(
     count
 }
 
-/// Writes each word of memory with the bounds of the length at its position from its address, exact
-/// ones if `exact`, and 0, or a zero word and the code of the refusal. Returns the number of
-/// results.
+/// Sets the bounds of each word of memory to the length at its position from its address, exactly if
+/// `exact`. Writes the word that is made, and the refusal 0, or a zero word, and the code of the
+/// refusal. Returns the number of results.
 #[unsafe(no_mangle)]
 pub extern "C" fn cheri_cap_set_bounds_memory(
     memory: &[[u8; 16]],

@@ -1,9 +1,10 @@
-//! The library's functions for C: each export forwards to one function of the crates below, with a
-//! number of 128 bits as two halves. `include/cheri_cap.h` declares them.
+//! The library's functions for C, which `include/cheri_cap.h` declares. A scalar export forwards to one
+//! function of the crates below, with a number of 128 bits as two halves, a batch function does so for
+//! each element, and the search is defined here.
 //!
 //! Each function is total, and has no `requires`. Two conditions are up to the caller in C: the
-//! pointers of the functions on strings and of the batch functions are valid for the numbers of
-//! elements that come with them, and each `bool` is 0 or 1.
+//! pointers of the functions on strings, of the batch functions and of the search are valid for the
+//! numbers of elements that come with them, and each `bool` is 0 or 1.
 #![tactic(auto)]
 
 mod bounds;

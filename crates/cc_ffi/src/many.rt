@@ -66,8 +66,8 @@ pub extern "C" fn cheri_cap_represents_many(
     count
 }
 
-/// Writes the bounds that a request for the length at each position from the base there is granted,
-/// and returns the number of results.
+/// Writes the bounds that a request for the length at each position from the base there is granted, or
+/// zeros if the request ends above 2^64, and returns the number of results.
 #[unsafe(no_mangle)]
 pub extern "C" fn cheri_cap_set_bounds_many(
     bases: &[u64],
@@ -86,7 +86,8 @@ pub extern "C" fn cheri_cap_set_bounds_many(
     count
 }
 
-/// Writes the representable length of each length, and returns the number of results.
+/// Writes the representable length of each length, or all ones for a length above 2^64, and returns
+/// the number of results.
 #[unsafe(no_mangle)]
 pub extern "C" fn cheri_cap_round_length_many(lengths: &[Halves], rounded: &mut [Halves]) -> usize
     ensures count { result ≡ min (length lengths.now) (length rounded.old) }
@@ -101,7 +102,8 @@ pub extern "C" fn cheri_cap_round_length_many(lengths: &[Halves], rounded: &mut 
     count
 }
 
-/// Writes the representable alignment mask of each length, and returns the number of results.
+/// Writes the representable alignment mask of each length, or 0 for a length above 2^64, and returns
+/// the number of results.
 #[unsafe(no_mangle)]
 pub extern "C" fn cheri_cap_alignment_mask_many(lengths: &[Halves], masks: &mut [u64]) -> usize
     ensures count { result ≡ min (length lengths.now) (length masks.old) }

@@ -26,7 +26,8 @@ const SEEN: usize = 129;
 /// The source is read in chunks of up to 16 KiB. The replies to all entries of a chunk are written
 /// before the next read, and none is pending then. An entry that ends in a later chunk gets its
 /// reply then. [`Answerer::end`] replies to the bytes after the last entry, unless there are none.
-/// Once the answerer is done, no further entry gets a reply, and the source is read no further.
+/// Once the answerer is done, no further entry gets a reply, and the source is read no further, which
+/// no clause says.
 /// The sink is flushed once, at the end. Allocates nothing.
 ///
 /// Requires: neither the source nor the sink has failed; `A::most() <= N`; the answerer is not done.

@@ -26,6 +26,8 @@ pub fn write_refusal<W: Sink>(refusal: Refusal, sink: &mut W) -> Result<Summary,
 }
 
 /// Puts the line of a refusal into an empty text.
+///
+/// Requires: the text is empty.
 pub fn push_refusal(text: &mut Text, refusal: Refusal)
     requires { text.old ≡ [] }
     ensures { IsRefusalLine refusal text.new }

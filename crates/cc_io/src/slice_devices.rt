@@ -28,8 +28,7 @@ impl<'a> Model for SliceSource<'a> {
       rest = s.rest.now;
       piece = s.piece;
       calls_left = s.calls_left;
-      has_failed =
-          s.has_failed;
+      has_failed = s.has_failed;
     } };
 
     ghost invariant = { λ s. 0 < s.piece };
@@ -47,8 +46,7 @@ impl<'a> SliceSource<'a> {
           rest = bytes.now;
           piece = piece;
           calls_left = unwrap_or fail_at 0;
-          has_failed =
-              false;
+          has_failed = false;
         } }
     {
         SliceSource {

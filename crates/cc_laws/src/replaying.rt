@@ -17,9 +17,8 @@ ghost use Rattle.cc_laws.specs.OneOutcome.{AreAlikeReplays};
 /// Proves that a replay has the events of the trace's lines happen to its heap, in order, and nothing
 /// else, if lines are still taken at its end. The ids that are lost are noted after each event.
 ///
-/// `Output` is the relation between an input and its output that [`replay_trace`](cc_replay::replay_trace) states
-/// by `Pumps`. So
-/// the totals of a whole replay are numbers of all states that the heap has passed.
+/// `Output` is the relation between an input and its output that [`replay_trace`](cc_replay::replay_trace) states by
+/// `Pumps`. So the totals of a whole replay are numbers of all states that the heap has passed.
 pub fn replays_are_runs()
     ensures heap { (old new : ReplayState) (text output : List ℕ) (any_error : Bool)
         → Output TakesLine TakesRest lines old text output any_error new → new.progress ≡ Running

@@ -82,29 +82,33 @@ or_none : (a b c : Bool) → b ≡ false → c ≡ false → a ≡ ((a || b) || 
 or_none true b c is too = refl
 or_none false b c is too = cc (is, too)
 
--- lines that were taken until no further line is, as those of the whole text
+-- lines that were taken until no further line is, as those of the whole text; the trailing bytes change nothing
 pub stops_whole : {S : Type 0} (taker : Taker S) (old new : S) (pending text : List ℕ) (taken taken_now : Option (List ℕ)) (any_error : Bool)
     → is_over (taker.progress new) ≡ true → StopsEarly (λ (s : S). TakesLineIn taker (taker.progress s) s) old pending (entries_of lines text) taken taken_now any_error new
-    → WritesOutput (λ (s : S). TakesLineIn taker (taker.progress s) s) (λ (s : S). TakesRestIn taker (taker.progress s) s) lines old pending text taken taken_now any_error new
-stops_whole {S} taker old new pending text taken taken_now any_error over stops = record {
-  output = answers_text stops.answers;
-  of_text = record {
-    answers = stops.answers ++ silent stops.later;
-    mid = new;
-    takes = subst (λ (l : List (List ℕ)). AnswersAll (λ (s : S). TakesLineIn taker (taker.progress s) s) old l (stops.answers ++ silent stops.later) new) (sym stops.entries_are)
-        (all_further (λ (s : S). TakesLineIn taker (taker.progress s) s) old new new stops.answered stops.later stops.answers (silent stops.later) stops.takes
-        (passes_lines taker new stops.later over));
-    ending = record { text = []; is_error = false };
-    ends = passes_rest taker new (rest_of lines text) over;
-    output_is = sym (ap (λ (l : List ℕ). l ++ [])
-        (answers_text-append stops.answers (silent stops.later) ∙ ap (λ (l : List ℕ). answers_text stops.answers ++ l) (silent_text stops.later)
-        ∙ append-nil (answers_text stops.answers)) ∙ append-nil (answers_text stops.answers));
-    error_is = stops.error_is
-        ∙ or_none (list_any is_error stops.answers) (list_any is_error (silent stops.later)) false (no_errors stops.later) refl
-        ∙ ap (λ (b : Bool). b || false) (sym (list_any-append is_error stops.answers (silent stops.later)));
-  };
-  written = stops.written;
-}
+    → (writes : WritesOutput (λ (s : S). TakesLineIn taker (taker.progress s) s) (λ (s : S). TakesRestIn taker (taker.progress s) s) lines old pending text taken taken_now any_error new)
+    × (writes.of_text.mid ≡ new)
+stops_whole {S} taker old new pending text taken taken_now any_error over stops = (
+  record {
+    output = answers_text stops.answers;
+    of_text = record {
+      answers = stops.answers ++ silent stops.later;
+      mid = new;
+      takes = subst (λ (l : List (List ℕ)). AnswersAll (λ (s : S). TakesLineIn taker (taker.progress s) s) old l (stops.answers ++ silent stops.later) new) (sym stops.entries_are)
+          (all_further (λ (s : S). TakesLineIn taker (taker.progress s) s) old new new stops.answered stops.later stops.answers (silent stops.later) stops.takes
+          (passes_lines taker new stops.later over));
+      ending = record { text = []; is_error = false };
+      ends = passes_rest taker new (rest_of lines text) over;
+      output_is = sym (ap (λ (l : List ℕ). l ++ [])
+          (answers_text-append stops.answers (silent stops.later) ∙ ap (λ (l : List ℕ). answers_text stops.answers ++ l) (silent_text stops.later)
+          ∙ append-nil (answers_text stops.answers)) ∙ append-nil (answers_text stops.answers));
+      error_is = stops.error_is
+          ∙ or_none (list_any is_error stops.answers) (list_any is_error (silent stops.later)) false (no_errors stops.later) refl
+          ∙ ap (λ (b : Bool). b || false) (sym (list_any-append is_error stops.answers (silent stops.later)));
+    };
+    written = stops.written;
+  },
+  refl,
+)
   where
     is_error : Answer → Bool
     is_error answer = answer.is_error

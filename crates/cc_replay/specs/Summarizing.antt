@@ -1,4 +1,4 @@
--- A whole trace that is replayed without a series, and its summary.
+-- A trace that is replayed without a series, and its summary.
 use Rattle.std.specs.Prelude.{◌≡◌, ◌≢◌, ◌⊎◌, ℕ, Bool, true, List, Option, Result, Ok, Err}
 use Rattle.std.specs.Io.KnownBytes.{Appends, Consumes, IsAtEnd}
 use Rattle.cc_io.specs.Answers.{Output}
@@ -19,15 +19,15 @@ use Rattle.cc_replay.specs.Summary.{summary_rows}
 pub record TakesTrace (old : ReplayState) (to_come left : Option (List ℕ)) (any_error : Bool) (new : ReplayState) : Type 0 where
   pub text : List ℕ
   pub given : Consumes to_come left text
-  pub at_end : IsAtEnd left ⊎ (is_over new.progress ≡ true)
   pub samples : List ℕ
   pub takes : Output TakesLine TakesRest lines old text samples any_error new
+  pub at_end : IsAtEnd left ⊎ (is_over takes.mid.progress ≡ true)
 
 -- The summary of a replay.
 abbrev pub summary_text : Format → ReplayState → List ℕ
 summary_text format state = table_text format (summary_rows (figures_of state))
 
--- Summarizes holds if the whole trace was taken, and the summary of the replay at its end was written, or a
+-- Summarizes holds if the trace was taken, as `TakesTrace` says, and the summary of the replay at its end was written, or a
 -- prefix of it if the sink failed. Nothing was written if a read or an allocation failed.
 abbrev pub Summarizes : Format → (old : ReplayState) → (to_come left taken taken_now : Option (List ℕ)) → Result Summary Failure → (new : ReplayState) → Type 0
 Summarizes format old to_come left taken taken_now (Ok summary) new =

@@ -52,8 +52,7 @@ impl<P: Placer> Model for Replay<P> {
       reading = s.reading;
       counts = s.counts;
       pending = s.pending;
-      time =
-          s.time;
+      time = s.time;
       progress = s.progress;
       is_sampled = s.is_sampled;
     } };
@@ -320,7 +319,8 @@ impl<P: Placer, const N: usize> Answerer<N> for Replay<P> {
 /// that is not an event, and an event that the heap refuses, and takes the next line unless reading is
 /// strict. If an allocation fails, [`Replay::progress`] says so. After such a line nothing is taken, and
 /// the source is read no further. It is read in chunks of up to 16 KiB. Before each read, all samples of
-/// earlier events are written. The sink is flushed once, at the end.
+/// earlier events are written. The sink is flushed once, at the end. No clause says that the source is
+/// read no further: `tests/program` shows it.
 ///
 /// Requires: neither the source nor the sink has failed; the replay takes lines.
 /// Errors: `Read` if and only if the source failed. `Write` if and only if the sink failed.

@@ -53,8 +53,7 @@ impl<P: Placer> Model for Script<P> {
       reading = s.reading;
       pending = s.pending;
       ids = s.ids;
-      progress =
-          s.progress;
+      progress = s.progress;
     } };
 
     ghost invariant = { λ s. IsKept s.heap };
@@ -263,7 +262,8 @@ impl<P: Placer, const N: usize> Answerer<N> for Script<P> {
 ///
 /// If an allocation fails, [`Script::progress`] says so. After such a line nothing is taken, and the source
 /// is read no further. It is read in chunks of up to 16 KiB. Before each read, the lines of earlier events
-/// are written. The sink is flushed once, at the end.
+/// are written. The sink is flushed once, at the end. No clause says that the source is read no further:
+/// `tests/program` shows it.
 ///
 /// Requires: neither the source nor the sink has failed; the script takes lines.
 /// Errors: `Read` if and only if the source failed. `Write` if and only if the sink failed.

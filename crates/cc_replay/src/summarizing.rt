@@ -40,8 +40,9 @@ impl Sink for Discard {
 
 /// Replays the trace that the source gives, without a series, and writes the summary of the replay.
 ///
-/// Nothing is written before the last line, and nothing if a read or an allocation fails. The sink is
-/// flushed at the end. A strict reading reads nothing after the chunk of the first refused line.
+/// Nothing is written before the last line that is taken, and nothing if a read or an allocation fails.
+/// The sink is flushed at the end. A strict reading reads nothing after the chunk of the first refused
+/// line; no clause says so, and `tests/program` shows it.
 ///
 /// Requires: neither the source nor the sink has failed; the replay takes lines.
 /// Errors: `Read` if and only if the source failed. `Memory` if an allocation failed. `Write` if and

@@ -70,8 +70,7 @@ fn parse_words(line: &[u8]) -> Result<Op, Refusal>
 }
 
 /// Takes the operation of a line of at most 128 bytes, or the refusal of the line. This is the table of commands: a
-/// name,
-/// the form of the values, and the operation.
+/// name, the form of the values, and the operation.
 ///
 /// Requires: 193 bytes of the page are free.
 // Each command is taken in an arm in which the compiler knows the operation.

@@ -34,7 +34,6 @@ pub fn execute<M: RunMemory + TraceMemory, I: Inputs, W: Sink, E: Sink>(
     errors: &mut E,
 ) -> Result<Summary, Fault>
     requires invocation { (found : Option (Text × List Row)) × IsInvocation found invocation }
-    // Only a command that creates a machine or a heap runs out of memory.
     requires memory { M.has_failed memory.old ≡ false }
     requires source { (I.Opened.state source.old).has_failed ≡ false }
     requires inputs { I.has_refused inputs.old ≡ false }
@@ -46,7 +45,8 @@ pub fn execute<M: RunMemory + TraceMemory, I: Inputs, W: Sink, E: Sink>(
         (console_of (I.bytes_of inputs.old) (I.Opened.state source.new) (W.state sink.old) (W.state sink.new)
         (E.state errors.old) (E.state errors.new))) result }
     // If memory runs out in `run` or `plan`, nothing was written, or, with `--stats`, the whole
-    // output. Only a command that creates a machine or a heap runs out of memory.
+    // output; in `map`, and in `replay` without `--each` and `--script`, nothing. Only a command that
+    // creates a machine or a heap runs out of memory.
     ensures starved { result ≡ Err Fault.Memory → (effect_of terminals invocation.entry).Starves
         (console_of (I.bytes_of inputs.old) (I.Opened.state source.new) (W.state sink.old) (W.state sink.new)
         (E.state errors.old) (E.state errors.new)) }

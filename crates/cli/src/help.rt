@@ -1,6 +1,5 @@
 //! The help texts: the summary of each command (`ABOUT`), the text after its arguments (`AFTER_HELP`), and the
-//! meaning of
-//! each argument or option (`HELP`).
+//! meaning of each argument or option (`HELP`).
 
 pub(crate) const VERSION: &str = "0.4.0\nCHERI Concentrate, 128 bits, CHERI ISA version 9";
 

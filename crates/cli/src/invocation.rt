@@ -123,8 +123,7 @@ pub enum Invocation<'a> {
         file: Option<&'a str>,
     },
     /// `decode [--format FORMAT] [--bytes ORDER] [--skip N] [--at START] [--holds ADDRESS] [--perms NAMES] [FILE]`:
-    /// lists
-    /// the content of each word of a text, or of raw bytes, or of those that a search finds.
+    /// lists the content of each word of a text, or of raw bytes, or of those that a search finds.
     Decode {
         /// The form of the words in the input.
         input: InputForm,

@@ -1,6 +1,5 @@
-//! The command line of the process, parsed as a command and its values, and the devices of a command: its inputs
-//! and its output,
-//! those of the process, and the reason that it stopped before its end.
+//! The command line of the process, parsed as a command and its values, and the devices of a command: its inputs and
+//! its output, those of the process, and the reason that it stopped before its end.
 #![tactic(auto)]
 
 mod arguments;

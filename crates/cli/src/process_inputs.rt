@@ -25,8 +25,7 @@ pub struct ProcessInputs<'a, R> {
 
 impl<'a, R: Files + Input + Eprint> ProcessInputs<'a, R> {
     /// Creates the inputs of the process. If `is_typed`, a user at the terminal types the standard input, and if
-    /// `is_watched`,
-    /// standard error shows how much of a file has been read.
+    /// `is_watched`, standard error shows how much of a file has been read.
     pub fn new(rt: &'a R, is_typed: bool, is_watched: bool) -> Self
         ensures { ⟦<ProcessInputs<'a, R> as Inputs>⟧.has_refused result ≡ false }
     {

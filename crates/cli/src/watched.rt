@@ -8,9 +8,8 @@ use std::io::{self, Read};
 
 /// A reader of a file that shows on standard error how much of the file has been read.
 ///
-/// The bytes of the file pass unchanged. A percentage is shown when it changes, so at most a hundred are, and none
-/// of a file
-/// that one read returns whole. The line is cleared when the whole file has been read, or a read fails.
+/// The bytes of the file pass unchanged. A percentage is shown when it changes, so at most a hundred are, and none of
+/// a file that one read returns whole. The line is cleared when the whole file has been read, or a read fails.
 #[derive(Drop)]
 pub struct Watched<'a, R, F> {
     rt: &'a R,

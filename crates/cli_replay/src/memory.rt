@@ -22,9 +22,8 @@ use std::alloc::AllocError;
 ///
 /// Each of its types has no parameter, so that no caller can bring one whose allocations always fail.
 ///
-/// Each function that takes a trace requires that neither the source nor the sink has failed, and that lines are taken.
-/// Its
-/// errors are `Read` if and only if the source failed, and `Write` if and only if the sink failed.
+/// Each function that takes a trace requires that neither the source nor the sink has failed, and that lines are
+/// taken. Its errors are `Read` if and only if the source failed, and `Write` if and only if the sink failed.
 pub trait TraceMemory: Memory {
     /// Begins a replay with a heap that holds nothing, before the first line of a trace.
     ///

@@ -54,9 +54,9 @@ pub(crate) enum Table {
 ///
 /// The summary of the result has an error if a line of the trace is refused. With `strict`, nothing is read
 /// after the chunk of the first refused line, and in any case nothing after the chunk in which a script ends or
-/// an allocation fails.
+/// an allocation fails: no clause says so, and `tests/program` shows it.
 ///
-/// Requires: the sink has not failed.
+/// Requires: no device has failed.
 /// Errors: `Memory` if an allocation fails, and without `--each` and `--script` nothing was written then;
 /// `Open` if the input cannot be opened, and nothing was written then; `Read` if a read fails; `Write` if and
 /// only if the sink failed.

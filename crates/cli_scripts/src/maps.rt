@@ -22,7 +22,7 @@ use cli::{Content, Discard, Fault, InputName, Inputs, PoolTexts, file_input};
 /// SVG document, or as a map with the summary of the run. BASE and LENGTH are read first. If one is refused, the output
 /// is that refusal, and nothing is read.
 ///
-/// Requires: `limit` is from 1 to 65,536, and the sink has not failed.
+/// Requires: `limit` is from 1 to 65,536, and no device has failed.
 /// Errors: `Memory` if an allocation fails; `Open` if the input cannot be opened; `Read` if a read fails; `Write` if
 /// and only if the sink failed. Nothing was written if the error is `Memory` or `Open`.
 pub fn map_file<M: RunMemory, I: Inputs, W: Sink>(

@@ -17,7 +17,7 @@ use cli::{Content, DecodeTexts, Fault, InputName, Inputs, file_input};
 /// one is refused, the output is that refusal, and nothing is read. Then writes the hint on an ELF file to `errors`, if
 /// hints are given and a file was decoded as raw words from its first byte on.
 ///
-/// Requires: neither sink has failed.
+/// Requires: no device has failed.
 /// Errors: `Open` if the input cannot be opened, and nothing was written then; `Read` if a read fails; `Write` if and
 /// only if the sink failed. No hint is written then, and none if a text is refused.
 pub fn decode_file<I: Inputs, W: Sink, E: Sink>(
@@ -91,7 +91,7 @@ fn list_words<I: Inputs, W: Sink>(
 
 /// Copies the input that FILE names, with the line of each word after the word.
 ///
-/// Requires: the sink has not failed.
+/// Requires: no device has failed.
 /// Errors: `Open` if the input cannot be opened, and nothing was written then; `Read` if a read fails; `Write` if and
 /// only if the sink failed.
 pub fn annotate_file<I: Inputs, W: Sink>(
@@ -122,7 +122,7 @@ pub fn annotate_file<I: Inputs, W: Sink>(
 /// the hint on numbers to `errors`, if hints are given and the base or a line of the list may be meant as hexadecimal
 /// digits.
 ///
-/// Requires: neither sink has failed.
+/// Requires: no device has failed.
 /// Errors: `Open` if the input cannot be opened, and nothing was written then; `Read` if a read fails; `Write` if and
 /// only if the sink failed. No hint is written then, and none if the base is refused.
 pub fn round_file<I: Inputs, W: Sink, E: Sink>(
