@@ -104,7 +104,7 @@ class Granted:
             return below, above
 
         below, above = rounded(e)
-        grows = bits(above - below, 10, 10) == 1
+        self.grows = grows = bits(above - below, 10, 10) == 1
         e = z3.If(z3.And(self.ie, grows), e + 1, e)
         below, above = rounded(e)
         self.e = e

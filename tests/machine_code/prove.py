@@ -6,7 +6,7 @@ shift is by a variable. every_input() proves that the cases leave no input out.
 import functions
 import model
 import z3
-from functions import FUNCTIONS, HIGH, LENGTH, LENGTH_HIGH, LENGTH_LOW, LOW, OTHER_HIGH, PAIR
+from functions import FUNCTIONS, HIGH, LENGTH, LENGTH_HIGH, LENGTH_LOW, LOW, NUMBER, OTHER_HIGH, PAIR
 from lift import Refused, wide
 from model import bits, bv
 
@@ -70,19 +70,35 @@ def word_cases(high):
 
 
 def length_cases():
+    """Those of a length; and for of_request() those that are one number or rare, and the others, in which length - 1 has a name too."""
+
     def place(n):
         return [(LENGTH_HIGH, bv(0, 64)), (LENGTH_LOW, wide(z3.Concat(bv(1, 1), z3.BitVec("length_rest", n)), 64))]
 
+    def above(n):
+        return [*place(n), (z3.simplify(LENGTH_LOW - 1), wide(z3.Concat(bv(1, 1), z3.BitVec("length_less", n)), 64))]
+
     short = [(LENGTH_HIGH, bv(0, 64)), (LENGTH_LOW, wide(z3.BitVec("length_rest", 12), 64))]
     ends = [("length>2^64", (), z3.UGT(LENGTH, bv(2**64, 128))), ("length=2^64", [(LENGTH_HIGH, bv(1, 64)), (LENGTH_LOW, bv(0, 64))], None)]
-    return [*ends, *((f"length>=2^{n}", place(n), None) for n in range(63, 11, -1)), ("length<2^12", short, None)]
+    ends.append(("length<2^12", short, None))
+    powers = [(f"length=2^{n}", [(LENGTH_HIGH, bv(0, 64)), (LENGTH_LOW, bv(1 << n, 64))], None) for n in PLACES]
+    more = [(f"length>2^{n}", above(n), LENGTH_LOW & (LENGTH_LOW - 1) != 0) for n in PLACES]
+    return [*ends, *((f"length>=2^{n}", place(n), None) for n in PLACES)], [*ends, *powers], more
 
 
-CASES = {"word": word_cases(HIGH), "other": word_cases(OTHER_HIGH), "length": length_cases()}
+PLACES = range(63, 11, -1)
+PLAIN, RARE, MORE = length_cases()
+CASES = {"word": word_cases(HIGH), "other": word_cases(OTHER_HIGH), "length": PLAIN, "request": RARE + MORE}
+
+
+def apart(places):
+    """Returns the variables that are constants and fewer bits in a case, and the terms that have a name in it."""
+    return ([it for it in places if z3.is_const(it[0]) == is_plain] for is_plain in (True, False))
 
 
 def every_input():
-    """Proves that every input is in a case. In each, a bit of a variable is a constant, or free and no other bit."""
+    """Proves that every input is in a case. In each, a bit of a variable is a constant, or free and no other bit. So is a bit of a term that
+    has a name, for every input that is in the case by the others."""
 
     def held(places, extra):
         said, free = [] if extra is None else [extra], []
@@ -99,7 +115,12 @@ def every_input():
         return z3.And(*said)
 
     for name, cases in CASES.items():
-        never(z3.Not(z3.Or(*[held(places, extra) for _, places, extra in cases])), f"the cases of a {name}")
+        for where, places, extra in cases:
+            plain, named = apart(places)
+            if named:
+                never(z3.And(held(plain, extra), z3.Not(held(named, None))), f"a name at {where}")
+        inputs = [([*apart(places)][0], extra) for _, places, extra in cases]
+        never(z3.Not(z3.Or(*[held(*it) for it in inputs])), f"the cases of a {name}")
 
 
 # ---- a function
@@ -141,13 +162,65 @@ def merged(ends, field, at=0):
     return z3.If(condition, *terms) if len(terms) == 2 and not terms[0].eq(terms[1]) else terms[0]
 
 
+def differing(ends, wanted):
+    return z3.Or(*[merged(ends, it) != wanted[it] for it in wanted])
+
+
 def by_cases(term, where, *split):
     never(term, where, *(CASES[it] for it in split))
 
 
 def direct(name, ends, wanted):
-    differs = z3.Or(*[merged(ends, field) != wanted[field] for field in wanted])
-    by_cases(differs, "the result", *FUNCTIONS[name].split)
+    by_cases(differing(ends, wanted), "the result", *FUNCTIONS[name].split)
+
+
+def conditions(term):
+    """Returns the conditions that parts of a term depend on."""
+    seen, waiting = {}, [term]
+    while waiting:
+        one = waiting.pop()
+        if one.get_id() not in seen:
+            seen[one.get_id()] = one
+            waiting += one.children()
+    found = [it.arg(0) for it in seen.values() if z3.is_app_of(it, z3.Z3_OP_ITE)]
+    return {it.get_id(): it for it in found}.values()
+
+
+def of_request(code, wanted, base, *known):
+    """Proves the terms of the code equal to the wanted ones, where those of `known` hold, if they depend on a request of bounds at that base.
+    In most cases two facts come first: whether the request ends at 2^64 or below, and whether its exponent grows. Each is a constant then,
+    and so is a condition of the code that is proved to be one of them. What is left has hardly a shift by a variable. It is proved for
+    every end of the request, with end - length for the base."""
+    g, differs = model.Granted(base, LENGTH), z3.Or(*[code[it] != wanted[it] for it in wanted])
+    never(z3.And(*known, differs), "the result", RARE)
+    end, carry = z3.BitVec("request_end", 64), z3.BitVec("request_carry", 1)
+    names = [(model.ext(base) + bits(LENGTH, model.W - 1, 0), wide(z3.Concat(carry, end), model.W)), (base, end - LENGTH_LOW)]
+    is_carried = (carry == 1) == z3.ULT(end, LENGTH_LOW)
+
+    def given(case, *more):
+        name, places, extra = case
+        plain, named = apart(places)
+        return [(name, places, z3.And(extra, *more, *[z3.substitute(term, *plain) == it for term, it in named]))]
+
+    def facts(found, case):
+        """Returns those conditions that are one of the facts in a case, or its opposite."""
+        return [(it, fact, is_so) for it, fact, is_so in found if is_always(it == (fact if is_so else z3.Not(fact)), given(case, *needs[fact]))]
+
+    needs, combinations = {g.in_range: [], g.grows: [g.in_range]}, [[g.in_range, g.grows], [g.in_range], []]
+    if g.in_range in known:
+        combinations.pop()
+    about = [it for it in conditions(z3.Concat(*code.values())) if {str(base), "length_low"} <= variables(it)]
+    found = facts([(it, fact, is_so) for it in about for fact in needs for is_so in (True, False)], MORE[len(MORE) // 2])
+    for case in MORE:
+        here = facts(found, case)
+        for holds in combinations:
+            constants = [(it, z3.BoolVal((fact in holds) == is_so)) for it, fact, is_so in here if {*needs[fact]} <= {*holds}]
+            constants += [(fact, z3.BoolVal(fact in holds)) for fact in needs if {*needs[fact]} <= {*holds}]
+            try:
+                never(z3.simplify(z3.substitute(z3.substitute(differs, *constants), *names)), "the result", given(case, is_carried))
+            except NotProved:
+                never(z3.And(*known, differs), "the result", given(case))
+                break
 
 
 _variables = {}
@@ -199,7 +272,7 @@ def bounded(name, ends, wanted):
     others, ends = ([it for it in ends if (rough(it[1]["refusal"]).as_long() == 0) == is_given] for is_given in (False, True))
     never(z3.Or(*[fields[it] != 0 for _, fields in others for it in ("high", "low")]), "no word")
     shared = [it for it in ends[0][0] if all(any(it.eq(other) for other in path) for path, _ in ends)]
-    by_cases(z3.And(g.in_range, *filter(is_light, shared), z3.Or(*[merged(ends, it) != given[it] for it in given])), "the word", "length")
+    of_request({it: merged(ends, it) for it in given}, given, LOW, g.in_range, *filter(is_light, shared))
 
 
 class Half:
@@ -251,13 +324,15 @@ def two_words(name, ends, wanted):
     places = [it for half in halves for it in half.abstract()]
     wanted = {field: z3.substitute(term, *places) for field, term in wanted.items()}
     used = set().union(*map(variables, wanted.values()))
-    known = {}
+    known, are_named = {}, used & {str(it) for half in halves for it in (half.base_is, half.top_is)}
 
     def follows(own, term, half):
         # the terms are kept with what z3 said, so that it gives their numbers to no others
         key = *sorted(it.get_id() for it in own), term.get_id()
         if key not in known:
-            known[key] = is_always(z3.Implies(z3.And(*own), term), half.cases), own, term
+            # what follows from the first ones does so on other paths. For the many terms that are compared with bounds it does not pay
+            is_so = own and not are_named and follows(own[:-1], term, half)
+            known[key] = is_so or is_always(z3.Implies(z3.And(*own), term), half.cases), own, term
         return known[key][0]
 
     most = bv(model.TWO64, 65)
@@ -285,7 +360,19 @@ def two_words(name, ends, wanted):
         never(z3.And(*facts, *filter(is_light, light), differs), "the result")
 
 
-WAYS = {"set_bounds_on": bounded, "set_bounds_exact_on": bounded, "is_subset": two_words, "seal": two_words, "unseal": two_words, "rebuild": two_words}
+def bounds(_, ends, wanted):
+    of_request({it: merged(ends, it) for it in wanted}, wanted, functions.BASE)
+
+
+def moved(_, ends, wanted):
+    """increment, for every new address, with the difference to the old one for the number."""
+    never(NUMBER + LOW - LOW != NUMBER, "a number that is no difference")
+    cases = [(case, [*places, (NUMBER, NUMBER - LOW)], extra) for case, places, extra in CASES["word"]]
+    never(differing(ends, wanted), "the result", cases)
+
+
+WAYS = {"increment": moved, "set_bounds": bounds, "lost": bounds, "set_bounds_on": bounded, "set_bounds_exact_on": bounded}
+WAYS |= {it: two_words for it in "is_subset seal unseal rebuild".split()}
 
 
 def prove(name, ends):
@@ -297,7 +384,7 @@ def prove(name, ends):
         WAYS.get(name, direct)(name, ends, wanted)
     except NotProved as error:
         # what bounded() and two_words() leave out of a query might not hold for the input that z3 found
-        differs = z3.Or(*[merged(ends, field) != wanted[field] for field in wanted])
+        differs = differing(ends, wanted)
         if error.found is None or z3.is_true(error.found.eval(z3.substitute(differs, *error.places) if error.places else differs, True)):
             raise
         raise NotProved(f"{error.where}, for more than the inputs of the function", None) from error
