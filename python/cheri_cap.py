@@ -1307,7 +1307,7 @@ def find_capabilities(
 def _words_at(words: bytes, positions: List[int]) -> bytes:
     """Returns the words at positions, by numpy if the program has imported it."""
     if positions and "numpy" in sys.modules:
-        taken: bytes = _numpy().frombuffer(words, "V16")[positions].tobytes()
+        taken: bytes = _numpy().frombuffer(words, f"V{_WORD_SIZE}")[positions].tobytes()
         return taken
     return b"".join([words[_WORD_SIZE * it : _WORD_SIZE * it + _WORD_SIZE] for it in positions])
 
