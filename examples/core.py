@@ -24,6 +24,8 @@ sys.path.append(str(Path(__file__).resolve().parent.parent / "python"))
 from cheri_cap import ByteOrder, Capability, Region, find_capabilities
 
 LOAD, NOTE, NT_FILE, PN_XNUM = 1, 4, 0x46494C45, 0xFFFF
+# the size of the entry of a segment
+ENTRY = 56
 
 
 class Segment(NamedTuple):
@@ -54,8 +56,10 @@ def core_of(data: Union[bytes, mmap.mmap]) -> Core:
         if count == PN_XNUM:
             # the number of a large core is in its first section
             count = struct.unpack_from(f"{mark}I", data, sections + 44)[0]
+        if entry < ENTRY or table + entry * count > len(data):
+            raise ValueError
         headers = [struct.unpack_from(f"{mark}2I6Q", data, table + entry * it) for it in range(count)]
-    except struct.error:
+    except (struct.error, OverflowError, ValueError):
         raise ValueError("the table of segments is cut short") from None
     view, names, is_cut = memoryview(data), {}, False
     for kind, _, offset, _, _, size, _, _ in headers:
@@ -80,7 +84,7 @@ def files_of(notes: bytes, mark: str) -> Dict[int, str]:
         if kind == NT_FILE and at + size <= len(notes) and size >= 16:
             count = struct.unpack_from(f"{mark}Q", notes, at)[0]
             paths = notes[at + 16 + 24 * count : at + size].split(b"\0")
-            for it, path in zip(range(count), paths):
+            for it, path in zip(range(min(count, (size - 16) // 24)), paths):
                 names[struct.unpack_from(f"{mark}Q", notes, at + 16 + 24 * it)[0]] = path.decode("utf-8", "replace")
         at += (size + 3) // 4 * 4
     return names
