@@ -215,6 +215,21 @@ trim_store() {
   done < <(cd -- "$store" && find . -mindepth 1 -maxdepth 1 -printf '%T@ %f\n' | LC_ALL=C sort -rn)
 }
 
+# Puts the libraries that earlier builds have kept of the crates in `order`, for these very sources, into each directory
+# crates/CRATE/out/rlib that does not exist, and prints the names of these crates.
+take_libraries() {
+  local name at apart libraries store
+  local -A keys=()
+  apart=$(mktemp -d) && libraries=$apart/libraries && copy_sources && find_store && read_keys || return
+  for name in "${order[@]}"; do
+    at=$top/crates/$name/out/rlib
+    if [[ ! -e $at ]] && take_kept "$name"; then
+      mkdir -p -- "$at" && mv -T -- "$libraries/$name.rlib" "$at/$name.rlib" && printf '%s\n' "$name"
+    fi
+  done
+  rm -rf -- "$apart"
+}
+
 # Proves a crate by this number of jobs, and reports its name and the status:  prove_crate CRATE JOBS
 prove_crate() {
   local status=0
