@@ -29,6 +29,7 @@ from cheri_cap_memory import (  # noqa: E402
     ADDRESSES,
     BYTES,
     KNOWN,
+    UNREADABLE,
     Refused,
     Unreadable,
     disjoint,
@@ -165,7 +166,7 @@ def mapped():
     if gdb.selected_inferior().pid > 0 and not any("core file" in line.lower() for line in files):
         for line in lines_of("info proc mappings"):
             it = re.match(r"\s*(0x[0-9a-f]+)\s+(0x[0-9a-f]+)\s+0x[0-9a-f]+\s+0x[0-9a-f]+\s*([-r][-w][-x][-sp])?", line)
-            if it and not (it[3] or "r").startswith("-") and not line.rstrip().endswith(("[vvar]", "[vsyscall]")):
+            if it and not (it[3] or "r").startswith("-") and not line.rstrip().endswith(UNREADABLE):
                 ranges.append((int(it[1], 16), int(it[2], 16)))
     else:
         for line in files:

@@ -28,6 +28,7 @@ from cheri_cap_memory import (  # noqa: E402
     ADDRESSES,
     BYTES,
     KNOWN,
+    UNREADABLE,
     Refused,
     Unreadable,
     disjoint,
@@ -143,7 +144,8 @@ def mapped(context):
     if process.IsValid():
         regions, region = process.GetMemoryRegions(), lldb.SBMemoryRegionInfo()
         for i in range(regions.GetSize()):
-            if regions.GetMemoryRegionAtIndex(i, region) and region.IsMapped() and region.IsReadable():
+            is_there = regions.GetMemoryRegionAtIndex(i, region) and region.IsMapped() and region.IsReadable()
+            if is_there and region.GetName() not in UNREADABLE:
                 ranges.append((region.GetRegionBase(), region.GetRegionEnd()))
     else:
         sections = list(target.GetModuleAtIndex(0).section_iter())

@@ -15,6 +15,8 @@ ADDRESSES = 1 << 64
 # the most bytes that are read if it is not known what is mapped: some seconds
 LARGEST = 1 << 32
 
+# mappings of Linux that a debugger cannot read, although some have the permission
+UNREADABLE = "[vvar]", "[vvar_vclock]", "[vsyscall]"
 # the types of cheri_cap.h, cheri_cap.hpp and cheri_cap_isa9.h that are words; cheri_cap_u128 may be a length
 KNOWN = "cheri::word", "cheri::result", "cheri_cap_made", "cheri_cap_read", "cheri_isa9_cap"
 
