@@ -17,7 +17,7 @@ words by chance few are. A region has the words whose address it contains; `-` i
 The output is a table in CSV: permissions, region, words, sentries, and the largest length of their bounds.
 
 Each worker must have this module's packages and read each FILE by the same name. A part is read again if its worker ends, so
-the table is that of one process.
+the table is that of one process. The status is 2 if a FILE cannot be read or is no raw memory.
 """
 import argparse
 import os
@@ -60,7 +60,8 @@ def counted(part: Part, regions: Sequence[Region], how: Dict[str, Any]) -> Any:
     # numbers in place of names, which are grouped faster
     region = numpy.full(len(table), len(regions))
     for number, (_, base, length) in enumerate(regions):
-        region[table["address"] - numpy.uint64(base) < numpy.uint64(length)] = number
+        # a length of 2^64 is no number of 64 bits
+        region[table["address"] - numpy.uint64(base) <= numpy.uint64(length - 1)] = number
     frame = pandas.DataFrame({"permissions": table["perms"], "region": region, "words": 1})
     frame["sentries"] = (table["type"] == SENTRY).astype(int)
     frame["largest"] = table["length"]
@@ -102,37 +103,54 @@ def counts(
 
 
 def region_in(text: str) -> Region:
+    """Returns a region of at least one byte, which ends at 2^64 or below."""
     name, _, place = text.partition("=")
-    base, _, length = place.partition("+")
-    return name, int(base, 0), int(length, 0)
+    base, length = (int(it, 0) for it in place.split("+"))
+    if base < 0 or length < 1 or base + length > 1 << 64:
+        raise ValueError
+    return name, base, length
 
 
-def main() -> None:
+def count_in(text: str) -> int:
+    """Returns a number of at least 1."""
+    if int(text) < 1:
+        raise ValueError
+    return int(text)
+
+
+def main() -> int:
     parser = argparse.ArgumentParser(usage=(__doc__ or "").split("\n\n")[1].strip())
     parser.add_argument("files", nargs="+")
     parser.add_argument("--scheduler")
-    parser.add_argument("--workers", type=int, default=2)
-    parser.add_argument("--part", type=int, default=64)
+    parser.add_argument("--workers", type=count_in, default=2)
+    parser.add_argument("--part", type=count_in, default=64)
     parser.add_argument("--region", type=region_in, action="append", default=[])
     parser.add_argument("--perms", default=0)
     parser.add_argument("--unsealed", action="store_true")
     parser.add_argument("--big", action="store_true")
     given = parser.parse_args()
+    from cheri_cap import mask_of
     from dask.distributed import Client, LocalCluster
 
-    parts = parts_of([os.path.abspath(it) for it in given.files], given.part << 20)
-    how = {"perms": given.perms, "unsealed": given.unsealed, "byteorder": "big" if given.big else "little"}
-    if given.scheduler:
-        with Client(given.scheduler) as client:
-            table = counts(client, parts, given.region, how)
-    else:
-        place = {"n_workers": given.workers, "threads_per_worker": 1, "dashboard_address": None}
-        with LocalCluster(**place) as cluster, Client(cluster) as client:
-            table = counts(client, parts, given.region, how)
+    try:
+        parts = parts_of([os.path.abspath(it) for it in given.files], given.part << 20)
+        perms = mask_of(given.perms) if given.perms else 0
+        how = {"perms": perms, "unsealed": given.unsealed, "byteorder": "big" if given.big else "little"}
+        if given.scheduler:
+            with Client(given.scheduler) as client:
+                table = counts(client, parts, given.region, how)
+        else:
+            place = {"n_workers": given.workers, "threads_per_worker": 1, "dashboard_address": None}
+            with LocalCluster(**place) as cluster, Client(cluster) as client:
+                table = counts(client, parts, given.region, how)
+    except (OSError, ValueError) as error:
+        print(f"dump_dask.py: {error}", file=sys.stderr)
+        return 2
     # a reader that has read enough, such as head, ends this program, which has no connections any more
     signal.signal(signal.SIGPIPE, signal.SIG_DFL)
     table.to_csv(sys.stdout, index=False)
+    return 0
 
 
 if __name__ == "__main__":
-    main()
+    sys.exit(main())
