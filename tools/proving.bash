@@ -176,6 +176,12 @@ list_kept() {
   find rlib ! -type d -print0 | xargs -0 sha256sum -- | LC_ALL=C sort
 }
 
+# Links the files of a directory into a new one or, if that is on another filesystem, copies them. The attempt to link them leaves the
+# new directory, into which the files are then copied.
+link_or_copy() {
+  cp -RlT -- "$1" "$2" || cp -RT -- "$1" "$2"
+}
+
 # Takes the library of a crate that an earlier build has kept, if there is one, and it is whole and of this user.
 take_kept() {
   local from=$store/$1-${keys[$1]}
@@ -183,7 +189,7 @@ take_kept() {
   if [[ ! -d $from || -L $from || -n $(find "$from" ! -user "$EUID" -print -quit) ]]; then
     say "$from is a link or has files of another user: it is not used"
   elif (cd -- "$from" && [[ $(list_kept) == "$(LC_ALL=C sort sums)" ]]) 2>/dev/null &&
-    { cp -Rl -- "$from/rlib" "$libraries/$1.rlib" || cp -R -- "$from/rlib" "$libraries/$1.rlib"; } 2>/dev/null; then
+    link_or_copy "$from/rlib" "$libraries/$1.rlib" 2>/dev/null; then
     touch -- "$from" 2>/dev/null || true
     return
   fi
@@ -196,7 +202,7 @@ keep_library() {
   local to=$store/$1-${keys[$1]} new=$store/new-$1-$$
   [[ -n $store && ! -e $to ]] || return 0
   {
-    mkdir -- "$new" && { cp -Rl -- "$libraries/$1.rlib" "$new/rlib" || cp -R -- "$libraries/$1.rlib" "$new/rlib"; } &&
+    mkdir -- "$new" && link_or_copy "$libraries/$1.rlib" "$new/rlib" &&
       (cd -- "$new" && list_kept >sums) && mv -T -- "$new" "$to"
   } 2>/dev/null || rm -rf -- "$new"
 }
