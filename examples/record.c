@@ -6,13 +6,16 @@
    Each process writes a file of its own, trace.PID; a process that becomes another program begins trace.PID.2. An event is
    written when it happens, by one call of write, so that nothing is lost if the process is killed. An object is named by its
    address. A call that fails leaves no line. Objects that a forked process has from its parent are not in its trace, so that a
-   replay counts their frees as unknown.
+   replay counts their frees as unknown. The first line is a comment with the path of the program.
 
        a ADDRESS SIZE          malloc; realloc of no object
        a ADDRESS SIZE ALIGN    aligned_alloc, memalign, posix_memalign, valloc, pvalloc
        c ADDRESS SIZE          calloc, with the product
        r OLD NEW SIZE          realloc, reallocarray
        f ADDRESS               free; realloc to no bytes
+       t TIME                  milliseconds since the first line, before an event at which they changed. The clock is the
+                               coarse one of the kernel, which advances every few milliseconds, so a second has at most
+                               a thousand of these lines, and none is a call of write of its own
 
    It needs the GNU C library, for the names of its own functions. */
 #define _GNU_SOURCE
@@ -24,6 +27,7 @@
 #include <stdint.h>
 #include <stdio.h>
 #include <stdlib.h>
+#include <time.h>
 #include <unistd.h>
 
 extern void *__libc_malloc(size_t), *__libc_calloc(size_t, size_t), *__libc_realloc(void *, size_t);
@@ -32,8 +36,44 @@ extern void *__libc_memalign(size_t, size_t), __libc_free(void *);
 enum { NOT_OPEN = -1, CANNOT_OPEN = -2 };
 
 static int trace = NOT_OPEN;
+/* the milliseconds of the clock when the trace was opened, and those since then of the last line */
+static uint64_t opened, latest;
 /* held from before a call to after its line, so that the lines of all threads are in the order of the calls */
 static pthread_mutex_t lock = PTHREAD_MUTEX_INITIALIZER;
+
+/* Returns the milliseconds of the coarse clock, which no call of the system is needed for. */
+static uint64_t milliseconds(void)
+{
+    struct timespec now = {0, 0};
+    clock_gettime(CLOCK_MONOTONIC_COARSE, &now);
+    return (uint64_t)now.tv_sec * 1000 + (uint64_t)now.tv_nsec / 1000000;
+}
+
+/* Writes bytes, and writes no more if that fails. */
+static void put_out(const char *at, const char *end)
+{
+    while (trace >= 0 && at < end) {
+        ssize_t written = write(trace, at, (size_t)(end - at));
+        if (written < 0 && errno != EINTR)
+            trace = CANNOT_OPEN;
+        at += written > 0 ? written : 0;
+    }
+}
+
+/* Writes a comment with the path of the program. A byte of it that no line can have becomes a question mark. */
+static void name_program(void)
+{
+    static const char before[] = "# program: ";
+    char line[4200], *end = line;
+    for (const char *at = before; *at; at++)
+        *end++ = *at;
+    ssize_t length = readlink("/proc/self/exe", end, 4096);
+    for (ssize_t left = length; left > 0; left--, end++)
+        if (*end == '\n')
+            *end = '?';
+    *end++ = '\n';
+    put_out(line, end);
+}
 
 /* Opens the first of trace.PID, trace.PID.2, trace.PID.3, .. that does not exist. */
 static void open_trace(void)
@@ -55,6 +95,9 @@ static void open_trace(void)
         close(file);
     if (trace < 0)
         trace = CANNOT_OPEN;
+    opened = milliseconds();
+    latest = 0;
+    name_program();
 }
 
 /* Appends a space, `0x` and the digits of a number, without a call that could allocate. */
@@ -73,26 +116,28 @@ static char *put(char *at, uint64_t value)
     return at;
 }
 
-/* Writes a line: the kind of the event, and its numbers. */
+/* Writes a line: the kind of the event, and its numbers. A line with the time is before it if that changed. */
 static void tell(char kind, int count, ...)
 {
-    char line[80], *end = line;
+    char lines[120], *end = lines;
     va_list numbers;
     int saved = errno;
     if (trace == NOT_OPEN)
         open_trace();
+    uint64_t now = milliseconds() - opened;
+    if (now != latest) {
+        latest = now;
+        *end++ = 't';
+        end = put(end, now);
+        *end++ = '\n';
+    }
     *end++ = kind;
     va_start(numbers, count);
     while (count-- > 0)
         end = put(end, va_arg(numbers, uint64_t));
     va_end(numbers);
     *end++ = '\n';
-    for (char *at = line; trace >= 0 && at < end;) {
-        ssize_t written = write(trace, at, (size_t)(end - at));
-        if (written < 0 && errno != EINTR)
-            trace = CANNOT_OPEN;
-        at += written > 0 ? written : 0;
-    }
+    put_out(lines, end);
     errno = saved;
 }
 
